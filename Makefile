@@ -1,0 +1,4 @@
+# `make test` proves, tests and runs everything.
+.PHONY: test
+test:
+	.ci/run
