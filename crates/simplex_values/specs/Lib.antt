@@ -1,0 +1,5 @@
+pub mod Handoff
+pub mod Policy
+pub mod Quorum
+pub mod Terms
+pub mod Viewport

@@ -1,0 +1,49 @@
+//! Proposals, and what votes and certificates are about.
+use crate::digest::Digest;
+use crate::epoch::Epoch;
+use crate::round::Round;
+use crate::view::View;
+
+/// A payload for a round, which stands on the payload of an earlier view.
+#[derive(Clone, Copy, Debug, PartialEq, Eq, PartialOrd, Ord, Hash)]
+pub struct Proposal {
+    pub round: Round,
+    pub parent: View,
+    pub payload: Digest,
+}
+
+impl Proposal {
+    ghost use Rattle.std.specs.Prelude.{◌≡◌};
+
+    /// The view that it is for.
+    pub fn view(&self) -> View
+        ensures { result ≡ self.now.round.view }
+    {
+        self.round.view
+    }
+
+    /// The epoch that it is for.
+    pub fn epoch(&self) -> Epoch
+        ensures { result ≡ self.now.round.epoch }
+    {
+        self.round.epoch
+    }
+
+    /// The round that it is for.
+    pub fn round(&self) -> Round
+        ensures { result ≡ self.now.round }
+    {
+        self.round
+    }
+}
+
+/// What a vote or a certificate is about.
+#[derive(Clone, Copy, Debug, PartialEq, Eq)]
+pub enum Subject {
+    /// The proposal is the view's.
+    Notarize(Proposal),
+    /// The view is given up.
+    Nullify(Round),
+    /// The proposal is final.
+    Finalize(Proposal),
+}

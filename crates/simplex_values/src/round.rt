@@ -1,0 +1,36 @@
+//! Rounds, and what a proposal of a round stands on.
+use crate::digest::Digest;
+use crate::epoch::Epoch;
+use crate::member::Participant;
+use crate::view::View;
+use std::fmt;
+
+/// A view of an epoch.
+#[derive(Clone, Copy, Debug, PartialEq, Eq, PartialOrd, Ord, Hash)]
+pub struct Round {
+    pub epoch: Epoch,
+    pub view: View,
+}
+
+impl fmt::Display for Round {
+    fn fmt<W: fmt::Write>(&self, f: &mut fmt::Formatter<W>) -> fmt::Result {
+        let epoch = self.epoch.0;
+        let view = self.view.0;
+        write!(f, "{epoch}.{view}")
+    }
+}
+
+/// The view whose payload a proposal stands on, and this payload.
+#[derive(Clone, Copy, Debug, PartialEq, Eq)]
+pub struct Parent {
+    pub view: View,
+    pub payload: Digest,
+}
+
+/// What an application is told with a request: the round, its leader, and the parent.
+#[derive(Clone, Copy, Debug, PartialEq, Eq)]
+pub struct Context {
+    pub round: Round,
+    pub leader: Participant,
+    pub parent: Parent,
+}
