@@ -1,0 +1,10 @@
+pub mod Artifact
+pub mod Assembly
+pub mod Certified
+pub mod Fields
+pub mod Fits
+pub mod Format
+pub mod Message
+pub mod Number
+pub mod ResolverMessage
+pub mod Signatures

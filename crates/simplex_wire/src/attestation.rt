@@ -1,0 +1,16 @@
+//! Attestations.
+use simplex_values::{Keep, Participant};
+use std::alloc::{AllocError, Global};
+
+/// A signature, and whose it is.
+#[derive(Clone, Copy, Debug, PartialEq, Eq)]
+pub struct Attestation {
+    pub signer: Participant,
+    pub signature: [u8; 32],
+}
+
+impl Keep for Attestation {
+    fn keep(&self, _alloc: Global) -> Result<Attestation, AllocError> {
+        Ok(*self)
+    }
+}

@@ -1,0 +1,199 @@
+//! Certificates: a quorum's votes for one thing.
+ghost use Rattle.std.specs.Prelude.{◌≡◌};
+ghost use Rattle.simplex_wire.specs.Fields.{certificate_subject, certificate_kind, subject_round};
+
+use crate::signatures::Signatures;
+use simplex_values::{Epoch, Keep, Proposal, Round, Subject, View};
+use std::alloc::{AllocError, Global};
+
+/// A quorum notarized the proposal.
+#[derive(Debug, PartialEq, Eq, Drop)]
+pub struct Notarization {
+    pub proposal: Proposal,
+    pub certificate: Signatures,
+}
+
+/// A quorum gave the round up.
+#[derive(Debug, PartialEq, Eq, Drop)]
+pub struct Nullification {
+    pub round: Round,
+    pub certificate: Signatures,
+}
+
+/// A quorum finalized the proposal.
+#[derive(Debug, PartialEq, Eq, Drop)]
+pub struct Finalization {
+    pub proposal: Proposal,
+    pub certificate: Signatures,
+}
+
+/// A certificate of any kind.
+#[derive(Debug, PartialEq, Eq, Drop)]
+pub enum Certificate {
+    Notarization(Notarization),
+    Nullification(Nullification),
+    Finalization(Finalization),
+}
+
+/// Which of the three certificates, or votes.
+#[derive(Clone, Copy, Debug, PartialEq, Eq, PartialOrd, Ord, Hash)]
+pub enum CertificateKind {
+    Notarization,
+    Nullification,
+    Finalization,
+}
+
+impl Notarization {
+    /// The round that it is about.
+    pub fn round(&self) -> Round
+        ensures { result ≡ self.now.proposal.round }
+    {
+        self.proposal.round
+    }
+
+    /// The view that it is about.
+    pub fn view(&self) -> View
+        ensures { result ≡ self.now.proposal.round.view }
+    {
+        self.proposal.round.view
+    }
+
+    /// The epoch that it is about.
+    pub fn epoch(&self) -> Epoch
+        ensures { result ≡ self.now.proposal.round.epoch }
+    {
+        self.proposal.round.epoch
+    }
+}
+
+impl Keep for Notarization {
+    fn keep(&self, alloc: Global) -> Result<Notarization, AllocError> {
+        Ok(Notarization {
+            proposal: self.proposal,
+            certificate: self.certificate.keep(alloc)?,
+        })
+    }
+}
+
+impl Nullification {
+    /// The round that it is about.
+    pub fn round(&self) -> Round
+        ensures { result ≡ self.now.round }
+    {
+        self.round
+    }
+
+    /// The view that it is about.
+    pub fn view(&self) -> View
+        ensures { result ≡ self.now.round.view }
+    {
+        self.round.view
+    }
+
+    /// The epoch that it is about.
+    pub fn epoch(&self) -> Epoch
+        ensures { result ≡ self.now.round.epoch }
+    {
+        self.round.epoch
+    }
+}
+
+impl Keep for Nullification {
+    fn keep(&self, alloc: Global) -> Result<Nullification, AllocError> {
+        Ok(Nullification {
+            round: self.round,
+            certificate: self.certificate.keep(alloc)?,
+        })
+    }
+}
+
+impl Finalization {
+    /// The round that it is about.
+    pub fn round(&self) -> Round
+        ensures { result ≡ self.now.proposal.round }
+    {
+        self.proposal.round
+    }
+
+    /// The view that it is about.
+    pub fn view(&self) -> View
+        ensures { result ≡ self.now.proposal.round.view }
+    {
+        self.proposal.round.view
+    }
+
+    /// The epoch that it is about.
+    pub fn epoch(&self) -> Epoch
+        ensures { result ≡ self.now.proposal.round.epoch }
+    {
+        self.proposal.round.epoch
+    }
+}
+
+impl Keep for Finalization {
+    fn keep(&self, alloc: Global) -> Result<Finalization, AllocError> {
+        Ok(Finalization {
+            proposal: self.proposal,
+            certificate: self.certificate.keep(alloc)?,
+        })
+    }
+}
+
+impl Certificate {
+    /// Which certificate it is.
+    pub fn kind(&self) -> CertificateKind
+        ensures { result ≡ certificate_kind self.now }
+    {
+        match self {
+            Certificate::Notarization(_) => CertificateKind::Notarization,
+            Certificate::Nullification(_) => CertificateKind::Nullification,
+            Certificate::Finalization(_) => CertificateKind::Finalization,
+        }
+    }
+
+    /// What the certificate is about.
+    pub fn subject(&self) -> Subject
+        ensures { result ≡ certificate_subject self.now }
+    {
+        match self {
+            Certificate::Notarization(certificate) => Subject::Notarize(certificate.proposal),
+            Certificate::Nullification(certificate) => Subject::Nullify(certificate.round),
+            Certificate::Finalization(certificate) => Subject::Finalize(certificate.proposal),
+        }
+    }
+
+    /// The round that it is about.
+    pub fn round(&self) -> Round
+        ensures { result ≡ subject_round (certificate_subject self.now) }
+    {
+        match self {
+            Certificate::Notarization(certificate) => certificate.proposal.round,
+            Certificate::Nullification(certificate) => certificate.round,
+            Certificate::Finalization(certificate) => certificate.proposal.round,
+        }
+    }
+
+    /// The view that it is about.
+    pub fn view(&self) -> View
+        ensures { result ≡ (subject_round (certificate_subject self.now)).view }
+    {
+        self.round().view
+    }
+
+    /// The epoch that it is about.
+    pub fn epoch(&self) -> Epoch
+        ensures { result ≡ (subject_round (certificate_subject self.now)).epoch }
+    {
+        self.round().epoch
+    }
+}
+
+impl Keep for Certificate {
+    fn keep(&self, alloc: Global) -> Result<Certificate, AllocError> {
+        match self {
+            Certificate::Notarization(it) => Ok(Certificate::Notarization(it.keep(alloc)?)),
+            Certificate::Nullification(it) => Ok(Certificate::Nullification(it.keep(alloc)?)),
+            Certificate::Finalization(it) => Ok(Certificate::Finalization(it.keep(alloc)?)),
+        }
+    }
+}
