@@ -1,4 +1,6 @@
 //! Digests.
+use crate::keep::Keep;
+use std::alloc::{AllocError, Global};
 use std::fmt;
 use std::marker::Model;
 
@@ -22,5 +24,11 @@ impl fmt::Display for Digest {
             write!(f, "{byte:02x}")?;
         }
         Ok(())
+    }
+}
+
+impl Keep for Digest {
+    fn keep(&self, _alloc: Global) -> Result<Digest, AllocError> {
+        Ok(*self)
     }
 }

@@ -13,7 +13,8 @@ pub struct Proposal {
 }
 
 impl Proposal {
-    ghost use Rattle.std.specs.Prelude.{◌≡◌};
+    ghost use Rattle.std.specs.Prelude.{◌≡◌, ◌↔◌, IsTrue};
+    ghost use Rattle.simplex_values.specs.Proposal.{is_same_proposal};
 
     /// The view that it is for.
     pub fn view(&self) -> View
@@ -34,6 +35,14 @@ impl Proposal {
         ensures { result ≡ self.now.round }
     {
         self.round
+    }
+
+    /// Whether both are one: `==` as a test that definitions can name.
+    pub fn is_same(&self, other: &Proposal) -> bool
+        ensures test { result ≡ is_same_proposal self.now other.now }
+        ensures same { IsTrue result ↔ (self.now ≡ other.now) }
+    {
+        self == other
     }
 }
 
