@@ -1,0 +1,5 @@
+pub mod Evidence
+pub mod Genesis
+pub mod Keyed
+pub mod KeyedLaws
+pub mod RoundRobin

@@ -1,0 +1,160 @@
+//! Two votes of one signer that no honest member signs both.
+ghost use Rattle.std.specs.Prelude.{◌≡◌};
+
+use simplex_values::{Epoch, Participant, Round, View};
+use simplex_wire::{Finalize, Notarize, Nullify, Scheme};
+
+/// Notarizes for two proposals of one round.
+#[derive(Clone, Copy, Debug, PartialEq, Eq)]
+pub struct ConflictingNotarize {
+    pub first: Notarize,
+    pub second: Notarize,
+}
+
+/// Finalizes for two proposals of one round.
+#[derive(Clone, Copy, Debug, PartialEq, Eq)]
+pub struct ConflictingFinalize {
+    pub first: Finalize,
+    pub second: Finalize,
+}
+
+/// A nullify and a finalize of one round.
+#[derive(Clone, Copy, Debug, PartialEq, Eq)]
+pub struct NullifyFinalize {
+    pub nullify: Nullify,
+    pub finalize: Finalize,
+}
+
+impl ConflictingNotarize {
+    ghost use Rattle.simplex_types.specs.Evidence.{conflicting_notarize_verifies};
+
+    /// The round of the first vote.
+    pub fn round(&self) -> Round
+        ensures { result ≡ self.now.first.proposal.round }
+    {
+        self.first.proposal.round
+    }
+
+    /// The view of the first vote.
+    pub fn view(&self) -> View
+        ensures { result ≡ self.now.first.proposal.round.view }
+    {
+        self.first.proposal.round.view
+    }
+
+    /// The epoch of the first vote.
+    pub fn epoch(&self) -> Epoch
+        ensures { result ≡ self.now.first.proposal.round.epoch }
+    {
+        self.first.proposal.round.epoch
+    }
+
+    /// Whose vote the first is.
+    pub fn signer(&self) -> Participant
+        ensures { result ≡ self.now.first.attestation.signer }
+    {
+        self.first.attestation.signer
+    }
+
+    /// Whether both votes verify, have one signer and one round, and differ in their proposals.
+    #[tactic(auto, unfolding(crate::specs::Evidence::conflicting_notarize_verifies))]
+    pub fn verify<S: Scheme>(&self, scheme: &S) -> bool
+        ensures { result ≡ conflicting_notarize_verifies (S.verifies scheme.now) self.now }
+    {
+        let one_signer = self.first.attestation.signer == self.second.attestation.signer;
+        one_signer
+            && self.first.proposal.round == self.second.proposal.round
+            && !self.first.proposal.is_same(&self.second.proposal)
+            && self.first.verify(scheme)
+            && self.second.verify(scheme)
+    }
+}
+
+impl ConflictingFinalize {
+    ghost use Rattle.simplex_types.specs.Evidence.{conflicting_finalize_verifies};
+
+    /// The round of the first vote.
+    pub fn round(&self) -> Round
+        ensures { result ≡ self.now.first.proposal.round }
+    {
+        self.first.proposal.round
+    }
+
+    /// The view of the first vote.
+    pub fn view(&self) -> View
+        ensures { result ≡ self.now.first.proposal.round.view }
+    {
+        self.first.proposal.round.view
+    }
+
+    /// The epoch of the first vote.
+    pub fn epoch(&self) -> Epoch
+        ensures { result ≡ self.now.first.proposal.round.epoch }
+    {
+        self.first.proposal.round.epoch
+    }
+
+    /// Whose vote the first is.
+    pub fn signer(&self) -> Participant
+        ensures { result ≡ self.now.first.attestation.signer }
+    {
+        self.first.attestation.signer
+    }
+
+    /// Whether both votes verify, have one signer and one round, and differ in their proposals.
+    #[tactic(auto, unfolding(crate::specs::Evidence::conflicting_finalize_verifies))]
+    pub fn verify<S: Scheme>(&self, scheme: &S) -> bool
+        ensures { result ≡ conflicting_finalize_verifies (S.verifies scheme.now) self.now }
+    {
+        let one_signer = self.first.attestation.signer == self.second.attestation.signer;
+        one_signer
+            && self.first.proposal.round == self.second.proposal.round
+            && !self.first.proposal.is_same(&self.second.proposal)
+            && self.first.verify(scheme)
+            && self.second.verify(scheme)
+    }
+}
+
+impl NullifyFinalize {
+    ghost use Rattle.simplex_types.specs.Evidence.{nullify_finalize_verifies};
+
+    /// The round of the first vote.
+    pub fn round(&self) -> Round
+        ensures { result ≡ self.now.nullify.round }
+    {
+        self.nullify.round
+    }
+
+    /// The view of the first vote.
+    pub fn view(&self) -> View
+        ensures { result ≡ self.now.nullify.round.view }
+    {
+        self.nullify.round.view
+    }
+
+    /// The epoch of the first vote.
+    pub fn epoch(&self) -> Epoch
+        ensures { result ≡ self.now.nullify.round.epoch }
+    {
+        self.nullify.round.epoch
+    }
+
+    /// Whose vote the first is.
+    pub fn signer(&self) -> Participant
+        ensures { result ≡ self.now.nullify.attestation.signer }
+    {
+        self.nullify.attestation.signer
+    }
+
+    /// Whether both votes verify, have one signer and one round.
+    #[tactic(auto, unfolding(crate::specs::Evidence::nullify_finalize_verifies))]
+    pub fn verify<S: Scheme>(&self, scheme: &S) -> bool
+        ensures { result ≡ nullify_finalize_verifies (S.verifies scheme.now) self.now }
+    {
+        let one_signer = self.nullify.attestation.signer == self.finalize.attestation.signer;
+        one_signer
+            && self.nullify.round == self.finalize.proposal.round
+            && self.nullify.verify(scheme)
+            && self.finalize.verify(scheme)
+    }
+}
