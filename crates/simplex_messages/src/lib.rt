@@ -1,0 +1,16 @@
+//! What the actors hand each other, and what a step of one of them gives.
+#![tactic(auto)]
+
+pub mod batcher;
+mod call;
+mod handed;
+pub mod resolver;
+mod step;
+pub mod voter;
+
+pub use batcher::BatcherInput;
+pub use call::Call;
+pub use handed::Handed;
+pub use resolver::ResolverInput;
+pub use step::{Outcome, StepOut, Stop};
+pub use voter::VoterInput;
