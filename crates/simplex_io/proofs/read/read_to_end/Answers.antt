@@ -1,0 +1,15 @@
+use Rattle.std.proofs.Common.{arith}
+use Rattle.simplex_io.proofs.Taken.{over_by, within_by}
+use Rattle.simplex_io.proofs.read.read_to_end.Goals as goal
+
+pub returns-then-len-limit-clause-too_long : goal.returns-then-len-limit-clause-too_long
+returns-then-len-limit-clause-too_long g c = λ _. over_by _ _ _ _ _ _ c.chunks.invariant.taken c.in-Ok.ensures.bytes (omega arith)
+
+pub returns-then-is_err-clause-not_too_long : goal.returns-then-is_err-clause-not_too_long
+returns-then-is_err-clause-not_too_long g c = λ _. within_by _ _ _ _ _ _ c.chunks.invariant.taken c.in-Ok.ensures.bytes (omega arith)
+
+pub returns-then-len-limit-clause-one_past : goal.returns-then-len-limit-clause-one_past
+returns-then-len-limit-clause-one_past g c = within_by _ _ _ _ _ _ c.chunks.invariant.taken c.in-Ok.ensures.bytes (omega (arith, c.in-Ok.ensures.few))
+
+pub returns-then-is_err-clause-one_past : goal.returns-then-is_err-clause-one_past
+returns-then-is_err-clause-one_past g c = within_by _ _ _ _ _ _ c.chunks.invariant.taken c.in-Ok.ensures.bytes (omega arith)
