@@ -1,5 +1,5 @@
 // Reading a source to its end.
-ghost use Rattle.std.specs.Prelude.{◌≤◌, ◌+◌, IfOk, IsErrOf, vec_len};
+ghost use Rattle.std.specs.Prelude.{◌≡◌, ◌≤◌, ◌+◌, IfOk, IsErrOf, vec_len};
 ghost use Rattle.simplex_io.specs.Io.{TakesAll, TakesOver, TakesWithin, Rose};
 
 use crate::source::{Source, SourceError};
@@ -15,6 +15,19 @@ pub enum InputError {
     Failed,
     #[error("there is no memory left for the input")]
     Memory,
+}
+
+impl From<SourceError> for InputError {
+    ghost use Rattle.simplex_io.specs.Errors.{input_error_of};
+
+    ghost from_gives = { λ error result. result ≡ input_error_of error };
+
+    fn from(error: SourceError) -> InputError {
+        match error {
+            SourceError::Memory => InputError::Memory,
+            SourceError::Failed => InputError::Failed,
+        }
+    }
 }
 
 // The most bytes that one read asks for.
@@ -50,21 +63,15 @@ pub fn read_to_end<S: Source>(
 {
     let mut input = Vec::new(alloc);
     'chunks: loop {
-        let max = next_read(limit, input.len());
-        match source.read(max) {
-            Ok(bytes) => {
-                if bytes.is_empty() {
-                    return Ok(input);
-                }
-                if input.len() + bytes.len() > limit as usize {
-                    return Err(InputError::TooLong);
-                }
-                if input.extend_from_slice(&bytes).is_err() {
-                    return Err(InputError::Memory);
-                }
-            }
-            Err(SourceError::Memory) => return Err(InputError::Memory),
-            Err(SourceError::Failed) => return Err(InputError::Failed),
+        let bytes = source.read(next_read(limit, input.len()))?;
+        if bytes.is_empty() {
+            return Ok(input);
         }
+        if input.len() + bytes.len() > limit as usize {
+            return Err(InputError::TooLong);
+        }
+        input
+            .extend_from_slice(&bytes)
+            .map_err(|_| InputError::Memory)?;
     }
 }

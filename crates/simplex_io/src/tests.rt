@@ -31,7 +31,9 @@ fn an_input_is_read_to_its_end(rt: HostRuntime) -> Result<(), Fail> {
             Err(e) => assert_eq!(rt; error, Some(e), "read {failing} fails"),
         }
         assert_eq!(rt; source.faults(), u64::from(failed), "read {failing} fails");
-        let rest = read_to_end(alloc, &mut source, limit).ok().ok_or("the rest")?;
+        let rest = read_to_end(alloc, &mut source, limit)
+            .ok()
+            .ok_or("the rest")?;
         assert_eq!(rt; rest.len(), left, "behind the fault of read {failing}");
     }
     Ok(())
@@ -47,7 +49,11 @@ fn a_text_is_written_whole(rt: HostRuntime) -> Result<(), Fail> {
         let mut sink = MemorySink::new(alloc, vec![in alloc; failing]?);
         let answer = write_all(&mut sink, text);
         let failed = written < 40;
-        let wanted = if failed { Err(SinkError::Failed) } else { Ok(()) };
+        let wanted = if failed {
+            Err(SinkError::Failed)
+        } else {
+            Ok(())
+        };
         assert_eq!(rt; answer, wanted, "write {failing} fails");
         assert_eq!(rt; sink.bytes(), &text[..written], "write {failing} fails");
         assert_eq!(rt; sink.faults(), u64::from(failed), "write {failing} fails");
