@@ -29,8 +29,8 @@ impl Calls {
         }
     }
 
-    /// Counts one more call, and its fault if it is one that fails; answers whether it does.
-    pub(crate) fn fails(&mut self) -> bool
+    /// Counts one more call, and its fault if it is one that fails; answers whether it is one.
+    pub(crate) fn next_fails(&mut self) -> bool
         ensures fails { result ≡ next_fails self.old }
         ensures counts { self.new ≡ after_call self.old }
         ensures later { self.old.faults ≤ self.new.faults }

@@ -65,17 +65,19 @@ impl Sink for MemorySink {
 
         ensures some { IfOk result (λ n. 1 ≤ n) }
         ensures within { IfOk result (λ n. n ≤ length bytes.now) }
-        ensures bytes { IfOk result (λ n. Adds (Some self.old.written) (take n bytes.now) (Some self.new.written)) }
+        ensures bytes { IfOk result (λ n.
+            Adds (Some self.old.written) (take n bytes.now) (Some self.new.written)) }
         ensures err { OnErr result (Some self.new.written ≡ Some self.old.written) }
 
         ensures later { self.old.writes.faults ≤ self.new.writes.faults }
-        ensures failed { IsErrOf result SinkError.Failed → Rose self.old.writes.faults self.new.writes.faults }
+        ensures failed { IsErrOf result SinkError.Failed
+            → Rose self.old.writes.faults self.new.writes.faults }
 
         // It fails exactly where it was told to.
         ensures listed { IsErrOf result SinkError.Failed ↔ IsTrue (next_fails self.old.writes) }
         ensures counted { self.new.writes ≡ after_call self.old.writes }
     {
-        if self.writes.fails() {
+        if self.writes.next_fails() {
             return Err(SinkError::Failed);
         }
         let first = first_piece(bytes);

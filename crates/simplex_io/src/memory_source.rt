@@ -59,17 +59,19 @@ impl Source for MemorySource {
 
         ensures bytes { IfOk result (λ bytes. Takes (Some self.old.left) bytes.items (Some self.new.left)) }
         ensures few { IfOk result (λ bytes. vec_len bytes ≤ max) }
-        ensures end { IfOk result (λ bytes. bytes.items ≡ [] → TakesAll (Some self.old.left) [] (Some self.new.left)) }
+        ensures end { IfOk result (λ bytes. bytes.items ≡ []
+            → TakesAll (Some self.old.left) [] (Some self.new.left)) }
         ensures err { OnErr result (Some self.new.left ≡ Some self.old.left) }
 
         ensures later { self.old.reads.faults ≤ self.new.reads.faults }
-        ensures failed { IsErrOf result SourceError.Failed → Rose self.old.reads.faults self.new.reads.faults }
+        ensures failed { IsErrOf result SourceError.Failed
+            → Rose self.old.reads.faults self.new.reads.faults }
 
         // It fails exactly where it was told to.
         ensures listed { IsErrOf result SourceError.Failed ↔ IsTrue (next_fails self.old.reads) }
         ensures counted { self.new.reads ≡ after_call self.old.reads }
     {
-        if self.reads.fails() {
+        if self.reads.next_fails() {
             return Err(SourceError::Failed);
         }
         let left = self.bytes.len() - self.at;

@@ -50,19 +50,23 @@ pub fn read_to_end<S: Source>(
     source: &mut S,
     limit: u32,
 ) -> Result<Vec<u8>, InputError>
-    ensures ok { IfOk result (λ bytes. TakesAll (S.left source.old) bytes.items (S.left source.new)) }
+    ensures ok { IfOk result (λ bytes.
+        TakesAll (S.left source.old) bytes.items (S.left source.new)) }
     ensures within { IfOk result (λ bytes. vec_len bytes ≤ limit) }
 
-    // Too long is exactly an input of which more than the limit was taken.
-    ensures too_long { IsErrOf result InputError.TooLong → TakesOver limit (S.left source.old) (S.left source.new) }
-    ensures not_too_long { (IsErrOf result InputError.TooLong → ⊥) → TakesWithin limit (S.left source.old) (S.left source.new) }
+    // It is too long exactly where more than the limit was taken, which is never more than one byte more.
+    ensures too_long { IsErrOf result InputError.TooLong
+        → TakesOver limit (S.left source.old) (S.left source.new) }
+    ensures not_too_long { ¬ IsErrOf result InputError.TooLong
+        → TakesWithin limit (S.left source.old) (S.left source.new) }
     ensures one_past { TakesWithin (limit + 1) (S.left source.old) (S.left source.new) }
 
-    ensures failed { IsErrOf result InputError.Failed → Rose (S.fault_count source.old) (S.fault_count source.new) }
+    ensures failed { IsErrOf result InputError.Failed
+        → Rose (S.fault_count source.old) (S.fault_count source.new) }
     ensures later { S.fault_count source.old ≤ S.fault_count source.new }
 {
     let mut input = Vec::new(alloc);
-    'chunks: loop {
+    loop {
         let bytes = source.read(next_read(limit, input.len()))?;
         if bytes.is_empty() {
             return Ok(input);

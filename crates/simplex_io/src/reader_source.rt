@@ -5,7 +5,8 @@ use crate::source::{Source, SourceError};
 use std::alloc::Global;
 use std::io::{Read, Stdin};
 
-/// A reader as a source. It tells no bytes: nothing is known of what the outside sends.
+/// A reader as a source. It tells no bytes, since nothing is known of what the outside sends. Each error
+/// counts as a fault, an interrupted read too.
 #[derive(Drop)]
 pub struct ReaderSource<R: Read + Drop> {
     alloc: Global,

@@ -28,11 +28,13 @@ pub trait Sink {
 
         ensures some { IfOk result (λ n. 1 ≤ n) }
         ensures within { IfOk result (λ n. n ≤ length bytes.now) }
-        ensures bytes { IfOk result (λ n. Adds (written self.old) (take n bytes.now) (written self.new)) }
+        ensures bytes { IfOk result (λ n.
+            Adds (written self.old) (take n bytes.now) (written self.new)) }
         ensures err { OnErr result (written self.new ≡ written self.old) }
 
         ensures later { fault_count self.old ≤ fault_count self.new }
-        ensures failed { IsErrOf result SinkError.Failed → Rose (fault_count self.old) (fault_count self.new) };
+        ensures failed { IsErrOf result SinkError.Failed
+            → Rose (fault_count self.old) (fault_count self.new) };
 
     /// How many writes have failed.
     fn faults(&self) -> u64

@@ -27,11 +27,13 @@ pub trait Source {
 
         ensures bytes { IfOk result (λ bytes. Takes (left self.old) bytes.items (left self.new)) }
         ensures few { IfOk result (λ bytes. vec_len bytes ≤ max) }
-        ensures end { IfOk result (λ bytes. bytes.items ≡ [] → TakesAll (left self.old) [] (left self.new)) }
+        ensures end { IfOk result (λ bytes. bytes.items ≡ []
+            → TakesAll (left self.old) [] (left self.new)) }
         ensures err { OnErr result (left self.new ≡ left self.old) }
 
         ensures later { fault_count self.old ≤ fault_count self.new }
-        ensures failed { IsErrOf result SourceError.Failed → Rose (fault_count self.old) (fault_count self.new) };
+        ensures failed { IsErrOf result SourceError.Failed
+            → Rose (fault_count self.old) (fault_count self.new) };
 
     /// How many reads have failed.
     fn faults(&self) -> u64

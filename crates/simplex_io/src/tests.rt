@@ -1,7 +1,7 @@
 // Reads and writes that succeed, that fail at each call in turn, and that reach the limit.
 use crate::{
     InputError, MemorySink, MemorySource, ReaderSource, Sink, SinkError, Source, SourceError,
-    StdoutSink, WriterSink, read_to_end, write_all,
+    StdinSource, StdoutSink, WriterSink, read_to_end, write_all,
 };
 use std::io::{self, ErrorKind, Read, Write};
 use std::test::Fail;
@@ -109,6 +109,8 @@ fn a_stream_is_a_source_and_a_sink(rt: HostRuntime) -> Result<(), Fail> {
     assert_eq!(rt; sink.write("abc".as_bytes()), Err(SinkError::Failed));
     assert_eq!(rt; sink.faults(), 2);
 
+    let input = StdinSource::new(alloc, rt.stdin());
+    assert_eq!(rt; input.faults(), 0);
     let mut output = StdoutSink::new(rt.stdout());
     assert_eq!(rt; write_all(&mut output, "written\n".as_bytes()), Ok(()));
     Ok(())

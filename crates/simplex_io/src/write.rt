@@ -17,7 +17,8 @@ pub fn write_all<K: Sink>(sink: &mut K, bytes: &[u8]) -> Result<(), SinkError>
     ensures ok { OnOk result (Adds (K.written sink.old) bytes.now (K.written sink.new)) }
     ensures err { OnErr result (AddsPart (K.written sink.old) bytes.now (K.written sink.new)) }
 
-    ensures failed { IsErrOf result SinkError.Failed → Rose (K.fault_count sink.old) (K.fault_count sink.new) }
+    ensures failed { IsErrOf result SinkError.Failed
+        → Rose (K.fault_count sink.old) (K.fault_count sink.new) }
     ensures later { K.fault_count sink.old ≤ K.fault_count sink.new }
 {
     let mut rest = bytes;

@@ -9,13 +9,14 @@ const PIECE: usize = 65_536;
 
 // The first bytes, as many as one write is given.
 fn first_piece(bytes: &[u8]) -> &[u8]
-    ensures few { length result.now ≤ 65536 }
+    ensures few { length result.now ≤ PIECE }
     ensures within { length result.now ≤ length bytes.now }
 {
     &bytes[..bytes.len().min(PIECE)]
 }
 
-/// A writer as a sink. It tells no bytes: nothing is known of what the outside keeps.
+/// A writer as a sink. It tells no bytes, since nothing is known of what the outside keeps. Each error
+/// counts as a fault, an interrupted write too, and so does a write that takes nothing.
 #[derive(Drop)]
 pub struct WriterSink<W: Write + Drop> {
     writer: W,

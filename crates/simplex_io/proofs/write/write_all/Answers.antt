@@ -1,3 +1,4 @@
+-- One more write keeps the written part and the rest in step.
 use Rattle.std.proofs.Common.{arith}
 use Rattle.simplex_io.proofs.Taken.{part_more}
 use Rattle.simplex_io.proofs.write.write_all.Goals as goal

@@ -1,3 +1,4 @@
+-- What the writing loop keeps: what was written so far and the rest make up the whole.
 use Rattle.std.proofs.Common.{◌≡◌, ◌≤◌, ◌++◌, List, ℕ, length}
 use Rattle.simplex_io.specs.Io.{Adds}
 use Rattle.simplex_io.proofs.write.write_all.Given as goal
