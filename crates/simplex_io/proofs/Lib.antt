@@ -1,0 +1,2 @@
+-- The lemmas on sources and sinks.
+pub mod Taken
