@@ -1,0 +1,59 @@
+//! Why a run ends.
+use crate::field::Field;
+use simplex_types::Subject;
+use thiserror::Error;
+
+/// Why an event, or a setup, is refused.
+#[derive(Clone, Copy, Debug, PartialEq, Eq, Error)]
+pub enum RunError {
+    /// The item breaks its limit.
+    #[error("BadSetup:{0}")]
+    BadSetup(Field),
+    /// A named node does not exist.
+    #[error("NoMember")]
+    NoMember,
+    /// The node is stopped.
+    #[error("NotRunning")]
+    NotRunning,
+    /// The node runs.
+    #[error("NotStopped")]
+    NotStopped,
+    /// No earlier entry has the packet, or it is not for the node.
+    #[error("NoPacket")]
+    NoPacket,
+    /// The request is not open, was answered, or is not of the answer's kind.
+    #[error("NotPending")]
+    NotPending,
+    /// The member is honest.
+    #[error("NotFaulty")]
+    NotFaulty,
+    /// No honest node reported the finalization.
+    #[error("ForeignFloor")]
+    ForeignFloor,
+    /// The clock would pass 2^63 - 1.
+    #[error("ClockEnd")]
+    ClockEnd,
+    /// The node's current view is too near the greatest view.
+    #[error("ViewEnd")]
+    ViewEnd,
+    /// The bytes hold an honest member's signature on a subject for which it sent no vote.
+    #[error("Forged")]
+    Forged { member: u64, subject: Subject },
+    /// An earlier event answered want of memory.
+    #[error("Failed")]
+    Failed,
+    /// Want of memory.
+    #[error("Memory")]
+    Memory,
+    /// The setup has a value, or the event a form, that is not taken yet.
+    #[error("NotYet")]
+    NotYet,
+}
+
+/// Why a run ended, and at which event: 0 for the setup.
+#[derive(Clone, Copy, Debug, PartialEq, Eq, Error)]
+#[error("refused {error} at {event}")]
+pub struct Refusal {
+    pub error: RunError,
+    pub event: u64,
+}

@@ -1,0 +1,115 @@
+//! What a run is set up with.
+use simplex_types::{ForwardPolicy, Keep, Sequence, SkipPolicy};
+use std::alloc::{AllocError, Global};
+
+/// How a member behaves. All but the honest ones are faulty.
+#[derive(Clone, Copy, Debug, PartialEq, Eq)]
+pub enum MemberKind {
+    /// Follows the rules.
+    Honest,
+    /// Sends nothing.
+    Silent,
+    /// Votes for two proposals.
+    Conflicter,
+    /// Proposes two payloads to different members.
+    Equivocator,
+    /// Votes under another member's number.
+    Impersonator,
+    /// Nullifies and finalizes a view.
+    Nuller,
+    /// Nullifies each view.
+    NullifyOnly,
+    /// Votes for what was proposed so many views before.
+    Outdated(u64),
+    /// Votes in another epoch.
+    Reconfigurer,
+    /// Runs an engine, and its signatures do not verify.
+    Corrupt,
+    /// Runs an engine, and recovers no certificates.
+    Unrecovering,
+    /// Runs two engines under one key.
+    Twin,
+}
+
+impl Keep for MemberKind {
+    fn keep(&self, _alloc: Global) -> Result<MemberKind, AllocError> {
+        Ok(*self)
+    }
+}
+
+/// A scripted round of twins: its leader, and which members each half sees, as bits.
+#[derive(Clone, Copy, Debug, PartialEq, Eq)]
+pub struct SetupRound {
+    pub leader: u64,
+    pub primary: u64,
+    pub secondary: u64,
+}
+
+impl Keep for SetupRound {
+    fn keep(&self, _alloc: Global) -> Result<SetupRound, AllocError> {
+        Ok(*self)
+    }
+}
+
+/// What all members of a run are made with. Times are in milliseconds.
+#[derive(Debug, PartialEq, Eq, Drop)]
+pub struct Setup {
+    pub epoch: u64,
+    /// What the members' keys are made from.
+    pub key_base: u64,
+    pub members: Sequence<MemberKind>,
+    /// How many views a term has.
+    pub term: u64,
+    /// How many views ahead a member works, within a term.
+    pub lookahead: u64,
+    /// How long a view may be without a proposal.
+    pub leader_timeout: u64,
+    /// How long a view may be without a certificate.
+    pub certification_timeout: u64,
+    /// How long after a nullify it is sent again.
+    pub retry: u64,
+    /// How long a term may be without finality, if that is limited.
+    pub stall: Option<u64>,
+    /// How many views below the last final one are kept.
+    pub retention: u64,
+    pub skip: SkipPolicy,
+    pub forward: ForwardPolicy,
+    /// How many messages a mailbox holds before its policy rules.
+    pub mailbox: u64,
+    /// Whether votes of past views are verified too.
+    pub track: bool,
+    /// Whether a next term's leader prepares before its parent is certified.
+    pub handoff: bool,
+    /// How long a peer has for an answer.
+    pub fetch_timeout: u64,
+    /// How long after a failed request the next is made.
+    pub fetch_retry: u64,
+    pub scenario: Sequence<SetupRound>,
+}
+
+impl Keep for Setup {
+    fn keep(&self, alloc: Global) -> Result<Setup, AllocError> {
+        let members = self.members.keep(alloc)?;
+        let scenario = self.scenario.keep(alloc)?;
+        Ok(Setup {
+            epoch: self.epoch,
+            key_base: self.key_base,
+            members,
+            term: self.term,
+            lookahead: self.lookahead,
+            leader_timeout: self.leader_timeout,
+            certification_timeout: self.certification_timeout,
+            retry: self.retry,
+            stall: self.stall,
+            retention: self.retention,
+            skip: self.skip,
+            forward: self.forward,
+            mailbox: self.mailbox,
+            track: self.track,
+            handoff: self.handoff,
+            fetch_timeout: self.fetch_timeout,
+            fetch_retry: self.fetch_retry,
+            scenario,
+        })
+    }
+}
