@@ -15,10 +15,10 @@ use Rattle.simplex_rules.specs.declared.request.ProposalRequest.TheVariants.{Pre
 use Rattle.simplex_rules.specs.declared.request.Verify.{Verify}
 use Rattle.simplex_rules.specs.declared.request.Verify.TheVariants.{Ready, Resolve, Wait}
 use Rattle.simplex_rules.specs.declared.request.CertificateFetch.{CertificateFetch}
-use Rattle.simplex_rules.specs.Known.{Made, Fact, ProposalAsked, ProposalFreed, VerifyAsked, CertifyAsked, MissingAsked, ParentAsked, view_of}
+use Rattle.simplex_rules.specs.Known.{Made, Fact, view_of}
 use Rattle.simplex_rules.specs.Views.{last_finalized, current_of}
 use Rattle.simplex_rules.specs.Ancestry.{is_certified}
-use Rattle.simplex_rules.specs.Deadline.{triggered}
+use Rattle.simplex_rules.specs.Calls.{Call, ReleaseProposalRequest, TriggerTimeout, TryPropose, TryVerify, CertifyCandidates, facts_of}
 use Rattle.simplex_rules.specs.Requests.{is_superseded, is_abandoned, proposal_request, verify_request, certify_requests, parent_fetches}
 
 -- the pending proposal: its request's number and context, where it stands, and whether an answer waits for a step
@@ -51,6 +51,10 @@ pub record Desk : Type 0 where
   pub asked : List Asked
   pub dropped : List ℕ
   pub sought : List Sought
+
+-- what is known after one more call on the state
+abbrev pub told : Made → Call → Desk → Desk
+told made call desk = record desk { known = facts_of made desk.known call ++ desk.known }
 
 -- put into a rising list
 unfoldable pub put_number : ℕ → List ℕ → List ℕ
@@ -115,51 +119,48 @@ unfoldable pub end_waiting : Made → ℕ → Desk → Desk
 end_waiting made now desk =
     option_map_or (λ p.
     if not (is_certified desk.known (pending_parent p)) then desk
-    else if is_waiting p.state then record desk { proposal = None; known = ProposalFreed (pending_view p) ∷ desk.known }
+    else if is_waiting p.state then record (told made (ReleaseProposalRequest (pending_view p)) desk) { proposal = None }
     else if is_closed p.state
-    then record desk { proposal = None; known = triggered made desk.known (pending_view p) MissingProposal now ++ desk.known }
+    then record (told made (TriggerTimeout (pending_view p) MissingProposal now) desk) { proposal = None }
     else desk)
     desk.proposal desk
 
-abbrev pub open_request : Desk → ProposalRequest → Desk
-open_request desk (Prepare context) =
+-- a proposal request is opened
+abbrev pub open_request : Context → ProposalState → Asked → Desk → Desk
+open_request context state request desk =
     record desk {
-      known = ProposalAsked context.round.view ∷ desk.known;
-      proposal = Some (record { number = desk.opened; context = context; state = Preparing; is_answered = false });
+      proposal = Some (record { number = desk.opened; context = context; state = state; is_answered = false });
       opened = desk.opened + 1;
-      asked = desk.asked ++ asks.Prepare context ∷ [];
+      asked = desk.asked ++ request ∷ [];
     }
-open_request desk (Propose context) =
-    record desk {
-      known = ProposalAsked context.round.view ∷ desk.known;
-      proposal = Some (record { number = desk.opened; context = context; state = Proposing; is_answered = false });
-      opened = desk.opened + 1;
-      asked = desk.asked ++ asks.Propose context ∷ [];
-    }
+
+abbrev pub with_request : Option ProposalRequest → Desk → Desk
+with_request (Some (Prepare context)) desk = open_request context Preparing (asks.Prepare context) desk
+with_request (Some (Propose context)) desk = open_request context Proposing (asks.Propose context) desk
+with_request None desk = desk
 
 -- 5. a proposal is asked for, where none is pending
 unfoldable pub open_proposal : Made → Desk → Desk
 open_proposal made desk =
-    if is_none desk.proposal then option_map_or (open_request desk) (proposal_request made desk.known) desk else desk
+    if is_none desk.proposal then with_request (proposal_request made desk.known) (told made TryPropose desk) else desk
 
-abbrev pub open_verify_of : Desk → Verify → Desk
-open_verify_of desk (Ready context proposal) =
+abbrev pub with_verify : Verify → Desk → Desk
+with_verify (Ready context proposal) desk =
     record desk {
-      known = VerifyAsked proposal ∷ desk.known;
       verify = Some (record { number = desk.opened; view = view_of proposal });
       opened = desk.opened + 1;
       asked = desk.asked ++ asks.Verify context proposal.payload ∷ [];
     }
-open_verify_of desk (Resolve proposal view kind target) =
+with_verify (Resolve proposal view kind target) desk =
     record desk {
-      known = MissingAsked proposal view kind ∷ desk.known;
       sought = desk.sought ++ record { proposal = proposal; view = view; kind = kind; target = Some target } ∷ [];
     }
-open_verify_of desk Wait = desk
+with_verify Wait desk = desk
 
 -- 6. a proposal is given to verify, or a missing view sought, where no Verify is pending
 unfoldable pub open_verify : Made → Desk → Desk
-open_verify made desk = if is_none desk.verify then open_verify_of desk (verify_request made desk.known) else desk
+open_verify made desk =
+    if is_none desk.verify then with_verify (verify_request made desk.known) (told made TryVerify desk) else desk
 
 -- the proposal and the Verify are brought up to date: at the end of a step, and again before the next
 unfoldable pub reconciled : Made → ℕ → Desk → Desk
@@ -177,7 +178,6 @@ drop_certify desk =
 abbrev pub open_certify : Desk → Proposal → Desk
 open_certify desk p =
     record desk {
-      known = CertifyAsked (view_of p) ∷ desk.known;
       certify = desk.certify ++ record { number = desk.opened; view = view_of p } ∷ [];
       opened = desk.opened + 1;
       asked = desk.asked ++ asks.Certify p.round p.payload ∷ [];
@@ -186,16 +186,14 @@ open_certify desk p =
 abbrev pub seek_parent : Desk → CertificateFetch → Desk
 seek_parent desk f =
     record desk {
-      known = ParentAsked f.proposal ∷ desk.known;
       sought = desk.sought ++ record { proposal = f.proposal; view = f.view; kind = missing.Notarization; target = None } ∷ [];
     }
 
 -- what can be certified is given to certify, and the parents that this lacks are sought
-unfoldable pub certifying : Desk → Desk
-certifying desk =
-    let kept = drop_certify desk in
-    fold seek_parent (fold open_certify kept (certify_requests desk.known)) (parent_fetches desk.known)
+unfoldable pub certifying : Made → Desk → Desk
+certifying made desk =
+    fold seek_parent (fold open_certify (told made CertifyCandidates (drop_certify desk)) (certify_requests desk.known)) (parent_fetches desk.known)
 
 -- the requests at the start of each iteration
 unfoldable pub iterated : Made → ℕ → Desk → Desk
-iterated made now desk = certifying (reconciled made now desk)
+iterated made now desk = certifying made (reconciled made now desk)
