@@ -89,14 +89,15 @@ pub appended-some : (n : ℕ) (a : Artifact) (es : List (ℕ × Lists)) (v : Lis
 unfolding appended sections_of appended_section
 appended-some n a [] v s h = cc
 appended-some n a (e ∷ es) v s h = elim (cases_order n e.0) [
-    inl same ↦ grind (arith, common_steps, nat_tests)
+  | inl same ↦ grind (arith, common_steps, nat_tests)
   | inr (inl below) ↦
       let less : nat_cmp n e.0 ≡ Less = grind (arith, nat_tests) in
       let none : lookup (is_at (nat_cmp n)) (e ∷ es) ≡ None = lookup-none _ (e ∷ es) (none_below_head nat_cmp_total n e es s less) in
       let no : Some v ≡ None = sym h ∙ none in cc
   | inr (inr above) ↦
       let rest = appended-some n a es v (sorted_tail nat_cmp e.0 (keys_of es) s) in
-      grind (arith, common_steps, nat_tests, rest) ]
+      grind (arith, common_steps, nat_tests, rest)
+]
 
 -- A section that is not there is opened at its place.
 pub appended-none : (n : ℕ) (a : Artifact) (es : List (ℕ × Lists)) → lookup (is_at (nat_cmp n)) es ≡ None
@@ -104,9 +105,10 @@ pub appended-none : (n : ℕ) (a : Artifact) (es : List (ℕ × Lists)) → look
 unfolding appended sections_of opened_section
 appended-none n a [] h = refl
 appended-none n a (e ∷ es) h = elim (cases_order n e.0) [
-    inl same ↦ grind (arith, common_steps, nat_tests)
+  | inl same ↦ grind (arith, common_steps, nat_tests)
   | inr (inl below) ↦ grind (arith, common_steps, nat_tests)
-  | inr (inr above) ↦ grind (arith, common_steps, nat_tests, appended-none n a es) ]
+  | inr (inr above) ↦ grind (arith, common_steps, nat_tests, appended-none n a es)
+]
 
 -- What is written at a section that is there: one more record.
 pub appended-written : (n : ℕ) (a : Artifact) (es ns : List (ℕ × Lists)) (v w : Lists) → ns ≡ set_value (is_at (nat_cmp n)) es w → w ≡ appended_lists a v

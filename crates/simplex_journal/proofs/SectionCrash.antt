@@ -23,10 +23,10 @@ take-again items n within =
 -- Records that are cut behind the first pending ones, and are all synced.
 pub crashed_records : (items left : List Artifact) (synced keep n : ℕ) → synced ≤ length items → n ≡ min keep (length items - synced) → left ≡ take (synced + n) items
     → let cut : Lists = record { synced = take (synced + n) left; pending = drop (synced + n) left } in
-      cut ≡ record { synced = take synced items ++ take keep (drop synced items); pending = [] }
+    cut ≡ record { synced = take synced items ++ take keep (drop synced items); pending = [] }
 crashed_records items left synced keep n within count is =
     let fits : synced + n ≤ length items = omega arith in
     let kept : take (synced + n) left ≡ take synced items ++ take keep (drop synced items) =
-        rw (is, take-again items (synced + n) fits, count) (take-kept items synced keep within) in
+    rw (is, take-again items (synced + n) fits, count) (take-kept items synced keep within) in
     let none : drop (synced + n) left ≡ [] = rw is (drop-kept items (synced + n) fits) in
     cc

@@ -11,5 +11,5 @@ pub use error::JournalError;
 pub use journal::Journal;
 pub use memory::MemoryJournal;
 
-//TESTS
-//T2
+#[cfg(test)]
+mod tests;

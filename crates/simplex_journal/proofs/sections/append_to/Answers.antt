@@ -27,4 +27,4 @@ returns-clause-ok c =
     let absent : lookup (is_at (nat_cmp c.args.number)) c.get_mut.follows.lender-at-none.entries ≡ None = rw same (search rules) in
     let first = rw c.new-lists.ensures at c.in_ok-append.ensures.ok in
     appended-put _ _ _ _ _ c.in_ok-insert.ensures.entries first absent
-        ∙ ap (λ es. appended c.args.number c.args.artifact (sections_of es)) entries
+    ∙ ap (λ es. appended c.args.number c.args.artifact (sections_of es)) entries

@@ -19,7 +19,7 @@ returns-in_default-2 c =
 pub loop-left-preserved : goal.loop-left-preserved
 loop-left-preserved c =
     let first : c.loop-left.sections.entries ≡ (c.in-Some.number.now, c.in-Some.field-0-1.now) ∷ c.pop_first.new.self.entries =
-        popped _ _ c.pop_first.result _ c.pop_first.ensures.removal c.pop_first.ensures.variant.1 c.in-Some.ensures.first in
+    popped _ _ c.pop_first.result _ c.pop_first.ensures.removal c.pop_first.ensures.variant.1 c.in-Some.ensures.first in
     let step = pruned_first-below c.loop-left.left c.args.least (c.in-Some.number.now, c.in-Some.field-0-1.now) c.pop_first.new.self.entries c.loop-left-test.true c.if-number-least.true in
     sym step ∙ ap (λ es. pruned_first c.loop-left.left c.args.least (sections_of es)) (sym first) ∙ c.loop-left.invariant
 
