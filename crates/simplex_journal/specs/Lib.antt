@@ -1,0 +1,4 @@
+pub mod Faults
+pub mod Journal
+pub mod Memory
+pub mod Order
