@@ -1,0 +1,5 @@
+pub mod Desk
+pub mod Performed
+pub mod Samples
+pub mod Voter
+pub mod VoterLife

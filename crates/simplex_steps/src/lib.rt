@@ -1,0 +1,9 @@
+//! What a step of each actor does, as definitions, and what an engine takes.
+//!
+//! Every definition is a function of what the actor was given since its start. No code of an actor is here:
+//! the actors' contracts, the engine's and those of whole runs all speak of these words.
+#![tactic(auto)]
+
+mod samples;
+
+pub use samples::one_member_alone;
