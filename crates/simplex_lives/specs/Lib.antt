@@ -1,0 +1,4 @@
+pub mod Artifacts
+pub mod Journal
+pub mod Member
+pub mod Votes
