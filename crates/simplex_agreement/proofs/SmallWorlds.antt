@@ -1,11 +1,11 @@
 -- The small worlds: who signed, and that all but one property holds.
-use Rattle.std.proofs.Common.{zero, suc, ◌<◌, List, [], ◌∷◌, All, AllPairs, Contains, refl, inr, arith}
+use Rattle.std.proofs.Common.{Bool, true, false, zero, suc, ◌<◌, List, [], ◌∷◌, All, AllPairs, Contains, refl, inr, arith}
 use Rattle.std.specs.List.Sorted.{IsStrictlyIncreasing}
 use Rattle.std.proofs.lemmas.List.Elements.{All-nil, All-cons}
 use Rattle.std.proofs.lemmas.List.Kept.{AllPairs-cons}
 use Rattle.simplex_values.specs.declared.proposal.Subject.{Subject}
 use Rattle.simplex_agreement.specs.Quorums.{IsQuorum}
-use Rattle.simplex_agreement.specs.World.{Certificate, Sent, IsBacked, Knows, MayStand, MayFollow, IsHonest, IsLawful}
+use Rattle.simplex_agreement.specs.World.{World, Certificate, Sent, IsBacked, Knows, MayStand, MayFollow, IsHonest, IsLawful}
 use Rattle.simplex_agreement.specs.Examples.{Property, is_on_pair, is_on_vote, is_on_known, Unless, IsHonestBut, IsLawfulBut, world_of, signed}
 
 rising : IsStrictlyIncreasing (0 ∷ 1 ∷ 2 ∷ [])
@@ -90,3 +90,23 @@ but_three x a b c sa sb sc ab ac bc ka kb kc =
       order = pairs_three (Order x) a b c ab ac bc;
       backed = all_three (Backed x (a ∷ b ∷ c ∷ [])) a b c ka kb kc;
     })
+
+-- a world that is lawful is so but for any property
+unless : {P : Type 0} (b : Bool) → P → Unless b P
+unless true p = tt
+unless false p = p
+
+pub lawful_weaker : (x : Property) (w : World) → IsLawful w → IsLawfulBut x w
+lawful_weaker x w law =
+    record {
+      members = law.members;
+      term_length = law.term_length;
+      faulty = law.faulty;
+      honest = λ i lt good.
+          let h : IsHonest w (w.history i) = law.honest i lt good in
+          record {
+            alone = λ k d in'. unless _ (h.alone k d in');
+            order = λ j k d lt' in'. unless _ (h.order j k d lt' in');
+            backed = λ k d in'. unless _ (h.backed k d in');
+          };
+    }

@@ -13,7 +13,7 @@ mod examples;
 mod quorums;
 mod terms;
 
-pub use agreement::no_conflict;
+pub use agreement::{backing_lasts, no_conflict};
 pub use examples::{each_property_is_needed, lawful_world_exists};
 pub use quorums::quorums_meet;
 pub use terms::terms_hold;

@@ -18,18 +18,18 @@ use Rattle.simplex_lives.proofs.Goods.{good_sent}
 use Rattle.simplex_lives.proofs.JournalFacts.{Adds, both_within, append_kept, append_held, kept_held, held_kept, sync_held, sync_kept, left_kept, left_held, left_waiting, Placed, append_placed, append_all_placed, sync_placed, left_placed, prune_placed, prune_within, prune_held, prune_has, prune_waiting, append_all_from, append_all_to, append_all_kept}
 
 abbrev pub InOrder : ℕ → List Sent → Type 0
-InOrder len sent = AllPairs (λ s t. MayFollow len s.subject t.subject t.known) sent
+InOrder length sent = AllPairs (λ s t. MayFollow length s.subject t.subject t.known) sent
 
 abbrev pub Alone : ℕ → List Sent → Type 0
-Alone len sent = All (λ s. MayStand len s.subject s.known) sent
+Alone length sent = All (λ s. MayStand length s.subject s.known) sent
 
 pub record Running (m : Member) : Type 0 where
   pub knowing : Knowing (held m.journal) m.known
   pub made : All (λ s. Keeps (held m.journal) s.subject) m.outbox
 
-pub record Lives (len : ℕ) (m : Member) : Type 0 where
-  pub order : InOrder len (m.sent ++ m.outbox)
-  pub alone : Alone len (m.sent ++ m.outbox)
+pub record Lives (length : ℕ) (m : Member) : Type 0 where
+  pub order : InOrder length (m.sent ++ m.outbox)
+  pub alone : Alone length (m.sent ++ m.outbox)
   pub kept : All (λ s. Keeps (kept m.journal) s.subject) m.sent
   pub placed : Placed m.journal
   pub rising : Rising 0 m.journal
@@ -83,26 +83,26 @@ verdicts_cases j a view x y one new (inr ex) (inr ey) = let e : Judged view x �
 verdicts_at : (m : Member) (a : Artifact) → OneVerdict (held m.journal) → IsNewVerdict (held m.journal) a → OneVerdict (held (append a m.journal))
 verdicts_at m a one new view x y cx cy = verdicts_cases (held m.journal) a view x y one new ((adds m a).only (Judged view x) cx) ((adds m a).only (Judged view y) cy)
 
-ready_at : (len : ℕ) (m : Member) (a : Artifact) → Lives len m → Fit (held m.journal) a → ReadyAll (append a m.journal)
-ready_at len m a l f = append_ready (artifact_view a) a refl 0 m.journal l.rising l.placed l.ready f
+ready_at : (length : ℕ) (m : Member) (a : Artifact) → Lives length m → Fit (held m.journal) a → ReadyAll (append a m.journal)
+ready_at length m a l f = append_ready (artifact_view a) a refl 0 m.journal l.rising l.placed l.ready f
 
-Lives-appended : (len : ℕ) (m : Member) (a : Artifact) → m.up ≡ true → Fit (held m.journal) a → IsNewVerdict (held m.journal) a → Lives len m → Lives len (appended m a)
-Lives-appended len m a up f new l =
-    record { verdicts = verdicts_at m a l.verdicts new; order = l.order; alone = l.alone; kept = kept_appended m a l.kept; placed = append_placed a m.journal l.placed; rising = append_at m a l.rising; ready = ready_at len m a l f; resting = λ h. cc; running = λ h. Running-appended m a (l.running up) }
+Lives-appended : (length : ℕ) (m : Member) (a : Artifact) → m.up ≡ true → Fit (held m.journal) a → IsNewVerdict (held m.journal) a → Lives length m → Lives length (appended m a)
+Lives-appended length m a up f new l =
+    record { verdicts = verdicts_at m a l.verdicts new; order = l.order; alone = l.alone; kept = kept_appended m a l.kept; placed = append_placed a m.journal l.placed; rising = append_at m a l.rising; ready = ready_at length m a l f; resting = λ h. cc; running = λ h. Running-appended m a (l.running up) }
 
-module _ (len : ℕ) (pos : 0 < len) (m : Member) (up : m.up ≡ true) (l : Lives len m) where
+module _ (length : ℕ) (pos : 0 < length) (m : Member) (up : m.up ≡ true) (l : Lives length m) where
   abbrev item : Subject → Sent
   item s = record { subject = s; known = certificates m.known }
 
-  order_made : (s : Subject) → MayVote len m.known s → InOrder len (m.sent ++ (m.outbox ++ item s ∷ []))
+  order_made : (s : Subject) → MayVote length m.known s → InOrder length (m.sent ++ (m.outbox ++ item s ∷ []))
   order_made s r =
-      rw (← append_assoc m.sent m.outbox (item s ∷ [])) (all_pairs_push (λ (t : Sent) (u : Sent). MayFollow len t.subject u.subject u.known) (m.sent ++ m.outbox) (item s) l.order
-      (λ k d lt. may_follow len (held m.journal) m.known pos (l.running up).knowing _ s (all_kept m l.kept (l.running up) k d lt) r))
+      rw (← append_assoc m.sent m.outbox (item s ∷ [])) (all_pairs_push (λ (t : Sent) (u : Sent). MayFollow length t.subject u.subject u.known) (m.sent ++ m.outbox) (item s) l.order
+      (λ k d lt. may_follow length (held m.journal) m.known pos (l.running up).knowing _ s (all_kept m l.kept (l.running up) k d lt) r))
 
-  alone_made : (s : Subject) → MayVote len m.known s → Alone len (m.sent ++ (m.outbox ++ item s ∷ []))
-  alone_made s r = rw (← append_assoc m.sent m.outbox (item s ∷ [])) (All-push (λ (t : Sent). MayStand len t.subject t.known) (m.sent ++ m.outbox) (item s) l.alone (may_stand len m.known s r))
+  alone_made : (s : Subject) → MayVote length m.known s → Alone length (m.sent ++ (m.outbox ++ item s ∷ []))
+  alone_made s r = rw (← append_assoc m.sent m.outbox (item s ∷ [])) (All-push (λ (t : Sent). MayStand length t.subject t.known) (m.sent ++ m.outbox) (item s) l.alone (may_stand length m.known s r))
 
-  Lives-vote : (s : Subject) → MayVote len m.known s → Lives len (appended (queued m s) (Own s))
+  Lives-vote : (s : Subject) → MayVote length m.known s → Lives length (appended (queued m s) (Own s))
   Lives-vote s r =
       record {
         order = order_made s r;
@@ -110,17 +110,17 @@ module _ (len : ℕ) (pos : 0 < len) (m : Member) (up : m.up ≡ true) (l : Live
         kept = kept_appended m (Own s) l.kept;
         placed = append_placed (Own s) m.journal l.placed;
         rising = append_at m (Own s) l.rising;
-        ready = ready_at len m (Own s) l tt;
+        ready = ready_at length m (Own s) l tt;
         verdicts = verdicts_at m (Own s) l.verdicts (λ view x y e c. cc);
         resting = λ h. cc;
         running = λ h. record {
           knowing = (Running-appended m (Own s) (l.running up)).knowing;
           made = All-push (λ (t : Sent). Keeps (held (append (Own s) m.journal)) t.subject) m.outbox (item s) (Running-appended m (Own s) (l.running up)).made
-              (Keeps-within (held m.journal ++ Own s ∷ []) (held (append (Own s) m.journal)) (pushed_within m (Own s)) s (vote_keeps len (held m.journal) m.known (l.running up).knowing s r));
+              (Keeps-within (held m.journal ++ Own s ∷ []) (held (append (Own s) m.journal)) (pushed_within m (Own s)) s (vote_keeps length (held m.journal) m.known (l.running up).knowing s r));
         };
       }
 
-  Lives-repeat : (r : Round) → MayVote len m.known (Nullify r) → Contains m.known (Own (Nullify r)) → Lives len (queued m (Nullify r))
+  Lives-repeat : (r : Round) → MayVote length m.known (Nullify r) → Contains m.known (Own (Nullify r)) → Lives length (queued m (Nullify r))
   Lives-repeat r e own =
       record {
         order = order_made (Nullify r) e;
@@ -138,8 +138,8 @@ module _ (len : ℕ) (pos : 0 < len) (m : Member) (up : m.up ≡ true) (l : Live
         };
       }
 
-Lives-sync : (len : ℕ) (m : Member) (v : ℕ) → m.up ≡ true → Lives len m → Lives len (happens m (Sync v))
-Lives-sync len m v up l =
+Lives-sync : (length : ℕ) (m : Member) (v : ℕ) → m.up ≡ true → Lives length m → Lives length (happens m (Sync v))
+Lives-sync length m v up l =
     record {
       order = l.order;
       alone = l.alone;
@@ -155,14 +155,14 @@ Lives-sync len m v up l =
       };
     }
 
-Lives-publish : (len : ℕ) (m : Member) → m.up ≡ true → waiting m.journal ≡ [] → Lives len m → (box : List Sent) → m.outbox ≡ box → Lives len (published m box)
-Lives-publish len m up e l [] is = l
-Lives-publish len m up e l (s ∷ rest) is =
+Lives-publish : (length : ℕ) (m : Member) → m.up ≡ true → waiting m.journal ≡ [] → Lives length m → (box : List Sent) → m.outbox ≡ box → Lives length (published m box)
+Lives-publish length m up e l [] is = l
+Lives-publish length m up e l (s ∷ rest) is =
     let P : Sent → Type 0 = λ t. Keeps (held m.journal) t.subject in
     let box : All P (s ∷ rest) = subst (All P) is (l.running up).made in
     record {
-      order = rw append_assoc (subst (λ xs. InOrder len (m.sent ++ xs)) is l.order);
-      alone = rw append_assoc (subst (λ xs. Alone len (m.sent ++ xs)) is l.alone);
+      order = rw append_assoc (subst (λ xs. InOrder length (m.sent ++ xs)) is l.order);
+      alone = rw append_assoc (subst (λ xs. Alone length (m.sent ++ xs)) is l.alone);
       kept = All-push (λ (t : Sent). Keeps (kept m.journal) t.subject) m.sent s l.kept (subst (λ xs. Keeps xs s.subject) (held_kept m.journal e) (All-head P s rest box));
       placed = l.placed;
       rising = l.rising;
@@ -188,8 +188,8 @@ prune_knowing min j known p le k =
       floor = λ pos. let b = f.floor pos in (b.0, prune_from min j p b.0 b.1, b.2);
     }
 
-Lives-prune : (len : ℕ) (m : Member) (min : ℕ) → m.up ≡ true → waiting m.journal ≡ [] → min ≤ last_finalized m.known → Lives len m → Lives len (happens m (Prune min))
-Lives-prune len m min up e le l =
+Lives-prune : (length : ℕ) (m : Member) (min : ℕ) → m.up ≡ true → waiting m.journal ≡ [] → min ≤ last_finalized m.known → Lives length m → Lives length (happens m (Prune min))
+Lives-prune length m min up e le l =
     let j : List Section = m.journal in
     let k : Knowing (kept j) m.known = subst (λ xs. Knowing xs m.known) (held_kept j e) (l.running up).knowing in
     let whole : held (prune min j) ≡ kept (prune min j) = held_kept (prune min j) (prune_waiting min j e) in
@@ -212,11 +212,11 @@ Lives-prune len m min up e le l =
       };
     }
 
-Lives-crash : (len : ℕ) (m : Member) (keep : ℕ → ℕ) → Lives len m → Lives len (happens m (Crash keep))
-Lives-crash len m keep l =
+Lives-crash : (length : ℕ) (m : Member) (keep : ℕ → ℕ) → Lives length m → Lives length (happens m (Crash keep))
+Lives-crash length m keep l =
     record {
-      order = AllPairs-front_alone (λ (s : Sent) (t : Sent). MayFollow len s.subject t.subject t.known) m.sent m.outbox l.order;
-      alone = All-front_alone (λ (s : Sent). MayStand len s.subject s.known) m.sent m.outbox l.alone;
+      order = AllPairs-front_alone (λ (s : Sent) (t : Sent). MayFollow length s.subject t.subject t.known) m.sent m.outbox l.order;
+      alone = All-front_alone (λ (s : Sent). MayStand length s.subject s.known) m.sent m.outbox l.alone;
       kept = keep_more (kept m.journal) (kept (left keep m.journal)) (left_kept keep m.journal) m.sent l.kept;
       placed = left_placed keep m.journal l.placed;
       rising = left_rising keep 0 m.journal l.rising;
@@ -298,15 +298,15 @@ with_floor floor xs certain one view x y cx cy =
       ]
     ]
 
-Lives-start : (len : ℕ) (m : Member) (view : ℕ) (floor : List Artifact) → m.up ≡ false → greatest finalized_view floor ≡ view → ((a : Artifact) → Contains floor a → artifact_view a ≤ view) → Certain floor → Lives len m → Lives len (started m view floor)
-Lives-start len m view floor down is low certain l =
+Lives-start : (length : ℕ) (m : Member) (view : ℕ) (floor : List Artifact) → m.up ≡ false → greatest finalized_view floor ≡ view → ((a : Artifact) → Contains floor a → artifact_view a ≤ view) → Certain floor → Lives length m → Lives length (started m view floor)
+Lives-start length m view floor down is low certain l =
     let b : Bool = nat_le view (last_finalized (kept m.journal)) in
     let e : waiting m.journal ≡ [] = l.resting down in
     let one : OneVerdict (floor ++ kept m.journal) = with_floor floor (kept m.journal) certain (OneVerdict-within (kept m.journal) (held m.journal) (kept_held m.journal) l.verdicts) in
     let fresh : List Artifact = filter (λ a. nat_lt view (artifact_view a)) (kept m.journal) in
     record {
-      order = AllPairs-front_alone (λ (s : Sent) (t : Sent). MayFollow len s.subject t.subject t.known) m.sent m.outbox l.order;
-      alone = All-front_alone (λ (s : Sent). MayStand len s.subject s.known) m.sent m.outbox l.alone;
+      order = AllPairs-front_alone (λ (s : Sent) (t : Sent). MayFollow length s.subject t.subject t.known) m.sent m.outbox l.order;
+      alone = All-front_alone (λ (s : Sent). MayStand length s.subject s.known) m.sent m.outbox l.alone;
       kept = subst (λ xs. All (λ s. Keeps xs s.subject) m.sent) (sym (opened_kept m.journal floor b)) l.kept;
       placed = opened_placed m.journal floor b l.placed;
       rising = opened_rising m.journal floor b l.rising;
@@ -324,13 +324,13 @@ Lives-start len m view floor down is low certain l =
     }
 
 -- a verdict that is taken stands behind its notarization, and is the first on its view
-Lives-judge : (len : ℕ) (m : Member) (v : ℕ) (verdict : Bool) → m.up ≡ true → is_taken m.known (Judged v verdict) ≡ true → Lives len m → Lives len (appended m (Judged v verdict))
-Lives-judge len m v verdict up h l =
+Lives-judge : (length : ℕ) (m : Member) (v : ℕ) (verdict : Bool) → m.up ≡ true → is_taken m.known (Judged v verdict) ≡ true → Lives length m → Lives length (appended m (Judged v verdict))
+Lives-judge length m v verdict up h l =
     let t : (nat_lt (last_finalized m.known) v ≡ true) × (has_notarization v m.known ≡ true) × (has_verdict v m.known ≡ false) = taken_parts (nat_lt (last_finalized m.known) v) (has_notarization v m.known) (has_verdict v m.known) h in
     let above : last_finalized m.known < v = ltb-true (last_finalized m.known) v t.0 in
     let n : Noted m.known v = Noted-from_test m.known v t.1 in
     let k : Knowing (held m.journal) m.known = (l.running up).knowing in
-    Lives-appended len m (Judged v verdict) up (n.0, n.1, k.stands _ n.2 (omega (arith, above, n.3)), n.3)
+    Lives-appended length m (Judged v verdict) up (n.0, n.1, k.stands _ n.2 (omega (arith, above, n.3)), n.3)
     (λ view x y e c.
     let same : v ≡ view = ap artifact_view e in
     let old : has_verdict v m.known ≡ true = test_from_verdict m.known v y (k.seen (Judged v y) (subst (λ w. Contains (held m.journal) (Judged w y)) (sym same) c) above) in
@@ -338,29 +338,29 @@ Lives-judge len m v verdict up h l =
     cc)
     l
 
-pub Lives-happens : (len : ℕ) → 0 < len → (m : Member) (e : Call) → May len m e → Lives len m → Lives len (happens m e)
-Lives-happens len pos m Start h l = Lives-start len m 0 [] h refl (λ a c. absurd (not_in_empty a c)) tt l
-Lives-happens len pos m (StartAt p signers) h l =
+pub Lives-happens : (length : ℕ) → 0 < length → (m : Member) (e : Call) → May length m e → Lives length m → Lives length (happens m e)
+Lives-happens length pos m Start h l = Lives-start length m 0 [] h refl (λ a c. absurd (not_in_empty a c)) tt l
+Lives-happens length pos m (StartAt p signers) h l =
     let a : Artifact = Proved (record { subject = Finalize p; signers = signers }) in
-    Lives-start len m (view_of p) (a ∷ []) h (omega arith) (λ b c. elim (Contains-cons_cases a [] b c) [ inl e ↦ omega (arith, ap artifact_view e) | inr n ↦ absurd (not_in_empty b n) ]) (λ before. tt, tt) l
-Lives-happens len pos m (Take c) h l = Lives-appended len m (Proved c) h tt (λ view x y e k. cc) l
-Lives-happens len pos m (Judge v verdict) h l = Lives-judge len m v verdict h.0 h.1 l
-Lives-happens len pos m (Vote s) h l = Lives-vote len pos m h.0 l s h.1
-Lives-happens len pos m (Repeat r) h l = Lives-repeat len pos m h.0 l r h.1 h.2
-Lives-happens len pos m (Sync v) h l = Lives-sync len m v h l
-Lives-happens len pos m Send h l = Lives-publish len m h.0 h.1 l m.outbox refl
-Lives-happens len pos m (Prune min) h l = Lives-prune len m min h.0 h.1 h.2 l
-Lives-happens len pos m (Crash keep) h l = Lives-crash len m keep l
+    Lives-start length m (view_of p) (a ∷ []) h (omega arith) (λ b c. elim (Contains-cons_cases a [] b c) [ inl e ↦ omega (arith, ap artifact_view e) | inr n ↦ absurd (not_in_empty b n) ]) (λ before. tt, tt) l
+Lives-happens length pos m (Take c) h l = Lives-appended length m (Proved c) h tt (λ view x y e k. cc) l
+Lives-happens length pos m (Judge v verdict) h l = Lives-judge length m v verdict h.0 h.1 l
+Lives-happens length pos m (Vote s) h l = Lives-vote length pos m h.0 l s h.1
+Lives-happens length pos m (Repeat r) h l = Lives-repeat length pos m h.0 l r h.1 h.2
+Lives-happens length pos m (Sync v) h l = Lives-sync length m v h l
+Lives-happens length pos m Send h l = Lives-publish length m h.0 h.1 l m.outbox refl
+Lives-happens length pos m (Prune min) h l = Lives-prune length m min h.0 h.1 h.2 l
+Lives-happens length pos m (Crash keep) h l = Lives-crash length m keep l
 
-pub Lives-run : (len : ℕ) → 0 < len → (m : Member) (calls : List Call) → IsLegal len m calls → Lives len m → Lives len (run m calls)
-Lives-run len pos m [] h l = l
-Lives-run len pos m (e ∷ es) h l = Lives-run len pos (happens m e) es h.1 (Lives-happens len pos m e h.0 l)
+pub Lives-run : (length : ℕ) → 0 < length → (m : Member) (calls : List Call) → IsLegal length m calls → Lives length m → Lives length (run m calls)
+Lives-run length pos m [] h l = l
+Lives-run length pos m (e ∷ es) h l = Lives-run length pos (happens m e) es h.1 (Lives-happens length pos m e h.0 l)
 
-pub Lives-newborn : (len : ℕ) → Lives len newborn
-Lives-newborn len =
+pub Lives-newborn : (length : ℕ) → Lives length newborn
+Lives-newborn length =
     record {
       order = λ i j d lt in'. absurd (omega (arith, in'));
-      alone = All-nil (λ (s : Sent). MayStand len s.subject s.known);
+      alone = All-nil (λ (s : Sent). MayStand length s.subject s.known);
       kept = All-nil (λ (s : Sent). Keeps [] s.subject);
       placed = tt;
       rising = tt;
@@ -371,13 +371,13 @@ Lives-newborn len =
     }
 
 -- the votes sent over all lives
-pub sent_in_order : (len : ℕ) → 0 < len → (calls : List Call) → IsLegal len newborn calls → InOrder len (run newborn calls).sent
-sent_in_order len pos calls legal =
-    AllPairs-front (λ (s : Sent) (t : Sent). MayFollow len s.subject t.subject t.known) (run newborn calls).sent (run newborn calls).outbox (Lives-run len pos newborn calls legal (Lives-newborn len)).order
+pub sent_in_order : (length : ℕ) → 0 < length → (calls : List Call) → IsLegal length newborn calls → InOrder length (run newborn calls).sent
+sent_in_order length pos calls legal =
+    AllPairs-front (λ (s : Sent) (t : Sent). MayFollow length s.subject t.subject t.known) (run newborn calls).sent (run newborn calls).outbox (Lives-run length pos newborn calls legal (Lives-newborn length)).order
 
-pub sent_alone : (len : ℕ) → 0 < len → (calls : List Call) → IsLegal len newborn calls → Alone len (run newborn calls).sent
-sent_alone len pos calls legal =
-    All-front (λ (s : Sent). MayStand len s.subject s.known) (run newborn calls).sent (run newborn calls).outbox (Lives-run len pos newborn calls legal (Lives-newborn len)).alone
+pub sent_alone : (length : ℕ) → 0 < length → (calls : List Call) → IsLegal length newborn calls → Alone length (run newborn calls).sent
+sent_alone length pos calls legal =
+    All-front (λ (s : Sent). MayStand length s.subject s.known) (run newborn calls).sent (run newborn calls).outbox (Lives-run length pos newborn calls legal (Lives-newborn length)).alone
 
 pub sent_honest : (w : World) → 0 < w.term_length → (calls : List Call) → IsLegal w.term_length newborn calls → All (IsBacked w) (brought calls) → IsHonest w (run newborn calls).sent
 sent_honest w pos calls legal backed =

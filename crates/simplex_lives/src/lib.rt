@@ -7,6 +7,10 @@
 //! No actor, mailbox or packet is named here.
 #![tactic(auto)]
 
+mod calls;
+mod examples;
 mod lives;
 
+pub use calls::calls_compose;
+pub use examples::{conditions_are_needed, legal_lives_exist};
 pub use lives::{lives_agree, lives_are_honest};

@@ -2,7 +2,7 @@ use Rattle.std.proofs.Common.{[], ◌∷◌, refl, arith, inr, subst, ◌≡◌}
 use Rattle.simplex_values.specs.declared.proposal.Subject.TheVariants.{Notarize, Nullify, Finalize}
 use Rattle.simplex_agreement.specs.World.{KnowsNullified}
 use Rattle.simplex_agreement.specs.Examples.{FinalStays, NullifiedStays, ParentIsNext, KnownIsBacked, vote, signed, round_of, first, skipping, nullify_behind, finalize_behind, parent_skipped, not_backed}
-use Rattle.simplex_agreement.proofs.SmallWorlds.{known_here, sent_backed, one_backed, none_backed, but_three}
+use Rattle.simplex_agreement.proofs.SmallWorlds.{known_here, sent_backed, one_backed, none_backed, but_three, lawful_weaker}
 use Rattle.simplex_agreement.proofs.examples.each_property_is_needed.Goals as goal
 
 pub returns-clause-final_stays : goal.returns-clause-final_stays
@@ -52,3 +52,6 @@ returns-clause-known_is_backed c =
       second = sent_backed not_backed (Notarize skipping) (record { subject = Nullify (round_of 1); signers = [] } ∷ []) (2, omega arith, refl);
       conflict = inr (omega arith, omega arith);
     }
+
+pub returns-clause-weaker : goal.returns-clause-weaker
+returns-clause-weaker c property w law = lawful_weaker property w law
