@@ -1,12 +1,14 @@
 -- The small worlds: who signed, and that all but one property holds.
-use Rattle.std.proofs.Common.{Bool, true, false, zero, suc, ◌<◌, List, [], ◌∷◌, All, AllPairs, Contains, refl, inr, arith}
+use Rattle.std.proofs.Common.{ℕ, ◌==◌, ◌≡◌, ◌≤◌, ◌⊎◌, if◌then◌else◌, length, get_or, ap, inl, Bool, true, false, zero, suc, ◌<◌, List, [], ◌∷◌, All, AllPairs, Contains, refl, inr, arith}
 use Rattle.std.specs.List.Sorted.{IsStrictlyIncreasing}
 use Rattle.std.proofs.lemmas.List.Elements.{All-nil, All-cons}
 use Rattle.std.proofs.lemmas.List.Kept.{AllPairs-cons}
 use Rattle.simplex_values.specs.declared.proposal.Subject.{Subject}
+use Rattle.simplex_values.specs.declared.proposal.Subject.TheVariants.{Notarize}
 use Rattle.simplex_agreement.specs.Quorums.{IsQuorum}
-use Rattle.simplex_agreement.specs.World.{World, Certificate, Sent, IsBacked, Knows, MayStand, MayFollow, IsHonest, IsLawful}
-use Rattle.simplex_agreement.specs.Examples.{Property, is_on_pair, is_on_vote, is_on_known, Unless, IsHonestBut, IsLawfulBut, world_of, signed}
+use Rattle.simplex_agreement.specs.World.{view_of, World, Certificate, Sent, HasSent, IsBacked, Knows, MayStand, MayFollow, IsHonest, IsLawful}
+use Rattle.simplex_values.specs.declared.proposal.Proposal.{Proposal}
+use Rattle.simplex_agreement.specs.Examples.{FewAreFaulty, crowded, vote, first, rival, Property, is_on_pair, is_on_vote, is_on_known, is_on_faulty, Unless, IsHonestBut, IsLawfulBut, world_of, signed}
 
 rising : IsStrictlyIncreasing (0 ∷ 1 ∷ 2 ∷ [])
 rising zero lt = omega arith
@@ -33,8 +35,14 @@ known_here s = (0 ∷ 1 ∷ 2 ∷ [], (0, omega arith, refl))
 pub lawful : (votes : List Sent) → IsHonest (world_of votes) votes → IsLawful (world_of votes)
 lawful votes h = record { members = omega arith; term_length = omega arith; faulty = omega arith; honest = λ i lt good. h }
 
+unless : {P : Type 0} (b : Bool) → P → Unless b P
+unless true p = tt
+unless false p = p
+
 pub lawful_but : (x : Property) (votes : List Sent) → IsHonestBut x (world_of votes) votes → IsLawfulBut x (world_of votes)
-lawful_but x votes h = record { members = omega arith; term_length = omega arith; faulty = omega arith; honest = λ i lt good. h }
+lawful_but x votes h =
+    let few : 1 ≤ 1 = omega arith in
+    record { members = omega arith; term_length = omega arith; faulty = unless (is_on_faulty x) few; honest = λ i lt good. h }
 
 -- lists of two, three and five votes, one by one
 pub all_two : {X : Type 0} (P : X → Type 0) (a b : X) → P a → P b → All P (a ∷ b ∷ [])
@@ -92,16 +100,12 @@ but_three x a b c sa sb sc ab ac bc ka kb kc =
     })
 
 -- a world that is lawful is so but for any property
-unless : {P : Type 0} (b : Bool) → P → Unless b P
-unless true p = tt
-unless false p = p
-
 pub lawful_weaker : (x : Property) (w : World) → IsLawful w → IsLawfulBut x w
 lawful_weaker x w law =
     record {
       members = law.members;
       term_length = law.term_length;
-      faulty = law.faulty;
+      faulty = unless (is_on_faulty x) law.faulty;
       honest = λ i lt good.
           let h : IsHonest w (w.history i) = law.honest i lt good in
           record {
@@ -110,3 +114,42 @@ lawful_weaker x w law =
             backed = λ k d in'. unless _ (h.backed k d in');
           };
     }
+
+-- the crowded world: one vote each, and two that sign anything
+one_vote : (p : Proposal) → p.parent ≡ 0 → view_of p ≡ 1 → IsHonestBut FewAreFaulty crowded (vote (Notarize p) [] ∷ [])
+one_vote p parent view =
+    record {
+      alone = All-cons (Alone FewAreFaulty) (vote (Notarize p) []) [] (λ x a b. absurd (omega (arith, parent, view, a, b))) (All-nil (Alone FewAreFaulty));
+      order = AllPairs-cons (Order FewAreFaulty) (vote (Notarize p) []) [] (All-nil (Order FewAreFaulty (vote (Notarize p) []))) (pairs_none (Order FewAreFaulty));
+      backed = λ k d in' j e lt. absurd (none k d in' j lt);
+    }
+  where
+    none : (k : ℕ) (d : Sent) → k < 1 → (j : ℕ) → j < length (get_or (vote (Notarize p) [] ∷ []) k d).known → ⊥
+    none zero d in' j lt = omega (arith, lt)
+    none (suc k) d in' j lt = omega (arith, in')
+
+either_vote : (b : Bool) → IsHonestBut FewAreFaulty crowded (if b then vote (Notarize first) [] ∷ [] else vote (Notarize rival) [] ∷ [])
+either_vote true = one_vote first refl refl
+either_vote false = one_vote rival refl refl
+
+pub crowded_lawful : IsLawfulBut FewAreFaulty crowded
+crowded_lawful = record { members = omega arith; term_length = omega arith; faulty = tt; honest = λ i lt good. either_vote (i == 0) }
+
+-- a member below 2 with the two faulty ones is a quorum
+with_faulty : (i : ℕ) → i < 2 → IsQuorum 4 (i ∷ 2 ∷ 3 ∷ [])
+with_faulty i lt = record { rising = up; members = all_three (λ j. j < 4) i 2 3 (omega (arith, lt)) (omega arith) (omega arith); enough = omega arith }
+  where
+    up : IsStrictlyIncreasing (i ∷ 2 ∷ 3 ∷ [])
+    up zero in' = omega (arith, lt)
+    up (suc zero) in' = omega arith
+    up (suc (suc k)) in' = absurd (omega (arith, in'))
+
+pub crowded_backed : (i : ℕ) (s : Subject) → i < 2 → HasSent crowded i s → IsBacked crowded (record { subject = s; signers = i ∷ 2 ∷ 3 ∷ [] })
+crowded_backed i s lt sent =
+    record {
+      quorum = with_faulty i lt;
+      signed = all_three (λ j. Contains crowded.faulty j ⊎ HasSent crowded j s) i 2 3 (inr sent) (inl (0, omega arith, refl)) (inl (1, omega arith, refl));
+    }
+
+pub differ : first ≡ rival → ⊥
+differ e = let heads : 7 ≡ 8 = ap (λ (p : Proposal). get_or p.payload 0 0) e in omega (arith, heads)

@@ -1,15 +1,11 @@
 -- What a view covers.
 use Rattle.std.proofs.Common.{ℕ, ◌<◌, ◌≤◌, arith}
-use Rattle.simplex_values.specs.Terms.{term_index, term_end, next_term_start, next_of, greatest_view}
+use Rattle.simplex_values.specs.Terms.{term_index, term_end, next_term_start, next_of}
 use Rattle.simplex_agreement.specs.Terms.{Covers}
 
 pub Covers-from_end : (length u w : ℕ) → 0 < length → u ≤ w → w ≤ term_end length u → Covers length u w
 unfolding term_index term_end
 Covers-from_end length u w pos le end' = grind arith
-
-pub Covers-end : (length u w : ℕ) → 0 < length → w ≤ greatest_view → Covers length u w → w ≤ term_end length u
-unfolding term_index term_end
-Covers-end length u w pos limit c = grind arith
 
 pub Covers-front : (length u w x : ℕ) → 0 < length → Covers length u w → u ≤ x → x ≤ w → Covers length u x
 unfolding term_index

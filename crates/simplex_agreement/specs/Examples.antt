@@ -1,5 +1,5 @@
 -- Small worlds: one that is lawful, and for each property one that lacks it alone and has a conflict.
-use Rattle.std.specs.Prelude.{ℕ, Bool, true, false, ◌<◌, ◌≤◌, List, [], ◌∷◌, length, replicate, All, AllPairs, Contains}
+use Rattle.std.specs.Prelude.{ℕ, ◌==◌, if◌then◌else◌, Bool, true, false, ◌<◌, ◌≤◌, List, [], ◌∷◌, length, replicate, All, AllPairs, Contains}
 use Rattle.simplex_values.specs.declared.proposal.Proposal.{Proposal}
 use Rattle.simplex_values.specs.declared.proposal.Subject.{Subject}
 use Rattle.simplex_values.specs.declared.proposal.Subject.TheVariants.{Notarize, Nullify, Finalize}
@@ -7,7 +7,7 @@ use Rattle.simplex_values.specs.declared.round.Round.{Round}
 use Rattle.simplex_values.specs.Quorum.{max_faulty}
 use Rattle.simplex_agreement.specs.World.{Certificate, Sent, World, IsBacked, MayStand, MayFollow, Conflict}
 
--- the five properties of a member's votes, and that what a member knows is backed
+-- the five properties of a member's votes, that what a member knows is backed, and that few are faulty
 pub data Property : Type 0 where
   -- of one view at most one proposal is notarized, and at most one finalized
   OneProposal : Property
@@ -21,6 +21,8 @@ pub data Property : Type 0 where
   NotarizedFirst : Property
   -- what is known is backed
   KnownIsBacked : Property
+  -- at most f members are faulty
+  FewAreFaulty : Property
 
 -- whether the property is about an earlier and a later vote like these
 abbrev pub is_on_pair : Property → Subject → Subject → Bool
@@ -40,6 +42,10 @@ abbrev pub is_on_known : Property → Bool
 is_on_known KnownIsBacked = true
 is_on_known _ = false
 
+abbrev pub is_on_faulty : Property → Bool
+is_on_faulty FewAreFaulty = true
+is_on_faulty _ = false
+
 -- where the test fails, the fact holds
 abbrev pub Unless : Bool → Type 0 → Type 0
 Unless true P = Unit {0}
@@ -55,7 +61,7 @@ pub record IsHonestBut (property : Property) (w : World) (sent : List Sent) : Ty
 pub record IsLawfulBut (property : Property) (w : World) : Type 0 where
   pub members : 0 < w.members
   pub term_length : 0 < w.term_length
-  pub faulty : length w.faulty ≤ max_faulty w.members
+  pub faulty : Unless (is_on_faulty property) (length w.faulty ≤ max_faulty w.members)
   pub honest : (i : ℕ) → i < w.members → ¬ (Contains w.faulty i) → IsHonestBut property w (w.history i)
 
 -- four members and terms of two views. The last member is faulty, the other three send the same votes
@@ -130,9 +136,19 @@ not_backed =
     ∷ vote (Notarize skipping) (record { subject = Nullify (round_of 1); signers = [] } ∷ [])
     ∷ []
 
--- in the world of these votes all holds but this property, and backed certificates on the two subjects conflict
-pub record IsNeeded (property : Property) (votes : List Sent) (a b : Subject) : Type 0 where
-  pub lawful : IsLawfulBut property (world_of votes)
-  pub first : IsBacked (world_of votes) (signed a)
-  pub second : IsBacked (world_of votes) (signed b)
-  pub conflict : Conflict 2 a b
+-- four members of which two are faulty. The first one notarizes a proposal for view 1, the second one the other
+abbrev pub crowded : World
+crowded =
+    record {
+      members = 4;
+      term_length = 2;
+      faulty = 2 ∷ 3 ∷ [];
+      history = λ i. if i == 0 then vote (Notarize first) [] ∷ [] else vote (Notarize rival) [] ∷ [];
+    }
+
+-- in the world all holds but this property, and the two certificates are backed and conflict
+pub record IsNeeded (property : Property) (w : World) (a b : Certificate) : Type 0 where
+  pub lawful : IsLawfulBut property w
+  pub first : IsBacked w a
+  pub second : IsBacked w b
+  pub conflict : Conflict w.term_length a.subject b.subject

@@ -1,8 +1,8 @@
 use Rattle.std.proofs.Common.{[], ◌∷◌, refl, arith, inr, subst, ◌≡◌}
 use Rattle.simplex_values.specs.declared.proposal.Subject.TheVariants.{Notarize, Nullify, Finalize}
 use Rattle.simplex_agreement.specs.World.{KnowsNullified}
-use Rattle.simplex_agreement.specs.Examples.{FinalStays, NullifiedStays, ParentIsNext, KnownIsBacked, vote, signed, round_of, first, skipping, nullify_behind, finalize_behind, parent_skipped, not_backed}
-use Rattle.simplex_agreement.proofs.SmallWorlds.{known_here, sent_backed, one_backed, none_backed, but_three, lawful_weaker}
+use Rattle.simplex_agreement.specs.Examples.{FinalStays, NullifiedStays, ParentIsNext, KnownIsBacked, vote, signed, round_of, first, rival, skipping, nullify_behind, finalize_behind, parent_skipped, not_backed}
+use Rattle.simplex_agreement.proofs.SmallWorlds.{known_here, sent_backed, one_backed, none_backed, but_three, lawful_weaker, crowded_lawful, crowded_backed, differ}
 use Rattle.simplex_agreement.proofs.examples.each_property_is_needed.Goals as goal
 
 pub returns-clause-final_stays : goal.returns-clause-final_stays
@@ -55,3 +55,12 @@ returns-clause-known_is_backed c =
 
 pub returns-clause-weaker : goal.returns-clause-weaker
 returns-clause-weaker c property w law = lawful_weaker property w law
+
+pub returns-clause-few_are_faulty : goal.returns-clause-few_are_faulty
+returns-clause-few_are_faulty c =
+    record {
+      lawful = crowded_lawful;
+      first = crowded_backed 0 (Notarize first) (omega arith) ([], (0, omega arith, refl));
+      second = crowded_backed 1 (Notarize rival) (omega arith) ([], (0, omega arith, refl));
+      conflict = (refl, differ);
+    }
