@@ -15,7 +15,7 @@ pub data Property : Type 0 where
   FinalStays : Property
   -- a view that was nullified is finalized only behind a final view that the nullify covers
   NullifiedStays : Property
-  -- a proposal is notarized only where all views behind its parent are nullified
+  -- a proposal is notarized only where all views between its parent and it are nullified
   ParentIsNext : Property
   -- a proposal is finalized only where it is notarized
   NotarizedFirst : Property
@@ -38,10 +38,12 @@ is_on_vote ParentIsNext (Notarize p) = true
 is_on_vote NotarizedFirst (Finalize p) = true
 is_on_vote _ _ = false
 
+-- whether it is about what is known at a vote
 abbrev pub is_on_known : Property → Bool
 is_on_known KnownIsBacked = true
 is_on_known _ = false
 
+-- whether it is about how many members are faulty
 abbrev pub is_on_faulty : Property → Bool
 is_on_faulty FewAreFaulty = true
 is_on_faulty _ = false
@@ -72,9 +74,11 @@ world_of votes = record { members = 4; term_length = 2; faulty = 3 ∷ []; histo
 abbrev pub signed : Subject → Certificate
 signed subject = record { subject = subject; signers = 0 ∷ 1 ∷ 2 ∷ [] }
 
+-- a vote on the subject, at which these certificates were known
 abbrev pub vote : Subject → List Certificate → Sent
 vote subject known = record { subject = subject; known = known }
 
+-- the round of this view, in epoch 0
 abbrev pub round_of : ℕ → Round
 round_of view = record { epoch = 0; view = view }
 
@@ -82,16 +86,19 @@ round_of view = record { epoch = 0; view = view }
 abbrev pub proposal_of : ℕ → ℕ → ℕ → Proposal
 proposal_of view parent byte = record { round = round_of view; parent = parent; payload = replicate 32 byte }
 
--- two proposals for view 1, one for view 2 that does not stand on view 1, and one for view 3 that does
+-- a proposal for view 1
 abbrev pub first : Proposal
 first = proposal_of 1 0 7
 
+-- another proposal for view 1
 abbrev pub rival : Proposal
 rival = proposal_of 1 0 8
 
+-- a proposal for view 2 that stands on genesis
 abbrev pub skipping : Proposal
 skipping = proposal_of 2 0 7
 
+-- a proposal for view 3 that stands on view 1
 abbrev pub third : Proposal
 third = proposal_of 3 1 7
 

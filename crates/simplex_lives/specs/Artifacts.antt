@@ -23,12 +23,13 @@ artifact_view (Own s) = subject_view s
 artifact_view (Proved c) = subject_view c.subject
 artifact_view (Judged view verdict) = view
 
--- the view that a certificate on the subject makes final, else 0
+-- the view that a certificate on the subject makes final, or 0
 abbrev pub finalized : Subject → ℕ
 finalized (Notarize p) = 0
 finalized (Nullify r) = 0
 finalized (Finalize p) = view_of p
 
+-- the view that the record makes final, or 0
 abbrev pub finalized_view : Artifact → ℕ
 finalized_view (Own s) = 0
 finalized_view (Proved c) = finalized c.subject
@@ -50,26 +51,29 @@ certificates (Own s ∷ rest) = certificates rest
 certificates (Proved c ∷ rest) = c ∷ certificates rest
 certificates (Judged view verdict ∷ rest) = certificates rest
 
--- whether a proposal of the view is notarized
+-- whether the subject is to notarize a proposal of the view
 abbrev pub notarizes : ℕ → Subject → Bool
 notarizes view (Notarize p) = view_of p == view
 notarizes view (Nullify r) = false
 notarizes view (Finalize p) = false
 
+-- whether the record is a notarization of the view
 abbrev pub is_notarization : ℕ → Artifact → Bool
 is_notarization view (Own s) = false
 is_notarization view (Proved c) = notarizes view c.subject
 is_notarization view (Judged v verdict) = false
 
+-- whether a notarization of the view is known
 abbrev pub has_notarization : ℕ → List Artifact → Bool
 has_notarization view known = list_any (is_notarization view) known
 
--- whether a verdict on the view is known
+-- whether the record is a verdict on the view
 abbrev pub is_verdict : ℕ → Artifact → Bool
 is_verdict view (Own s) = false
 is_verdict view (Proved c) = false
 is_verdict view (Judged v verdict) = v == view
 
+-- whether a verdict on the view is known
 abbrev pub has_verdict : ℕ → List Artifact → Bool
 has_verdict view known = list_any (is_verdict view) known
 

@@ -19,9 +19,11 @@ append_to view a (s ∷ rest) =
     if s.view == view then record s { pending = s.pending ++ a ∷ [] } ∷ rest
     else (if nat_lt view s.view then opened view a ∷ s ∷ rest else s ∷ append_to view a rest)
 
+-- one more pending record, in the section of its view
 abbrev pub append : Artifact → List Section → List Section
 append a journal = append_to (artifact_view a) a journal
 
+-- one after the other
 abbrev pub append_all : List Artifact → List Section → List Section
 append_all [] journal = journal
 append_all (a ∷ rest) journal = append_all rest (append a journal)
@@ -42,15 +44,17 @@ left keep journal = map (λ s. record { view = s.view; synced = s.synced ++ take
 abbrev pub prune : ℕ → List Section → List Section
 prune min journal = filter (λ s. nat_le min s.view) journal
 
--- the records, in the order of the sections: the synced ones, all of them, and the pending ones
+-- the synced records, in the order of the sections
 abbrev pub kept : List Section → List Artifact
 kept [] = []
 kept (s ∷ rest) = s.synced ++ kept rest
 
+-- all records, in the order of the sections
 abbrev pub held : List Section → List Artifact
 held [] = []
 held (s ∷ rest) = (s.synced ++ s.pending) ++ held rest
 
+-- the pending records, in the order of the sections
 abbrev pub waiting : List Section → List Artifact
 waiting [] = []
 waiting (s ∷ rest) = s.pending ++ waiting rest
