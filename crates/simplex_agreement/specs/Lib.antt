@@ -1,0 +1,4 @@
+pub mod Examples
+pub mod Quorums
+pub mod Terms
+pub mod World

@@ -1,0 +1,9 @@
+pub mod CallFacts
+pub mod Goods
+pub mod Invariant
+pub mod JournalFacts
+pub mod Knowing
+pub mod KnownFacts
+pub mod Replays
+pub mod SmallLives
+pub mod VoteFacts
