@@ -1,76 +1,11 @@
 -- What goes and what waits on, one message after another.
-use Rattle.std.proofs.Common.{ℕ, zero, suc, ◌≡◌, ◌∙◌, sym, refl, ap, Bool, true, false, not, List, [], ◌∷◌, ◌++◌, filter, take, drop, cond, Option, Some, None, arith}
-use Rattle.std.proofs.lemmas.Grind.{common_steps}
+use Rattle.std.proofs.Common.{ℕ, zero, suc, ◌+◌, ◌<◌, ◌≤◌, ◌≡◌, ◌∙◌, sym, refl, ap, Bool, true, false, not, cond, List, [], ◌∷◌, ◌++◌, length, filter, take, drop, Option, Some, None, arith, add-one}
+use Rattle.std.proofs.lemmas.List.{take-append-drop, take_all}
 use Rattle.simplex_mailbox.specs.Waiting.{Waiting, Rules, nothing, front, in_turn, drained, behind, undrained_at, undrained}
 
+-- ---- the front of a list
+
 module _ {M : Type 0} where
-  pub behind-zero : (skips : M → Bool) (list : List M) → behind skips 0 list ≡ list
-  unfolding behind
-  behind-zero skips [] = refl
-  behind-zero skips (message ∷ messages) = refl
-
-  behind-more-at : (skips : M → Bool) (room : ℕ) (message : M) (messages : List M) (skipped : Bool)
-      → behind skips (suc room) messages ≡ behind skips room (behind skips 1 messages)
-      → cond skipped (behind skips (suc room) messages) (behind skips room messages)
-          ≡ behind skips room (cond skipped (behind skips 1 messages) (behind skips 0 messages))
-  behind-more-at skips room message messages true more = more
-  behind-more-at skips room message messages false more = rw behind-zero refl
-
-  pub behind-more : (skips : M → Bool) (room : ℕ) (list : List M)
-      → behind skips (suc room) list ≡ behind skips room (behind skips 1 list)
-  unfolding behind
-  behind-more skips room [] = refl
-  behind-more skips room (message ∷ messages) =
-      behind-more-at skips room message messages (skips message) (behind-more skips room messages)
-
-  filter-behind-at : (skips : M → Bool) (room : ℕ) (message : M) (messages : List M) (skipped : Bool)
-      → ((n : ℕ) → filter (λ m. not (skips m)) (behind skips n messages) ≡ drop n (filter (λ m. not (skips m)) messages))
-      → filter (λ m. not (skips m)) (cond skipped (behind skips (suc room) messages) (behind skips room messages))
-          ≡ drop (suc room) (cond (not skipped) (message ∷ filter (λ m. not (skips m)) messages) (filter (λ m. not (skips m)) messages))
-  filter-behind-at skips room message messages true below = below (suc room)
-  filter-behind-at skips room message messages false below = below room
-
-  pub filter-behind : (skips : M → Bool) (room : ℕ) (list : List M)
-      → filter (λ m. not (skips m)) (behind skips room list) ≡ drop room (filter (λ m. not (skips m)) list)
-  unfolding behind
-  filter-behind skips zero [] = refl
-  filter-behind skips (suc room) [] = refl
-  filter-behind skips zero (message ∷ messages) = refl
-  filter-behind skips (suc room) (message ∷ messages) =
-      filter-behind-at skips room message messages (skips message) (λ n. filter-behind skips n messages)
-
-  pub undrained-nothing : (rules : Rules M) (room : ℕ) → undrained rules room nothing ≡ nothing
-  unfolding undrained undrained_at behind
-  undrained-nothing rules zero = refl
-  undrained-nothing rules (suc room) = refl
-
-  undrained-more-at : (skips : M → Bool) (room : ℕ) (place : Option M) (rest : List M)
-      → undrained_at skips (suc room) place rest
-          ≡ undrained_at skips room (undrained_at skips 1 place rest).place (undrained_at skips 1 place rest).rest
-  unfolding undrained_at
-  undrained-more-at skips zero None rest = refl
-  undrained-more-at skips (suc room) None rest = ap (λ left. record { place = None; rest = left }) (behind-more skips (suc room) rest)
-  undrained-more-at skips zero (Some first) rest = refl
-  undrained-more-at skips (suc room) (Some first) rest = rw behind-zero refl
-
-  -- one more goes: what waits on is what waits on behind the first that goes
-  pub undrained-more : (rules : Rules M) (room : ℕ) (waiting : Waiting M)
-      → undrained rules (suc room) waiting ≡ undrained rules room (undrained rules 1 waiting)
-  unfolding undrained
-  undrained-more rules room waiting = undrained-more-at rules.skips room waiting.place waiting.rest
-
-  in_turn-undrained-at : (rules : Rules M) (place : Option M) (rest : List M)
-      → in_turn rules (undrained_at rules.skips 1 place rest) ≡ drop 1 (in_turn rules (record { place = place; rest = rest }))
-  unfolding in_turn undrained_at
-  in_turn-undrained-at rules None rest = filter-behind rules.skips 1 rest
-  in_turn-undrained-at rules (Some first) rest = rw behind-zero refl
-
-  -- behind the first that goes, the others go in the same order
-  pub in_turn-undrained : (rules : Rules M) (waiting : Waiting M)
-      → in_turn rules (undrained rules 1 waiting) ≡ drop 1 (in_turn rules waiting)
-  unfolding undrained
-  in_turn-undrained rules waiting = in_turn-undrained-at rules waiting.place waiting.rest
-
   front-some : (list : List M) (message : M) → front list ≡ Some message → list ≡ message ∷ drop 1 list
   front-some [] message is = cc
   front-some (first ∷ list) message is = cc
@@ -79,53 +14,145 @@ module _ {M : Type 0} where
   front-none [] is = refl
   front-none (first ∷ list) is = cc
 
-  pub drained-more : (rules : Rules M) (room : ℕ) (waiting : Waiting M) (message : M)
-      → front (in_turn rules waiting) ≡ Some message
-      → drained rules (suc room) waiting ≡ message ∷ drained rules room (undrained rules 1 waiting)
-  unfolding drained
-  drained-more rules room waiting message is =
-      rw in_turn-undrained (ap (take (suc room)) (front-some (in_turn rules waiting) message is))
-
-  pub drained-none : (rules : Rules M) (room : ℕ) (waiting : Waiting M)
-      → front (in_turn rules waiting) ≡ None → drained rules room waiting ≡ []
-  unfolding drained
-  drained-none rules zero waiting is = ap (take 0) (front-none (in_turn rules waiting) is)
-  drained-none rules (suc room) waiting is = ap (take (suc room)) (front-none (in_turn rules waiting) is)
-
-  behind-none-at : (skips : M → Bool) (message : M) (messages : List M) (skipped : Bool)
-      → (filter (λ m. not (skips m)) messages ≡ [] → behind skips 1 messages ≡ [])
-      → cond (not skipped) (message ∷ filter (λ m. not (skips m)) messages) (filter (λ m. not (skips m)) messages) ≡ []
-      → cond skipped (behind skips 1 messages) (behind skips 0 messages) ≡ []
-  behind-none-at skips message messages true below none = below none
-  behind-none-at skips message messages false below none = cc
-
-  behind-none : (skips : M → Bool) (list : List M) → filter (λ m. not (skips m)) list ≡ [] → behind skips 1 list ≡ []
-  unfolding behind
-  behind-none skips [] none = refl
-  behind-none skips (message ∷ messages) none =
-      behind-none-at skips message messages (skips message) (behind-none skips messages) none
-
-  undrained-none-at : (rules : Rules M) (place : Option M) (rest : List M)
-      → in_turn rules (record { place = place; rest = rest }) ≡ [] → undrained_at rules.skips 1 place rest ≡ nothing
-  unfolding in_turn undrained_at
-  undrained-none-at rules None rest none = ap (λ left. record { place = None; rest = left }) (behind-none rules.skips rest none)
-  undrained-none-at rules (Some first) rest none = cc
-
-  -- where none goes, nothing waits on
-  pub undrained-none : (rules : Rules M) (waiting : Waiting M)
-      → front (in_turn rules waiting) ≡ None → undrained rules 1 waiting ≡ nothing
-  unfolding undrained
-  undrained-none rules waiting is =
-      undrained-none-at rules waiting.place waiting.rest (front-none (in_turn rules waiting) is)
-
   take-none : (list : List M) → take 0 list ≡ []
   take-none [] = refl
   take-none (message ∷ messages) = refl
 
-  pub drained-zero : (rules : Rules M) (waiting : Waiting M) → drained rules 0 waiting ≡ []
-  unfolding drained
-  drained-zero rules waiting = take-none (in_turn rules waiting)
+-- ---- behind some messages of a list
 
-  pub undrained-zero : (rules : Rules M) (waiting : Waiting M) → undrained rules 0 waiting ≡ waiting
+module _ {M : Type 0} (skips : M → Bool) where
+  behind-zero : (list : List M) → behind skips 0 list ≡ list
+  unfolding behind
+  behind-zero [] = refl
+  behind-zero (message ∷ messages) = refl
+
+  behind-more-at : (room : ℕ) (messages : List M) (skipped : Bool)
+      → behind skips (suc room) messages ≡ behind skips room (behind skips 1 messages)
+      → cond skipped (behind skips (suc room) messages) (behind skips room messages)
+          ≡ behind skips room (cond skipped (behind skips 1 messages) (behind skips 0 messages))
+  behind-more-at room messages true more = more
+  behind-more-at room messages false more = rw behind-zero refl
+
+  behind-more : (room : ℕ) (list : List M) → behind skips (suc room) list ≡ behind skips room (behind skips 1 list)
+  unfolding behind
+  behind-more room [] = refl
+  behind-more room (message ∷ messages) = behind-more-at room messages (skips message) (behind-more room messages)
+
+  filter-behind-at : (room : ℕ) (message : M) (messages : List M) (skipped : Bool)
+      → ((n : ℕ) → filter (λ m. not (skips m)) (behind skips n messages) ≡ drop n (filter (λ m. not (skips m)) messages))
+      → filter (λ m. not (skips m)) (cond skipped (behind skips (suc room) messages) (behind skips room messages))
+          ≡ drop (suc room) (cond (not skipped) (message ∷ filter (λ m. not (skips m)) messages) (filter (λ m. not (skips m)) messages))
+  filter-behind-at room message messages true below = below (suc room)
+  filter-behind-at room message messages false below = below room
+
+  -- behind the first so many that are not skipped stand the others that are not skipped
+  filter-behind : (room : ℕ) (list : List M)
+      → filter (λ m. not (skips m)) (behind skips room list) ≡ drop room (filter (λ m. not (skips m)) list)
+  unfolding behind
+  filter-behind zero [] = refl
+  filter-behind (suc room) [] = refl
+  filter-behind zero (message ∷ messages) = refl
+  filter-behind (suc room) (message ∷ messages) =
+      filter-behind-at room message messages (skips message) (λ n. filter-behind n messages)
+
+  behind-all-at : (room : ℕ) (message : M) (messages : List M) (skipped : Bool)
+      → ((n : ℕ) → length (filter (λ m. not (skips m)) messages) < n → behind skips n messages ≡ [])
+      → length (cond (not skipped) (message ∷ filter (λ m. not (skips m)) messages) (filter (λ m. not (skips m)) messages)) < suc room
+      → cond skipped (behind skips (suc room) messages) (behind skips room messages) ≡ []
+  behind-all-at room message messages true below fits = below (suc room) fits
+  behind-all-at room message messages false below fits = below room (omega arith)
+
+  -- behind more than there are stands none
+  behind-all : (room : ℕ) (list : List M) → length (filter (λ m. not (skips m)) list) < room → behind skips room list ≡ []
+  unfolding behind
+  behind-all room [] fits = refl
+  behind-all zero (message ∷ messages) fits = absurd (omega arith)
+  behind-all (suc room) (message ∷ messages) fits =
+      behind-all-at room message messages (skips message) (λ n. behind-all n messages) fits
+
+-- ---- what goes, and what waits on
+
+module _ {M : Type 0} (rules : Rules M) where
+  pub undrained-zero : (waiting : Waiting M) → undrained rules 0 waiting ≡ waiting
   unfolding undrained undrained_at
-  undrained-zero rules waiting = refl
+  undrained-zero waiting = refl
+
+  pub undrained-nothing : (room : ℕ) → undrained rules room nothing ≡ nothing
+  unfolding undrained undrained_at behind
+  undrained-nothing zero = refl
+  undrained-nothing (suc room) = refl
+
+  undrained-more-at : (room : ℕ) (place : Option M) (rest : List M)
+      → undrained_at rules.skips (suc room) place rest
+          ≡ undrained_at rules.skips room (undrained_at rules.skips 1 place rest).place (undrained_at rules.skips 1 place rest).rest
+  unfolding undrained_at
+  undrained-more-at zero None rest = refl
+  undrained-more-at (suc room) None rest = ap (λ left. record { place = None; rest = left }) (behind-more rules.skips (suc room) rest)
+  undrained-more-at zero (Some first) rest = refl
+  undrained-more-at (suc room) (Some first) rest = rw behind-zero refl
+
+  -- what waits on once one more went is what waits on behind the first that goes
+  pub undrained-more : (room : ℕ) (waiting : Waiting M) → undrained rules (suc room) waiting ≡ undrained rules room (undrained rules 1 waiting)
+  unfolding undrained
+  undrained-more room waiting = undrained-more-at room waiting.place waiting.rest
+
+  undrained-all-at : (room : ℕ) (place : Option M) (rest : List M)
+      → length (in_turn rules (record { place = place; rest = rest })) < room → undrained_at rules.skips room place rest ≡ nothing
+  unfolding in_turn undrained_at
+  undrained-all-at zero place rest fits = absurd (omega arith)
+  undrained-all-at (suc room) None rest fits = ap (λ left. record { place = None; rest = left }) (behind-all rules.skips (suc room) rest fits)
+  undrained-all-at (suc room) (Some first) rest fits = ap (λ left. record { place = None; rest = left }) (behind-all rules.skips room rest (omega arith))
+
+  -- where there is more room than goes, nothing waits on
+  pub undrained-all : (room : ℕ) (waiting : Waiting M) → length (in_turn rules waiting) < room → undrained rules room waiting ≡ nothing
+  unfolding undrained
+  undrained-all room waiting fits = undrained-all-at room waiting.place waiting.rest fits
+
+  pub undrained-none : (waiting : Waiting M) → front (in_turn rules waiting) ≡ None → undrained rules 1 waiting ≡ nothing
+  undrained-none waiting is =
+      let none : length (in_turn rules waiting) ≡ 0 = ap length (front-none (in_turn rules waiting) is) in
+      undrained-all 1 waiting (omega arith)
+
+  -- what waits on is the same whatever the place was
+  pub undrained-place : (first : M) (rest : List M) (room : ℕ)
+      → undrained rules (room + 1) (record { place = Some first; rest = rest }) ≡ undrained rules room (record { place = None; rest = rest })
+  unfolding undrained undrained_at
+  undrained-place first rest zero = rw behind-zero refl
+  undrained-place first rest (suc room) = rw add-one refl
+
+  in_turn-undrained-at : (room : ℕ) (place : Option M) (rest : List M)
+      → in_turn rules (undrained_at rules.skips room place rest) ≡ drop room (in_turn rules (record { place = place; rest = rest }))
+  unfolding in_turn undrained_at
+  in_turn-undrained-at zero place rest = refl
+  in_turn-undrained-at (suc room) None rest = filter-behind rules.skips (suc room) rest
+  in_turn-undrained-at (suc room) (Some first) rest = filter-behind rules.skips room rest
+
+  -- behind those that go, the others go in the same order
+  pub in_turn-undrained : (room : ℕ) (waiting : Waiting M) → in_turn rules (undrained rules room waiting) ≡ drop room (in_turn rules waiting)
+  unfolding undrained
+  in_turn-undrained room waiting = in_turn-undrained-at room waiting.place waiting.rest
+
+  pub drained-zero : (waiting : Waiting M) → drained rules 0 waiting ≡ []
+  unfolding drained
+  drained-zero waiting = take-none (in_turn rules waiting)
+
+  pub drained-more : (room : ℕ) (waiting : Waiting M) (message : M) → front (in_turn rules waiting) ≡ Some message
+      → drained rules (suc room) waiting ≡ message ∷ drained rules room (undrained rules 1 waiting)
+  unfolding drained
+  drained-more room waiting message is =
+      rw in_turn-undrained (ap (take (suc room)) (front-some (in_turn rules waiting) message is))
+
+  pub drained-none : (room : ℕ) (waiting : Waiting M) → front (in_turn rules waiting) ≡ None → drained rules room waiting ≡ []
+  unfolding drained
+  drained-none zero waiting is = take-none (in_turn rules waiting)
+  drained-none (suc room) waiting is = ap (take (suc room)) (front-none (in_turn rules waiting) is)
+
+  -- where there is room for all that goes, all goes
+  pub drained-all : (room : ℕ) (waiting : Waiting M) → length (in_turn rules waiting) ≤ room → drained rules room waiting ≡ in_turn rules waiting
+  unfolding drained
+  drained-all room waiting fits = take_all room (in_turn rules waiting) fits
+
+  -- what goes, and behind it what goes of what waits on, is what went of all
+  pub drained-undrained : (room : ℕ) (waiting : Waiting M) → drained rules room waiting ++ in_turn rules (undrained rules room waiting) ≡ in_turn rules waiting
+  unfolding drained
+  drained-undrained room waiting = rw in_turn-undrained (take-append-drop room (in_turn rules waiting))

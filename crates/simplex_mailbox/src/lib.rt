@@ -5,12 +5,14 @@
 //! its two lists, and what an overflow holds as `Waiting`.
 #![tactic(auto)]
 
+mod laws;
 mod mailbox;
 mod overflow;
 mod policy;
 mod post;
 
-pub use mailbox::Mailbox;
+pub use laws::{all_goes_in_turn, order_is_kept, place_is_forgotten, posted_are_enqueued};
+pub use mailbox::{Mailbox, leave_each};
 pub use overflow::Overflow;
 pub use policy::Policy;
 pub use post::Post;
