@@ -21,7 +21,7 @@ module _ {M : Type 0} where
 -- ---- behind some messages of a list
 
 module _ {M : Type 0} (skips : M → Bool) where
-  behind-zero : (list : List M) → behind skips 0 list ≡ list
+  pub behind-zero : (list : List M) → behind skips 0 list ≡ list
   unfolding behind
   behind-zero [] = refl
   behind-zero (message ∷ messages) = refl

@@ -1,5 +1,5 @@
 -- What waits for room in a mailbox, the policy that rules it, and the order in which it goes.
-use Rattle.std.specs.Prelude.{ℕ, zero, suc, ◌==◌, Bool, not, ◌&&◌, if◌then◌else◌, List, [], ◌∷◌, ◌++◌, length, map, filter, take, Option, Some, None}
+use Rattle.std.specs.Prelude.{ℕ, zero, suc, ◌≡◌, ◌==◌, Bool, false, not, ◌&&◌, if◌then◌else◌, List, [], ◌∷◌, ◌++◌, length, map, filter, take, Option, Some, None}
 use Rattle.std.specs.Option.{is_none, option_map, option_to_list}
 
 -- a place for one message that goes before all others, then the rest in order of arrival
@@ -13,6 +13,10 @@ pub record Rules (M : Type 0) : Type 0 where
   pub handle : Waiting M → M → Waiting M
   pub skips : M → Bool
   pub leave : ℕ → M → M
+
+-- no message is ever skipped
+abbrev pub SkipsNone : {M : Type 0} → Rules M → Type 0
+SkipsNone {M} rules = (message : M) → rules.skips message ≡ false
 
 -- the first of a list, if there is one
 abbrev pub front : {M : Type 0} → List M → Option M

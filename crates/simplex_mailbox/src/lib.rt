@@ -8,11 +8,16 @@
 mod laws;
 mod mailbox;
 mod overflow;
+mod pending;
 mod policy;
 mod post;
 
 pub use laws::{all_goes_in_turn, order_is_kept, place_is_forgotten, posted_are_enqueued};
 pub use mailbox::{Mailbox, leave_each};
 pub use overflow::Overflow;
+pub use pending::Pending;
 pub use policy::Policy;
 pub use post::Post;
+
+#[cfg(test)]
+mod tests;
