@@ -1,3 +1,4 @@
 pub mod Turns
 pub mod Fills
 pub mod Plain
+pub mod Skipped
