@@ -1,4 +1,3 @@
-pub mod Turns
 pub mod Fills
-pub mod Plain
 pub mod Skipped
+pub mod Turns

@@ -1,7 +1,7 @@
 -- What goes and what waits on, one message after another.
 use Rattle.std.proofs.Common.{ℕ, zero, suc, ◌+◌, ◌<◌, ◌≤◌, ◌≡◌, ◌∙◌, sym, refl, ap, Bool, true, false, not, cond, List, [], ◌∷◌, ◌++◌, length, filter, take, drop, Option, Some, None, arith, add-one}
 use Rattle.std.proofs.lemmas.List.{take-append-drop, take_all}
-use Rattle.simplex_mailbox.specs.Waiting.{Waiting, Rules, nothing, front, in_turn, drained, behind, undrained_at, undrained}
+use Rattle.simplex_mailbox.specs.Waiting.{Waiting, nothing, front, in_turn, drained, behind, undrained_at, undrained}
 
 -- ---- the front of a list
 
@@ -72,87 +72,87 @@ module _ {M : Type 0} (skips : M → Bool) where
 
 -- ---- what goes, and what waits on
 
-module _ {M : Type 0} (rules : Rules M) where
-  pub undrained-zero : (waiting : Waiting M) → undrained rules 0 waiting ≡ waiting
+module _ {M : Type 0} (skips : M → Bool) where
+  pub undrained-zero : (waiting : Waiting M) → undrained skips 0 waiting ≡ waiting
   unfolding undrained undrained_at
   undrained-zero waiting = refl
 
-  pub undrained-nothing : (room : ℕ) → undrained rules room nothing ≡ nothing
+  pub undrained-nothing : (room : ℕ) → undrained skips room nothing ≡ nothing
   unfolding undrained undrained_at behind
   undrained-nothing zero = refl
   undrained-nothing (suc room) = refl
 
   undrained-more-at : (room : ℕ) (place : Option M) (rest : List M)
-      → undrained_at rules.skips (suc room) place rest
-          ≡ undrained_at rules.skips room (undrained_at rules.skips 1 place rest).place (undrained_at rules.skips 1 place rest).rest
+      → undrained_at skips (suc room) place rest
+          ≡ undrained_at skips room (undrained_at skips 1 place rest).place (undrained_at skips 1 place rest).rest
   unfolding undrained_at
   undrained-more-at zero None rest = refl
-  undrained-more-at (suc room) None rest = ap (λ left. record { place = None; rest = left }) (behind-more rules.skips (suc room) rest)
+  undrained-more-at (suc room) None rest = ap (λ left. record { place = None; rest = left }) (behind-more skips (suc room) rest)
   undrained-more-at zero (Some first) rest = refl
   undrained-more-at (suc room) (Some first) rest = rw behind-zero refl
 
   -- what waits on once one more went is what waits on behind the first that goes
-  pub undrained-more : (room : ℕ) (waiting : Waiting M) → undrained rules (suc room) waiting ≡ undrained rules room (undrained rules 1 waiting)
+  pub undrained-more : (room : ℕ) (waiting : Waiting M) → undrained skips (suc room) waiting ≡ undrained skips room (undrained skips 1 waiting)
   unfolding undrained
   undrained-more room waiting = undrained-more-at room waiting.place waiting.rest
 
   undrained-all-at : (room : ℕ) (place : Option M) (rest : List M)
-      → length (in_turn rules (record { place = place; rest = rest })) < room → undrained_at rules.skips room place rest ≡ nothing
+      → length (in_turn skips (record { place = place; rest = rest })) < room → undrained_at skips room place rest ≡ nothing
   unfolding in_turn undrained_at
   undrained-all-at zero place rest fits = absurd (omega arith)
-  undrained-all-at (suc room) None rest fits = ap (λ left. record { place = None; rest = left }) (behind-all rules.skips (suc room) rest fits)
-  undrained-all-at (suc room) (Some first) rest fits = ap (λ left. record { place = None; rest = left }) (behind-all rules.skips room rest (omega arith))
+  undrained-all-at (suc room) None rest fits = ap (λ left. record { place = None; rest = left }) (behind-all skips (suc room) rest fits)
+  undrained-all-at (suc room) (Some first) rest fits = ap (λ left. record { place = None; rest = left }) (behind-all skips room rest (omega arith))
 
   -- where there is more room than goes, nothing waits on
-  pub undrained-all : (room : ℕ) (waiting : Waiting M) → length (in_turn rules waiting) < room → undrained rules room waiting ≡ nothing
+  pub undrained-all : (room : ℕ) (waiting : Waiting M) → length (in_turn skips waiting) < room → undrained skips room waiting ≡ nothing
   unfolding undrained
   undrained-all room waiting fits = undrained-all-at room waiting.place waiting.rest fits
 
-  pub undrained-none : (waiting : Waiting M) → front (in_turn rules waiting) ≡ None → undrained rules 1 waiting ≡ nothing
+  pub undrained-none : (waiting : Waiting M) → front (in_turn skips waiting) ≡ None → undrained skips 1 waiting ≡ nothing
   undrained-none waiting is =
-      let none : length (in_turn rules waiting) ≡ 0 = ap length (front-none (in_turn rules waiting) is) in
+      let none : length (in_turn skips waiting) ≡ 0 = ap length (front-none (in_turn skips waiting) is) in
       undrained-all 1 waiting (omega arith)
 
   -- what waits on is the same whatever the place was
   pub undrained-place : (first : M) (rest : List M) (room : ℕ)
-      → undrained rules (room + 1) (record { place = Some first; rest = rest }) ≡ undrained rules room (record { place = None; rest = rest })
+      → undrained skips (room + 1) (record { place = Some first; rest = rest }) ≡ undrained skips room (record { place = None; rest = rest })
   unfolding undrained undrained_at
   undrained-place first rest zero = rw behind-zero refl
   undrained-place first rest (suc room) = rw add-one refl
 
   in_turn-undrained-at : (room : ℕ) (place : Option M) (rest : List M)
-      → in_turn rules (undrained_at rules.skips room place rest) ≡ drop room (in_turn rules (record { place = place; rest = rest }))
+      → in_turn skips (undrained_at skips room place rest) ≡ drop room (in_turn skips (record { place = place; rest = rest }))
   unfolding in_turn undrained_at
   in_turn-undrained-at zero place rest = refl
-  in_turn-undrained-at (suc room) None rest = filter-behind rules.skips (suc room) rest
-  in_turn-undrained-at (suc room) (Some first) rest = filter-behind rules.skips room rest
+  in_turn-undrained-at (suc room) None rest = filter-behind skips (suc room) rest
+  in_turn-undrained-at (suc room) (Some first) rest = filter-behind skips room rest
 
   -- behind those that go, the others go in the same order
-  pub in_turn-undrained : (room : ℕ) (waiting : Waiting M) → in_turn rules (undrained rules room waiting) ≡ drop room (in_turn rules waiting)
+  pub in_turn-undrained : (room : ℕ) (waiting : Waiting M) → in_turn skips (undrained skips room waiting) ≡ drop room (in_turn skips waiting)
   unfolding undrained
   in_turn-undrained room waiting = in_turn-undrained-at room waiting.place waiting.rest
 
-  pub drained-zero : (waiting : Waiting M) → drained rules 0 waiting ≡ []
+  pub drained-zero : (waiting : Waiting M) → drained skips 0 waiting ≡ []
   unfolding drained
-  drained-zero waiting = take-none (in_turn rules waiting)
+  drained-zero waiting = take-none (in_turn skips waiting)
 
-  pub drained-more : (room : ℕ) (waiting : Waiting M) (message : M) → front (in_turn rules waiting) ≡ Some message
-      → drained rules (suc room) waiting ≡ message ∷ drained rules room (undrained rules 1 waiting)
+  pub drained-more : (room : ℕ) (waiting : Waiting M) (message : M) → front (in_turn skips waiting) ≡ Some message
+      → drained skips (suc room) waiting ≡ message ∷ drained skips room (undrained skips 1 waiting)
   unfolding drained
   drained-more room waiting message is =
-      rw in_turn-undrained (ap (take (suc room)) (front-some (in_turn rules waiting) message is))
+      rw in_turn-undrained (ap (take (suc room)) (front-some (in_turn skips waiting) message is))
 
-  pub drained-none : (room : ℕ) (waiting : Waiting M) → front (in_turn rules waiting) ≡ None → drained rules room waiting ≡ []
+  pub drained-none : (room : ℕ) (waiting : Waiting M) → front (in_turn skips waiting) ≡ None → drained skips room waiting ≡ []
   unfolding drained
-  drained-none zero waiting is = take-none (in_turn rules waiting)
-  drained-none (suc room) waiting is = ap (take (suc room)) (front-none (in_turn rules waiting) is)
+  drained-none zero waiting is = take-none (in_turn skips waiting)
+  drained-none (suc room) waiting is = ap (take (suc room)) (front-none (in_turn skips waiting) is)
 
   -- where there is room for all that goes, all goes
-  pub drained-all : (room : ℕ) (waiting : Waiting M) → length (in_turn rules waiting) ≤ room → drained rules room waiting ≡ in_turn rules waiting
+  pub drained-all : (room : ℕ) (waiting : Waiting M) → length (in_turn skips waiting) ≤ room → drained skips room waiting ≡ in_turn skips waiting
   unfolding drained
-  drained-all room waiting fits = take_all room (in_turn rules waiting) fits
+  drained-all room waiting fits = take_all room (in_turn skips waiting) fits
 
   -- what goes, and behind it what goes of what waits on, is what went of all
-  pub drained-undrained : (room : ℕ) (waiting : Waiting M) → drained rules room waiting ++ in_turn rules (undrained rules room waiting) ≡ in_turn rules waiting
+  pub drained-undrained : (room : ℕ) (waiting : Waiting M) → drained skips room waiting ++ in_turn skips (undrained skips room waiting) ≡ in_turn skips waiting
   unfolding drained
-  drained-undrained room waiting = rw in_turn-undrained (take-append-drop room (in_turn rules waiting))
+  drained-undrained room waiting = rw in_turn-undrained (take-append-drop room (in_turn skips waiting))

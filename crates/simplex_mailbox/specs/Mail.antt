@@ -2,7 +2,7 @@
 use Rattle.std.specs.Prelude.{ℕ, ◌-◌, ◌<◌, ◌≤◌, ◌==◌, nat_lt, Bool, true, false, ◌&&◌, if◌then◌else◌, IsTrue, List, [], ◌∷◌, ◌++◌, length, map, Option}
 use Rattle.simplex_values.specs.declared.feedback.Feedback.{Feedback}
 use Rattle.simplex_values.specs.declared.feedback.Feedback.TheVariants as feedback
-use Rattle.simplex_mailbox.specs.Waiting.{Waiting, Rules, nothing, is_clear, without, front, drained, undrained}
+use Rattle.simplex_mailbox.specs.Waiting.{Waiting, nothing, is_clear, without, front, drained, undrained}
 
 -- at most so many messages that are ready to be taken, what waits for room, and whether the receiver is gone
 pub record Mail (M : Type 0) : Type 0 where
@@ -37,37 +37,37 @@ module _ {M : Type 0} where
   feedback_of mail = if mail.closed then feedback.Closed else if has_room mail then feedback.Ok else feedback.Backoff
 
   -- a message came: it is last among the ready ones where there is room, else the policy has it
-  unfoldable pub enqueued : Rules M → Mail M → M → Mail M
-  enqueued rules mail message =
+  unfoldable pub enqueued : (handle : Waiting M → M → Waiting M) → Mail M → M → Mail M
+  enqueued handle mail message =
       if mail.closed then mail
       else if has_room mail then record mail { ready = mail.ready ++ message ∷ [] }
-      else record mail { waiting = rules.handle mail.waiting message }
+      else record mail { waiting = handle mail.waiting message }
 
   -- these messages came, in this order
-  unfoldable pub all_enqueued : Rules M → Mail M → List M → Mail M
-  all_enqueued rules mail [] = mail
-  all_enqueued rules mail (message ∷ messages) = all_enqueued rules (enqueued rules mail message) messages
+  unfoldable pub all_enqueued : (handle : Waiting M → M → Waiting M) → Mail M → List M → Mail M
+  all_enqueued handle mail [] = mail
+  all_enqueued handle mail (message ∷ messages) = all_enqueued handle (enqueued handle mail message) messages
 
   -- the message that is taken
   abbrev pub received : Mail M → Option M
   received mail = front mail.ready
 
   -- the first of these was taken: the others are ready, and what waits fills the room behind them
-  unfoldable pub taken_from : Rules M → List M → Mail M → Mail M
-  taken_from rules [] mail = mail
-  taken_from rules (message ∷ ready) mail =
+  unfoldable pub taken_from : (skips : M → Bool) → List M → Mail M → Mail M
+  taken_from skips [] mail = mail
+  taken_from skips (message ∷ ready) mail =
       let room = mail.capacity - length ready in
-      record mail { ready = ready ++ drained rules room mail.waiting; waiting = undrained rules room mail.waiting }
+      record mail { ready = ready ++ drained skips room mail.waiting; waiting = undrained skips room mail.waiting }
 
   -- what is held once a message was taken
-  unfoldable pub after_recv : Rules M → Mail M → Mail M
-  after_recv rules mail = taken_from rules mail.ready mail
+  unfoldable pub after_recv : (skips : M → Bool) → Mail M → Mail M
+  after_recv skips mail = taken_from skips mail.ready mail
 
   -- the receiver is gone
   abbrev pub after_close : Mail M → Mail M
   after_close mail = record mail { closed = true }
 
   -- the requester of this number left
-  unfoldable pub after_leave : Rules M → ℕ → Mail M → Mail M
-  after_leave rules id mail =
-      record mail { ready = map (rules.leave id) mail.ready; waiting = without rules id mail.waiting }
+  unfoldable pub after_leave : (leave : ℕ → M → M) → ℕ → Mail M → Mail M
+  after_leave leave id mail =
+      record mail { ready = map (leave id) mail.ready; waiting = without leave id mail.waiting }

@@ -11,13 +11,15 @@ mod overflow;
 mod pending;
 mod policy;
 mod post;
+mod requested;
 
 pub use laws::{all_goes_in_turn, order_is_kept, place_is_forgotten, posted_are_enqueued};
-pub use mailbox::{Mailbox, leave_each};
+pub use mailbox::Mailbox;
 pub use overflow::Overflow;
 pub use pending::Pending;
 pub use policy::Policy;
 pub use post::Post;
+pub use requested::Requested;
 
 #[cfg(test)]
 mod tests;

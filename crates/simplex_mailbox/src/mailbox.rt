@@ -1,5 +1,5 @@
 //! A bounded mailbox for one thread.
-ghost use Rattle.std.specs.Prelude.{◌≡◌, ◌-◌, ◌<◌, ◌≤◌, ◌↔◌, ◌++◌, length, map, IsTrue, IsNone, IsOk, IfOk, OnOk, OnErr};
+ghost use Rattle.std.specs.Prelude.{◌≡◌, ◌-◌, ◌<◌, ◌≤◌, ◌↔◌, ◌++◌, length, IsTrue, IsNone, IsOk, IfOk, OnOk, OnErr};
 ghost use Rattle.std.specs.VecDeque.{deque_capacity};
 ghost use Rattle.simplex_values.specs.declared.feedback.Feedback.TheVariants as feedback;
 ghost use Rattle.simplex_mailbox.specs.Waiting.{is_clear, drained, undrained};
@@ -8,6 +8,7 @@ ghost use Rattle.simplex_mailbox.specs.Mail.{no_mail, holds_nothing, feedback_of
 use crate::overflow::Overflow;
 use crate::policy::Policy;
 use crate::post::Post;
+use crate::requested::leave_each;
 use simplex_values::Feedback;
 use std::alloc::{AllocError, Global};
 use std::collections::VecDeque;
@@ -52,7 +53,7 @@ impl<M: Policy> Mailbox<M> {
     #[tactic(auto, unfolding(crate::specs::Mail::feedback_of, crate::specs::Mail::enqueued))]
     pub fn enqueue(&mut self, message: M) -> Result<Feedback, AllocError>
         ensures feedback { IfOk result (λ feedback. feedback ≡ feedback_of self.old) }
-        ensures ok { OnOk result (self.new ≡ enqueued M.Overflow.rules self.old message) }
+        ensures ok { OnOk result (self.new ≡ enqueued M.handle self.old message) }
         ensures err { OnErr result (self.new ≡ self.old) }
         ensures memory { OnErr result (feedback_of self.old ≡ feedback.Backoff) }
     {
@@ -71,7 +72,7 @@ impl<M: Policy> Mailbox<M> {
     #[tactic(auto, unfolding(crate::specs::Mail::taken_from, crate::specs::Mail::after_recv))]
     pub fn recv(&mut self) -> Option<M>
         ensures message { result ≡ received self.old }
-        ensures after { self.new ≡ after_recv M.Overflow.rules self.old }
+        ensures after { self.new ≡ after_recv M.is_skipped self.old }
         ensures none { IsNone result ↔ IsTrue (holds_nothing self.old) }
     {
         let message = self.ready.pop_front()?;
@@ -96,7 +97,7 @@ impl<M: Policy> Mailbox<M> {
     /// Tells each message that the requester of this number left.
     #[tactic(auto, unfolding(crate::specs::Mail::after_leave))]
     pub fn leave(&mut self, id: u64)
-        ensures { self.new ≡ after_leave M.Overflow.rules id self.old }
+        ensures { self.new ≡ after_leave M.leave id self.old }
     {
         leave_each(self.ready.make_contiguous(), id);
         self.overflow.leave(id);
@@ -104,7 +105,7 @@ impl<M: Policy> Mailbox<M> {
 }
 
 impl<M: Policy> Post<M> for Mailbox<M> {
-    ghost puts = { λ before message answer after. (answer ≡ feedback_of before) × (after ≡ enqueued M.Overflow.rules before message) };
+    ghost puts = { λ before message answer after. (answer ≡ feedback_of before) × (after ≡ enqueued M.handle before message) };
 
     fn enqueue(&mut self, message: M) -> Result<Feedback, AllocError> {
         Mailbox::enqueue(self, message)
@@ -114,8 +115,8 @@ impl<M: Policy> Post<M> for Mailbox<M> {
 /// Makes ready what waits, while fewer than `capacity` are ready.
 fn refill<M: Policy>(ready: &mut VecDeque<M>, overflow: &mut M::Overflow, capacity: u32)
     requires { capacity ≤ deque_capacity ready.old }
-    ensures ready { ready.new.items ≡ ready.old.items ++ drained M.Overflow.rules (capacity - length ready.old.items) (M.Overflow.waiting overflow.old) }
-    ensures overflow { M.Overflow.waiting overflow.new ≡ undrained M.Overflow.rules (capacity - length ready.old.items) (M.Overflow.waiting overflow.old) }
+    ensures ready { ready.new.items ≡ ready.old.items ++ drained M.is_skipped (capacity - length ready.old.items) (M.Overflow.waiting overflow.old) }
+    ensures overflow { M.Overflow.waiting overflow.new ≡ undrained M.is_skipped (capacity - length ready.old.items) (M.Overflow.waiting overflow.old) }
     ensures memory { deque_capacity ready.new ≡ deque_capacity ready.old }
     ensures within { length ready.old.items ≤ capacity → length ready.new.items ≤ capacity }
     ensures full { length ready.new.items < capacity → IsTrue (is_clear (M.Overflow.waiting overflow.new)) }
@@ -125,14 +126,5 @@ fn refill<M: Policy>(ready: &mut VecDeque<M>, overflow: &mut M::Overflow, capaci
             Some(message) => ready.push_back_reserved(message),
             None => return,
         }
-    }
-}
-
-/// Tells each message that the requester of this number left.
-pub fn leave_each<M: Policy>(messages: &mut [M], id: u64)
-    ensures { messages.new ≡ map (M.Overflow.rules.leave id) messages.old }
-{
-    for message in messages {
-        message.leave(id);
     }
 }

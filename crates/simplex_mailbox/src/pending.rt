@@ -1,10 +1,10 @@
-//! The pending messages that most policies keep.
+//! The overflow of a policy: one place, and the rest in order of arrival.
 ghost use Rattle.std.specs.Prelude.{◌≡◌, OnOk, OnErr};
-ghost use Rattle.simplex_mailbox.specs.Waiting.{Rules, SkipsNone, nothing, is_clear, put_last, front, in_turn, undrained, without};
+ghost use Rattle.simplex_mailbox.specs.Waiting.{put_last, only_rest, front, in_turn, undrained};
 ghost use Rattle.simplex_mailbox.specs.Pending.{waits_in};
 
-use crate::mailbox::leave_each;
-use crate::policy::Policy;
+use crate::overflow::Overflow;
+use crate::requested::{Requested, leave_each};
 use std::alloc::{AllocError, Global};
 use std::collections::VecDeque;
 
@@ -18,23 +18,6 @@ pub struct Pending<M> {
 }
 
 impl<M: Drop> Pending<M> {
-    /// Nothing waits. Takes no memory.
-    pub fn new(alloc: Global) -> Pending<M>
-        ensures { waits_in result ≡ nothing }
-    {
-        Pending {
-            place: None,
-            rest: VecDeque::new(alloc),
-        }
-    }
-
-    /// Whether nothing waits.
-    pub fn is_empty(&self) -> bool
-        ensures { result ≡ is_clear (waits_in self.now) }
-    {
-        self.place.is_none() && self.rest.is_empty()
-    }
-
     /// Puts the message behind all others, or leaves all as it was for want of memory.
     pub fn push(&mut self, message: M) -> Result<(), AllocError>
         ensures ok { OnOk result (waits_in self.new ≡ put_last (waits_in self.old) message) }
@@ -43,27 +26,46 @@ impl<M: Drop> Pending<M> {
         self.rest.push_back(message)?;
         Ok(())
     }
-
-    /// Takes the place, else the first of the rest: what goes next where no message is ever skipped.
-    pub fn pop(&mut self) -> Option<M>
-        ensures message { (rules : Rules M) → SkipsNone rules → result ≡ front (in_turn rules (waits_in self.old)) }
-        ensures rest { (rules : Rules M) → SkipsNone rules → waits_in self.new ≡ undrained rules 1 (waits_in self.old) }
-    {
-        match self.place.take() {
-            Some(first) => Some(first),
-            None => self.rest.pop_front(),
-        }
-    }
 }
 
-impl<M: Policy> Pending<M> {
-    /// Tells each message that the requester of this number left.
-    pub fn leave(&mut self, id: u64)
-        ensures { waits_in self.new ≡ without M.Overflow.rules id (waits_in self.old) }
-    {
+impl<M: Requested> Overflow<M> for Pending<M> {
+    ghost waiting = { waits_in };
+
+    fn new(alloc: Global) -> Pending<M> {
+        Pending {
+            place: None,
+            rest: VecDeque::new(alloc),
+        }
+    }
+
+    fn is_empty(&self) -> bool {
+        self.place.is_none() && self.rest.is_empty()
+    }
+
+    fn pop(&mut self) -> Option<M> {
+        match self.place.take() {
+            Some(first) => Some(first),
+            None => next_kept(&mut self.rest),
+        }
+    }
+
+    fn leave(&mut self, id: u64) {
         if let Some(first) = &mut self.place {
             first.leave(id);
         }
         leave_each(self.rest.make_contiguous(), id);
     }
+}
+
+/// Takes the first message that is not skipped. The skipped ones before it are dropped.
+fn next_kept<M: Requested>(rest: &mut VecDeque<M>) -> Option<M>
+    ensures message { result ≡ front (in_turn M.is_skipped (only_rest rest.old.items)) }
+    ensures rest { only_rest rest.new.items ≡ undrained M.is_skipped 1 (only_rest rest.old.items) }
+{
+    while let Some(message) = rest.pop_front() {
+        if !message.is_skipped() {
+            return Some(message);
+        }
+    }
+    None
 }

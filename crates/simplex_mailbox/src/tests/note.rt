@@ -1,10 +1,9 @@
 //! The messages of the tests: an urgent note takes the place, and a note is skipped once its writer left.
-ghost use Rattle.std.specs.Prelude.{◌≡◌, ◌==◌, ◌&&◌, if◌then◌else◌, not, Option, OnOk, OnErr};
+ghost use Rattle.std.specs.Prelude.{◌≡◌, ◌==◌, ◌&&◌, if◌then◌else◌, not, Option};
 ghost use Rattle.simplex_mailbox.specs.Waiting.{put_last};
-ghost use Rattle.simplex_mailbox.specs.Pending.{waits_in};
 
-use crate::{Overflow, Pending, Policy};
-use std::alloc::{AllocError, Global};
+use crate::{Pending, Policy, Requested};
+use std::alloc::AllocError;
 
 /// A note of a writer.
 #[derive(Clone, Copy, Debug, PartialEq, Eq)]
@@ -14,42 +13,26 @@ pub struct Note {
     pub waits: bool,
 }
 
-impl Overflow<Note> for Pending<Note> {
-    ghost rules = { record {
-        handle = λ waiting note. if note.is_urgent then record waiting { place = Option.Some note } else put_last waiting note;
-        skips = λ note. not note.waits;
-        leave = λ id note. record note { waits = note.waits && not (note.writer == id) };
-    } };
+impl Requested for Note {
+    ghost is_skipped = { λ note. not note.waits };
 
-    ghost waiting = { waits_in };
+    ghost leave = { λ id note. record note { waits = note.waits && not (note.writer == id) } };
 
-    fn new(alloc: Global) -> Pending<Note> {
-        Pending::new(alloc)
-    }
-
-    fn is_empty(&self) -> bool {
-        self.is_empty()
-    }
-
-    fn pop(&mut self) -> Option<Note> {
-        if let Some(first) = self.place.take() {
-            return Some(first);
-        }
-        while let Some(note) = self.rest.pop_front() {
-            if note.waits {
-                return Some(note);
-            }
-        }
-        None
+    fn is_skipped(&self) -> bool {
+        !self.waits
     }
 
     fn leave(&mut self, id: u64) {
-        self.leave(id)
+        if self.writer == id {
+            self.waits = false;
+        }
     }
 }
 
 impl Policy for Note {
     type Overflow = Pending<Note>;
+
+    ghost handle = { λ waiting note. if note.is_urgent then record waiting { place = Option.Some note } else put_last waiting note };
 
     fn handle(pending: &mut Pending<Note>, note: Note) -> Result<(), AllocError> {
         if note.is_urgent {
@@ -57,11 +40,5 @@ impl Policy for Note {
             return Ok(());
         }
         pending.push(note)
-    }
-
-    fn leave(&mut self, id: u64) {
-        if self.writer == id {
-            self.waits = false;
-        }
     }
 }
