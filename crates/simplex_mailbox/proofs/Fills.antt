@@ -1,5 +1,5 @@
 -- The ready queue fills up from what waits.
-use Rattle.std.proofs.Common.{ℕ, zero, suc, ◌+◌, ◌-◌, ◌<◌, ◌≤◌, ◌≡◌, ◌∙◌, sym, refl, ap, Bool, true, IsTrue, List, [], ◌∷◌, ◌++◌, length, append_assoc, length-append, Some, None, arith}
+use Rattle.std.proofs.Common.{ℕ, suc, ◌+◌, ◌-◌, ◌<◌, ◌≤◌, ◌≡◌, ◌∙◌, sym, refl, ap, Bool, IsTrue, List, [], ◌∷◌, ◌++◌, length, append_assoc, length-append, Some, None, arith}
 use Rattle.std.proofs.lemmas.List.{append-nil}
 use Rattle.simplex_mailbox.specs.Waiting.{Waiting, nothing, is_clear, front, in_turn, drained, undrained}
 use Rattle.simplex_mailbox.proofs.Turns.{drained-more, drained-none, undrained-more, undrained-none, undrained-nothing, undrained-zero, drained-zero}
@@ -56,8 +56,8 @@ module _ {M : Type 0} where
           ready_is = sym (rw (drained-none skips (capacity - length ready) waits is) (append-nil ready)) ∙ fills.ready_then;
           waits_is =
               clear
-                  ∙ sym (rw (one, undrained-more skips _ waits, undrained-none skips waits is) (undrained-nothing skips _))
-                  ∙ fills.waits_then;
+              ∙ sym (rw (one, undrained-more skips _ waits, undrained-none skips waits is) (undrained-nothing skips _))
+              ∙ fills.waits_then;
           within = fills.within;
           full = λ _. rw clear refl;
         }

@@ -1,5 +1,5 @@
 -- What goes where messages are skipped, one message of the rest after another.
-use Rattle.std.proofs.Common.{ℕ, ◌≡◌, ◌∙◌, sym, refl, ap, Bool, true, false, not, cond, List, [], ◌∷◌, ◌++◌, filter, drop, length, suc, Option, Some, None, arith}
+use Rattle.std.proofs.Common.{◌≡◌, ◌∙◌, sym, refl, ap, Bool, true, false, List, [], ◌∷◌, drop, length, suc, Option, Some, None, arith}
 use Rattle.simplex_mailbox.specs.Waiting.{Waiting, nothing, only_rest, front, in_turn, behind, undrained_at, undrained}
 use Rattle.simplex_mailbox.proofs.Turns.{behind-zero, undrained-zero, undrained-place}
 

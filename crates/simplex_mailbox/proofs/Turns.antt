@@ -1,5 +1,5 @@
 -- What goes and what waits on, one message after another.
-use Rattle.std.proofs.Common.{ℕ, zero, suc, ◌+◌, ◌<◌, ◌≤◌, ◌≡◌, ◌∙◌, sym, refl, ap, Bool, true, false, not, cond, List, [], ◌∷◌, ◌++◌, length, filter, take, drop, Option, Some, None, arith, add-one}
+use Rattle.std.proofs.Common.{ℕ, zero, suc, ◌+◌, ◌<◌, ◌≤◌, ◌≡◌, refl, ap, Bool, true, false, not, cond, List, [], ◌∷◌, ◌++◌, length, filter, take, drop, Option, Some, None, arith, add-one}
 use Rattle.std.proofs.lemmas.List.{take-append-drop, take_all}
 use Rattle.simplex_mailbox.specs.Waiting.{Waiting, nothing, front, in_turn, drained, behind, undrained_at, undrained}
 
@@ -29,7 +29,7 @@ module _ {M : Type 0} (skips : M → Bool) where
   behind-more-at : (room : ℕ) (messages : List M) (skipped : Bool)
       → behind skips (suc room) messages ≡ behind skips room (behind skips 1 messages)
       → cond skipped (behind skips (suc room) messages) (behind skips room messages)
-          ≡ behind skips room (cond skipped (behind skips 1 messages) (behind skips 0 messages))
+      ≡ behind skips room (cond skipped (behind skips 1 messages) (behind skips 0 messages))
   behind-more-at room messages true more = more
   behind-more-at room messages false more = rw behind-zero refl
 
@@ -41,7 +41,7 @@ module _ {M : Type 0} (skips : M → Bool) where
   filter-behind-at : (room : ℕ) (message : M) (messages : List M) (skipped : Bool)
       → ((n : ℕ) → filter (λ m. not (skips m)) (behind skips n messages) ≡ drop n (filter (λ m. not (skips m)) messages))
       → filter (λ m. not (skips m)) (cond skipped (behind skips (suc room) messages) (behind skips room messages))
-          ≡ drop (suc room) (cond (not skipped) (message ∷ filter (λ m. not (skips m)) messages) (filter (λ m. not (skips m)) messages))
+      ≡ drop (suc room) (cond (not skipped) (message ∷ filter (λ m. not (skips m)) messages) (filter (λ m. not (skips m)) messages))
   filter-behind-at room message messages true below = below (suc room)
   filter-behind-at room message messages false below = below room
 
@@ -84,7 +84,7 @@ module _ {M : Type 0} (skips : M → Bool) where
 
   undrained-more-at : (room : ℕ) (place : Option M) (rest : List M)
       → undrained_at skips (suc room) place rest
-          ≡ undrained_at skips room (undrained_at skips 1 place rest).place (undrained_at skips 1 place rest).rest
+      ≡ undrained_at skips room (undrained_at skips 1 place rest).place (undrained_at skips 1 place rest).rest
   unfolding undrained_at
   undrained-more-at zero None rest = refl
   undrained-more-at (suc room) None rest = ap (λ left. record { place = None; rest = left }) (behind-more skips (suc room) rest)
