@@ -1,0 +1,4 @@
+pub mod Mail
+pub mod Pending
+pub mod Post
+pub mod Waiting
