@@ -5,7 +5,7 @@ use Rattle.std.proofs.lemmas.Bool.{cases_order}
 use Rattle.std.proofs.lemmas.Bool.Decides.{nat_tests}
 use Rattle.std.proofs.lemmas.List.{append-nil}
 use Rattle.simplex_wire.specs.declared.artifact.Artifact.{Artifact}
-use Rattle.simplex_journal.specs.Journal.{Section, opened_section, appended_section, synced_section, crashed_section, appended, appended_all, synced_at, all_synced, recorded, pruned, pruned_first, crashed, replayed, kept, waiting, AllAbove, IsRising}
+use Rattle.simplex_journal.specs.Journal.{Section, opened_section, appended_section, synced_section, crashed_section, appended, appended_all, synced_at, all_synced, recorded, pruned, pruned_first, crashed, replayed, kept, waiting}
 
 -- ---- where nothing is pending
 
@@ -34,6 +34,21 @@ crashed-rested keep (s ∷ rest) h =
     rw (none, later, ← gone)
 
 -- ---- appends
+
+-- An append to the first section.
+pub appended-here : (n : ℕ) (a : Artifact) (s : Section) (rest : List Section) → n ≡ s.number → appended n a (s ∷ rest) ≡ appended_section a s ∷ rest
+unfolding appended
+appended-here n a s rest same = grind (arith, common_steps, nat_tests)
+
+-- An append before the first section opens one.
+pub appended-below : (n : ℕ) (a : Artifact) (s : Section) (rest : List Section) → n < s.number → appended n a (s ∷ rest) ≡ opened_section n a ∷ s ∷ rest
+unfolding appended
+appended-below n a s rest below = grind (arith, common_steps, nat_tests)
+
+-- An append behind the first section leaves it.
+pub appended-past : (n : ℕ) (a : Artifact) (s : Section) (rest : List Section) → s.number < n → appended n a (s ∷ rest) ≡ s ∷ appended n a rest
+unfolding appended
+appended-past n a s rest above = grind (arith, common_steps, nat_tests)
 
 -- An append leaves the synced records.
 pub kept-appended : (n : ℕ) (a : Artifact) (js : List Section) → kept (appended n a js) ≡ kept js

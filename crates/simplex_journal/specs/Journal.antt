@@ -1,5 +1,7 @@
 -- What a journal keeps: a list of sections, in rising order of their numbers.
-use Rattle.std.specs.Prelude.{ℕ, ◌<◌, ◌-◌, ◌==◌, ◌&&◌, nat_lt, nat_le, if◌then◌else◌, List, [], ◌∷◌, ◌++◌, take, map, filter}
+use Rattle.std.specs.Prelude.{All, ◌≡◌, ℕ, ◌-◌, ◌==◌, ◌&&◌, nat_lt, nat_le, if◌then◌else◌, List, [], ◌∷◌, ◌++◌, take, map, filter}
+use Rattle.std.specs.Ordering.{nat_cmp}
+use Rattle.std.specs.List.Sorted.{IsStrictlySortedBy}
 use Rattle.simplex_wire.specs.declared.artifact.Artifact.{Artifact}
 
 -- One section: its synced records, and behind them the pending ones. It is there from its first append
@@ -89,12 +91,16 @@ unfoldable pub waiting : List Section → List Artifact
 waiting [] = []
 waiting (s ∷ rest) = s.pending ++ waiting rest
 
--- Each section has a greater number than this one.
-unfoldable pub AllAbove : ℕ → List Section → Type 0
-AllAbove number [] = Unit {0}
-AllAbove number (s ∷ rest) = (number < s.number) × AllAbove number rest
+-- The numbers of the sections, in order.
+unfoldable pub numbers : List Section → List ℕ
+numbers [] = []
+numbers (s ∷ rest) = s.number ∷ numbers rest
 
 -- The numbers of the sections rise.
-unfoldable pub IsRising : List Section → Type 0
-IsRising [] = Unit {0}
-IsRising (s ∷ rest) = AllAbove s.number rest × IsRising rest
+abbrev pub IsRising : List Section → Type 0
+IsRising sections = IsStrictlySortedBy nat_cmp (numbers sections)
+
+-- Each record stands in the section of its place.
+unfoldable pub IsPlaced : (Artifact → ℕ) → List Section → Type 0
+IsPlaced place [] = Unit {0}
+IsPlaced place (s ∷ rest) = All (λ artifact. place artifact ≡ s.number) (s.synced ++ s.pending) × IsPlaced place rest
