@@ -1,5 +1,5 @@
 -- The numbers of the sections rise, whatever is called.
-use Rattle.std.proofs.Common.{◌≡◌, ◌≤◌, ◌<◌, ◌==◌, ℕ, ◌+◌, ◌-◌, nat_lt, inl, inr, refl, sym, ap, ◌∙◌, List, [], ◌∷◌, ◌++◌, arith, subst, length, ◌⊎◌}
+use Rattle.std.proofs.Common.{◌≡◌, ◌≤◌, ◌<◌, ℕ, ◌-◌, inl, inr, refl, sym, ap, List, [], ◌∷◌, arith, subst, length, ◌⊎◌}
 use Rattle.std.specs.Ordering.{nat_cmp}
 use Rattle.std.specs.List.{AllByRecursion}
 use Rattle.std.specs.List.Sorted.{IsStrictlySortedBy}
@@ -8,7 +8,8 @@ use Rattle.std.proofs.lemmas.Grind.{common_steps}
 use Rattle.std.proofs.lemmas.Bool.{cases_order, cases_lt}
 use Rattle.std.proofs.lemmas.Bool.Decides.{nat_tests}
 use Rattle.simplex_wire.specs.declared.artifact.Artifact.{Artifact}
-use Rattle.simplex_journal.specs.Journal.{Section, opened_section, appended_section, synced_section, crashed_section, appended, synced_at, all_synced, pruned, pruned_first, crashed, numbers, IsRising}
+use Rattle.simplex_journal.specs.Contents.{numbers, IsRising}
+use Rattle.simplex_journal.specs.Journal.{Section, opened_section, appended_section, synced_section, crashed_section, appended, synced_at, all_synced, pruned, pruned_first, crashed}
 use Rattle.simplex_journal.proofs.Entries.{pruned_first-all}
 use Rattle.simplex_journal.proofs.Contents.{appended-here, appended-below, appended-past}
 
@@ -58,9 +59,10 @@ above_appended m n a [] below h = subst (λ (js : List Section). AllByRecursion 
 above_appended m n a (s ∷ rest) below h =
     let P : List Section → Type 0 = λ js. AllByRecursion (λ k. nat_cmp m k ≡ Less) (numbers js) in
     elim (cases_order n s.number) [
-        inl same ↦ subst P (sym (appended-here n a s rest same)) h
+      | inl same ↦ subst P (sym (appended-here n a s rest same)) h
       | inr (inl before) ↦ subst P (sym (appended-below n a s rest before)) (less m n below, h)
-      | inr (inr above) ↦ subst P (sym (appended-past n a s rest above)) (h.0, above_appended m n a rest below h.1) ]
+      | inr (inr above) ↦ subst P (sym (appended-past n a s rest above)) (h.0, above_appended m n a rest below h.1)
+    ]
 
 -- An append keeps the order.
 pub IsRising-appended : (n : ℕ) (a : Artifact) (js : List Section) → IsRising js → IsRising (appended n a js)
@@ -69,9 +71,10 @@ IsRising-appended n a [] h = subst (λ (js : List Section). IsRising js) (sym (a
 IsRising-appended n a (s ∷ rest) h =
     let P : List Section → Type 0 = λ js. IsRising js in
     elim (cases_order n s.number) [
-        inl same ↦ subst P (sym (appended-here n a s rest same)) h
+      | inl same ↦ subst P (sym (appended-here n a s rest same)) h
       | inr (inl before) ↦ subst P (sym (appended-below n a s rest before)) ((less n s.number before, above_lower n s.number (numbers rest) before h.0), h)
-      | inr (inr above) ↦ subst P (sym (appended-past n a s rest above)) (above_appended s.number n a rest above h.0, IsRising-appended n a rest h.1) ]
+      | inr (inr above) ↦ subst P (sym (appended-past n a s rest above)) (above_appended s.number n a rest above h.0, IsRising-appended n a rest h.1)
+    ]
 
 -- A prune of no section.
 pruned_first-empty : (count least : ℕ) → pruned_first count least [] ≡ []
@@ -81,13 +84,15 @@ pruned_first-empty count least = refl
 -- A prune in part drops the first section, or leaves it.
 pruned_first-cases : (count least : ℕ) (s : Section) (rest : List Section)
     → (pruned_first count least (s ∷ rest) ≡ pruned_first (count - 1) least rest)
-      ⊎ (pruned_first count least (s ∷ rest) ≡ s ∷ pruned_first count least rest)
+    ⊎ (pruned_first count least (s ∷ rest) ≡ s ∷ pruned_first count least rest)
 unfolding pruned_first
 pruned_first-cases count least s rest = elim (cases_lt s.number least) [
-    inl below ↦ elim (cases_lt 0 count) [
-        inl some ↦ inl (grind (arith, common_steps, nat_tests))
-      | inr none ↦ inr (grind (arith, common_steps, nat_tests)) ]
-  | inr above ↦ inr (grind (arith, common_steps, nat_tests)) ]
+  | inl below ↦ elim (cases_lt 0 count) [
+    | inl some ↦ inl (grind (arith, common_steps, nat_tests))
+    | inr none ↦ inr (grind (arith, common_steps, nat_tests))
+  ]
+  | inr above ↦ inr (grind (arith, common_steps, nat_tests))
+]
 
 -- What is left of a prune in part is above m, where all was.
 above_pruned_first : (m count least : ℕ) (js : List Section) → AllByRecursion (λ k. nat_cmp m k ≡ Less) (numbers js)
@@ -97,8 +102,9 @@ above_pruned_first m count least [] h = subst (λ (js : List Section). AllByRecu
 above_pruned_first m count least (s ∷ rest) h =
     let P : List Section → Type 0 = λ js. AllByRecursion (λ k. nat_cmp m k ≡ Less) (numbers js) in
     elim (pruned_first-cases count least s rest) [
-        inl drops ↦ subst P (sym drops) (above_pruned_first m (count - 1) least rest h.1)
-      | inr keeps ↦ subst P (sym keeps) (h.0, above_pruned_first m count least rest h.1) ]
+      | inl drops ↦ subst P (sym drops) (above_pruned_first m (count - 1) least rest h.1)
+      | inr keeps ↦ subst P (sym keeps) (h.0, above_pruned_first m count least rest h.1)
+    ]
 
 -- A prune in part keeps the order.
 pub IsRising-pruned_first : (count least : ℕ) (js : List Section) → IsRising js → IsRising (pruned_first count least js)
@@ -107,8 +113,9 @@ IsRising-pruned_first count least [] h = subst (λ (js : List Section). IsRising
 IsRising-pruned_first count least (s ∷ rest) h =
     let P : List Section → Type 0 = λ js. IsRising js in
     elim (pruned_first-cases count least s rest) [
-        inl drops ↦ subst P (sym drops) (IsRising-pruned_first (count - 1) least rest h.1)
-      | inr keeps ↦ subst P (sym keeps) (above_pruned_first s.number count least rest h.0, IsRising-pruned_first count least rest h.1) ]
+      | inl drops ↦ subst P (sym drops) (IsRising-pruned_first (count - 1) least rest h.1)
+      | inr keeps ↦ subst P (sym keeps) (above_pruned_first s.number count least rest h.0, IsRising-pruned_first count least rest h.1)
+    ]
 
 -- So does a whole one.
 pub IsRising-pruned : (least : ℕ) (js : List Section) → IsRising js → IsRising (pruned least js)
