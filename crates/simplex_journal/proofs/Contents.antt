@@ -1,11 +1,12 @@
 -- What calls make of a journal's contents.
-use Rattle.std.proofs.Common.{◌≡◌, ◌≤◌, ◌<◌, ◌==◌, ◌&&◌, ℕ, ◌+◌, ◌-◌, Bool, true, false, nat_lt, refl, sym, ◌∙◌, ap, subst, inl, inr, ◌⊎◌, List, [], ◌∷◌, ◌++◌, length, take, arith, append_assoc}
+use Rattle.std.proofs.Common.{◌≡◌, ◌<◌, ℕ, refl, sym, ◌∙◌, inl, inr, List, [], ◌∷◌, ◌++◌, take, arith}
 use Rattle.std.proofs.lemmas.Grind.{common_steps}
 use Rattle.std.proofs.lemmas.Bool.{cases_order}
 use Rattle.std.proofs.lemmas.Bool.Decides.{nat_tests}
 use Rattle.std.proofs.lemmas.List.{append-nil}
 use Rattle.simplex_wire.specs.declared.artifact.Artifact.{Artifact}
-use Rattle.simplex_journal.specs.Journal.{Section, opened_section, appended_section, synced_section, crashed_section, appended, appended_all, synced_at, all_synced, recorded, pruned, pruned_first, crashed, replayed, kept, waiting, AllAbove, IsRising}
+use Rattle.simplex_journal.specs.Contents.{appended_all, recorded, kept, waiting}
+use Rattle.simplex_journal.specs.Journal.{Section, opened_section, appended_section, synced_section, crashed_section, appended, synced_at, all_synced, crashed, replayed}
 
 -- ---- where nothing is pending
 
@@ -34,6 +35,21 @@ crashed-rested keep (s ∷ rest) h =
     rw (none, later, ← gone)
 
 -- ---- appends
+
+-- An append to the first section.
+pub appended-here : (n : ℕ) (a : Artifact) (s : Section) (rest : List Section) → n ≡ s.number → appended n a (s ∷ rest) ≡ appended_section a s ∷ rest
+unfolding appended
+appended-here n a s rest same = grind (arith, common_steps, nat_tests)
+
+-- An append before the first section opens one.
+pub appended-below : (n : ℕ) (a : Artifact) (s : Section) (rest : List Section) → n < s.number → appended n a (s ∷ rest) ≡ opened_section n a ∷ s ∷ rest
+unfolding appended
+appended-below n a s rest below = grind (arith, common_steps, nat_tests)
+
+-- An append behind the first section leaves it.
+pub appended-past : (n : ℕ) (a : Artifact) (s : Section) (rest : List Section) → s.number < n → appended n a (s ∷ rest) ≡ s ∷ appended n a rest
+unfolding appended
+appended-past n a s rest above = grind (arith, common_steps, nat_tests)
 
 -- An append leaves the synced records.
 pub kept-appended : (n : ℕ) (a : Artifact) (js : List Section) → kept (appended n a js) ≡ kept js
@@ -99,9 +115,10 @@ pub synced_at-appended_all : (n : ℕ) (a : Artifact) (xs : List Artifact) (js :
 unfolding synced_at synced_section appended_all appended appended_section opened_section recorded
 synced_at-appended_all n a xs [] = grind (arith, common_steps, nat_tests, appended_all-here n xs (opened_section n a) [] refl)
 synced_at-appended_all n a xs (s ∷ rest) = elim (cases_order n s.number) [
-    inl same ↦ grind (arith, common_steps, nat_tests, appended_all-here n xs (appended_section a s) rest (sym same))
+  | inl same ↦ grind (arith, common_steps, nat_tests, appended_all-here n xs (appended_section a s) rest (sym same))
   | inr (inl below) ↦ grind (arith, common_steps, nat_tests, appended_all-here n xs (opened_section n a) (s ∷ rest) refl)
-  | inr (inr above) ↦ grind (arith, common_steps, nat_tests, appended_all-past n (a ∷ xs) s rest above, synced_at-appended_all n a xs rest) ]
+  | inr (inr above) ↦ grind (arith, common_steps, nat_tests, appended_all-past n (a ∷ xs) s rest above, synced_at-appended_all n a xs rest)
+]
 
 -- Nothing is pending behind it, where nothing was.
 pub waiting-recorded : (n : ℕ) (xs : List Artifact) (js : List Section) → waiting js ≡ [] → waiting (recorded n xs js) ≡ []
@@ -113,9 +130,10 @@ waiting-recorded n xs (s ∷ rest) h =
     let none : waiting rest ≡ [] = parts.1 in
     let later : waiting (recorded n xs rest) ≡ [] = waiting-recorded n xs rest none in
     elim (cases_order n s.number) [
-        inl same ↦ grind (arith, common_steps, nat_tests)
+      | inl same ↦ grind (arith, common_steps, nat_tests)
       | inr (inl below) ↦ grind (arith, common_steps, nat_tests)
-      | inr (inr above) ↦ grind (arith, common_steps, nat_tests) ]
+      | inr (inr above) ↦ grind (arith, common_steps, nat_tests)
+    ]
 
 -- The synced records are those of before, and among them the new ones, where nothing was pending.
 pub kept-recorded : (n : ℕ) (xs : List Artifact) (js : List Section) → waiting js ≡ []
@@ -127,9 +145,10 @@ kept-recorded n xs (s ∷ rest) h =
     let gone : s.pending ≡ [] = parts.0 in
     let later = kept-recorded n xs rest parts.1 in
     elim (cases_order n s.number) [
-        inl same ↦ (s.synced, kept rest, refl, grind (arith, common_steps, nat_tests, append-nil s.synced))
+      | inl same ↦ (s.synced, kept rest, refl, grind (arith, common_steps, nat_tests, append-nil s.synced))
       | inr (inl below) ↦ ([], s.synced ++ kept rest, refl, grind (arith, common_steps, nat_tests))
-      | inr (inr above) ↦ (s.synced ++ later.0, later.1, grind (arith, common_steps, later.2), grind (arith, common_steps, nat_tests, later.3)) ]
+      | inr (inr above) ↦ (s.synced ++ later.0, later.1, grind (arith, common_steps, later.2), grind (arith, common_steps, nat_tests, later.3))
+    ]
 
 -- ---- stops
 

@@ -1,5 +1,5 @@
 -- The entries of a map, as sections.
-use Rattle.std.proofs.Common.{◌≡◌, ◌≤◌, ◌<◌, ◌==◌, ℕ, ◌+◌, ◌-◌, Bool, true, false, nat_lt, refl, sym, ◌∙◌, ap, List, [], ◌∷◌, ◌++◌, length, take, map, arith, Option, Some, None}
+use Rattle.std.proofs.Common.{◌≡◌, ◌≤◌, ◌<◌, ℕ, ◌-◌, refl, sym, ◌∙◌, ap, List, [], ◌∷◌, ◌++◌, length, take, map, arith, Option, Some, None}
 use Rattle.std.proofs.Common.{inl, inr}
 use Rattle.std.proofs.lemmas.Grind.{common_steps}
 use Rattle.std.proofs.lemmas.Bool.{cases_order}
@@ -20,7 +20,7 @@ use Rattle.std.specs.BTreeMap.Range.{IsLeBy}
 use Rattle.std.specs.List.{All}
 use Rattle.std.specs.List.Sorted.{IsStrictlySortedBy}
 use Rattle.simplex_wire.specs.declared.artifact.Artifact.{Artifact}
-use Rattle.simplex_journal.specs.Journal.{Section, opened_section, appended_section, synced_section, crashed_section, appended, synced_at, all_synced, pruned, pruned_first, crashed, replayed}
+use Rattle.simplex_journal.specs.Journal.{Section, opened_section, appended_section, synced_section, crashed_section, appended, synced_at, all_synced, pruned, pruned_first, crashed}
 use Rattle.simplex_journal.specs.Memory.{Lists, section_of, sections_of}
 
 -- The records of a section, synced.

@@ -1,3 +1,5 @@
 pub mod Contents
 pub mod Entries
+pub mod Records
+pub mod Rising
 pub mod SectionCrash

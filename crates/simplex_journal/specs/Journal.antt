@@ -1,5 +1,5 @@
 -- What a journal keeps: a list of sections, in rising order of their numbers.
-use Rattle.std.specs.Prelude.{ℕ, ◌<◌, ◌-◌, ◌==◌, ◌&&◌, nat_lt, nat_le, if◌then◌else◌, List, [], ◌∷◌, ◌++◌, take, map, filter}
+use Rattle.std.specs.Prelude.{ℕ, ◌-◌, ◌==◌, ◌&&◌, nat_lt, if◌then◌else◌, List, [], ◌∷◌, ◌++◌, take}
 use Rattle.simplex_wire.specs.declared.artifact.Artifact.{Artifact}
 
 -- One section: its synced records, and behind them the pending ones. It is there from its first append
@@ -32,25 +32,10 @@ appended number artifact (s ∷ rest) =
     if nat_lt number s.number then opened_section number artifact ∷ s ∷ rest
     else (if number == s.number then appended_section artifact s ∷ rest else s ∷ appended number artifact rest)
 
--- These records are appended to the section of this number, in order.
-unfoldable pub appended_all : ℕ → List Artifact → List Section → List Section
-appended_all number [] sections = sections
-appended_all number (artifact ∷ rest) sections = appended_all number rest (appended number artifact sections)
-
 -- The pending records of the section of this number are synced.
 unfoldable pub synced_at : ℕ → List Section → List Section
 synced_at number [] = []
 synced_at number (s ∷ rest) = if number == s.number then synced_section s ∷ rest else s ∷ synced_at number rest
-
--- These records are appended to the section of this number, which is synced then.
-unfoldable pub recorded : ℕ → List Artifact → List Section → List Section
-recorded number records [] = record { number = number; synced = records; pending = [] } ∷ []
-recorded number records (s ∷ rest) =
-    if nat_lt number s.number then record { number = number; synced = records; pending = [] } ∷ s ∷ rest
-    else
-      (if number == s.number
-        then record { number = s.number; synced = s.synced ++ s.pending ++ records; pending = [] } ∷ rest
-        else s ∷ recorded number records rest)
 
 -- The pending records of all sections are synced.
 unfoldable pub all_synced : List Section → List Section
@@ -78,23 +63,3 @@ crashed keep (s ∷ rest) = crashed_section keep s ∷ crashed keep rest
 unfoldable pub replayed : List Section → List Artifact
 replayed [] = []
 replayed (s ∷ rest) = s.synced ++ s.pending ++ replayed rest
-
--- The synced records, in section order.
-unfoldable pub kept : List Section → List Artifact
-kept [] = []
-kept (s ∷ rest) = s.synced ++ kept rest
-
--- The pending records, in section order.
-unfoldable pub waiting : List Section → List Artifact
-waiting [] = []
-waiting (s ∷ rest) = s.pending ++ waiting rest
-
--- Each section has a greater number than this one.
-unfoldable pub AllAbove : ℕ → List Section → Type 0
-AllAbove number [] = Unit {0}
-AllAbove number (s ∷ rest) = (number < s.number) × AllAbove number rest
-
--- The numbers of the sections rise.
-unfoldable pub IsRising : List Section → Type 0
-IsRising [] = Unit {0}
-IsRising (s ∷ rest) = AllAbove s.number rest × IsRising rest

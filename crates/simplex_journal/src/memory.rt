@@ -85,6 +85,7 @@ impl Journal for MemoryJournal {
         ensures contents { ¬ IsErrOf result JournalError.Memory → self.new ≡ after_call self.old self.old.sections (appended section artifact.now self.old.sections) }
         ensures memory { IsErrOf result JournalError.Memory → self.new ≡ self.old }
     {
+        // The order comes first: a call that fails copies nothing.
         self.obey()?;
         append_to(&mut self.sections, alloc, section, artifact.keep(alloc)?)?;
         self.count_call();

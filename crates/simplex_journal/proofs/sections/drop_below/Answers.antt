@@ -1,4 +1,4 @@
-use Rattle.std.proofs.Common.{◌≡◌, ◌≤◌, ◌∙◌, length, rules, arith}
+use Rattle.std.proofs.Common.{◌≤◌, ◌∙◌, length, arith}
 use Rattle.simplex_journal.specs.Memory.{sections_of}
 use Rattle.simplex_journal.proofs.Entries.{length-sections_of, pruned_first-all}
 use Rattle.simplex_journal.proofs.sections.drop_below.Goals as goal

@@ -1,5 +1,4 @@
 use Rattle.std.proofs.Common.{◌≡◌, rules, sym, arith, ◌∙◌, [], ◌∷◌, ap}
-use Rattle.std.proofs.lemmas.Grind.{common_steps}
 use Rattle.std.proofs.lemmas.List.{nil_from_length}
 use Rattle.simplex_journal.specs.Journal.{pruned_first}
 use Rattle.simplex_journal.specs.Memory.{sections_of}
