@@ -1,0 +1,9 @@
+//! What is printed of a run: the lines of its transcript, or the text of its refusal.
+#![tactic(auto)]
+
+mod lines;
+mod refusals;
+mod transcript;
+
+pub use refusals::refusal_text;
+pub use transcript::{printed, printed_run};
