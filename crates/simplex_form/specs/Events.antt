@@ -101,9 +101,9 @@ abbrev pub taken_event_of : Data → Option Event
 taken_event_of d = do
   kind ← text_at (codes "do") d
   if bytes_eq kind (codes "start") then start_event_of d else
-    if bytes_eq kind (codes "step") then step_event_of d else
-    if bytes_eq kind (codes "answer") then answer_event_of d else
-    None
+      if bytes_eq kind (codes "step") then step_event_of d else
+      if bytes_eq kind (codes "answer") then answer_event_of d else
+      None
 
 -- an item of the event list: whatever is of no form that is taken is an event for later
 abbrev pub event_of : Data → Option Event

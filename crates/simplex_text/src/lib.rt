@@ -3,6 +3,8 @@
 
 mod lines;
 mod refusals;
+#[cfg(test)]
+mod tests;
 mod transcript;
 
 pub use refusals::refusal_text;

@@ -94,10 +94,10 @@ fn push_call(
 ) -> Result<(), AllocError>
     ensures { OnOk result (string_bytes text.new ≡ string_bytes text.old ++ call_line_of event node.now call.now) }
 {
-    if let Call::Report(activity) = call {
-        if let Some(what) = told(alloc, activity)? {
-            push_line(alloc, text, event, node, Some(what.as_str()))?;
-        }
+    if let Call::Report(activity) = call
+        && let Some(what) = told(alloc, activity)?
+    {
+        push_line(alloc, text, event, node, Some(what.as_str()))?;
     }
     Ok(())
 }

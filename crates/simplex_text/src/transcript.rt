@@ -60,11 +60,7 @@ pub fn printed(alloc: Global, entries: &[Entry]) -> Result<String, AllocError>
 
 /// The lines of a run: those of [`printed`], and one for each crash of a node that ran. An entry alone does not
 /// tell a crash from an answer, so the events are asked for too, one for each entry.
-pub fn printed_run(
-    alloc: Global,
-    events: &[Event],
-    entries: &[Entry],
-) -> Result<String, AllocError>
+pub fn printed_run(alloc: Global, events: &[Event], entries: &[Entry]) -> Result<String, AllocError>
     ensures { IfOk result (λ text. string_bytes text ≡ PrintedRun events.now entries.now) }
 {
     let mut text = String::new(alloc);
