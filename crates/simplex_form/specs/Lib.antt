@@ -1,0 +1,4 @@
+pub mod Form
+pub mod Setup
+pub mod Events
+pub mod Input

@@ -1,0 +1,71 @@
+//! Reads an input: a setup and its events.
+ghost use Rattle.std.specs.Prelude.{◌≡◌, option_map, IfOk};
+ghost use Rattle.serde_json.specs.View.{view};
+ghost use Rattle.simplex_form.specs.Input.{form_of, json_of, input_of};
+
+use crate::pieces::{has_members, read_items};
+use crate::setup::read_setup;
+use serde_json::Value;
+use simplex_transcript::{Event, Setup};
+use simplex_types::Sequence;
+use std::alloc::{AllocError, Global};
+
+/// A setup, and what happens in the run.
+#[derive(Debug, PartialEq, Eq, Drop)]
+pub struct Input {
+    pub setup: Setup,
+    pub events: Sequence<Event>,
+}
+
+// The JSON value, if the bytes are one.
+fn parse(alloc: Global, bytes: &[u8]) -> Result<Option<Value>, AllocError>
+    ensures { IfOk result (λ o. option_map view o ≡ json_of bytes.now) }
+{
+    match Value::from_slice(alloc, bytes) {
+        Ok(value) => Ok(Some(value)),
+        Err(error) => {
+            if error.is_memory() {
+                Err(AllocError)
+            } else {
+                Ok(None)
+            }
+        }
+    }
+}
+
+// The input, or the place of the first part that is not of the form.
+fn read_form(alloc: Global, value: &Value) -> Result<Result<Input, u64>, AllocError>
+    ensures { IfOk result (λ r. r ≡ form_of (view value.now)) }
+{
+    if !has_members(value, 2) {
+        return Ok(Err(1));
+    }
+    let Some(part) = value.get("setup") else {
+        return Ok(Err(1));
+    };
+    let Some(setup) = read_setup(alloc, part)? else {
+        return Ok(Err(1));
+    };
+    let Some(part) = value.get("events") else {
+        return Ok(Err(1));
+    };
+    let Some(values) = part.as_array() else {
+        return Ok(Err(1));
+    };
+    match read_items(alloc, values, 2)? {
+        Ok(events) => Ok(Ok(Input { setup, events })),
+        Err(place) => Ok(Err(place)),
+    }
+}
+
+/// What the bytes say, or the place of the first part that is not of the form: 0 where they are no JSON, or nest
+/// too deep, and 1 for the top object and its setup. An event of no form that is taken is [`Event::Later`], so
+/// no other place occurs.
+pub fn read_input(alloc: Global, bytes: &[u8]) -> Result<Result<Input, u64>, AllocError>
+    ensures { IfOk result (λ r. r ≡ input_of bytes.now) }
+{
+    match parse(alloc, bytes)? {
+        Some(value) => read_form(alloc, &value),
+        None => Ok(Err(0)),
+    }
+}

@@ -1,0 +1,11 @@
+//! What is printed of a run: the lines of its transcript, or the text of its refusal.
+#![tactic(auto)]
+
+mod lines;
+mod refusals;
+#[cfg(test)]
+mod tests;
+mod transcript;
+
+pub use refusals::refusal_text;
+pub use transcript::{printed, printed_run};
