@@ -156,6 +156,7 @@ fn leaders_take_turns(rt: HostRuntime) -> Result<(), Fail> {
 }
 
 /// The member's notarize of the proposal.
+#[tactic(auto, unfolding(crate::specs::Keyed::keyed_attests))]
 fn notarize(alloc: Global, member: u32, about: &Proposal) -> Result<Notarize, Fail>
     requires { member < 4 }
     ensures about { IfOk result (λ v. v.proposal ≡ about.now) }
@@ -166,6 +167,7 @@ fn notarize(alloc: Global, member: u32, about: &Proposal) -> Result<Notarize, Fa
 }
 
 /// The member's nullify of the round.
+#[tactic(auto, unfolding(crate::specs::Keyed::keyed_attests))]
 fn nullify(alloc: Global, member: u32, round: &Round) -> Result<Nullify, Fail>
     requires { member < 4 }
     ensures about { IfOk result (λ v. v.round ≡ round.now) }
@@ -176,6 +178,7 @@ fn nullify(alloc: Global, member: u32, round: &Round) -> Result<Nullify, Fail>
 }
 
 /// The member's finalize of the proposal.
+#[tactic(auto, unfolding(crate::specs::Keyed::keyed_attests))]
 fn finalize(alloc: Global, member: u32, about: &Proposal) -> Result<Finalize, Fail>
     requires { member < 4 }
     ensures about { IfOk result (λ v. v.proposal ≡ about.now) }
@@ -212,11 +215,15 @@ fn three_of_four_certify(rt: HostRuntime) -> Result<(), Fail> {
 fn nullifications_and_finalizations(rt: HostRuntime) -> Result<(), Fail> {
     let alloc = rt.alloc();
     let about = proposal();
+    let round = Round {
+        epoch: Epoch(3),
+        view: View(300),
+    };
     let scheme = Hidden::new(alloc, BASE, MEMBERS, None)?;
     let nullifies = [
-        nullify(alloc, 1, &about.round)?,
-        nullify(alloc, 2, &about.round)?,
-        nullify(alloc, 3, &about.round)?,
+        nullify(alloc, 1, &round)?,
+        nullify(alloc, 2, &round)?,
+        nullify(alloc, 3, &round)?,
     ];
     let made = Nullification::from_nullifies(alloc, &scheme, &nullifies)?;
     assert!(rt; made.verify(&scheme));
