@@ -29,11 +29,11 @@ key_at base (suc n) i d lt =
     elim (cases_lt i n) [
       | inl below ↦ get_or_append_left (keys_of base n) (key_of base n ∷ []) d i (rw (keys_length base n) below) ∙ key_at base n i d below
       | inr above ↦
-        let here : i ≡ n = omega arith in
-        let last : i ≡ length (keys_of base n) = here ∙ sym (keys_length base n) in
-        ap (λ (k : ℕ). get_or (keys_of base n ++ key_of base n ∷ []) k d) last
-        ∙ get_or-append_seam (keys_of base n) (key_of base n) [] d
-        ∙ ap (key_of base) (sym here)
+          let here : i ≡ n = omega arith in
+          let last : i ≡ length (keys_of base n) = here ∙ sym (keys_length base n) in
+          ap (λ (k : ℕ). get_or (keys_of base n ++ key_of base n ∷ []) k d) last
+          ∙ get_or-append_seam (keys_of base n) (key_of base n) [] d
+          ∙ ap (key_of base) (sym here)
     ]
 
 pub key_get : (base n i : ℕ) → i < n → slice_get (keys_of base n) i ≡ Some (key_of base i)

@@ -1,8 +1,9 @@
 //! Two votes of one signer that no honest member signs both.
 ghost use Rattle.std.specs.Prelude.{◌≡◌};
 
-use simplex_values::{Epoch, Participant, Round, View};
+use simplex_values::{Epoch, Keep, Participant, Round, View};
 use simplex_wire::{Finalize, Notarize, Nullify, Scheme};
+use std::alloc::{AllocError, Global};
 
 /// Notarizes for two proposals of one round.
 #[derive(Clone, Copy, Debug, PartialEq, Eq)]
@@ -156,5 +157,23 @@ impl NullifyFinalize {
             && self.nullify.round == self.finalize.proposal.round
             && self.nullify.verify(scheme)
             && self.finalize.verify(scheme)
+    }
+}
+
+impl Keep for ConflictingNotarize {
+    fn keep(&self, _alloc: Global) -> Result<ConflictingNotarize, AllocError> {
+        Ok(*self)
+    }
+}
+
+impl Keep for ConflictingFinalize {
+    fn keep(&self, _alloc: Global) -> Result<ConflictingFinalize, AllocError> {
+        Ok(*self)
+    }
+}
+
+impl Keep for NullifyFinalize {
+    fn keep(&self, _alloc: Global) -> Result<NullifyFinalize, AllocError> {
+        Ok(*self)
     }
 }

@@ -1,6 +1,7 @@
 //! A scheme whose attestations do not prove to others who signed.
-ghost use Rattle.std.specs.Prelude.{◌≡◌, ◌<◌, IfOk, false};
+ghost use Rattle.std.specs.Prelude.{◌≡◌, ◌<◌, IfOk, IfSome, IsTrue, false};
 ghost use Rattle.std.specs.Option.{ForSome};
+ghost use Rattle.simplex_types.specs.Keyed.{keyed_attests, keyed_verifies};
 ghost use Rattle.simplex_types.specs.KeyedLaws.{below_if_some, signs_as_member};
 
 use crate::keyed::Keyed;
@@ -9,7 +10,7 @@ use simplex_wire::{AssemblyError, Attestation, Scheme, Signatures};
 use std::alloc::{AllocError, Global};
 
 /// [`Keyed`], but that its attestations are not attributable.
-#[derive(Drop)]
+#[derive(Debug, Drop)]
 pub struct Hidden {
     /// What signs and verifies.
     pub inner: Keyed,
@@ -60,7 +61,11 @@ impl Scheme for Hidden {
         self.inner.participants()
     }
 
-    fn sign(&self, subject: &Subject) -> Option<Attestation> {
+    fn sign(&self, subject: &Subject) -> Option<Attestation>
+        ensures attests { result ≡ keyed_attests self.now.inner.key_base self.now.inner.me subject.now }
+        // What it signs verifies.
+        ensures verified { IfSome result (λ a. IsTrue (keyed_verifies self.now.inner.key_base self.now.inner.participants subject.now a)) }
+    {
         self.inner.sign(subject)
     }
 

@@ -11,7 +11,7 @@ use std::alloc::{AllocError, Global};
 use std::marker::Model;
 
 /// The keys of the first members. Contracts see the list.
-#[derive(Drop)]
+#[derive(Debug, Drop)]
 pub(crate) struct Keys {
     keys: Vec<[u8; 32]>,
 }
@@ -24,8 +24,9 @@ impl Model for Keys {
     ghost view = { λ k. k.keys.items };
 }
 
+/// The member's key.
 #[tactic(auto, unfolding(crate::specs::Keyed::key_of))]
-fn key(base: u64, member: u32) -> [u8; 32]
+pub(crate) fn key(base: u64, member: u32) -> [u8; 32]
     ensures { result ≡ key_of base member }
 {
     let mut hasher = Sha256::new();

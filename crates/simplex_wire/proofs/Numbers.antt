@@ -1,5 +1,5 @@
 -- A number that is read is the one that was spelled, and one that was spelled is read again.
-use Rattle.std.proofs.Common.{◌≡◌, ℕ, zero, suc, ◌+◌, ◌-◌, ◌*◌, ◌/◌, ◌%◌, ◌^◌, ◌<◌, ◌≤◌, false, cond, ltb, eqb, List, [], ◌∷◌, ◌++◌, Ok, refl, ap, subst, ◌∙◌, arith, inl, inr, lit<}
+use Rattle.std.proofs.Common.{◌≡◌, ℕ, zero, suc, ◌+◌, ◌-◌, ◌*◌, ◌/◌, ◌%◌, ◌^◌, ◌<◌, ◌≤◌, false, cond, ltb, eqb, List, [], ◌∷◌, ◌++◌, Ok, Err, refl, ap, subst, ◌∙◌, arith, inl, inr, lit<}
 use Rattle.std.proofs.lemmas.Bool.{cases_lt, ltb-false, le-ltb, lt-ltb, ne_eqb, eqb-false}
 use Rattle.simplex_wire.specs.declared.error.DecodeError.TheVariants.{Fault}
 use Rattle.simplex_wire.specs.declared.error.DecodeCause.TheVariants.{LongNumber}
@@ -96,3 +96,34 @@ limit32 = (4, (refl, (refl, (refl, (refl, lit< tt)))))
 
 pub limit64 : IsLimit (2 ^ 64 - 1)
 limit64 = (9, (refl, (refl, (refl, (refl, (refl, (refl, (refl, (refl, (refl, lit< tt))))))))))
+
+-- a number above the bound is too long where it begins, whatever follows
+small_long : (place most n : ℕ) (rest : List ℕ) → n < 128 → most < n → number_from place most (varint n ++ rest) ≡ Err (Fault LongNumber place)
+unfolding number_from
+small_long place most n rest lt above = rw (varint-small n lt) (rw (lt-ltb n 128 lt, lt-ltb most n above) refl)
+
+tiny_long : (place most n : ℕ) (rest : List ℕ) → most < 128 → 128 ≤ n → number_from place most (varint n ++ rest) ≡ Err (Fault LongNumber place)
+unfolding number_from
+tiny_long place most n rest tiny ge =
+    let continued : ltb (n % 128 + 128) 128 ≡ false = le-ltb _ _ (omega arith) in
+    rw (varint-large n ge) (rw (continued, lt-ltb most 128 tiny) refl)
+
+pub number_long : (place most k n : ℕ) (rest : List ℕ) → IsFull k most → most < n → number_from place most (varint n ++ rest) ≡ Err (Fault LongNumber place)
+unfolding number_from
+number_long place most zero n rest full above =
+    elim (cases_lt n 128) [
+      | inl lt ↦ small_long place most n rest lt above
+      | inr ge ↦ tiny_long place most n rest full ge
+    ]
+number_long place most (suc k) n rest full above =
+    elim (cases_lt n 128) [
+      | inl lt ↦ small_long place most n rest lt above
+      | inr ge ↦
+        elim (cases_lt most 128) [
+          | inl tiny ↦ tiny_long place most n rest tiny ge
+          | inr roomy ↦
+              let high = number_long place (most / 128) k (n / 128) rest full.1 (omega arith) in
+              let continued : ltb (n % 128 + 128) 128 ≡ false = le-ltb _ _ (omega arith) in
+              rw (varint-large n ge) (rw (continued, le-ltb most 128 roomy, high) refl)
+        ]
+    ]

@@ -1,18 +1,25 @@
 -- The format of resolver messages is lawful.
-use Rattle.std.proofs.Common.{◌≡◌, ℕ, zero, suc, ◌+◌, ◌^◌, ◌<◌, ◌≤◌, Bool, true, false, ltb, List, [], ◌∷◌, ◌++◌, length, take, drop, Result, Ok, Err, refl, sym, ap, subst, ◌∙◌, append_assoc, arith}
+use Rattle.std.proofs.Common.{◌≡◌, ℕ, zero, suc, ◌+◌, ◌-◌, ◌^◌, ◌<◌, ◌≤◌, Bool, true, false, ltb, List, [], ◌∷◌, ◌++◌, length, take, drop, Result, Ok, Err, refl, sym, ap, subst, ◌∙◌, append_assoc, arith}
 use Rattle.std.specs.Int.{w64, from_be_bytes, to_be_bytes}
 use Rattle.std.proofs.lemmas.Bool.{ltb-false, le-ltb}
 use Rattle.std.proofs.lemmas.List.{take_at, drop_at, length-append}
 use Rattle.std.proofs.lemmas.Nat.{be_bytes_8, from_be_bytes-to_be_bytes_8}
 use Rattle.simplex_wire.specs.declared.error.DecodeError.{DecodeError}
+use Rattle.simplex_wire.specs.declared.error.DecodeError.TheVariants.{Fault}
+use Rattle.simplex_wire.specs.declared.error.DecodeCause.TheVariants.{LongNumber}
+use Rattle.simplex_wire.specs.declared.resolver.ResolverMessage.{ResolverMessage}
 use Rattle.simplex_wire.specs.declared.resolver.ResolverBody.{ResolverBody}
 use Rattle.simplex_wire.specs.declared.resolver.ResolverBody.TheVariants.{Request, Response, Error}
-use Rattle.simplex_wire.specs.Format.{Left, raw, byte}
+use Rattle.simplex_wire.specs.Format.{Left, raw, byte, whole}
 use Rattle.simplex_wire.specs.Number.{varint, number32}
 use Rattle.simplex_wire.specs.Fits.{IsBytes}
 use Rattle.simplex_wire.specs.ResolverMessage.{wide, counted, body_spelling, body_behind, body, resolver_message, FitsBody, FitsResolverMessage}
 use Rattle.simplex_wire.proofs.Bytes.{bind_ok, ok_is, Takes, Takes-then}
+use Rattle.simplex_wire.proofs.Numbers.{limit32, number_long}
 use Rattle.simplex_wire.proofs.Formats.{IsFormat, both_is, seen_is, raw_is, number32_is, tag_takes, byte_alone}
+
+abbrev long_at : ℕ → Result ResolverMessage DecodeError
+long_at place = Err (Fault LongNumber place)
 
 abbrev made_wide : ℕ → Left → Result (ℕ × Left) DecodeError
 made_wide n left = Ok (n, left)
@@ -84,3 +91,20 @@ body_is = record {
 pub resolver_message_is : IsFormat resolver_message FitsResolverMessage
 unfolding resolver_message
 resolver_message_is = seen_is _ _ _ _ (λ a. refl) (λ b. refl) (both_is _ _ _ _ wide_is body_is)
+
+-- ---- responses that are too long
+
+number32_long : (end n : ℕ) (rest : List ℕ) → 2 ^ 32 ≤ n → number32.reading (record { end = end; bytes = varint n ++ rest }) ≡ Err (Fault LongNumber (end - length (varint n ++ rest)))
+number32_long end n rest h = rw (number_long (end - length (varint n ++ rest)) (2 ^ 32 - 1) limit32.0 n rest limit32.1 (omega arith)) refl
+
+-- the length stands at byte 9
+ninth : (n : ℕ) → suc (suc (suc (suc (suc (suc (suc (suc (suc n)))))))) - n ≡ 9
+ninth n = omega arith
+
+pub response_long : (id : ℕ) (bytes : List ℕ) → id < 2 ^ 64 → 2 ^ 32 ≤ length bytes
+    → whole resolver_message (resolver_message.spelling (record { id = id; body = Response bytes })) ≡ Err (Fault LongNumber 9)
+unfolding resolver_message body
+response_long id bytes fits long =
+    let text : List ℕ = varint (length bytes) ++ bytes in
+    let end : ℕ = length (to_be_bytes w64 id ++ 1 ∷ text) in
+    rw (wide_is.again end id (1 ∷ text) fits) (rw (number32_long end (length bytes) bytes long) (ap (λ (place : ℕ). long_at place) (ninth (length text))))

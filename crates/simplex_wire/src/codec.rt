@@ -1,5 +1,5 @@
 //! The messages as bytes: `encode` and `decode`.
-ghost use Rattle.std.specs.Prelude.{◌≡◌, ◌<◌, ◌≤◌, ◌^◌, ◌++◌, [], List, ℕ, IfOk, Ok, length};
+ghost use Rattle.std.specs.Prelude.{◌≡◌, ◌<◌, ◌≤◌, ◌^◌, ◌++◌, [], List, ℕ, IfOk, Ok, Err, length};
 ghost use Rattle.simplex_wire.specs.Format.{whole, IsUnlessMemory};
 ghost use Rattle.simplex_wire.specs.Fits.{FitsVote, FitsCertificate};
 ghost use Rattle.simplex_wire.specs.Message.{vote, certificate};
@@ -9,6 +9,9 @@ ghost use Rattle.simplex_wire.specs.declared.vote.Vote.{Vote};
 ghost use Rattle.simplex_wire.specs.declared.certificate.Certificate.{Certificate};
 ghost use Rattle.simplex_wire.specs.declared.artifact.Artifact.{Artifact};
 ghost use Rattle.simplex_wire.specs.declared.resolver.ResolverMessage.{ResolverMessage};
+ghost use Rattle.simplex_wire.specs.declared.resolver.ResolverBody.TheVariants.{Response};
+ghost use Rattle.simplex_wire.specs.declared.error.DecodeError.TheVariants.{Fault};
+ghost use Rattle.simplex_wire.specs.declared.error.DecodeCause.TheVariants.{LongNumber};
 
 use crate::artifact::Artifact;
 use crate::certificate::Certificate;
@@ -181,4 +184,10 @@ pub fn no_artifact_begins_another()
 /// No spelling of a resolver message begins another.
 pub fn no_resolver_message_begins_another()
     ensures { (one other : ResolverMessage) (more : List ℕ) → FitsResolverMessage one → FitsResolverMessage other → resolver_message.spelling other ≡ resolver_message.spelling one ++ more → (one ≡ other) × (more ≡ []) }
+{}
+
+/// What is written of a response of 2^32 bytes or more is not read: its length is a number that is too large,
+/// at byte 9.
+pub fn no_long_response_is_read()
+    ensures { (id : ℕ) (bytes : List ℕ) → id < 2 ^ 64 → 2 ^ 32 ≤ length bytes → whole resolver_message (resolver_message.spelling (record { id = id; body = Response bytes })) ≡ Err (Fault LongNumber 9) }
 {}

@@ -20,8 +20,8 @@ pub use artifact::Artifact;
 pub use attestation::Attestation;
 pub use certificate::{Certificate, CertificateKind, Finalization, Notarization, Nullification};
 pub use codec::{
-    no_artifact_begins_another, no_certificate_begins_another, no_resolver_message_begins_another,
-    no_vote_begins_another,
+    no_artifact_begins_another, no_certificate_begins_another, no_long_response_is_read,
+    no_resolver_message_begins_another, no_vote_begins_another,
 };
 pub use error::{DecodeCause, DecodeError};
 pub use resolver::{ResolverBody, ResolverMessage};

@@ -186,3 +186,21 @@ impl Keep for Vote {
         Ok(*self)
     }
 }
+
+impl Keep for Notarize {
+    fn keep(&self, _alloc: Global) -> Result<Notarize, AllocError> {
+        Ok(*self)
+    }
+}
+
+impl Keep for Nullify {
+    fn keep(&self, _alloc: Global) -> Result<Nullify, AllocError> {
+        Ok(*self)
+    }
+}
+
+impl Keep for Finalize {
+    fn keep(&self, _alloc: Global) -> Result<Finalize, AllocError> {
+        Ok(*self)
+    }
+}
