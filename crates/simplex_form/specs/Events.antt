@@ -1,5 +1,5 @@
 -- The JSON forms of the events that are taken.
-use Rattle.std.specs.Prelude.{ℕ, List, codes, not, Bool, true, false, Option, Some, None, option_map, unwrap_or, Result, Ok, Err, if◌then◌else◌}
+use Rattle.std.specs.Prelude.{ℕ, List, codes, Bool, true, false, Option, Some, None, option_map, unwrap_or, if◌then◌else◌}
 use Rattle.std.specs.List.{list_any}
 use Rattle.std.specs.Char.{is_ascii_uppercase}
 use Rattle.std.specs.Option.{option_or}
