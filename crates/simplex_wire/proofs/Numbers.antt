@@ -119,11 +119,11 @@ number_long place most (suc k) n rest full above =
     elim (cases_lt n 128) [
       | inl lt ↦ small_long place most n rest lt above
       | inr ge ↦
-        elim (cases_lt most 128) [
-          | inl tiny ↦ tiny_long place most n rest tiny ge
-          | inr roomy ↦
-              let high = number_long place (most / 128) k (n / 128) rest full.1 (omega arith) in
-              let continued : ltb (n % 128 + 128) 128 ≡ false = le-ltb _ _ (omega arith) in
-              rw (varint-large n ge) (rw (continued, le-ltb most 128 roomy, high) refl)
-        ]
+          elim (cases_lt most 128) [
+            | inl tiny ↦ tiny_long place most n rest tiny ge
+            | inr roomy ↦
+                let high = number_long place (most / 128) k (n / 128) rest full.1 (omega arith) in
+                let continued : ltb (n % 128 + 128) 128 ≡ false = le-ltb _ _ (omega arith) in
+                rw (varint-large n ge) (rw (continued, le-ltb most 128 roomy, high) refl)
+          ]
     ]
