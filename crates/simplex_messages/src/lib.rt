@@ -1,7 +1,9 @@
 //! What the actors hand each other, and what a step of one of them gives.
 #![tactic(auto)]
 
+mod alike;
 pub mod batcher;
+mod by_view;
 mod call;
 mod handed;
 pub mod resolver;
