@@ -1,0 +1,4 @@
+pub mod ByKind
+pub mod Finality
+pub mod Replays
+pub mod Twice

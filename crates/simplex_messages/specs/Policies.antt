@@ -169,10 +169,10 @@ abbrev pub is_outdated : Option batcher_message.Message → Vote → Bool
 is_outdated (Some (batcher.Update c leader f proposal)) vote = outdates c f vote
 is_outdated _ vote = false
 
--- whether it is a vote of this one's view and kind
-abbrev pub stands_for_vote : Vote → (queued : batcher_message.Message) → Bool
-stands_for_vote vote (batcher.Constructed old) = vote_view old == vote_view vote && is_same_kind (vote_kind old) (vote_kind vote)
-stands_for_vote vote (batcher.Update c leader f proposal) = false
+-- a vote of one view and kind
+abbrev pub stands_for_batcher : (queued message : batcher_message.Message) → Bool
+stands_for_batcher (batcher.Constructed v) (batcher.Constructed w) = vote_view v == vote_view w && is_same_kind (vote_kind v) (vote_kind w)
+stands_for_batcher _ _ = false
 
 -- An update takes the place unless the queued one is as great, and of the votes those stay that it does not make
 -- needless. A vote is last, unless the queued update makes it needless or one of its view and kind is queued.
@@ -184,8 +184,9 @@ batcher_handled waiting (batcher.Update current leader finalized proposal) =
       rest = filter (λ queued. not (outdates_message current finalized queued)) waiting.rest;
     }
 batcher_handled waiting (batcher.Constructed vote) =
-    if is_outdated waiting.place vote || list_any (stands_for_vote vote) waiting.rest then waiting
-    else put_last waiting (batcher.Constructed vote)
+    let message = batcher.Constructed vote in
+    if is_outdated waiting.place vote || list_any (λ queued. stands_for_batcher queued message) waiting.rest then waiting
+    else put_last waiting message
 
 -- ---- the resolver's handler
 

@@ -1,5 +1,5 @@
 -- What waits after messages came and went, and what is to hold of it.
-use Rattle.std.specs.Prelude.{ℕ, nat_lt, Bool, ◌||◌, IsTrue, false, ◌≡◌, List, [], ◌∷◌, All, IfSome}
+use Rattle.std.specs.Prelude.{ℕ, nat_lt, Bool, ◌||◌, IsTrue, false, ◌≡◌, List, [], ◌∷◌, All, AllPairs, IfSome}
 use Rattle.simplex_mailbox.specs.Waiting.{Waiting, nothing, undrained}
 
 -- a message came for which there was no room, or room was made for one that waits
@@ -20,3 +20,7 @@ module _ {M : Type 0} where
     pub has_the_place : All (λ queued. is_final queued ≡ false) waiting.rest
     pub rest_is_above : IfSome waiting.place
         (λ final. All (λ queued. IsTrue (is_free queued || nat_lt (view_of final) (view_of queued))) waiting.rest)
+
+  -- no message waits for which an earlier one stands
+  abbrev pub NoneTwice : (stands_for : M → M → Bool) → Waiting M → Type 0
+  NoneTwice stands_for waiting = AllPairs (λ earlier later. stands_for earlier later ≡ false) waiting.rest

@@ -1,7 +1,7 @@
 //! What becomes of a message to a batcher whose mailbox has no room.
 ghost use Rattle.std.specs.Prelude.{◌≡◌, false, not, filter};
 ghost use Rattle.std.specs.List.{list_any};
-ghost use Rattle.simplex_messages.specs.Policies.{outdates, outdates_message, is_as_great, is_outdated, stands_for_vote, batcher_handled};
+ghost use Rattle.simplex_messages.specs.Policies.{outdates, outdates_message, is_as_great, is_outdated, stands_for_batcher, batcher_handled};
 
 use super::{Message, Pending};
 use crate::alike::{is_same_kind, kind_of};
@@ -44,7 +44,7 @@ impl Policy for Message {
                 Ok(())
             }
             Message::Constructed(vote) => {
-                if is_outdated(&queue.place, vote) || has_one_for(&queue.rest, vote) {
+                if is_outdated(&queue.place, vote) || has_one_for(&queue.rest, &message) {
                     return Ok(());
                 }
                 queue.push(message)
@@ -64,15 +64,15 @@ impl Message {
         }
     }
 
-    /// Whether it is a vote of this one's view and kind.
-    fn stands_for_vote(&self, vote: &Vote) -> bool
-        ensures { result ≡ stands_for_vote vote.now self.now }
+    /// Whether both are votes of one view and kind.
+    fn stands_for(&self, message: &Message) -> bool
+        ensures { result ≡ stands_for_batcher self.now message.now }
     {
-        match self {
-            Message::Constructed(old) => {
-                old.view() == vote.view() && is_same_kind(kind_of(old), kind_of(vote))
+        match (self, message) {
+            (Message::Constructed(v), Message::Constructed(w)) => {
+                v.view() == w.view() && is_same_kind(kind_of(v), kind_of(w))
             }
-            Message::Update { .. } => false,
+            _ => false,
         }
     }
 }
@@ -126,9 +126,9 @@ fn keep_needed(rest: &mut VecDeque<Message>, current: View, finalized: View)
     rest.retain(|queued| !queued.is_outdated_at(current, finalized));
 }
 
-/// Whether a vote of this one's view and kind is queued.
-fn has_one_for(rest: &VecDeque<Message>, vote: &Vote) -> bool
-    ensures { result ≡ list_any (stands_for_vote vote.now) rest.now.items }
+/// Whether a vote is queued that stands for this message.
+fn has_one_for(rest: &VecDeque<Message>, message: &Message) -> bool
+    ensures { result ≡ list_any (λ queued. stands_for_batcher queued message.now) rest.now.items }
 {
-    rest.iter().any(|queued| queued.stands_for_vote(vote))
+    rest.iter().any(|queued| queued.stands_for(message))
 }
