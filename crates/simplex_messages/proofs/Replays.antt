@@ -59,10 +59,10 @@ replayed-kept waiting message =
     let Kept : Waiting MailboxMessage → Type 0 = λ after. filter is_replayed after.rest ≡ filter is_replayed (waiting.rest ++ message ∷ []) in
     choice Kept (is_replayed message) _ _ (λ _. refl)
     (λ another.
-      let none = filter-last is_replayed waiting.rest message another in
-      choice Kept (is_final_from resolver_view waiting.place (resolver_view message)) _ _ (λ _. none)
-      (λ _. choice Kept (is_final_for_resolver message) _ _
-        (λ _. filter-filter is_replayed (λ queued. outlasts_for_resolver queued message) (stays-replayed message) waiting.rest ∙ none)
-        (λ _. choice Kept (list_any (λ queued. stands_for_resolver queued message) waiting.rest) _ _
-          (λ _. filter-map is_replayed (changed_for_resolver message) (replayed-changed message) (replayed-fixed message) waiting.rest ∙ none)
-          (λ _. refl))))
+    let none = filter-last is_replayed waiting.rest message another in
+    choice Kept (is_final_from resolver_view waiting.place (resolver_view message)) _ _ (λ _. none)
+    (λ _. choice Kept (is_final_for_resolver message) _ _
+    (λ _. filter-filter is_replayed (λ queued. outlasts_for_resolver queued message) (stays-replayed message) waiting.rest ∙ none)
+    (λ _. choice Kept (list_any (λ queued. stands_for_resolver queued message) waiting.rest) _ _
+    (λ _. filter-map is_replayed (changed_for_resolver message) (replayed-changed message) (replayed-fixed message) waiting.rest ∙ none)
+    (λ _. refl))))

@@ -8,6 +8,7 @@ mod call;
 mod handed;
 mod laws;
 pub mod resolver;
+mod samples;
 mod step;
 pub mod voter;
 
@@ -16,5 +17,8 @@ pub use call::Call;
 pub use handed::Handed;
 pub use laws::{finality_rules, none_waits_twice, replayed_survives};
 pub use resolver::ResolverInput;
+pub use samples::{
+    batcher_mail_comes_out, handler_mail_comes_out, resolver_mail_comes_out, voter_mail_comes_out,
+};
 pub use step::{Outcome, StepOut, Stop};
 pub use voter::VoterInput;
