@@ -184,9 +184,9 @@ batcher_handled waiting (batcher.Update current leader finalized proposal) =
       rest = filter (λ queued. not (outdates_message current finalized queued)) waiting.rest;
     }
 batcher_handled waiting (batcher.Constructed vote) =
-    let message = batcher.Constructed vote in
-    if is_outdated waiting.place vote || list_any (λ queued. stands_for_batcher queued message) waiting.rest then waiting
-    else put_last waiting message
+    if is_outdated waiting.place vote || list_any (λ queued. stands_for_batcher queued (batcher.Constructed vote)) waiting.rest
+    then waiting
+    else put_last waiting (batcher.Constructed vote)
 
 -- ---- the resolver's handler
 

@@ -22,3 +22,6 @@ pub use samples::{
 };
 pub use step::{Outcome, StepOut, Stop};
 pub use voter::VoterInput;
+
+#[cfg(test)]
+mod tests;

@@ -1,6 +1,7 @@
 //! What becomes of a message to a batcher whose mailbox has no room.
 ghost use Rattle.std.specs.Prelude.{◌≡◌, false, not, filter};
 ghost use Rattle.std.specs.List.{list_any};
+ghost use Rattle.simplex_messages.specs.declared.batcher.Message.TheVariants as messages;
 ghost use Rattle.simplex_messages.specs.Policies.{outdates, outdates_message, is_as_great, is_outdated, stands_for_batcher, batcher_handled};
 
 use super::{Message, Pending};
@@ -44,7 +45,7 @@ impl Policy for Message {
                 Ok(())
             }
             Message::Constructed(vote) => {
-                if is_outdated(&queue.place, vote) || has_one_for(&queue.rest, &message) {
+                if is_outdated(&queue.place, vote) || has_one_for(&queue.rest, vote) {
                     return Ok(());
                 }
                 queue.push(message)
@@ -64,15 +65,15 @@ impl Message {
         }
     }
 
-    /// Whether both are votes of one view and kind.
-    fn stands_for(&self, message: &Message) -> bool
-        ensures { result ≡ stands_for_batcher self.now message.now }
+    /// Whether it is a vote of this one's view and kind.
+    fn stands_for(&self, vote: &Vote) -> bool
+        ensures { result ≡ stands_for_batcher self.now (messages.Constructed vote.now) }
     {
-        match (self, message) {
-            (Message::Constructed(v), Message::Constructed(w)) => {
-                v.view() == w.view() && is_same_kind(kind_of(v), kind_of(w))
+        match self {
+            Message::Constructed(queued) => {
+                queued.view() == vote.view() && is_same_kind(kind_of(queued), kind_of(vote))
             }
-            _ => false,
+            Message::Update { .. } => false,
         }
     }
 }
@@ -126,9 +127,9 @@ fn keep_needed(rest: &mut VecDeque<Message>, current: View, finalized: View)
     rest.retain(|queued| !queued.is_outdated_at(current, finalized));
 }
 
-/// Whether a vote is queued that stands for this message.
-fn has_one_for(rest: &VecDeque<Message>, message: &Message) -> bool
-    ensures { result ≡ list_any (λ queued. stands_for_batcher queued message.now) rest.now.items }
+/// Whether a vote of this one's view and kind is queued.
+fn has_one_for(rest: &VecDeque<Message>, vote: &Vote) -> bool
+    ensures { result ≡ list_any (λ queued. stands_for_batcher queued (messages.Constructed vote.now)) rest.now.items }
 {
-    rest.iter().any(|queued| queued.stands_for(message))
+    rest.iter().any(|queued| queued.stands_for(vote))
 }
