@@ -15,7 +15,7 @@ choice P false x y at_true at_false = at_false refl
 
 module _ {M : Type 0} where
   -- what waits on is a part of what waited
-  All-behind : (P : M → Type 0) (skips : M → Bool) (room : ℕ) (list : List M) → All P list → All P (behind skips room list)
+  pub All-behind : (P : M → Type 0) (skips : M → Bool) (room : ℕ) (list : List M) → All P list → All P (behind skips room list)
   unfolding behind
   All-behind P skips room [] all = all
   All-behind P skips zero (message ∷ messages) all = all

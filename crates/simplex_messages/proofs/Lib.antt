@@ -2,3 +2,4 @@ pub mod ByKind
 pub mod Finality
 pub mod Replays
 pub mod Twice
+pub mod Updates

@@ -19,7 +19,8 @@ use Rattle.simplex_messages.specs.Policies.{is_final_from, handled_by_view, vote
 use Rattle.simplex_messages.specs.Turns.{Turn, Comes, Goes, waits_after, NoneTwice}
 use Rattle.simplex_messages.proofs.Finality.{choice}
 
-neither : (b c : Bool) → (b || c) ≡ false → (b ≡ false) × (c ≡ false)
+-- both tests fail
+pub neither : (b c : Bool) → (b || c) ≡ false → (b ≡ false) × (c ≡ false)
 neither true c is = absurd cc
 neither false c is = (refl, is)
 

@@ -169,6 +169,11 @@ abbrev pub is_outdated : Option batcher_message.Message → Vote → Bool
 is_outdated (Some (batcher.Update c leader f proposal)) vote = outdates c f vote
 is_outdated _ vote = false
 
+-- whether it is a vote that the queued update, if there is one, makes needless
+abbrev pub is_needless : Option batcher_message.Message → batcher_message.Message → Bool
+is_needless place (batcher.Constructed vote) = is_outdated place vote
+is_needless place (batcher.Update c leader f proposal) = false
+
 -- a vote of one view and kind
 abbrev pub stands_for_batcher : (queued message : batcher_message.Message) → Bool
 stands_for_batcher (batcher.Constructed v) (batcher.Constructed w) = vote_view v == vote_view w && is_same_kind (vote_kind v) (vote_kind w)
