@@ -1,5 +1,5 @@
 -- The policies' words at the messages, one kind after another.
-use Rattle.std.proofs.Common.{ℕ, ◌≡◌, ◌==◌, refl, nat_lt, Bool, true, false, cond, ◌||◌, ◌&&◌, List, [], ◌∷◌, Option, Some, None, rules, arith}
+use Rattle.std.proofs.Common.{◌≡◌, ◌==◌, refl, Bool, true, false, cond, ◌&&◌, Some, None, arith}
 use Rattle.simplex_mailbox.specs.Waiting.{Waiting}
 use Rattle.simplex_values.specs.declared.timeout.TimeoutReason.{TimeoutReason}
 use Rattle.simplex_values.specs.declared.round.Round.{Round}
@@ -11,7 +11,6 @@ use Rattle.simplex_messages.specs.Policies.{voter_view, is_final_for_voter, outl
 use Rattle.simplex_messages.specs.Turns.{FinalityRules}
 use Rattle.simplex_messages.proofs.Finality.{choice, rules-comes, rules-free}
 use Rattle.std.proofs.lemmas.Grind.{common_steps}
-use Rattle.std.proofs.lemmas.Bool.Decides.{nat_tests}
 
 -- ---- the voter
 

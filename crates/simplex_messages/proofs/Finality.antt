@@ -1,9 +1,9 @@
 -- While a finalization is queued, what waits beside it is above its view: turn by turn.
-use Rattle.std.proofs.Common.{ℕ, zero, suc, ◌≡◌, sym, ◌∙◌, refl, ap, subst, nat_lt, nat_le, Bool, true, false, cond, ◌||◌, IsTrue, List, [], ◌∷◌, ◌++◌, map, filter, Option, Some, None, rules, arith}
+use Rattle.std.proofs.Common.{ℕ, zero, suc, ◌≡◌, sym, ◌∙◌, refl, nat_lt, Bool, true, false, cond, ◌||◌, IsTrue, List, [], ◌∷◌, ◌++◌, map, Option, Some, None, arith}
 use Rattle.std.specs.Prelude.{All, IfSome}
 use Rattle.std.specs.List.{list_any}
 use Rattle.std.proofs.lemmas.Grind.{common_steps}
-use Rattle.std.proofs.lemmas.List.Elements.{All-nil, All-head, All-tail, All-push, All-map, All-filter, All-weaker, filter_passes}
+use Rattle.std.proofs.lemmas.List.Elements.{All-nil, All-tail, All-push, All-map, All-filter, All-weaker, filter_passes}
 use Rattle.simplex_mailbox.specs.Waiting.{Waiting, nothing, put_last, behind, undrained_at, undrained}
 use Rattle.simplex_messages.specs.Policies.{is_final_from, handled_by_view}
 use Rattle.simplex_messages.specs.Turns.{Turn, Comes, Goes, waits_after, FinalityRules}

@@ -1,5 +1,5 @@
 -- The Replayed that wait are those that waited, and the one that came.
-use Rattle.std.proofs.Common.{◌≡◌, ◌∙◌, sym, refl, ap, Bool, true, false, cond, List, [], ◌∷◌, ◌++◌, map, filter, Some, None}
+use Rattle.std.proofs.Common.{◌≡◌, ◌∙◌, refl, ap, Bool, true, false, cond, List, [], ◌∷◌, ◌++◌, map, filter, Some, None}
 use Rattle.std.specs.List.{list_any}
 use Rattle.simplex_mailbox.specs.Waiting.{Waiting}
 use Rattle.simplex_messages.specs.declared.resolver.MailboxMessage.{MailboxMessage}

@@ -1,12 +1,12 @@
 -- No message waits twice: turn by turn, and the words of the policies, one kind after another.
-use Rattle.std.proofs.Common.{ℕ, zero, suc, ◌≡◌, ◌==◌, ◌<◌, sym, ◌∙◌, refl, Bool, true, false, cond, not, ◌||◌, ◌&&◌, List, [], ◌∷◌, ◌++◌, length, map, filter, Option, Some, None, rules, arith}
+use Rattle.std.proofs.Common.{ℕ, zero, suc, ◌≡◌, ◌==◌, ◌∙◌, refl, Bool, true, false, cond, not, ◌||◌, ◌&&◌, List, [], ◌∷◌, map, Option, Some, None, arith}
 use Rattle.std.specs.Prelude.{All, AllPairs}
 use Rattle.std.specs.List.{list_any}
 use Rattle.std.proofs.lemmas.Grind.{common_steps}
-use Rattle.std.proofs.lemmas.List.Elements.{All-nil, All-cons, All-map, All-get_or}
+use Rattle.std.proofs.lemmas.List.Elements.{All-nil, All-cons, All-map}
 use Rattle.std.proofs.lemmas.List.Kept.{AllPairs-cons, AllPairs-filter}
-use Rattle.std.proofs.lemmas.List.Quantifiers.{all_pairs_push, all_pairs_remove}
-use Rattle.simplex_mailbox.specs.Waiting.{Waiting, nothing, put_last, behind, undrained_at, undrained}
+use Rattle.std.proofs.lemmas.List.Quantifiers.{all_pairs_push}
+use Rattle.simplex_mailbox.specs.Waiting.{Waiting, put_last, behind, undrained_at, undrained}
 use Rattle.simplex_values.specs.declared.timeout.TimeoutReason.{TimeoutReason}
 use Rattle.simplex_values.specs.declared.round.Round.{Round}
 use Rattle.simplex_messages.specs.declared.batcher.Message as batcher_message
