@@ -1,0 +1,5 @@
+pub mod ByKind
+pub mod Finality
+pub mod Replays
+pub mod Twice
+pub mod Updates

@@ -1,1 +1,4 @@
+pub mod Policies
+pub mod Samples
 pub mod Step
+pub mod Turns

@@ -2,6 +2,13 @@
 use simplex_types::{Bytes, Keep, Participant, Proposal, View, Vote};
 use std::alloc::{AllocError, Global};
 
+mod mailbox;
+mod pending;
+mod policy;
+
+pub use mailbox::Mailbox;
+pub use pending::Pending;
+
 /// A message of the voter to the batcher.
 #[derive(Debug, PartialEq, Eq, Drop)]
 pub enum Message {

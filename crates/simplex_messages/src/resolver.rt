@@ -4,6 +4,18 @@ use simplex_types::{
 };
 use std::alloc::{AllocError, Global};
 
+mod handler;
+mod handler_pending;
+mod handler_policy;
+mod mailbox;
+mod pending;
+mod policy;
+
+pub use handler::Handler;
+pub use handler_pending::HandlerPending;
+pub use mailbox::Mailbox;
+pub use pending::Pending;
+
 /// A message of the voter to the resolver.
 #[derive(Debug, PartialEq, Eq, Drop)]
 pub enum MailboxMessage {

@@ -2,6 +2,13 @@
 use simplex_types::{Certificate, Keep, Proposal, Round, TimeoutReason};
 use std::alloc::{AllocError, Global};
 
+mod mailbox;
+mod pending;
+mod policy;
+
+pub use mailbox::Mailbox;
+pub use pending::Pending;
+
 /// A message to the voter.
 #[derive(Debug, PartialEq, Eq, Drop)]
 pub enum Message {
