@@ -1,0 +1,4 @@
+pub mod Placed
+pub mod Rising
+pub mod Marks
+pub mod Turns

@@ -1,0 +1,102 @@
+-- Which votes a round accepts, and what it reports and blocks for them.
+use Rattle.std.specs.Prelude.{ℕ, ◌==◌, nat_lt, Bool, true, false, List, [], ◌∷◌, if◌then◌else◌, Option, Some, None}
+use Rattle.std.specs.List.{list_any}
+use Rattle.simplex_values.specs.Proposal.{is_same_proposal}
+use Rattle.simplex_wire.specs.declared.vote.Vote.{Vote}
+use Rattle.simplex_wire.specs.declared.vote.Vote.TheVariants as votes
+use Rattle.simplex_types.specs.declared.activity.Activity.{Activity}
+use Rattle.simplex_types.specs.declared.activity.Activity.TheVariants as activities
+use Rattle.simplex_round.specs.declared.ballot.Ballot.{Ballot}
+use Rattle.simplex_round.specs.Votes.{vote_kind, vote_signer, is_nullify}
+use Rattle.simplex_round.specs.Known.{Known, side_of, with_side, ballot_of}
+
+-- the ballot put in its place by signer
+unfoldable pub placed : Ballot → List Ballot → List Ballot
+placed ballot [] = ballot ∷ []
+placed ballot (other ∷ others) = if nat_lt (vote_signer ballot.vote) (vote_signer other.vote) then ballot ∷ other ∷ others else other ∷ placed ballot others
+
+-- the vote accepted: it was not checked
+unfoldable pub with_accepted : Known → Vote → Known
+with_accepted known vote =
+    with_side known (vote_kind vote) (placed (record { vote = vote; found = None }) (side_of known (vote_kind vote)))
+
+-- ---- evidence
+
+-- what an accepted vote and a later one of its signer prove together
+abbrev pub evidence_of : Vote → Vote → Option Activity
+evidence_of (votes.Notarize old) (votes.Notarize new) =
+    if is_same_proposal old.proposal new.proposal then None
+    else Some (activities.ConflictingNotarize (record { first = old; second = new }))
+evidence_of (votes.Finalize old) (votes.Finalize new) =
+    if is_same_proposal old.proposal new.proposal then None
+    else Some (activities.ConflictingFinalize (record { first = old; second = new }))
+evidence_of (votes.Nullify old) (votes.Finalize new) = Some (activities.NullifyFinalize (record { nullify = old; finalize = new }))
+evidence_of (votes.Finalize old) (votes.Nullify new) = Some (activities.NullifyFinalize (record { nullify = new; finalize = old }))
+evidence_of _ _ = None
+
+-- whether it is evidence of the kind against the signer
+abbrev pub is_against_notarizer : ℕ → Activity → Bool
+is_against_notarizer signer (activities.ConflictingNotarize e) = e.first.attestation.signer == signer
+is_against_notarizer signer _ = false
+
+abbrev pub is_against_finalizer : ℕ → Activity → Bool
+is_against_finalizer signer (activities.ConflictingFinalize e) = e.first.attestation.signer == signer
+is_against_finalizer signer _ = false
+
+abbrev pub is_against_nullifier : ℕ → Activity → Bool
+is_against_nullifier signer (activities.NullifyFinalize e) = e.nullify.attestation.signer == signer
+is_against_nullifier signer _ = false
+
+-- whether evidence of this kind against this signer was given
+abbrev pub was_given : Activity → List Activity → Bool
+was_given (activities.ConflictingNotarize e) given = list_any (is_against_notarizer e.first.attestation.signer) given
+was_given (activities.ConflictingFinalize e) given = list_any (is_against_finalizer e.first.attestation.signer) given
+was_given (activities.NullifyFinalize e) given = list_any (is_against_nullifier e.nullify.attestation.signer) given
+was_given _ given = false
+
+-- ---- what comes of a vote
+
+abbrev pub vote_activity : Vote → Activity
+vote_activity (votes.Notarize v) = activities.Notarize v
+vote_activity (votes.Nullify v) = activities.Nullify v
+vote_activity (votes.Finalize v) = activities.Finalize v
+
+pub record Heard : Type 0 where
+  pub accepted : Bool
+  pub reports : List Activity
+  pub blocks : List ℕ
+  pub known : Known
+
+-- nothing comes of it
+abbrev pub unheard : Known → Heard
+unheard known = record { accepted = false; reports = []; blocks = []; known = known }
+
+-- evidence is given once for each signer and kind of evidence, and blocks the signer
+unfoldable pub accused : Known → ℕ → Option Activity → Heard
+accused known signer None = unheard known
+accused known signer (Some proof) =
+    if was_given proof known.evidence then unheard known
+    else record { accepted = false; reports = proof ∷ []; blocks = signer ∷ []; known = record known { evidence = proof ∷ known.evidence } }
+
+-- a vote is accepted and reported where its signer has none there
+unfoldable pub heard_beside : Known → Vote → Option Ballot → Heard
+heard_beside known vote None = record { accepted = true; reports = vote_activity vote ∷ []; blocks = []; known = with_accepted known vote }
+heard_beside known vote (Some old) = accused known (vote_signer vote) (evidence_of old.vote vote)
+
+-- an own vote, or one whose sender is its signer
+unfoldable pub heard : Known → Vote → Heard
+heard known vote = heard_beside known vote (ballot_of (side_of known (vote_kind vote)) (vote_signer vote))
+
+-- a sender that is not the signer is blocked
+unfoldable pub heard_from : Known → ℕ → Vote → Heard
+heard_from known sender vote =
+    if vote_signer vote == sender then heard known vote
+    else record { accepted = false; reports = []; blocks = sender ∷ []; known = known }
+
+-- whether a nullify of the member was accepted
+abbrev pub is_nullify_ballot : Option Ballot → Bool
+is_nullify_ballot None = false
+is_nullify_ballot (Some b) = is_nullify b.vote
+
+unfoldable pub has_nullify : Known → ℕ → Bool
+has_nullify known member = is_nullify_ballot (ballot_of known.others member)

@@ -1,0 +1,10 @@
+//! One view's votes: which are accepted, what they are evidence of, and the certificates that they make.
+#![tactic(auto)]
+
+mod ballot;
+mod ballots;
+mod batch;
+mod findings;
+mod votes;
+
+pub use batch::{Batch, RoundOut};

@@ -1,0 +1,40 @@
+//! What votes have in common.
+ghost use Rattle.std.specs.Prelude.{◌≡◌};
+ghost use Rattle.simplex_round.specs.Votes as votes;
+
+use simplex_values::{Participant, Proposal, Subject};
+use simplex_wire::{CertificateKind, Vote};
+
+/// Whether two subjects are one.
+pub fn is_same_subject(a: &Subject, b: &Subject) -> bool
+    ensures { result ≡ votes.is_same_subject a.now b.now }
+{
+    match (a, b) {
+        (Subject::Notarize(p), Subject::Notarize(q)) => p.is_same(q),
+        (Subject::Nullify(r), Subject::Nullify(s)) => r == s,
+        (Subject::Finalize(p), Subject::Finalize(q)) => p.is_same(q),
+        _ => false,
+    }
+}
+
+/// The certificate that votes of its kind make.
+pub fn kind_of(vote: &Vote) -> CertificateKind
+    ensures { result ≡ votes.vote_kind vote.now }
+{
+    match vote {
+        Vote::Notarize(_) => CertificateKind::Notarization,
+        Vote::Nullify(_) => CertificateKind::Nullification,
+        Vote::Finalize(_) => CertificateKind::Finalization,
+    }
+}
+
+/// The proposal that it is for: a nullify is for none.
+pub fn proposal_of(vote: &Vote) -> Option<Proposal>
+    ensures { result ≡ votes.vote_proposal vote.now }
+{
+    match vote {
+        Vote::Notarize(it) => Some(it.proposal),
+        Vote::Nullify(_) => None,
+        Vote::Finalize(it) => Some(it.proposal),
+    }
+}
