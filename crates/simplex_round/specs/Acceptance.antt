@@ -7,6 +7,8 @@ use Rattle.simplex_wire.specs.declared.vote.Vote.TheVariants as votes
 use Rattle.simplex_types.specs.declared.activity.Activity.{Activity}
 use Rattle.simplex_types.specs.declared.activity.Activity.TheVariants as activities
 use Rattle.simplex_round.specs.declared.ballot.Ballot.{Ballot}
+use Rattle.simplex_round.specs.declared.evidence.Evidence.{Evidence}
+use Rattle.simplex_round.specs.declared.evidence.Evidence.TheVariants as proofs
 use Rattle.simplex_round.specs.Votes.{vote_kind, vote_signer, is_nullify}
 use Rattle.simplex_round.specs.Known.{Known, side_of, with_side, ballot_of}
 
@@ -22,37 +24,45 @@ with_accepted known vote =
 
 -- ---- evidence
 
--- what an accepted vote and a later one of its signer prove together
-abbrev pub evidence_of : Vote → Vote → Option Activity
+-- what an accepted vote and a later one of its signer prove together: the accepted one first, nullify and finalize by name
+abbrev pub evidence_of : Vote → Vote → Option Evidence
 evidence_of (votes.Notarize old) (votes.Notarize new) =
     if is_same_proposal old.proposal new.proposal then None
-    else Some (activities.ConflictingNotarize (record { first = old; second = new }))
+    else Some (proofs.Notarizes (record { first = old; second = new }))
 evidence_of (votes.Finalize old) (votes.Finalize new) =
     if is_same_proposal old.proposal new.proposal then None
-    else Some (activities.ConflictingFinalize (record { first = old; second = new }))
-evidence_of (votes.Nullify old) (votes.Finalize new) = Some (activities.NullifyFinalize (record { nullify = old; finalize = new }))
-evidence_of (votes.Finalize old) (votes.Nullify new) = Some (activities.NullifyFinalize (record { nullify = new; finalize = old }))
+    else Some (proofs.Finalizes (record { first = old; second = new }))
+evidence_of (votes.Nullify old) (votes.Finalize new) = Some (proofs.NullifyFinalize (record { nullify = old; finalize = new }))
+evidence_of (votes.Finalize old) (votes.Nullify new) = Some (proofs.NullifyFinalize (record { nullify = new; finalize = old }))
 evidence_of _ _ = None
 
 -- whether it is evidence of the kind against the signer
-abbrev pub is_against_notarizer : ℕ → Activity → Bool
-is_against_notarizer signer (activities.ConflictingNotarize e) = e.first.attestation.signer == signer
-is_against_notarizer signer _ = false
+abbrev pub is_of_notarizes : ℕ → Evidence → Bool
+is_of_notarizes signer (proofs.Notarizes e) = e.first.attestation.signer == signer
+is_of_notarizes signer (proofs.Finalizes e) = false
+is_of_notarizes signer (proofs.NullifyFinalize e) = false
 
-abbrev pub is_against_finalizer : ℕ → Activity → Bool
-is_against_finalizer signer (activities.ConflictingFinalize e) = e.first.attestation.signer == signer
-is_against_finalizer signer _ = false
+abbrev pub is_of_finalizes : ℕ → Evidence → Bool
+is_of_finalizes signer (proofs.Notarizes e) = false
+is_of_finalizes signer (proofs.Finalizes e) = e.first.attestation.signer == signer
+is_of_finalizes signer (proofs.NullifyFinalize e) = false
 
-abbrev pub is_against_nullifier : ℕ → Activity → Bool
-is_against_nullifier signer (activities.NullifyFinalize e) = e.nullify.attestation.signer == signer
-is_against_nullifier signer _ = false
+abbrev pub is_of_both : ℕ → Evidence → Bool
+is_of_both signer (proofs.Notarizes e) = false
+is_of_both signer (proofs.Finalizes e) = false
+is_of_both signer (proofs.NullifyFinalize e) = e.nullify.attestation.signer == signer
 
 -- whether evidence of this kind against this signer was given
-abbrev pub was_given : Activity → List Activity → Bool
-was_given (activities.ConflictingNotarize e) given = list_any (is_against_notarizer e.first.attestation.signer) given
-was_given (activities.ConflictingFinalize e) given = list_any (is_against_finalizer e.first.attestation.signer) given
-was_given (activities.NullifyFinalize e) given = list_any (is_against_nullifier e.nullify.attestation.signer) given
-was_given _ given = false
+abbrev pub was_given : Evidence → List Evidence → Bool
+was_given (proofs.Notarizes e) given = list_any (is_of_notarizes e.first.attestation.signer) given
+was_given (proofs.Finalizes e) given = list_any (is_of_finalizes e.first.attestation.signer) given
+was_given (proofs.NullifyFinalize e) given = list_any (is_of_both e.nullify.attestation.signer) given
+
+-- evidence as it is reported
+abbrev pub evidence_activity : Evidence → Activity
+evidence_activity (proofs.Notarizes e) = activities.ConflictingNotarize e
+evidence_activity (proofs.Finalizes e) = activities.ConflictingFinalize e
+evidence_activity (proofs.NullifyFinalize e) = activities.NullifyFinalize e
 
 -- ---- what comes of a vote
 
@@ -72,11 +82,11 @@ abbrev pub unheard : Known → Heard
 unheard known = record { accepted = false; reports = []; blocks = []; known = known }
 
 -- evidence is given once for each signer and kind of evidence, and blocks the signer
-unfoldable pub accused : Known → ℕ → Option Activity → Heard
+unfoldable pub accused : Known → ℕ → Option Evidence → Heard
 accused known signer None = unheard known
 accused known signer (Some proof) =
     if was_given proof known.evidence then unheard known
-    else record { accepted = false; reports = proof ∷ []; blocks = signer ∷ []; known = record known { evidence = proof ∷ known.evidence } }
+    else record { accepted = false; reports = evidence_activity proof ∷ []; blocks = signer ∷ []; known = record known { evidence = proof ∷ known.evidence } }
 
 -- a vote is accepted and reported where its signer has none there
 unfoldable pub heard_beside : Known → Vote → Option Ballot → Heard

@@ -6,8 +6,8 @@ use Rattle.simplex_wire.specs.declared.certificate.Nullification.{Nullification}
 use Rattle.simplex_wire.specs.declared.certificate.Finalization.{Finalization}
 use Rattle.simplex_wire.specs.declared.certificate.CertificateKind.{CertificateKind}
 use Rattle.simplex_wire.specs.declared.certificate.CertificateKind.TheVariants as kinds
-use Rattle.simplex_types.specs.declared.activity.Activity.{Activity}
 use Rattle.simplex_round.specs.declared.ballot.Ballot.{Ballot}
+use Rattle.simplex_round.specs.declared.evidence.Evidence.{Evidence}
 use Rattle.simplex_round.specs.Votes.{vote_signer}
 
 -- what a round is made with: a skipped one never assembles
@@ -23,7 +23,7 @@ pub record Known : Type 0 where
   pub notarizes : List Ballot
   pub others : List Ballot
   -- the evidence that was given, the newest first
-  pub evidence : List Activity
+  pub evidence : List Evidence
   -- the certificates that are held
   pub notarization : Option Notarization
   pub nullification : Option Nullification

@@ -1,4 +1,5 @@
 pub mod Acceptance
+pub mod Accused
 pub mod Assembly
 pub mod Ballots
 pub mod Calls

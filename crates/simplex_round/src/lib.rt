@@ -1,9 +1,11 @@
 //! One view's votes: which are accepted, what they are evidence of, and the certificates that they make.
 #![tactic(auto)]
 
+mod accused;
 mod ballot;
 mod ballots;
 mod batch;
+mod evidence;
 mod findings;
 mod votes;
 
