@@ -10,7 +10,10 @@ use Rattle.simplex_round.specs.declared.ballot.Ballot.{Ballot}
 use Rattle.simplex_round.specs.declared.evidence.Evidence.{Evidence}
 use Rattle.simplex_round.specs.declared.evidence.Evidence.TheVariants as proofs
 use Rattle.simplex_round.specs.Votes.{vote_kind, vote_signer, is_nullify}
-use Rattle.simplex_round.specs.Known.{Known, side_of, with_side, ballot_of}
+use Rattle.std.specs.Ordering.{nat_cmp}
+use Rattle.std.specs.BTreeMap.{is_at}
+use Rattle.std.specs.BTreeSet.{insert_key}
+use Rattle.simplex_round.specs.Known.{Known, Given, side_of, with_side, ballot_of}
 
 -- the ballot put in its place by signer
 unfoldable pub placed : Ballot → List Ballot → List Ballot
@@ -36,27 +39,23 @@ evidence_of (votes.Nullify old) (votes.Finalize new) = Some (proofs.NullifyFinal
 evidence_of (votes.Finalize old) (votes.Nullify new) = Some (proofs.NullifyFinalize (record { nullify = new; finalize = old }))
 evidence_of _ _ = None
 
--- whether it is evidence of the kind against the signer
-abbrev pub is_of_notarizes : ℕ → Evidence → Bool
-is_of_notarizes signer (proofs.Notarizes e) = e.first.attestation.signer == signer
-is_of_notarizes signer (proofs.Finalizes e) = false
-is_of_notarizes signer (proofs.NullifyFinalize e) = false
-
-abbrev pub is_of_finalizes : ℕ → Evidence → Bool
-is_of_finalizes signer (proofs.Notarizes e) = false
-is_of_finalizes signer (proofs.Finalizes e) = e.first.attestation.signer == signer
-is_of_finalizes signer (proofs.NullifyFinalize e) = false
-
-abbrev pub is_of_both : ℕ → Evidence → Bool
-is_of_both signer (proofs.Notarizes e) = false
-is_of_both signer (proofs.Finalizes e) = false
-is_of_both signer (proofs.NullifyFinalize e) = e.nullify.attestation.signer == signer
+-- the signer that evidence is against
+abbrev pub evidence_signer : Evidence → ℕ
+evidence_signer (proofs.Notarizes e) = e.first.attestation.signer
+evidence_signer (proofs.Finalizes e) = e.first.attestation.signer
+evidence_signer (proofs.NullifyFinalize e) = e.nullify.attestation.signer
 
 -- whether evidence of this kind against this signer was given
-abbrev pub was_given : Evidence → List Evidence → Bool
-was_given (proofs.Notarizes e) given = list_any (is_of_notarizes e.first.attestation.signer) given
-was_given (proofs.Finalizes e) given = list_any (is_of_finalizes e.first.attestation.signer) given
-was_given (proofs.NullifyFinalize e) given = list_any (is_of_both e.nullify.attestation.signer) given
+abbrev pub was_given : Evidence → Given → Bool
+was_given (proofs.Notarizes e) given = list_any (is_at (nat_cmp e.first.attestation.signer)) given.by_notarizes
+was_given (proofs.Finalizes e) given = list_any (is_at (nat_cmp e.first.attestation.signer)) given.by_finalizes
+was_given (proofs.NullifyFinalize e) given = list_any (is_at (nat_cmp e.nullify.attestation.signer)) given.by_both
+
+-- the evidence is given: its signer is put in its place
+abbrev pub with_given : Evidence → Given → Given
+with_given (proofs.Notarizes e) given = record given { by_notarizes = insert_key nat_cmp given.by_notarizes e.first.attestation.signer }
+with_given (proofs.Finalizes e) given = record given { by_finalizes = insert_key nat_cmp given.by_finalizes e.first.attestation.signer }
+with_given (proofs.NullifyFinalize e) given = record given { by_both = insert_key nat_cmp given.by_both e.nullify.attestation.signer }
 
 -- evidence as it is reported
 abbrev pub evidence_activity : Evidence → Activity
@@ -85,8 +84,8 @@ unheard known = record { accepted = false; reports = []; blocks = []; known = kn
 unfoldable pub accused : Known → ℕ → Option Evidence → Heard
 accused known signer None = unheard known
 accused known signer (Some proof) =
-    if was_given proof known.evidence then unheard known
-    else record { accepted = false; reports = evidence_activity proof ∷ []; blocks = signer ∷ []; known = record known { evidence = proof ∷ known.evidence } }
+    if was_given proof known.given then unheard known
+    else record { accepted = false; reports = evidence_activity proof ∷ []; blocks = signer ∷ []; known = record known { given = with_given proof known.given } }
 
 -- a vote is accepted and reported where its signer has none there
 unfoldable pub heard_beside : Known → Vote → Option Ballot → Heard

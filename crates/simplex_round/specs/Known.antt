@@ -7,7 +7,6 @@ use Rattle.simplex_wire.specs.declared.certificate.Finalization.{Finalization}
 use Rattle.simplex_wire.specs.declared.certificate.CertificateKind.{CertificateKind}
 use Rattle.simplex_wire.specs.declared.certificate.CertificateKind.TheVariants as kinds
 use Rattle.simplex_round.specs.declared.ballot.Ballot.{Ballot}
-use Rattle.simplex_round.specs.declared.evidence.Evidence.{Evidence}
 use Rattle.simplex_round.specs.Votes.{vote_signer}
 
 -- what a round is made with: a skipped one never assembles
@@ -17,13 +16,19 @@ pub record Made : Type 0 where
   pub quorum : ℕ
   pub skipped : Bool
 
+-- the members against whom evidence was given, by its kind, each list in rising order
+pub record Given : Type 0 where
+  pub by_notarizes : List ℕ
+  pub by_finalizes : List ℕ
+  pub by_both : List ℕ
+
 -- what is known in a round. A ballot is an accepted vote, with what checking it found
 pub record Known : Type 0 where
   -- the accepted votes in rising order of signer: the notarizes, and the nullifies and finalizes
   pub notarizes : List Ballot
   pub others : List Ballot
-  -- the evidence that was given, the newest first
-  pub evidence : List Evidence
+  -- the evidence that was given
+  pub given : Given
   -- the certificates that are held
   pub notarization : Option Notarization
   pub nullification : Option Nullification
@@ -32,9 +37,14 @@ pub record Known : Type 0 where
   pub leader : Option ℕ
   pub forwarded : Bool
 
+-- a round as it stands: how it was made, and what is known
+pub record Standing : Type 0 where
+  pub made : Made
+  pub known : Known
+
 abbrev pub nothing_known : Known
 nothing_known = record {
-  notarizes = []; others = []; evidence = [];
+  notarizes = []; others = []; given = record { by_notarizes = []; by_finalizes = []; by_both = [] };
   notarization = None; nullification = None; finalization = None;
   leader = None; forwarded = false;
 }

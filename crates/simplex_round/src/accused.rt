@@ -1,12 +1,11 @@
 //! Against whom evidence was given.
-ghost use Rattle.std.specs.Prelude.{◌≡◌, ◌∷◌, [], List, OnOk, OnErr, false};
-ghost use Rattle.simplex_round.specs.declared.evidence.Evidence.{Evidence as Proof};
-ghost use Rattle.simplex_round.specs.Acceptance.{was_given};
-ghost use Rattle.simplex_round.specs.Accused.{Names};
+ghost use Rattle.std.specs.Prelude.{◌≡◌, [], OnOk, OnErr};
+ghost use Rattle.simplex_round.specs.Acceptance.{was_given, with_given};
 
 use crate::evidence::Evidence;
 use std::alloc::{AllocError, Global};
 use std::collections::BTreeSet;
+use std::marker::Model;
 
 /// The members against whom evidence was given, by its kind.
 #[derive(Debug, Drop)]
@@ -16,10 +15,18 @@ pub struct Accused {
     by_both: BTreeSet<u32>,
 }
 
+impl Model for Accused {
+    ghost use Rattle.simplex_round.specs.Known.{Given};
+
+    ghost Value = { Given };
+
+    ghost view = { λ a. record { by_notarizes = a.by_notarizes.keys; by_finalizes = a.by_finalizes.keys; by_both = a.by_both.keys } };
+}
+
 impl Accused {
     /// Nobody.
     pub fn new(alloc: Global) -> Accused
-        ensures { Names result [] }
+        ensures { result ≡ record { by_notarizes = []; by_finalizes = []; by_both = [] } }
     {
         Accused {
             by_notarizes: BTreeSet::new(alloc),
@@ -30,7 +37,7 @@ impl Accused {
 
     /// Whether evidence of this kind was given against its signer.
     pub fn has(&self, evidence: &Evidence) -> bool
-        ensures { (given : List Proof) → Names self.now given → result ≡ was_given evidence.now given }
+        ensures { result ≡ was_given evidence.now self.now }
     {
         match evidence {
             Evidence::Notarizes(it) => self.by_notarizes.contains(&it.first.attestation.signer.0),
@@ -41,8 +48,8 @@ impl Accused {
 
     /// Takes evidence that is given.
     pub fn add(&mut self, evidence: &Evidence) -> Result<(), AllocError>
-        ensures ok { OnOk result ((given : List Proof) → Names self.old given → Names self.new (evidence.now ∷ given)) }
-        ensures err { OnErr result ((given : List Proof) → Names self.old given → Names self.new given) }
+        ensures ok { OnOk result (self.new ≡ with_given evidence.now self.old) }
+        ensures err { OnErr result (self.new ≡ self.old) }
     {
         match evidence {
             Evidence::Notarizes(it) => {

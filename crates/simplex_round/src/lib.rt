@@ -7,6 +7,8 @@ mod ballots;
 mod batch;
 mod evidence;
 mod findings;
+mod round;
 mod votes;
 
 pub use batch::{Batch, RoundOut};
+pub use round::Round;

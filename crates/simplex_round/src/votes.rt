@@ -1,8 +1,10 @@
 //! What votes have in common.
 ghost use Rattle.std.specs.Prelude.{◌≡◌};
 ghost use Rattle.simplex_round.specs.Votes as votes;
+ghost use Rattle.simplex_round.specs.Acceptance.{vote_activity};
 
-use simplex_values::{Participant, Proposal, Subject};
+use simplex_types::Activity;
+use simplex_values::{Proposal, Subject};
 use simplex_wire::{CertificateKind, Vote};
 
 /// Whether two subjects are one.
@@ -36,5 +38,16 @@ pub fn proposal_of(vote: &Vote) -> Option<Proposal>
         Vote::Notarize(it) => Some(it.proposal),
         Vote::Nullify(_) => None,
         Vote::Finalize(it) => Some(it.proposal),
+    }
+}
+
+/// The vote as it is reported.
+pub fn activity_of(vote: &Vote) -> Activity
+    ensures { result ≡ vote_activity vote.now }
+{
+    match vote {
+        Vote::Notarize(it) => Activity::Notarize(*it),
+        Vote::Nullify(it) => Activity::Nullify(*it),
+        Vote::Finalize(it) => Activity::Finalize(*it),
     }
 }
