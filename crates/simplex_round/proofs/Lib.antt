@@ -2,3 +2,4 @@ pub mod Placed
 pub mod Rising
 pub mod Marks
 pub mod Turns
+pub mod Counts

@@ -1,5 +1,5 @@
 //! The accepted votes among which a member has one at most.
-ghost use Rattle.std.specs.Prelude.{◌≡◌, [], None, OnOk, OnErr, IfOk, length, filter, map, not, IsTrue};
+ghost use Rattle.std.specs.Prelude.{◌≡◌, [], None, OnOk, OnErr, IfOk, length, filter, map, not, IsTrue, nat_le};
 ghost use Rattle.std.specs.Map.{values_of};
 ghost use Rattle.simplex_wire.specs.Fields.{vote_attestation};
 ghost use Rattle.simplex_round.specs.Votes.{vote_signer};
@@ -66,8 +66,15 @@ impl Ballots {
         Ok(())
     }
 
-    /// How many candidates stand on the subject.
-    pub fn candidates(&self, subject: &Subject) -> usize
+    /// Whether so many candidates stand on the subject.
+    #[tactic(auto, using(crate::proofs::Counts::passing_fit))]
+    pub fn has_candidates(&self, count: usize, subject: &Subject) -> bool
+        ensures { result ≡ nat_le count (length (filter (is_candidate subject.now) self.now)) }
+    {
+        self.by_signer.len() >= count && self.candidates(subject) >= count
+    }
+
+    fn candidates(&self, subject: &Subject) -> usize
         ensures { result ≡ length (filter (is_candidate subject.now) self.now) }
     {
         self.by_signer
@@ -92,7 +99,7 @@ impl Ballots {
     }
 
     /// Notes what was found of the candidates that were not checked, in their order.
-    fn mark(&mut self, subject: &Subject, found: &[bool])
+    pub fn mark(&mut self, subject: &Subject, found: &[bool])
         ensures { self.new ≡ marked subject.now self.old found.now }
     {
         let mut left = found;

@@ -2,6 +2,7 @@
 #![tactic(auto)]
 
 mod accused;
+mod assembly;
 mod ballot;
 mod ballots;
 mod batch;

@@ -1,11 +1,12 @@
 //! What votes have in common.
 ghost use Rattle.std.specs.Prelude.{◌≡◌};
 ghost use Rattle.simplex_round.specs.Votes as votes;
+ghost use Rattle.simplex_round.specs.Forwarding as forwarding;
 ghost use Rattle.simplex_round.specs.Acceptance.{vote_activity};
 
 use simplex_types::Activity;
 use simplex_values::{Proposal, Subject};
-use simplex_wire::{CertificateKind, Vote};
+use simplex_wire::{Certificate, CertificateKind, Finalization, Notarization, Nullification, Signatures, Vote};
 
 /// Whether two subjects are one.
 pub fn is_same_subject(a: &Subject, b: &Subject) -> bool
@@ -49,5 +50,36 @@ pub fn activity_of(vote: &Vote) -> Activity
         Vote::Notarize(it) => Activity::Notarize(*it),
         Vote::Nullify(it) => Activity::Nullify(*it),
         Vote::Finalize(it) => Activity::Finalize(*it),
+    }
+}
+
+/// Whether there is a proposal now that there was not before.
+pub fn is_another(before: Option<Proposal>, now: Option<Proposal>) -> bool
+    ensures { result ≡ forwarding.is_another before now }
+{
+    match (before, now) {
+        (_, None) => false,
+        (None, Some(_)) => true,
+        (Some(before), Some(now)) => !before.is_same(&now),
+    }
+}
+
+/// The certificate on the subject.
+pub fn certificate_on(subject: &Subject, certificate: Signatures) -> Certificate
+    ensures { result ≡ votes.certificate_on subject.now certificate }
+{
+    match subject {
+        Subject::Notarize(proposal) => Certificate::Notarization(Notarization {
+            proposal: *proposal,
+            certificate,
+        }),
+        Subject::Nullify(round) => Certificate::Nullification(Nullification {
+            round: *round,
+            certificate,
+        }),
+        Subject::Finalize(proposal) => Certificate::Finalization(Finalization {
+            proposal: *proposal,
+            certificate,
+        }),
     }
 }
