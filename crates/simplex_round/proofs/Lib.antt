@@ -3,3 +3,4 @@ pub mod Rising
 pub mod Marks
 pub mod Turns
 pub mod Counts
+pub mod Work
