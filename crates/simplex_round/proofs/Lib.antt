@@ -4,3 +4,4 @@ pub mod Marks
 pub mod Turns
 pub mod Counts
 pub mod Work
+pub mod Evidences

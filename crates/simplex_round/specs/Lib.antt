@@ -6,3 +6,6 @@ pub mod Forwarding
 pub mod Known
 pub mod Votes
 pub mod Stands
+pub mod Laws
+pub mod Samples
+pub mod Verifier
