@@ -44,9 +44,14 @@ pub record Standing : Type 0 where
 
 abbrev pub nothing_known : Known
 nothing_known = record {
-  notarizes = []; others = []; given = record { by_notarizes = []; by_finalizes = []; by_both = [] };
-  notarization = None; nullification = None; finalization = None;
-  leader = None; forwarded = false;
+  notarizes = [];
+  others = [];
+  given = record { by_notarizes = []; by_finalizes = []; by_both = [] };
+  notarization = None;
+  nullification = None;
+  finalization = None;
+  leader = None;
+  forwarded = false;
 }
 
 -- the accepted votes among which a member has one at most: of a kind, and nullify beside finalize

@@ -42,7 +42,9 @@ impl Accused {
         match evidence {
             Evidence::Notarizes(it) => self.by_notarizes.contains(&it.first.attestation.signer.0),
             Evidence::Finalizes(it) => self.by_finalizes.contains(&it.first.attestation.signer.0),
-            Evidence::NullifyFinalize(it) => self.by_both.contains(&it.nullify.attestation.signer.0),
+            Evidence::NullifyFinalize(it) => self
+                .by_both
+                .contains(&it.nullify.attestation.signer.0),
         }
     }
 

@@ -10,8 +10,8 @@ ghost use Rattle.simplex_wire.specs.Signatures.{rises_from};
 ghost use Rattle.simplex_round.specs.Assembly.{is_candidate, is_unchecked, valid_on, as_scheme};
 
 use crate::ballot::Ballot;
-use simplex_values::{Participant, Subject};
 use crate::findings::Findings;
+use simplex_values::{Participant, Subject};
 use simplex_wire::{Scheme, Vote};
 use std::alloc::{AllocError, Global};
 use std::collections::BTreeMap;
@@ -62,7 +62,8 @@ impl Ballots {
         ensures err { OnErr result (self.new ≡ self.old) }
     {
         let signer = vote.signer();
-        self.by_signer.insert(signer.0, Ballot { vote, found: None })?;
+        self.by_signer
+            .insert(signer.0, Ballot { vote, found: None })?;
         Ok(())
     }
 
@@ -85,7 +86,12 @@ impl Ballots {
 
     /// What checking the candidates finds that were not checked. Changes nothing.
     #[tactic(auto, unfolding(crate::specs::Assembly::valid_on))]
-    pub fn findings<S: Scheme>(&self, alloc: Global, scheme: &S, subject: &Subject) -> Result<Findings, AllocError>
+    pub fn findings<S: Scheme>(
+        &self,
+        alloc: Global,
+        scheme: &S,
+        subject: &Subject,
+    ) -> Result<Findings, AllocError>
         ensures found { IfOk result (λ f. f.found.items ≡ map (λ b. S.verifies scheme.now subject.now (vote_attestation b.vote)) (filter (is_unchecked subject.now) self.now)) }
         ensures invalid { IfOk result (λ f. f.invalid ≡ map (λ b. vote_signer b.vote) (filter (λ b. not (S.verifies scheme.now subject.now (vote_attestation b.vote))) (filter (is_unchecked subject.now) self.now))) }
         ensures valid { IfOk result (λ f. f.valid.items ≡ valid_on (as_scheme (S.verifies scheme.now) (S.recovers scheme.now) (S.members scheme.now)) subject.now self.now) }

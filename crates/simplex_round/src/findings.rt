@@ -36,7 +36,12 @@ impl Findings {
 
     /// Adds what checking this vote finds, if it is on the subject.
     #[tactic(auto, unfolding(crate::specs::Assembly::is_unchecked, crate::specs::Assembly::is_valid, crate::specs::Assembly::checked))]
-    pub fn take<S: Scheme>(&mut self, scheme: &S, subject: &Subject, ballot: &Ballot) -> Result<(), AllocError>
+    pub fn take<S: Scheme>(
+        &mut self,
+        scheme: &S,
+        subject: &Subject,
+        ballot: &Ballot,
+    ) -> Result<(), AllocError>
         ensures found { OnOk result (self.new.found.items ≡ self.old.found.items
             ++ (if is_unchecked subject.now ballot.now then S.verifies scheme.now subject.now (vote_attestation ballot.now.vote) ∷ [] else [])) }
         ensures invalid { OnOk result (self.new.invalid ≡ self.old.invalid

@@ -13,13 +13,15 @@ ghost use Rattle.simplex_round.specs.Calls.{AddNetwork, AcceptVote, SetLeader, R
 ghost use Rattle.simplex_round.specs.Stands.{StandsFor, Takes, Stays, Answers, AddsReports, AddsBlocks};
 
 use crate::accused::Accused;
-use crate::ballots::Ballots;
 use crate::assembly::assemble;
+use crate::ballots::Ballots;
 use crate::batch::{Batch, RoundOut};
 use crate::evidence::Evidence;
 use crate::votes::{self, activity_of, is_another, is_same_subject, kind_of};
 use simplex_values::{Keep, Participant, Proposal, Round as ViewRound, Subject};
-use simplex_wire::{Certificate, CertificateKind, Finalization, Notarization, Nullification, Scheme, Vote};
+use simplex_wire::{
+    Certificate, CertificateKind, Finalization, Notarization, Nullification, Scheme, Vote,
+};
 use std::alloc::{AllocError, Global};
 use std::marker::Model;
 
@@ -46,12 +48,17 @@ impl Model for Round {
     ghost Value = { Standing };
 
     ghost view = { λ r. record {
-        made = record { round = r.round; members = r.members; quorum = r.quorum; skipped = r.is_skipped };
-        known = record {
-            notarizes = r.notarizes; others = r.others; given = r.accused;
-            notarization = r.notarization; nullification = r.nullification; finalization = r.finalization;
-            leader = r.leader; forwarded = r.was_forwarded
-        }
+      made = record { round = r.round; members = r.members; quorum = r.quorum; skipped = r.is_skipped };
+      known = record {
+        notarizes = r.notarizes;
+        others = r.others;
+        given = r.accused;
+        notarization = r.notarization;
+        nullification = r.nullification;
+        finalization = r.finalization;
+        leader = r.leader;
+        forwarded = r.was_forwarded;
+      };
     } };
 }
 
@@ -324,8 +331,10 @@ impl Round {
         scheme: &S,
         kind: CertificateKind,
     ) -> Result<Option<Batch>, AllocError>
-        ensures known { OnOk result (self.new ≡ record self.old { known = after_work self.old.known
-            (work_of self.old.made (as_scheme (S.verifies scheme.now) (S.recovers scheme.now) (S.members scheme.now)) self.old.known kind) }) }
+        ensures known { OnOk result (self.new ≡ record self.old {
+          known = after_work self.old.known
+              (work_of self.old.made (as_scheme (S.verifies scheme.now) (S.recovers scheme.now) (S.members scheme.now)) self.old.known kind);
+        }) }
         ensures answer { IfOk result (λ batch. batch ≡ option_map batch_of
             (work_of self.old.made (as_scheme (S.verifies scheme.now) (S.recovers scheme.now) (S.members scheme.now)) self.old.known kind)) }
         ensures err { OnErr result (self.new ≡ self.old) }
@@ -348,8 +357,10 @@ impl Round {
         kind: CertificateKind,
         subject: &Subject,
     ) -> Result<Option<Batch>, AllocError>
-        ensures known { OnOk result (self.new ≡ record self.old { known = after_work self.old.known
-            (work_if_any self.old.made (as_scheme (S.verifies scheme.now) (S.recovers scheme.now) (S.members scheme.now)) kind (side_of self.old.known kind) subject.now) }) }
+        ensures known { OnOk result (self.new ≡ record self.old {
+          known = after_work self.old.known
+              (work_if_any self.old.made (as_scheme (S.verifies scheme.now) (S.recovers scheme.now) (S.members scheme.now)) kind (side_of self.old.known kind) subject.now);
+        }) }
         ensures answer { IfOk result (λ batch. batch ≡ option_map batch_of
             (work_if_any self.old.made (as_scheme (S.verifies scheme.now) (S.recovers scheme.now) (S.members scheme.now)) kind (side_of self.old.known kind) subject.now)) }
         ensures err { OnErr result (self.new ≡ self.old) }
@@ -382,8 +393,10 @@ impl Round {
         found: &[bool],
         certificate: Option<Certificate>,
     )
-        ensures { self.new ≡ record self.old { known = after_assembly
-            (with_side self.old.known kind (marked subject.now (side_of self.old.known kind) found.now)) certificate } }
+        ensures { self.new ≡ record self.old {
+          known = after_assembly
+              (with_side self.old.known kind (marked subject.now (side_of self.old.known kind) found.now)) certificate;
+        } }
     {
         self.mark(kind, subject, found);
         if let Some(it) = certificate {
@@ -443,11 +456,10 @@ impl Round {
     fn lacks_notarize(&self, proposal: &Proposal, member: Participant) -> bool
         ensures { result ≡ is_missing_voter self.now.made self.now.known proposal.now member }
     {
-        let lent = &member;
-        if lent.0 >= self.members {
+        if member.0 >= self.members {
             return false;
         }
-        match self.notarizes.get(*lent) {
+        match self.notarizes.get(member) {
             None => true,
             Some(ballot) => {
                 !is_same_subject(&ballot.vote.subject(), &Subject::Notarize(*proposal))
@@ -468,11 +480,7 @@ impl Round {
     }
 
     #[tactic(auto, unfolding(crate::specs::Forwarding::missing_voters), using(crate::proofs::Counts::filter_range_more))]
-    fn lacking(
-        &self,
-        alloc: Global,
-        proposal: &Proposal,
-    ) -> Result<Vec<Participant>, AllocError>
+    fn lacking(&self, alloc: Global, proposal: &Proposal) -> Result<Vec<Participant>, AllocError>
         ensures { IfOk result (λ missing. missing.items ≡ missing_voters self.now.made self.now.known proposal.now) }
     {
         let mut missing = Vec::new(alloc);

@@ -81,7 +81,12 @@ struct Checked {
 }
 
 impl Checked {
-    fn take_all<S: Scheme>(&mut self, scheme: &S, subject: &Subject, waiting: &[Attestation]) -> Result<(), AllocError>
+    fn take_all<S: Scheme>(
+        &mut self,
+        scheme: &S,
+        subject: &Subject,
+        waiting: &[Attestation],
+    ) -> Result<(), AllocError>
         ensures valid { OnOk result (self.new.valid.items ≡ self.old.valid.items ++ filter (S.verifies scheme.now subject.now) waiting.now) }
         ensures invalid { OnOk result (self.new.invalid.items ≡ self.old.invalid.items ++ map (λ a. a.signer) (filter (λ a. not (S.verifies scheme.now subject.now a)) waiting.now)) }
     {

@@ -6,7 +6,9 @@ ghost use Rattle.simplex_round.specs.Acceptance.{vote_activity};
 
 use simplex_types::Activity;
 use simplex_values::{Proposal, Subject};
-use simplex_wire::{Certificate, CertificateKind, Finalization, Notarization, Nullification, Signatures, Vote};
+use simplex_wire::{
+    Certificate, CertificateKind, Finalization, Notarization, Nullification, Signatures, Vote,
+};
 
 /// Whether two subjects are one.
 pub fn is_same_subject(a: &Subject, b: &Subject) -> bool

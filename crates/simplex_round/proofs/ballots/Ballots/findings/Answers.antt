@@ -22,11 +22,11 @@ loop-ballot-preserved g c =
       invalid = turned (λ bs. map (λ (b : Ballot). vote_signer b.vote) (filter (λ b. not (verifies (vote_attestation b.vote))) (filter (is_unchecked subject) bs))) _ _ _ _ _ _ _ left
           (filters_turn (is_unchecked subject) (λ b. not (verifies (vote_attestation b.vote))) (λ b. vote_signer b.vote) ballot c.next.new.self) c.in_ok-take.ensures.invalid c.loop-ballot.invariant.invalid;
       valid = turned (λ bs. map (λ (b : Ballot). vote_attestation b.vote) (filter (is_valid subject) (map (checked scheme subject) bs))) _ _ _ _ _ _ _ left
-          (valid_turn scheme subject ballot c.next.new.self) c.in_ok-take.ensures.valid c.loop-ballot.invariant.valid
+          (valid_turn scheme subject ballot c.next.new.self) c.in_ok-take.ensures.valid c.loop-ballot.invariant.valid;
     }
 
 pub returns-clause-rises : goal.returns-clause-rises
 returns-clause-rises g c =
     let scheme = as_scheme (g.S.Scheme.verifies c.args.scheme.now) (g.S.Scheme.recovers c.args.scheme.now) (g.S.Scheme.members c.args.scheme.now) in
     valid_rise scheme c.args.subject.now c.self.inside.by_signer.entries c.args.self.now c.loop-ballot.ballot-iterator c.loop-ballot.findings.valid.items
-        c.self.invariant c.values-ballot-items.ensures.ordered c.self.view_is (search rules) c.loop-ballot.invariant.valid
+    c.self.invariant c.values-ballot-items.ensures.ordered c.self.view_is (search rules) c.loop-ballot.invariant.valid

@@ -15,5 +15,5 @@ invariant-loop-ballot g l =
       invalid : l.findings.invalid ++ map (λ b. vote_signer b.vote) (filter (λ b. not (verifies (vote_attestation b.vote))) (filter (is_unchecked l.subject) l.ballot-iterator))
           ≡ map (λ b. vote_signer b.vote) (filter (λ b. not (verifies (vote_attestation b.vote))) (filter (is_unchecked l.subject) l.fn.self));
       valid : l.findings.valid.items ++ map (λ b. vote_attestation b.vote) (filter (is_valid l.subject) (map (checked scheme l.subject) l.ballot-iterator))
-          ≡ map (λ b. vote_attestation b.vote) (filter (is_valid l.subject) (map (checked scheme l.subject) l.fn.self))
+          ≡ map (λ b. vote_attestation b.vote) (filter (is_valid l.subject) (map (checked scheme l.subject) l.fn.self));
     }

@@ -13,8 +13,8 @@ returns-clause-known g c =
     let ballots = side_of c.args.self.now.known c.args.kind in
     let f = c.in_ok-findings.findings in
     let w = worked c.args.self.now.made scheme c.args.kind c.args.subject.now ballots f.found.items c.len-processed.result f.invalid c.in_ok-certificate.certificate
-        (search rules) (search rules) (search rules) (rw (sym c.side-2.ensures) c.in_ok-findings.ensures.invalid)
-        (rw (sym c.side-2.ensures) grind (arith, common_steps, c.in_ok-findings.ensures.valid, c.in_ok-certificate.ensures, c.deref.ensures.value, c.self.view_is)) (search rules) in
+    (search rules) (search rules) (search rules) (rw (sym c.side-2.ensures) c.in_ok-findings.ensures.invalid)
+    (rw (sym c.side-2.ensures) grind (arith, common_steps, c.in_ok-findings.ensures.valid, c.in_ok-certificate.ensures, c.deref.ensures.value, c.self.view_is)) (search rules) in
     let after = after_worked c.args.self.now.known c.args.kind (marked c.args.subject.now ballots f.found.items) c.len-processed.result f.invalid c.in_ok-certificate.certificate _ w in
     grind (arith, common_steps, after, c.note.ensures, c.in_ok-held.ensures, c.deref-2.ensures.value)
 
@@ -25,6 +25,6 @@ returns-clause-answer g c =
     let ballots = side_of c.args.self.now.known c.args.kind in
     let f = c.in_ok-findings.findings in
     let w = worked c.args.self.now.made scheme c.args.kind c.args.subject.now ballots f.found.items c.len-processed.result f.invalid c.in_ok-certificate.certificate
-        (search rules) (search rules) (search rules) (rw (sym c.side-2.ensures) c.in_ok-findings.ensures.invalid)
-        (rw (sym c.side-2.ensures) grind (arith, common_steps, c.in_ok-findings.ensures.valid, c.in_ok-certificate.ensures, c.deref.ensures.value, c.self.view_is)) (search rules) in
+    (search rules) (search rules) (search rules) (rw (sym c.side-2.ensures) c.in_ok-findings.ensures.invalid)
+    (rw (sym c.side-2.ensures) grind (arith, common_steps, c.in_ok-findings.ensures.valid, c.in_ok-certificate.ensures, c.deref.ensures.value, c.self.view_is)) (search rules) in
     rw w search rules

@@ -10,6 +10,6 @@ loop-member-preserved c =
     let test = is_missing_voter c.args.self.now.made c.args.self.now.known c.args.proposal.now in
     let more = filter_range_more test 0 c.loop-member.member in
     elim c.if-lacks_notarize.branch [
-      then-lacks_notarize+in_ok-push w ↦ grind (arith, common_steps, more, c.loop-member.invariant, c.lacks_notarize.ensures, w.if-lacks_notarize.true, w.missing-is, w.in_ok-push.ensures.items)
+      | then-lacks_notarize+in_ok-push w ↦ grind (arith, common_steps, more, c.loop-member.invariant, c.lacks_notarize.ensures, w.if-lacks_notarize.true, w.missing-is, w.in_ok-push.ensures.items)
       | else-lacks_notarize w ↦ grind (arith, common_steps, more, c.loop-member.invariant, c.lacks_notarize.ensures, w.if-lacks_notarize.false, w.missing-is)
     ]
