@@ -1,7 +1,7 @@
 -- Evidence is of two votes of one signer.
-use Rattle.std.proofs.Common.{rules, arith, ℕ, ◌≡◌, ◌==◌, List, [], ◌∷◌, Bool, true, false, refl}
+use Rattle.std.proofs.Common.{rules, arith, ℕ, ◌≡◌, List, [], ◌∷◌, refl}
 use Rattle.std.proofs.lemmas.Grind.{common_steps}
-use Rattle.std.specs.Prelude.{Option, Some, None}
+use Rattle.std.specs.Prelude.{Some}
 use Rattle.simplex_wire.specs.declared.vote.Vote.{Vote}
 use Rattle.simplex_wire.specs.declared.vote.Vote.TheVariants as votes
 use Rattle.simplex_round.specs.declared.ballot.Ballot.{Ballot}

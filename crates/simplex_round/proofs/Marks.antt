@@ -1,7 +1,6 @@
 -- What one pass over the accepted votes leaves.
-use Rattle.std.proofs.Common.{rules, arith, ℕ, ◌≡◌, ◌==◌, List, [], ◌∷◌, Bool, true, false, refl, ap, map, filter, drop, cond, if◌then◌else◌}
+use Rattle.std.proofs.Common.{rules, arith, ℕ, ◌≡◌, List, [], ◌∷◌, Bool, true, refl, map, filter, drop, if◌then◌else◌}
 use Rattle.std.proofs.lemmas.Grind.{common_steps}
-use Rattle.std.specs.Prelude.{⊤, Option, Some, None}
 use Rattle.std.specs.List.{slice_get}
 use Rattle.std.specs.Map.{values_of}
 use Rattle.std.specs.Map.Calls.{RetainsPairs}

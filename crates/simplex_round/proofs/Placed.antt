@@ -1,7 +1,7 @@
 -- The accepted votes as the values of a map by signer.
-use Rattle.std.proofs.Common.{rules, arith, ℕ, ◌≡◌, ◌==◌, List, [], ◌∷◌, Bool, true, false, nat_lt, nat_cmp, refl, ap}
+use Rattle.std.proofs.Common.{rules, arith, ℕ, ◌≡◌, List, [], ◌∷◌, nat_cmp, refl}
 use Rattle.std.proofs.lemmas.Grind.{common_steps}
-use Rattle.std.specs.Prelude.{⊤, find, Option, Some, None}
+use Rattle.std.specs.Prelude.{None}
 use Rattle.std.specs.Map.{values_of, lookup}
 use Rattle.std.specs.BTreeMap.{insert_entry, is_at}
 use Rattle.simplex_round.specs.declared.ballot.Ballot.{Ballot}

@@ -1,5 +1,5 @@
 -- The attestations of accepted votes rise by signer.
-use Rattle.std.proofs.Common.{rules, arith, ℕ, ◌≡◌, ◌+◌, ◌≤◌, ◌<◌, List, [], ◌∷◌, ◌++◌, Bool, true, false, nat_cmp, Less, refl, map, filter}
+use Rattle.std.proofs.Common.{rules, arith, ℕ, ◌≡◌, ◌+◌, ◌≤◌, List, [], ◌∷◌, ◌++◌, nat_cmp, Less, map, filter}
 use Rattle.std.proofs.lemmas.Grind.{common_steps}
 use Rattle.std.specs.Prelude.{⊤, IsTrue}
 use Rattle.std.specs.Map.{values_of, keys_of}

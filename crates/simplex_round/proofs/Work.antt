@@ -1,7 +1,7 @@
 -- What is done for a kind is the work that the definitions name.
-use Rattle.std.proofs.Common.{rules, arith, refl, ap, sym, ◌≡◌, ℕ, List, [], ◌∷◌, Bool, true, false, length, map, filter, nat_lt, nat_le}
+use Rattle.std.proofs.Common.{rules, arith, refl, ◌≡◌, ℕ, List, [], ◌∷◌, Bool, true, length, map, filter, nat_lt, nat_le}
 use Rattle.std.proofs.lemmas.Grind.{common_steps}
-use Rattle.std.specs.Prelude.{not, ◌||◌, Option, Some, None}
+use Rattle.std.specs.Prelude.{not, ◌||◌, Option, Some}
 use Rattle.std.specs.Option.{is_some}
 use Rattle.simplex_values.specs.declared.proposal.Subject.{Subject}
 use Rattle.simplex_wire.specs.declared.certificate.Certificate.{Certificate}

@@ -39,12 +39,6 @@ evidence_of (votes.Nullify old) (votes.Finalize new) = Some (proofs.NullifyFinal
 evidence_of (votes.Finalize old) (votes.Nullify new) = Some (proofs.NullifyFinalize (record { nullify = new; finalize = old }))
 evidence_of _ _ = None
 
--- the signer that evidence is against
-abbrev pub evidence_signer : Evidence → ℕ
-evidence_signer (proofs.Notarizes e) = e.first.attestation.signer
-evidence_signer (proofs.Finalizes e) = e.first.attestation.signer
-evidence_signer (proofs.NullifyFinalize e) = e.nullify.attestation.signer
-
 -- whether evidence of this kind against this signer was given
 abbrev pub was_given : Evidence → Given → Bool
 was_given (proofs.Notarizes e) given = list_any (is_at (nat_cmp e.first.attestation.signer)) given.by_notarizes

@@ -1,5 +1,4 @@
-use Rattle.std.proofs.Common.{rules, arith, ◌≡◌, List, ◌∷◌, map, filter}
-use Rattle.std.proofs.lemmas.Grind.{common_steps}
+use Rattle.std.proofs.Common.{rules, ◌≡◌, ◌∷◌, map, filter}
 use Rattle.std.specs.Prelude.{not}
 use Rattle.simplex_wire.specs.Fields.{vote_attestation}
 use Rattle.simplex_round.specs.declared.ballot.Ballot.{Ballot}

@@ -1,4 +1,4 @@
-use Rattle.std.proofs.Common.{rules, arith, refl, ◌≡◌, [], List, Bool, true, false}
+use Rattle.std.proofs.Common.{rules, arith, refl, ◌≡◌}
 use Rattle.std.proofs.lemmas.Grind.{common_steps}
 use Rattle.simplex_round.proofs.Marks.{marked_values}
 use Rattle.simplex_round.specs.contracts.ballots.fn.Ballots.mark.retain as closure

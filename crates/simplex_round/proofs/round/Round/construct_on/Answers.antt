@@ -1,8 +1,8 @@
-use Rattle.std.proofs.Common.{rules, arith, ◌≡◌, sym}
+use Rattle.std.proofs.Common.{rules, arith, sym}
 use Rattle.std.proofs.lemmas.Grind.{common_steps}
 use Rattle.simplex_round.specs.Known.{side_of}
 use Rattle.simplex_round.specs.Ballots.{marked}
-use Rattle.simplex_round.specs.Assembly.{as_scheme, assembled_on, valid_on, work_if_any}
+use Rattle.simplex_round.specs.Assembly.{as_scheme, assembled_on}
 use Rattle.simplex_round.proofs.Work.{worked, after_worked}
 use Rattle.simplex_round.proofs.round.Round.construct_on.Goals as goal
 
