@@ -1,5 +1,7 @@
+pub mod Batcher
 pub mod Desk
 pub mod Performed
 pub mod Samples
 pub mod Voter
 pub mod VoterLife
+pub mod Engine

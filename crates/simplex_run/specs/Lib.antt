@@ -1,0 +1,6 @@
+pub mod Members
+pub mod Life
+pub mod Requests
+pub mod Entries
+pub mod Run
+pub mod Samples

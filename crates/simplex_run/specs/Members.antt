@@ -1,0 +1,89 @@
+-- What a node's engine is made with, by the setup.
+use Rattle.std.specs.Prelude.{ℕ, ◌+◌, ◌-◌, ◌*◌, ◌==◌, ◌&&◌, nat_lt, nat_le, Bool, true, false, List, [], ◌∷◌, length, Option, Some, None, if◌then◌else◌}
+use Rattle.simplex_values.specs.declared.terms.Lookahead.{Lookahead}
+use Rattle.simplex_values.specs.declared.policy.SkipPolicy.{SkipPolicy}
+use Rattle.simplex_values.specs.declared.policy.SkipPolicy.TheVariants as skip
+use Rattle.simplex_values.specs.Policy.{budget_of}
+use Rattle.simplex_wire.specs.declared.certificate.Finalization.{Finalization}
+use Rattle.simplex_types.specs.declared.floor.Floor.{Floor}
+use Rattle.simplex_types.specs.declared.floor.Floor.TheVariants as floors
+use Rattle.simplex_types.specs.Keyed.{keyed_attests, keyed_verifies}
+use Rattle.simplex_types.specs.RoundRobin.{leader_of}
+use Rattle.simplex_types.specs.Genesis.{genesis_of}
+use Rattle.simplex_rules.specs.Known.{Made}
+use Rattle.simplex_round.specs.Assembly.{as_scheme}
+use Rattle.simplex_journal.specs.Journal.{Section}
+use Rattle.simplex_transcript.specs.declared.setup.Setup.{Setup}
+use Rattle.simplex_transcript.specs.declared.node.Node.{Node}
+use Rattle.simplex_steps.specs.Batcher as batcher
+use Rattle.simplex_steps.specs.Engine.{EngineMade}
+
+-- how many members there are
+abbrev pub members_of : Setup → ℕ
+members_of setup = length setup.members
+
+-- whether the node exists: half 0 of each member
+abbrev pub is_node : Setup → Node → Bool
+is_node setup node = nat_lt node.member (members_of setup) && node.half == 0
+
+abbrev pub is_same_node : Node → Node → Bool
+is_same_node a b = a.member == b.member && a.half == b.half
+
+-- where a start stands: at a finalization, or at genesis
+abbrev pub floor_of : Setup → Option Finalization → Floor
+floor_of setup None = floors.Genesis (genesis_of setup.epoch)
+floor_of setup (Some f) = floors.Finalized f
+
+abbrev pub view_at : Floor → ℕ
+view_at (floors.Genesis payload) = 0
+view_at (floors.Finalized f) = f.proposal.round.view
+
+-- how many views may be skipped in a row
+abbrev pub skip_budget : Setup → SkipPolicy → ℕ
+skip_budget setup skip.Disabled = 0
+skip_budget setup (skip.Enabled timeout budget) = budget_of budget (members_of setup)
+
+-- the rules of a member that starts at this clock
+unfoldable pub rules_of : Setup → ℕ → ℕ → Made
+rules_of setup member start =
+    record {
+      signs = keyed_attests setup.key_base (Some member);
+      me = Some member;
+      elects = leader_of setup.term (members_of setup);
+      epoch = setup.epoch;
+      genesis = genesis_of setup.epoch;
+      term_length = setup.term;
+      lookahead = setup.lookahead;
+      stall_timeout = setup.stall;
+      leader_timeout = setup.leader_timeout;
+      certification_timeout = setup.certification_timeout;
+      timeout_retry = setup.retry;
+      skip_budget = skip_budget setup setup.skip;
+      retention = setup.retention;
+      handoff = setup.handoff;
+      start = start;
+    }
+
+unfoldable pub batcher_of : Setup → ℕ → Floor → batcher.Made
+batcher_of setup member floor =
+    record {
+      scheme = as_scheme (keyed_verifies setup.key_base (members_of setup)) true (members_of setup);
+      me = Some member;
+      members = members_of setup;
+      epoch = setup.epoch;
+      floor = view_at floor;
+      retention = setup.retention;
+      lookahead = record { length = setup.term; views = setup.lookahead };
+      track = setup.track;
+      skip = setup.skip;
+      forward = setup.forward;
+    }
+
+-- the engine of a node that starts at this floor, over what its journal holds
+unfoldable pub engine_of : Setup → ℕ → Floor → List Section → EngineMade
+engine_of setup member floor sections =
+    record {
+      voter = λ start. record { rules = rules_of setup member start; floor = floor; sections = sections };
+      batcher = batcher_of setup member floor;
+      capacity = setup.mailbox;
+    }
