@@ -23,7 +23,7 @@ pub use floor::Floor;
 pub use hashing::genesis;
 pub use hidden::Hidden;
 pub use interface::{Automaton, Blocker, CertifiableAutomaton, Monitor, Relay, Reporter};
-pub use keyed::Keyed;
+pub use keyed::{Keyed, a_verifying_quorum_certifies};
 pub use round_robin::{RoundRobin, RoundRobinElector};
 pub use simplex_values::{
     Answer, Ask, Bytes, Channel, Context, Digest, Epoch, Feedback, ForwardPolicy, Handoff, Keep,
