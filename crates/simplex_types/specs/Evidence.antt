@@ -8,9 +8,6 @@ use Rattle.simplex_wire.specs.declared.attestation.Attestation.{Attestation}
 use Rattle.simplex_wire.specs.declared.vote.Notarize.{Notarize}
 use Rattle.simplex_wire.specs.declared.vote.Nullify.{Nullify}
 use Rattle.simplex_wire.specs.declared.vote.Finalize.{Finalize}
-use Rattle.simplex_wire.specs.declared.certificate.Notarization.{Notarization}
-use Rattle.simplex_wire.specs.declared.certificate.Nullification.{Nullification}
-use Rattle.simplex_wire.specs.declared.certificate.Finalization.{Finalization}
 use Rattle.simplex_wire.specs.Certified.{is_certified}
 use Rattle.simplex_types.specs.declared.evidence.ConflictingNotarize.{ConflictingNotarize}
 use Rattle.simplex_types.specs.declared.evidence.ConflictingFinalize.{ConflictingFinalize}

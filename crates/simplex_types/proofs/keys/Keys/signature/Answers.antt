@@ -1,7 +1,7 @@
 use Rattle.std.proofs.Common.{◌≡◌, ◌++◌, List, ℕ, Some, ap, ◌∙◌, sym}
 use Rattle.std.specs.Prelude.{codes, slice_get}
 use Rattle.sha2.specs.Sha256.{sha256}
-use Rattle.simplex_types.specs.Keyed.{key_of, keys_of, signature_of, subject_bytes}
+use Rattle.simplex_types.specs.Keyed.{key_of, signature_of, subject_bytes}
 use Rattle.simplex_types.proofs.KeyLists.{key_get}
 use Rattle.simplex_types.proofs.keys.Keys.signature.Goals as goal
 
