@@ -1,4 +1,7 @@
-# `make test` proves, tests and runs everything.
-.PHONY: test
+# `make example` runs the worked example of the README; `make test` is the whole gate.
+.PHONY: example test
+example:
+	cd crates/bench_wire && rt run
+
 test:
 	.ci/run
