@@ -1,0 +1,8 @@
+//! What one member of a consensus group knows: its views, votes, deadline, requests and certificates.
+#![tactic(auto)]
+
+mod config;
+mod state;
+
+pub use config::StateConfig;
+pub use state::State;
