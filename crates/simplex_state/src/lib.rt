@@ -2,6 +2,11 @@
 #![tactic(auto)]
 
 mod config;
+mod held;
+mod maps;
+mod progress;
+mod rounds;
+mod settings;
 mod state;
 
 pub use config::StateConfig;
