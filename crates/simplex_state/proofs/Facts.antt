@@ -14,7 +14,7 @@ use Rattle.simplex_rules.specs.Requests.{was_proposal_asked, verify_asked}
 use Rattle.simplex_state.specs.Rounds.{round_of, learn_round}
 use Rattle.simplex_state.specs.Progress.{progress_of, opens, ends, learn_progress}
 
-option_or-none : {A : Type 0} (o : Option A) → option_or o None ≡ o
+pub option_or-none : {A : Type 0} (o : Option A) → option_or o None ≡ o
 option_or-none None = refl
 option_or-none (Some x) = refl
 

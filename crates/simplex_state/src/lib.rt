@@ -4,6 +4,7 @@
 mod config;
 mod held;
 mod maps;
+mod proposals;
 mod progress;
 mod rounds;
 mod settings;
