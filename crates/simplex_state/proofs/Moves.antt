@@ -54,6 +54,7 @@ module _ {S L : Type 0} (attests : S → Subject → Option Attestation) (elects
         settings = k.settings;
         progress = grind (arith, common_steps, k.progress, w);
         active = grind (arith, common_steps, k.active, w);
+        ahead = grind (arith, common_steps, k.ahead, w);
         sound = sound_other f known refl k.sound;
         held = record {
           notarizations = λ v. grind (arith, common_steps, k.held.notarizations v, option_or-none);
@@ -94,6 +95,7 @@ module _ {S L : Type 0} (attests : S → Subject → Option Attestation) (elects
         settings = k.settings;
         progress = grind (arith, common_steps, k.progress, w, progress_is);
         active = grind (arith, common_steps, k.active, w);
+        ahead = grind (arith, common_steps, k.ahead, w);
         sound = sound_other f known refl k.sound;
         held = record {
           notarizations = λ v. grind (arith, common_steps, k.held.notarizations v, option_or-none);
@@ -132,6 +134,7 @@ module _ {S L : Type 0} (attests : S → Subject → Option Attestation) (elects
         settings = k.settings;
         progress = grind (arith, common_steps, k.progress, w);
         active = grind (arith, common_steps, k.active, w);
+        ahead = grind (arith, common_steps, k.ahead, w);
         sound = sound_other f known refl k.sound;
         held = record {
           notarizations = λ v. grind (arith, common_steps, k.held.notarizations v, option_or-none);
@@ -172,6 +175,7 @@ module _ {S L : Type 0} (attests : S → Subject → Option Attestation) (elects
         settings = k.settings;
         progress = grind (arith, common_steps, k.progress, w);
         active = grind (arith, common_steps, k.active, w);
+        ahead = grind (arith, common_steps, k.ahead, w);
         sound = sound_other f known refl k.sound;
         held = record {
           notarizations = λ v. grind (arith, common_steps, k.held.notarizations v, option_or-none);
@@ -211,6 +215,7 @@ module _ {S L : Type 0} (attests : S → Subject → Option Attestation) (elects
         settings = k.settings;
         progress = grind (arith, common_steps, k.progress, w, progress_is);
         active = grind (arith, common_steps, k.active, w);
+        ahead = grind (arith, common_steps, k.ahead, w);
         sound = sound_other f known refl k.sound;
         held = record {
           notarizations = λ v. grind (arith, common_steps, k.held.notarizations v, option_or-none);
@@ -250,6 +255,7 @@ module _ {S L : Type 0} (attests : S → Subject → Option Attestation) (elects
         settings = k.settings;
         progress = grind (arith, common_steps, k.progress, w, progress_is);
         active = grind (arith, common_steps, k.active, w);
+        ahead = grind (arith, common_steps, k.ahead, w);
         sound = sound_other f known refl k.sound;
         held = record {
           notarizations = λ v. grind (arith, common_steps, k.held.notarizations v, option_or-none);
@@ -287,6 +293,7 @@ module _ {S L : Type 0} (attests : S → Subject → Option Attestation) (elects
         settings = k.settings;
         progress = grind (arith, common_steps, k.progress, w);
         active = grind (arith, common_steps, k.active, w);
+        ahead = grind (arith, common_steps, k.ahead, w);
         sound = sound_other f known refl k.sound;
         held = record {
           notarizations = λ u. grind (arith, common_steps, k.held.notarizations u, some, option_or-none);
@@ -324,6 +331,7 @@ module _ {S L : Type 0} (attests : S → Subject → Option Attestation) (elects
         settings = k.settings;
         progress = grind (arith, common_steps, k.progress, w);
         active = grind (arith, common_steps, k.active, w);
+        ahead = grind (arith, common_steps, k.ahead, w);
         sound = sound_other f known refl k.sound;
         held = record {
           notarizations = λ u. grind (arith, common_steps, k.held.notarizations u, some, option_or-none);
@@ -361,6 +369,7 @@ module _ {S L : Type 0} (attests : S → Subject → Option Attestation) (elects
         settings = k.settings;
         progress = grind (arith, common_steps, k.progress, w);
         active = grind (arith, common_steps, k.active, w);
+        ahead = grind (arith, common_steps, k.ahead, w);
         sound = sound_other f known refl k.sound;
         held = record {
           notarizations = λ u. grind (arith, common_steps, k.held.notarizations u, some, option_or-none);

@@ -1,4 +1,4 @@
--- The state behind a proposal.
+-- The state behind a proposal, and behind a call.
 use Rattle.std.proofs.Common.{◌≡◌, ℕ, ◌+◌, ◌<◌, ◌≤◌, ◌==◌, ◌&&◌, ◌||◌, not, Bool, true, false, List, [], ◌∷◌, ◌++◌, Option, Some, None, refl, sym, ap, ◌∙◌, arith, if◌then◌else◌}
 use Rattle.std.proofs.lemmas.Grind.{common_steps}
 use Rattle.std.specs.BTreeMap.{BTreeMap}
@@ -29,19 +29,14 @@ none_proposed : (r : RoundRecord) → is_none (slot_in r) ≡ true → r.propose
 unfolding slot_in
 none_proposed r e = grind (arith, common_steps, e)
 
-knows_proposal : (made : Made) (calls : List Call) (view : ℕ) (p : Proposal) → records_proposal made (known_of made calls) p ≡ true
-    → known_of made (SetProposal view p ∷ calls) ≡ Taken p ∷ known_of made calls
-unfolding known_of facts_of
-knows_proposal made calls view p e = grind (arith, common_steps, e)
-
-active_is : (made : Made) (known : List Fact) (p : Proposal) → records_proposal made known p ≡ true
+pub records_active : (made : Made) (known : List Fact) (p : Proposal) → records_proposal made known p ≡ true
     → (progress_of made known).pruned ≤ least_active made known → (progress_of made known).pruned ≤ view_of p
 unfolding records_proposal admits_vote admits_certificate
-active_is made known p e a = grind (arith, common_steps, e, a)
+records_active made known p e a = grind (arith, common_steps, e, a)
 
-empty_is : (made : Made) (known : List Fact) (p : Proposal) → records_proposal made known p ≡ true → is_none (slot_in (round_of known (view_of p))) ≡ true
+pub records_empty : (made : Made) (known : List Fact) (p : Proposal) → records_proposal made known p ≡ true → is_none (slot_in (round_of known (view_of p))) ≡ true
 unfolding records_proposal
-empty_is made known p e = grind (arith, common_steps, e, slot_is known (view_of p))
+records_empty made known p e = grind (arith, common_steps, e, slot_is known (view_of p))
 
 module _ {S L : Type 0} (attests : S → Subject → Option Attestation) (elects : L → Round → ℕ) where
   pub keeps_taken : (state : State S L) (made : Made) (known : List Fact) (p : Proposal) (rounds : BTreeMap ℕ RoundRecord)
@@ -58,12 +53,24 @@ module _ {S L : Type 0} (attests : S → Subject → Option Attestation) (elects
       refl
       (λ q. grind (arith, common_steps, e q, k.rounds (view_of p) active, none_proposed (round_of known (view_of p)) none))
 
-  pub takes_proposal : (state : State S L) (made : Made) (calls : List Call) (view : ℕ) (p : Proposal) (rounds : BTreeMap ℕ RoundRecord)
-      → StandsFor attests elects state made calls
-      → records_proposal made (known_of made calls) p ≡ true
-      → ((q : ℕ) → round_in rounds q ≡ (if view_of p == q then record (round_in state.rounds (view_of p)) { proposed = Some p } else round_in state.rounds q))
-      → StandsFor attests elects (record state { rounds = rounds }) made (SetProposal view p ∷ calls)
-  unfolding StandsFor
-  takes_proposal state made calls view p rounds k records e =
-      rw (knows_proposal made calls view p records)
-      (keeps_taken state made (known_of made calls) p rounds k (active_is made (known_of made calls) p records k.active) (empty_is made (known_of made calls) p records) e)
+  pub keeps_answered : (state : State S L) (made : Made) (known : List Fact) (p : Proposal) (rounds : BTreeMap ℕ RoundRecord)
+      → Keeps attests elects state made known
+      → (progress_of made known).pruned ≤ view_of p
+      → is_none (slot_in (round_of known (view_of p))) ≡ true
+      → ((q : ℕ) → round_in rounds q ≡ (if view_of p == q then record (round_in state.rounds (view_of p)) { proposed = Some p; answered = true } else round_in state.rounds q))
+      → Keeps attests elects (record state { rounds = rounds }) made (Answered p ∷ known)
+  unfolding learn_round learn_progress
+  keeps_answered state made known p rounds k active none e =
+      keeps_quiet attests elects state made (Answered p) known rounds state.progress k refl
+      (sound_answered known p (none_proposed _ none) k.sound)
+      (timely_step made (Answered p) known (omega arith) k.timely)
+      refl
+      (λ q. grind (arith, common_steps, e q, k.rounds (view_of p) active, none_proposed (round_of known (view_of p)) none))
+
+  -- a call that adds these facts
+  pub takes_facts : (state : State S L) (made : Made) (calls : List Call) (call : Call) (facts : List Fact)
+      → facts_of made (known_of made calls) call ≡ facts
+      → Keeps attests elects state made (facts ++ known_of made calls)
+      → StandsFor attests elects state made (call ∷ calls)
+  unfolding StandsFor known_of
+  takes_facts state made calls call facts e k = rw e k

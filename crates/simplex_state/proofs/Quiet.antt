@@ -289,6 +289,7 @@ module _ {S L : Type 0} (attests : S → Subject → Option Attestation) (elects
         settings = k.settings;
         progress = progress_is ∙ ap (learn_progress made f) k.progress ∙ sym (progress_step made f known);
         active = grind (arith, k.active, w.pruned, w.last);
+        ahead = grind (arith, k.ahead, w.pruned, w.current);
         sound = sound;
         held = record {
           notarizations = λ v. grind (arith, k.held.notarizations v, w.sent kinds.Notarization v, w.notarization v);

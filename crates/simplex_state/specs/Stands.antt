@@ -110,6 +110,7 @@ module _ {S L : Type 0} where
     pub settings : IsMadeWith state.settings made
     pub progress : state.progress ≡ progress_of made known
     pub active : (progress_of made known).pruned ≤ least_active made known
+    pub ahead : (progress_of made known).pruned ≤ (progress_of made known).current
     pub sound : IsSound known
     pub held : IsHeld known
     pub timely : IsTimely made known
