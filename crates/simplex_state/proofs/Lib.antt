@@ -4,3 +4,4 @@ pub mod Sound
 pub mod Moves
 pub mod Ahead
 pub mod Proposing
+pub mod Expiring

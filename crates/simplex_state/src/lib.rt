@@ -3,6 +3,7 @@
 
 mod certificates;
 mod config;
+mod deadline;
 mod held;
 mod maps;
 mod proposals;
@@ -10,6 +11,7 @@ mod progress;
 mod rounds;
 mod settings;
 mod state;
+mod verdicts;
 
 pub use config::StateConfig;
 pub use state::State;

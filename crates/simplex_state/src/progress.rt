@@ -1,5 +1,5 @@
 //! How far a member is, and since when.
-ghost use Rattle.std.specs.Prelude.{◌≡◌};
+ghost use Rattle.std.specs.Prelude.{◌≡◌, ◌+◌, ◌&&◌, nat_lt, if◌then◌else◌};
 ghost use Rattle.simplex_state.specs.Progress.{beginning, opens, ends};
 
 use simplex_values::{TermLength, View};
@@ -52,6 +52,15 @@ impl Progress {
         }
         self.current = view;
         self.entered = now;
+    }
+
+    /// Counts a view that inactivity skipped, up to the budget.
+    pub(crate) fn skip(&mut self, inactive: bool, budget: u64)
+        ensures { self.new ≡ (if inactive && nat_lt self.old.skipped budget then record self.old { skipped = 1 + self.old.skipped } else self.old) }
+    {
+        if inactive && self.skipped < budget {
+            self.skipped += 1;
+        }
     }
 
     /// Takes the view for final, which opens the next one.
