@@ -4,4 +4,7 @@ pub mod Sound
 pub mod Moves
 pub mod Ahead
 pub mod Proposing
+pub mod Recording
 pub mod Expiring
+pub mod Unsent
+pub mod Gates

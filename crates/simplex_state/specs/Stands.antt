@@ -42,6 +42,7 @@ pub record IsMadeWith (settings : Settings) (made : Made) : Type 0 where
   pub skip_budget : settings.skip_budget ≡ made.skip_budget
   pub retention : settings.view_retention ≡ made.retention
   pub handoff : settings.handoff ≡ made.handoff
+  pub some_length : 0 < made.term_length
   pub leader_limit : made.leader_timeout ≤ 2 ^ 62
   pub certification_limit : made.certification_timeout ≤ 2 ^ 62
   pub retry_limit : made.timeout_retry ≤ 2 ^ 62

@@ -9,9 +9,11 @@ mod maps;
 mod proposals;
 mod progress;
 mod rounds;
+mod sending;
 mod settings;
 mod state;
 mod verdicts;
+mod votes;
 
 pub use config::StateConfig;
 pub use state::State;

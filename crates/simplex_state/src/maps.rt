@@ -1,6 +1,6 @@
 //! Maps and sets by view.
 #![tactic(auto, unfolding(crate::specs::Maps::found, crate::specs::Maps::has))]
-ghost use Rattle.std.specs.Prelude.{◌≡◌, ◌≤◌, ℕ, ◌==◌, ◌||◌, false, Some, None, if◌then◌else◌, OnOk};
+ghost use Rattle.std.specs.Prelude.{◌≡◌, ◌≤◌, ℕ, ◌==◌, ◌||◌, true, false, IfSome, IfNone, Some, None, if◌then◌else◌, OnOk};
 ghost use Rattle.simplex_state.specs.Maps.{found, has};
 
 use std::alloc::{AllocError, Global};
@@ -68,5 +68,18 @@ pub(crate) fn remove_below(views: &mut BTreeSet<u64>, least: u64)
             break;
         }
         views.pop_first();
+    }
+}
+
+/// The greatest view of the set up to this one.
+pub(crate) fn last_up_to(views: &BTreeSet<u64>, view: u64) -> Option<u64>
+    ensures member { IfSome result (λ u. has views.now u ≡ true) }
+    ensures bound { IfSome result (λ u. u ≤ view) }
+    ensures greatest { IfSome result (λ u. (q : ℕ) → q ≤ view → has views.now q ≡ true → q ≤ u) }
+    ensures none { IfNone result ((q : ℕ) → q ≤ view → has views.now q ≡ false) }
+{
+    match views.range(..=view).next_back() {
+        Some(last) => Some(*last),
+        None => None,
     }
 }
