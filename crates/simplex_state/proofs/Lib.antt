@@ -8,3 +8,4 @@ pub mod Recording
 pub mod Expiring
 pub mod Unsent
 pub mod Gates
+pub mod Walking

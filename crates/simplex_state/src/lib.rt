@@ -1,6 +1,7 @@
 //! What one member of a consensus group knows: its views, votes, deadline, requests and certificates.
 #![tactic(auto)]
 
+mod ancestry;
 mod certificates;
 mod config;
 mod deadline;

@@ -13,7 +13,7 @@ use crate::progress::Progress;
 use crate::rounds::RoundRecord;
 use crate::settings::Settings;
 use simplex_types::elector::Elector;
-use simplex_values::{Lookahead, Participant, Round, View};
+use simplex_values::{Lookahead, Participant, Round, TermLength, View};
 use simplex_wire::{Finalization, Notarization, Nullification, Scheme};
 use std::alloc::{AllocError, Global};
 use std::collections::{BTreeMap, BTreeSet};
@@ -130,6 +130,13 @@ impl<S: Scheme + Drop, L: Elector + Drop> State<S, L> {
             epoch: self.settings.epoch,
             view,
         })
+    }
+
+    /// How many views a term has.
+    pub(crate) fn term_length(&self) -> TermLength
+        ensures { result ≡ self.now.settings.terms.length }
+    {
+        self.settings.terms.length
     }
 
     /// How far ahead the member works.
