@@ -9,3 +9,4 @@ pub mod Expiring
 pub mod Unsent
 pub mod Gates
 pub mod Walking
+pub mod Checking

@@ -1,10 +1,10 @@
 -- Walking over covered views from term to term, and to the greatest parent.
-use Rattle.std.proofs.Common.{◌≡◌, ℕ, zero, suc, ◌+◌, ◌-◌, ◌*◌, ◌/◌, ◌<◌, ◌≤◌, not, Bool, true, false, List, [], ◌∷◌, Option, Some, None, find, max, refl, sym, ap, ◌∙◌, inl, inr, ◌⊎◌, ◌^◌, ◌||◌, arith}
+use Rattle.std.proofs.Common.{◌≡◌, ℕ, zero, suc, ◌+◌, ◌-◌, ◌*◌, ◌/◌, ◌<◌, ◌≤◌, not, nat_lt, Bool, true, false, List, [], ◌∷◌, Option, Some, None, find, max, refl, sym, ap, ◌∙◌, inl, inr, ◌⊎◌, ◌^◌, ◌||◌, if◌then◌else◌, arith}
 use Rattle.std.proofs.lemmas.Bool.{cases_eq}
 use Rattle.std.proofs.lemmas.Grind.{common_steps}
 use Rattle.std.proofs.Math.Nat.{div-lt_iff_lt-mul}
 use Rattle.std.specs.List.{range_with_len}
-use Rattle.std.specs.Option.{is_none, option_map_or}
+use Rattle.std.specs.Option.{is_none, is_some, option_map_or}
 use Rattle.std.specs.BTreeMap.{BTreeMap}
 use Rattle.simplex_values.specs.Terms.{greatest_view, next_of, term_index, term_end, next_term_start}
 use Rattle.simplex_rules.specs.Lists.{greatest_below}
@@ -175,3 +175,67 @@ pub parent_past : (made : Made) (known : List Fact) (view : ℕ) → view ≤ la
 unfolding greatest_parent has_ancestry
 parent_past made known view past =
     greatest_none (λ p. has_ancestry made known p view) view (λ q h. grind (arith, common_steps, past, h))
+
+same_view : (q before : ℕ) → q ≡ before → q ≡ before
+same_view q before e = e
+
+-- only the view just before is met
+pub before_alone : (made : Made) (known : List Fact) (before view : ℕ) → view ≡ before + 1 → is_met known before view ≡ false → (q : ℕ) → q < view → is_met known q view ≡ false
+unfolding is_met
+before_alone made known before view e none q l =
+    elim (split_at (q + 1) before) [
+      | inl h ↦ grind (arith, common_steps, e, h)
+      | inr h ↦ grind (arith, common_steps, e, none, same_view q before (omega (arith, h, l, e)))
+    ]
+
+true_false : false ≡ true → ⊥
+true_false e = cc
+
+-- the parent, by what lies between it and the view
+pub parent_is : (made : Made) (known : List Fact) (parent before view : ℕ) (gap : Option ℕ) → view ≡ before + 1 → last_finalized known ≤ parent → parent ≤ before
+    → is_certified known parent ≡ true
+    → ((q : ℕ) → parent < q → q ≤ before → is_certified known q ≡ false)
+    → is_met known before view ≡ false
+    → gap ≡ gap_between made known parent view
+    → (if is_some gap then None else Some parent) ≡ greatest_parent made known view
+parent_is made known parent before view None e low below certified none met gap =
+    sym (parent_certified made known parent view low (omega (arith, below, e)) certified (λ q l h. none q l (omega (arith, h, e))) (before_alone made known before view e met) (sym gap))
+parent_is made known parent before view (Some g) e low below certified none met gap =
+    sym (parent_gapped made known parent view g (sym gap) (λ q l h. none q l (omega (arith, h, e))) (before_alone made known before view e met))
+
+-- ---- from view to view
+
+pub find_next : (test : ℕ → Bool) (a next n : ℕ) → next ≡ a + 1 → test a ≡ false → find test (range_with_len next (n - next)) ≡ find test (range_with_len a (n - a))
+find_next test a next n e none = (let w = skip_failed test a 1 n (λ q l h k. grind (arith, none, l, h)) in grind (arith, w, e))
+
+pub find_last : (test : ℕ → Bool) (a n : ℕ) → find test (range_with_len a (n - a)) ≡ (if nat_lt a n then find test (range_with_len a (n - a)) else None)
+find_last test a n = grind (arith, common_steps, find_nothing test a (n - a))
+
+one_left : (a n : ℕ) → n ≡ a + 1 → n - a ≡ 1
+one_left a n e = omega (arith, e)
+
+pub find_one : (test : ℕ → Bool) (a n : ℕ) → n ≡ a + 1 → find test (range_with_len a (n - a)) ≡ (if test a then Some a else None)
+find_one test a n e = rw (one_left a n e) (grind (arith, common_steps))
+
+greatest_passes : (test : ℕ → Bool) (n p : ℕ) → greatest_below test n ≡ Some p → (test p ≡ true) × (p < n)
+unfolding greatest_below
+greatest_passes test zero p e = absurd (none_is_some p e)
+greatest_passes test (suc n) p e = (grind (arith, common_steps, e, greatest_passes test n p), grind (arith, common_steps, e, greatest_passes test n p))
+
+-- a parent is not before the last final view, and before its child
+pub parent_above : (made : Made) (known : List Fact) (view p : ℕ) → greatest_parent made known view ≡ Some p → (last_finalized known ≤ p) × (p < view)
+unfolding greatest_parent has_ancestry
+parent_above made known view p e = (let w = greatest_passes (λ q. has_ancestry made known q view) view p e in (grind (arith, common_steps, w.0), w.1))
+
+some_above : (made : Made) (known : List Fact) (view : ℕ) (parent : Option ℕ) → greatest_parent made known view ≡ parent → is_some parent ≡ true → last_finalized known < view
+some_above made known view None e some = absurd (true_false some)
+some_above made known view (Some p) e some = (let w = parent_above made known view p e in omega (arith, w.0, w.1))
+
+pub parent_some : (made : Made) (known : List Fact) (view : ℕ) → is_some (greatest_parent made known view) ≡ true → last_finalized known < view
+parent_some made known view some = some_above made known view _ refl some
+
+some_left : (a n : ℕ) → a < n → n - a ≡ suc (n - (a + 1))
+some_left a n l = omega (arith, l)
+
+pub find_here : (test : ℕ → Bool) (a n : ℕ) → test a ≡ true → a < n → find test (range_with_len a (n - a)) ≡ Some a
+find_here test a n e l = rw (some_left a n l) (grind (arith, common_steps, e))

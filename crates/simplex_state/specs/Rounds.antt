@@ -110,3 +110,6 @@ is_checked_in r =
     (λ p. is_vouched_in r p && (is_none r.notarized || is_named r.notarized p) && (is_none r.finalized || is_named r.finalized p))
     (slot_in r)
     false
+
+unfoldable pub own_slot_in : RoundRecord → Bool
+own_slot_in r = option_map_or (λ p. r.answered && is_named r.proposed p) (slot_in r) false

@@ -1,10 +1,11 @@
 //! Which view a proposal may stand on.
 #![tactic(auto, unfolding(crate::specs::Stands::StandsFor, crate::specs::Rounds::round_of, crate::specs::Rounds::slot_in, simplex_rules::specs::Slot::slot_of, crate::specs::Progress::progress_of, simplex_rules::specs::Views::least_active))]
 
-ghost use Rattle.std.specs.Prelude.{◌≡◌, ◌≤◌, ◌<◌, ◌^◌, ◌-◌, ℕ, not, true, find, List};
+ghost use Rattle.std.specs.Prelude.{◌≡◌, ◌≤◌, ◌<◌, ◌^◌, ◌-◌, ℕ, not, true, false, find, List};
 ghost use Rattle.std.specs.List.{range_with_len};
 ghost use Rattle.simplex_rules.specs.Known.{Made, Fact};
-ghost use Rattle.simplex_rules.specs.Ancestry.{gap_between, has_ancestry, greatest_parent, is_met};
+ghost use Rattle.simplex_rules.specs.Views.{last_finalized};
+ghost use Rattle.simplex_rules.specs.Ancestry.{gap_between, has_ancestry, greatest_parent, is_certified, is_met};
 ghost use Rattle.simplex_rules.specs.Requests.{is_superseded, is_abandoned};
 ghost use Rattle.simplex_state.specs.Progress.{progress_of};
 ghost use Rattle.simplex_state.specs.Stands.{Answers, Keeps, covered_in};
@@ -62,13 +63,31 @@ impl<S: Scheme + Drop, L: Elector + Drop> State<S, L> {
         if self.is_met(before, view) {
             return Some(before);
         }
-        let parent = match last_up_to(&self.certified, before.0) {
-            Some(certified) => View(certified).max(last),
+        let parent = self.last_certified(before);
+        if self.gap_between(parent, view).is_some() {
+            return None;
+        }
+        Some(parent)
+    }
+
+    /// The greatest certified view up to this one, which is not before the last final one.
+    #[tactic(auto, unfolding(crate::specs::Stands::StandsFor, crate::specs::Progress::progress_of, simplex_rules::specs::Views::least_active, simplex_rules::specs::Ancestry::is_certified))]
+    fn last_certified(&self, view: View) -> View
+        ensures above { (made : Made) (known : List Fact) → Keeps S.attests L.elects self.now made known → last_finalized known ≤ result }
+        ensures bound { (made : Made) (known : List Fact) → Keeps S.attests L.elects self.now made known → last_finalized known ≤ view → result ≤ view }
+        ensures certified { (made : Made) (known : List Fact) → Keeps S.attests L.elects self.now made known → is_certified known result ≡ true }
+        ensures greatest { (made : Made) (known : List Fact) → Keeps S.attests L.elects self.now made known
+            → (q : ℕ) → result < q → q ≤ view → is_certified known q ≡ false }
+    {
+        let last = self.progress.last_finalized;
+        match last_up_to(&self.certified, view.0) {
             None => last,
-        };
-        match self.gap_between(parent, view) {
-            Some(_) => None,
-            None => Some(parent),
+            Some(certified) => {
+                if certified <= last.0 {
+                    return last;
+                }
+                View(certified)
+            }
         }
     }
 

@@ -9,6 +9,7 @@ mod held;
 mod maps;
 mod proposals;
 mod progress;
+mod requests;
 mod rounds;
 mod sending;
 mod settings;

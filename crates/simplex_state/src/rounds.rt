@@ -1,7 +1,7 @@
 //! What a member keeps of each view.
-#![tactic(auto, unfolding(crate::specs::Rounds::round_in, crate::specs::Maps::found, crate::specs::Rounds::slot_in, crate::specs::Rounds::is_vouched_in, crate::specs::Rounds::is_checked_in))]
-ghost use Rattle.std.specs.Prelude.{◌≡◌, ◌≤◌, ℕ, ◌==◌, if◌then◌else◌, OnOk};
-ghost use Rattle.simplex_state.specs.Rounds.{round_in, blank, slot_in, is_vouched_in, is_checked_in, is_named};
+#![tactic(auto, unfolding(crate::specs::Rounds::round_in, crate::specs::Maps::found, crate::specs::Rounds::slot_in, crate::specs::Rounds::is_vouched_in, crate::specs::Rounds::is_checked_in, crate::specs::Rounds::own_slot_in))]
+ghost use Rattle.std.specs.Prelude.{◌≡◌, ℕ, ◌==◌, false, if◌then◌else◌, OnOk};
+ghost use Rattle.simplex_state.specs.Rounds.{round_in, blank, slot_in, is_vouched_in, is_checked_in, is_named, own_slot_in};
 
 use crate::maps::put;
 use simplex_values::{Digest, Proposal, TimeoutReason};
@@ -83,6 +83,16 @@ impl RoundRecord {
             || (self.approved && names(&self.asked, proposal))
     }
 
+    /// Whether the slot is the application's own answer.
+    pub(crate) fn has_own_slot(&self) -> bool
+        ensures { result ≡ own_slot_in self.now }
+    {
+        match self.slot() {
+            None => false,
+            Some(proposal) => self.answered && names(&self.proposed, &proposal),
+        }
+    }
+
     /// Whether the slot's proposal is checked.
     pub(crate) fn is_checked(&self) -> bool
         ensures { result ≡ is_checked_in self.now }
@@ -129,4 +139,13 @@ pub(crate) fn put_round(
     // The proof of the move wants the types of the parts named.
     let (_, _): (Option<Proposal>, Option<Digest>) = (round.proposed, round.floor);
     put(rounds, view, round)
+}
+
+/// Lets a proposal of a view be asked for again.
+pub(crate) fn free_proposal(rounds: &mut BTreeMap<u64, RoundRecord>, view: u64)
+    ensures { (q : ℕ) → round_in rounds.new q ≡ (if view == q then record (round_in rounds.old q) { proposal_asked = false } else round_in rounds.old q) }
+{
+    if let Some(round) = rounds.get_mut(&view) {
+        round.proposal_asked = false;
+    }
 }

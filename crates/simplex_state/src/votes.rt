@@ -5,8 +5,8 @@ ghost use Rattle.std.specs.Prelude.{◌≡◌, ◌≤◌, ◌<◌, ◌^◌, ◌�
 ghost use Rattle.simplex_wire.specs.declared.vote.Vote.TheVariants as votes;
 ghost use Rattle.simplex_rules.specs.Known.{Made, Fact, Voted, Published, has_nullified};
 ghost use Rattle.simplex_rules.specs.Views.{current_of};
-ghost use Rattle.simplex_rules.specs.Votes.{finalize_at, nullify_at, finalizes, is_gated};
-ghost use Rattle.simplex_rules.specs.Calls.{ConstructFinalize, ConstructNullify, construct_nullify_answer, nullify_facts};
+ghost use Rattle.simplex_rules.specs.Votes.{notarize_at, is_votable, finalize_at, nullify_at, finalizes, is_gated};
+ghost use Rattle.simplex_rules.specs.Calls.{ConstructNotarize, ConstructFinalize, ConstructNullify, construct_nullify_answer, nullify_facts};
 ghost use Rattle.simplex_state.specs.Progress.{progress_of};
 ghost use Rattle.simplex_state.specs.Stands.{Takes, Answers, Keeps};
 
@@ -15,10 +15,22 @@ use crate::rounds::{put_round, round_at};
 use crate::state::State;
 use simplex_types::elector::Elector;
 use simplex_values::{Round, TimeoutReason, View};
-use simplex_wire::{Finalize, Nullify, Scheme};
+use simplex_wire::{Finalize, Notarize, Nullify, Scheme};
 use std::alloc::AllocError;
 
 impl<S: Scheme + Drop, L: Elector + Drop> State<S, L> {
+    /// Votes for the proposal of the view, where the vote rule gives it and the scheme signs it.
+    pub fn construct_notarize(&mut self, view: View) -> Result<Option<Notarize>, AllocError>
+        ensures stands { OnOk result (Takes S.attests L.elects self.old self.new (ConstructNotarize view)) }
+        ensures answer { IfOk result (Answers S.attests L.elects self.old (λ made known. notarize_at made known view)) }
+    {
+        let Some(vote) = self.notarize_at(view) else {
+            return Ok(None);
+        };
+        self.vote_notarize(view, &vote)?;
+        Ok(Some(vote))
+    }
+
     /// Votes that the proposal of the view is final, where the vote rule gives it and the scheme signs it.
     pub fn construct_finalize(&mut self, view: View) -> Result<Option<Finalize>, AllocError>
         ensures stands { OnOk result (Takes S.attests L.elects self.old self.new (ConstructFinalize view)) }
@@ -58,6 +70,53 @@ impl<S: Scheme + Drop, L: Elector + Drop> State<S, L> {
         ensures answer { Answers S.attests L.elects self.now (λ made known. has_nullified known view) result }
     {
         contains(&self.nullified, view.0)
+    }
+
+    /// The member's vote for the view's proposal.
+    #[tactic(auto, using(crate::proofs::Checking::notarize_by, crate::proofs::Checking::notarize_none, crate::proofs::Checking::notarize_unvotable, crate::proofs::Proposing::slot_is), unfolding(crate::specs::Stands::StandsFor, crate::specs::Rounds::slot_in, simplex_rules::specs::Votes::signed_notarize))]
+    fn notarize_at(&self, view: View) -> Option<Notarize>
+        ensures { Answers S.attests L.elects self.now (λ made known. notarize_at made known view) result }
+    {
+        if !self.is_votable(view) {
+            return None;
+        }
+        let round = round_at(&self.rounds, view.0);
+        let proposal = round.slot()?;
+        if !round.is_checked() || round.voted.is_some() || contains(&self.nullified, view.0) {
+            return None;
+        }
+        if !self.has_ancestry(proposal.parent, view) {
+            return None;
+        }
+        Notarize::sign(&self.scheme, proposal)
+    }
+
+    /// Whether the member votes in the view now: the current one, one ahead of it, or its own first of the next term.
+    #[tactic(auto, using(crate::proofs::Checking::unvotable, crate::proofs::Checking::own_slot_is), unfolding(crate::specs::Stands::StandsFor, crate::specs::Progress::progress_of, simplex_rules::specs::Views::least_active, simplex_rules::specs::Votes::is_votable, simplex_rules::specs::Views::is_ahead))]
+    fn is_votable(&self, view: View) -> bool
+        ensures above { (made : Made) (known : List Fact) → Keeps S.attests L.elects self.now made known → result ≡ true → (progress_of made known).pruned ≤ view }
+        ensures answer { Answers S.attests L.elects self.now (λ made known. is_votable made known view) result }
+    {
+        let current = self.progress.current;
+        if view < current {
+            return false;
+        }
+        view == current
+            || self.lookahead().in_admission_window(current, view)
+            || (view == current.next_term_start(self.settings.terms.length)
+                && round_at(&self.rounds, view.0).has_own_slot())
+    }
+
+    /// Takes an own vote for a proposal.
+    fn vote_notarize(&mut self, view: View, vote: &Notarize) -> Result<(), AllocError>
+        ensures { OnOk result ((made : Made) (known : List Fact) → Keeps S.attests L.elects self.old made known
+            → vote.now.proposal.round.view ≡ view
+            → Keeps S.attests L.elects self.new made (Voted (votes.Notarize vote.now) ∷ known)) }
+    {
+        let mut round = round_at(&self.rounds, view.0);
+        round.voted = round.voted.or(Some(vote.proposal));
+        put_round(&mut self.rounds, view.0, round)?;
+        Ok(())
     }
 
     /// The member's vote that the view's proposal is final.
