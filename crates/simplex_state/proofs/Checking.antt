@@ -3,7 +3,9 @@ use Rattle.std.proofs.Common.{◌≡◌, ℕ, ◌<◌, ◌≤◌, ◌&&◌, ◌|
 use Rattle.std.proofs.lemmas.Grind.{common_steps}
 use Rattle.std.specs.Option.{option_or, option_map, option_map_or, option_and_then, is_none, is_some}
 use Rattle.simplex_values.specs.declared.proposal.Proposal.{Proposal}
+use Rattle.simplex_values.specs.declared.proposal.Subject.{Subject}
 use Rattle.simplex_values.specs.declared.proposal.Subject.TheVariants as subjects
+use Rattle.simplex_wire.specs.declared.attestation.Attestation.{Attestation}
 use Rattle.simplex_values.specs.Proposal.{is_same_proposal}
 use Rattle.simplex_wire.specs.declared.vote.Notarize.{Notarize}
 use Rattle.simplex_wire.specs.declared.certificate.Notarization.{Notarization}
@@ -84,3 +86,8 @@ forwardable_is known view s = grind (arith, common_steps, checked_is known view 
 
 pub notarize_view : (made : Made) (known : List Fact) (view : ℕ) (n : Notarize) → notarize_at made known view ≡ Some n → view_of n.proposal ≡ view
 notarize_view made known view n e = slot_view known view n.proposal (notarize_parts made known view n e).0
+
+pub signed_is : (made : Made) (p : Proposal) (signs : Subject → Option Attestation) (vote : Option Notarize) → signs ≡ made.signs
+    → vote ≡ option_map (λ a. record { proposal = p; attestation = a }) (signs (subjects.Notarize p)) → vote ≡ signed_notarize made p
+unfolding signed_notarize
+signed_is made p signs vote e v = rw (sym e) v

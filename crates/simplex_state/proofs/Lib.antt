@@ -10,3 +10,4 @@ pub mod Unsent
 pub mod Gates
 pub mod Walking
 pub mod Checking
+pub mod Forgetting

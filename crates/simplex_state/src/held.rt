@@ -1,12 +1,13 @@
 //! Certificates that are held, and whether they were sent.
 #![tactic(auto, unfolding(crate::specs::Maps::found))]
-ghost use Rattle.std.specs.Prelude.{◌≡◌, ℕ, ◌==◌, true, false, Some, unwrap_or, if◌then◌else◌, OnOk, IfOk};
+ghost use Rattle.std.specs.Prelude.{◌≡◌, ◌≤◌, ℕ, ◌==◌, true, false, Some, unwrap_or, if◌then◌else◌, OnOk, IfOk};
 ghost use Rattle.std.specs.Option.{option_map};
+ghost use Rattle.simplex_values.specs.Terms.{next_term_start};
 ghost use Rattle.simplex_state.specs.Maps.{found};
 ghost use Rattle.simplex_state.specs.Certificates.{held, unsent_in, certificate_in};
 
 use crate::maps::put;
-use simplex_values::Keep;
+use simplex_values::{Keep, TermLength, View};
 use std::alloc::{AllocError, Global};
 use std::collections::BTreeMap;
 
@@ -78,5 +79,37 @@ pub(crate) fn copy_unsent<C: Keep + Drop>(
             }
             Ok(Some(kept.certificate.keep(alloc)?))
         }
+    }
+}
+
+/// Drops the certificates below a view, up to one that has still to be sent.
+pub(crate) fn forget_sent<C: Drop>(certificates: &mut BTreeMap<u64, Held<C>>, least: u64)
+    ensures kept { (q : ℕ) → least ≤ q → found certificates.new q ≡ found certificates.old q }
+    ensures unsent { (q : ℕ) → unsent_in (found certificates.new q) ≡ unsent_in (found certificates.old q) }
+{
+    while let Some((first, kept)) = certificates.first_key_value() {
+        if *first >= least || !kept.sent {
+            break;
+        }
+        certificates.pop_first();
+    }
+}
+
+/// The same, but keeps those from whose term the member has not moved on past the next one's first view.
+pub(crate) fn forget_opened<C: Drop>(
+    certificates: &mut BTreeMap<u64, Held<C>>,
+    least: u64,
+    length: TermLength,
+    current: View,
+)
+    ensures kept { (q : ℕ) → least ≤ q → found certificates.new q ≡ found certificates.old q }
+    ensures opening { (q : ℕ) → current ≤ next_term_start length q → found certificates.new q ≡ found certificates.old q }
+    ensures unsent { (q : ℕ) → unsent_in (found certificates.new q) ≡ unsent_in (found certificates.old q) }
+{
+    while let Some((first, kept)) = certificates.first_key_value() {
+        if *first >= least || !kept.sent || View(*first).next_term_start(length) >= current {
+            break;
+        }
+        certificates.pop_first();
     }
 }

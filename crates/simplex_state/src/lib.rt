@@ -5,6 +5,7 @@ mod ancestry;
 mod certificates;
 mod config;
 mod deadline;
+mod floor;
 mod held;
 mod maps;
 mod proposals;

@@ -1,9 +1,9 @@
 //! What a member keeps of each view.
 #![tactic(auto, unfolding(crate::specs::Rounds::round_in, crate::specs::Maps::found, crate::specs::Rounds::slot_in, crate::specs::Rounds::is_vouched_in, crate::specs::Rounds::is_checked_in, crate::specs::Rounds::own_slot_in))]
-ghost use Rattle.std.specs.Prelude.{◌≡◌, ℕ, ◌==◌, false, if◌then◌else◌, OnOk};
+ghost use Rattle.std.specs.Prelude.{◌≡◌, ◌≤◌, ℕ, ◌==◌, false, if◌then◌else◌, OnOk};
 ghost use Rattle.simplex_state.specs.Rounds.{round_in, blank, slot_in, is_vouched_in, is_checked_in, is_named, own_slot_in};
 
-use crate::maps::put;
+use crate::maps::{drop_below, put};
 use simplex_values::{Digest, Proposal, TimeoutReason};
 use std::alloc::AllocError;
 use std::collections::BTreeMap;
@@ -148,4 +148,11 @@ pub(crate) fn free_proposal(rounds: &mut BTreeMap<u64, RoundRecord>, view: u64)
     if let Some(round) = rounds.get_mut(&view) {
         round.proposal_asked = false;
     }
+}
+
+/// Drops the records below a view.
+pub(crate) fn drop_rounds(rounds: &mut BTreeMap<u64, RoundRecord>, least: u64)
+    ensures { (q : ℕ) → least ≤ q → round_in rounds.new q ≡ round_in rounds.old q }
+{
+    drop_below(rounds, least);
 }

@@ -81,11 +81,14 @@ impl<S: Scheme + Drop, L: Elector + Drop> State<S, L> {
             return None;
         }
         let round = round_at(&self.rounds, view.0);
-        let proposal = round.slot()?;
-        if !round.is_checked() || round.voted.is_some() || contains(&self.nullified, view.0) {
+        let Some(proposal) = round.slot() else {
             return None;
-        }
-        if !self.has_ancestry(proposal.parent, view) {
+        };
+        let ready = round.is_checked()
+            && round.voted.is_none()
+            && !contains(&self.nullified, view.0)
+            && self.has_ancestry(proposal.parent, view);
+        if !ready {
             return None;
         }
         Notarize::sign(&self.scheme, proposal)
