@@ -27,7 +27,7 @@ vouched_is known p s = grind (arith, common_steps, s.answers p, s.approvals p)
 
 unopposed_is : (known : List Fact) (p : Proposal)
     → is_unopposed known p ≡ ((is_none (round_of known (view_of p)).notarized || is_named (round_of known (view_of p)).notarized p)
-      && (is_none (round_of known (view_of p)).finalized || is_named (round_of known (view_of p)).finalized p))
+    && (is_none (round_of known (view_of p)).finalized || is_named (round_of known (view_of p)).finalized p))
 unfolding is_unopposed round_of
 unopposed_is known p = grind (arith, common_steps)
 
@@ -63,7 +63,7 @@ unvotable made known view some past = unvotable_by made known view _ some past r
 pub notarize_by : (made : Made) (known : List Fact) (view : ℕ) (p : Proposal) → IsSound known → slot_of known view ≡ Some p
     → notarize_at made known view
     ≡ (if is_votable made known view && is_checked_in (round_of known view) && has_ancestry made known p.parent view && is_none (round_of known view).voted && not (has_nullified known view)
-      then signed_notarize made p else None)
+    then signed_notarize made p else None)
 unfolding notarize_at notarizes round_of
 notarize_by made known view p s e =
     (let v = slot_view known view p e in

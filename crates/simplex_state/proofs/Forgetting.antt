@@ -38,7 +38,6 @@ use Rattle.simplex_state.proofs.Facts.{round_step, progress_step, option_or-none
 use Rattle.simplex_state.proofs.Gates.{term_rises}
 use Rattle.simplex_state.proofs.Sound.{sound_other, timely_step}
 
-
 module _ {S L : Type 0} (attests : S → Subject → Option Attestation) (elects : L → Round → ℕ) where
   pub keeps_pruned : (state : State S L) (made : Made) (known : List Fact) (v : ℕ) (progress' : Progress) (rounds' : BTreeMap ℕ RoundRecord) (certified' : BTreeSet ℕ) (covered' : BTreeMap ℕ ℕ) (waiting' : BTreeSet ℕ) (notarizations' : BTreeMap ℕ (Held Notarization)) (nullifications' : BTreeMap ℕ (Held Nullification)) (finalizations' : BTreeMap ℕ (Held Finalization))
       → Keeps attests elects state made known

@@ -37,7 +37,6 @@ use Rattle.simplex_state.specs.Stands.{Keeps, IsSound, IsHeld, IsTimely, covered
 use Rattle.simplex_state.proofs.Facts.{round_step, progress_step, option_or-none}
 use Rattle.simplex_state.proofs.Sound.{sound_other, timely_step}
 
-
 module _ {S L : Type 0} (attests : S → Subject → Option Attestation) (elects : L → Round → ℕ) where
   -- the member gave a view up
   pub keeps_nullify : (state : State S L) (made : Made) (known : List Fact) (n : Nullify) (nullified' : BTreeSet ℕ)

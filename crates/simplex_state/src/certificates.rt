@@ -147,7 +147,8 @@ impl<S: Scheme + Drop, L: Elector + Drop> State<S, L> {
         let view = nullification.view();
         let length = self.settings.terms.length;
         cover(&mut self.covered, length, view)?;
-        self.progress.open(view.next_term_start(length), length, now);
+        self.progress
+            .open(view.next_term_start(length), length, now);
         hold(&mut self.nullifications, view.0, nullification)?;
         Ok(())
     }
@@ -167,18 +168,15 @@ impl<S: Scheme + Drop, L: Elector + Drop> State<S, L> {
         let mut round = round_at(&self.rounds, view.0);
         round.finalized = round.finalized.or(Some(finalization.proposal));
         put_round(&mut self.rounds, view.0, round)?;
-        self.progress.finalize(view, self.settings.terms.length, now);
+        self.progress
+            .finalize(view, self.settings.terms.length, now);
         hold(&mut self.finalizations, view.0, finalization)?;
         Ok(())
     }
 }
 
 /// Covers the rest of the view's term from the view on.
-fn cover(
-    covered: &mut BTreeMap<u64, u64>,
-    length: TermLength,
-    view: View,
-) -> Result<(), AllocError>
+fn cover(covered: &mut BTreeMap<u64, u64>, length: TermLength, view: View) -> Result<(), AllocError>
     ensures { OnOk result ((q : ℕ) → covered_in length covered.new q ≡ (covers length view q || covered_in length covered.old q)) }
 {
     let term = view.term_index(length);

@@ -161,7 +161,8 @@ impl<S: Scheme + Drop, L: Elector + Drop> State<S, L> {
         let mut round = round_at(&self.rounds, view.0);
         round.expired = round.expired.or(Some((now, reason)));
         put_round(&mut self.rounds, view.0, round)?;
-        self.progress.skip(is_inactivity(reason), self.settings.skip_budget);
+        self.progress
+            .skip(is_inactivity(reason), self.settings.skip_budget);
         Ok(())
     }
 

@@ -63,7 +63,7 @@ impl<S: Scheme + Drop, L: Elector + Drop> State<S, L> {
         ensures { OnOk result ((made : Made) (known : List Fact) → Keeps S.attests L.elects self.old made known
             → (progress_of made known).pruned ≤ view_of finalization.proposal
             → Keeps S.attests L.elects self.new made (Broadcast kinds.Finalization (view_of finalization.proposal) ∷ Added (certificates.Finalization finalization) now
-                ∷ FloorAt (view_of finalization.proposal) finalization.proposal.payload ∷ known)) }
+            ∷ FloorAt (view_of finalization.proposal) finalization.proposal.payload ∷ known)) }
     {
         let view = finalization.view();
         self.know_floor(view, &finalization.proposal.payload)?;
@@ -99,6 +99,11 @@ impl<S: Scheme + Drop, L: Elector + Drop> State<S, L> {
         drop_below(&mut self.covered, least.term_index(length));
         forget_sent(&mut self.notarizations, least.0);
         forget_sent(&mut self.finalizations, least.0);
-        forget_opened(&mut self.nullifications, least.0, length, self.progress.current);
+        forget_opened(
+            &mut self.nullifications,
+            least.0,
+            length,
+            self.progress.current,
+        );
     }
 }

@@ -1,5 +1,6 @@
 //! Certificates that are held, and whether they were sent.
 #![tactic(auto, unfolding(crate::specs::Maps::found))]
+
 ghost use Rattle.std.specs.Prelude.{◌≡◌, ◌≤◌, ℕ, ◌==◌, true, false, Some, unwrap_or, if◌then◌else◌, OnOk, IfOk};
 ghost use Rattle.std.specs.Option.{option_map};
 ghost use Rattle.simplex_values.specs.Terms.{next_term_start};

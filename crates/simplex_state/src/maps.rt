@@ -1,5 +1,6 @@
 //! Maps and sets by view.
 #![tactic(auto, unfolding(crate::specs::Maps::found, crate::specs::Maps::has))]
+
 ghost use Rattle.std.specs.Prelude.{◌≡◌, ◌≤◌, ℕ, ◌==◌, ◌||◌, true, false, IfSome, IfNone, Some, None, if◌then◌else◌, OnOk};
 ghost use Rattle.simplex_state.specs.Maps.{found, has};
 

@@ -81,7 +81,10 @@ impl<S: Scheme + Drop, L: Elector + Drop> State<S, L> {
         if let Some(view) = self.first_admitted() {
             return Some(view);
         }
-        let next = self.progress.current.next_term_start(self.settings.terms.length);
+        let next = self
+            .progress
+            .current
+            .next_term_start(self.settings.terms.length);
         if self.settings.handoff && self.may_propose(next) {
             return Some(next);
         }
@@ -125,9 +128,7 @@ impl<S: Scheme + Drop, L: Elector + Drop> State<S, L> {
             → result ≡ (is_none (slot_of known view) && not (has_nullified known view) && not (was_proposal_asked known view)) }
     {
         let round = round_at(&self.rounds, view.0);
-        round.slot().is_none()
-            && !contains(&self.nullified, view.0)
-            && !round.proposal_asked
+        round.slot().is_none() && !contains(&self.nullified, view.0) && !round.proposal_asked
     }
 
     /// Whether a term begins on a parent that is not certified.

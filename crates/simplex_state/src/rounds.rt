@@ -1,5 +1,6 @@
 //! What a member keeps of each view.
 #![tactic(auto, unfolding(crate::specs::Rounds::round_in, crate::specs::Maps::found, crate::specs::Rounds::slot_in, crate::specs::Rounds::is_vouched_in, crate::specs::Rounds::is_checked_in, crate::specs::Rounds::own_slot_in))]
+
 ghost use Rattle.std.specs.Prelude.{◌≡◌, ◌≤◌, ℕ, ◌==◌, false, if◌then◌else◌, OnOk};
 ghost use Rattle.simplex_state.specs.Rounds.{round_in, blank, slot_in, is_vouched_in, is_checked_in, is_named, own_slot_in};
 
@@ -71,7 +72,10 @@ impl RoundRecord {
     pub(crate) fn slot(&self) -> Option<Proposal>
         ensures { result ≡ slot_in self.now }
     {
-        self.notarized.or(self.finalized).or(self.voted).or(self.proposed)
+        self.notarized
+            .or(self.finalized)
+            .or(self.voted)
+            .or(self.proposed)
     }
 
     /// Whether the member vouches for the proposal.

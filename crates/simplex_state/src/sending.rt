@@ -26,7 +26,10 @@ impl<S: Scheme + Drop, L: Elector + Drop> State<S, L> {
     }
 
     /// The nullification of the view, where it has still to be sent. From now on it counts as sent.
-    pub fn broadcast_nullification(&mut self, view: View) -> Result<Option<Nullification>, AllocError>
+    pub fn broadcast_nullification(
+        &mut self,
+        view: View,
+    ) -> Result<Option<Nullification>, AllocError>
         ensures stands { OnOk result (Takes S.attests L.elects self.old self.new (BroadcastNullification view)) }
         ensures answer { IfOk result (Answers S.attests L.elects self.old (λ made known. unsent_nullification known view)) }
     {

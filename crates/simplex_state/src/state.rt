@@ -102,7 +102,9 @@ impl<S: Scheme + Drop, L: Elector + Drop> State<S, L> {
     pub fn min_active(&self) -> View
         ensures { Answers S.attests L.elects self.now (λ made known. least_active made known) result }
     {
-        self.progress.last_finalized.saturating_sub(self.settings.view_retention)
+        self.progress
+            .last_finalized
+            .saturating_sub(self.settings.view_retention)
     }
 
     /// Whether a certificate of the view is of use.

@@ -14,5 +14,11 @@ loop-length-preserved c =
 pub loop-length-smaller : goal.loop-length-smaller
 loop-length-smaller c = (
     let less = c.loop-length-test.true in
-    grind (arith, common_steps, c.lt.ensures, less, c.next_term_start-view.ensures,
-      term_ends_later c.args.length c.loop-length.view c.requires.some (grind (arith, common_steps, c.lt.ensures, less, c.requires.low))))
+    grind (
+      arith,
+      common_steps,
+      c.lt.ensures,
+      less,
+      c.next_term_start-view.ensures,
+      term_ends_later c.args.length c.loop-length.view c.requires.some (grind (arith, common_steps, c.lt.ensures, less, c.requires.low)),
+    ))

@@ -11,10 +11,19 @@ use Rattle.simplex_state.proofs.state.State.first_admitted.Goals as goal
 pub returns-then-may_propose : goal.returns-then-may_propose
 unfolding StandsFor progress_of admitted_views
 returns-then-may_propose g c = λ made calls s.
-    grind (arith, common_steps, c.loop-view.invariant made calls s, c.lookahead.ensures, c.admission_limit-limit.ensures, s.progress, s.settings.term_length, s.settings.lookahead,
+    grind (
+      arith,
+      common_steps,
+      c.loop-view.invariant made calls s,
+      c.lookahead.ensures,
+      c.admission_limit-limit.ensures,
+      s.progress,
+      s.settings.term_length,
+      s.settings.lookahead,
       find_here (may_propose made (known_of made calls)) c.loop-view.view (c.admission_limit-limit.result + 1)
-      (grind (arith, c.may_propose.ensures made calls s, c.if-may_propose.true))
-      (grind (arith, common_steps, c.lt.ensures, c.loop-view-test.true)))
+          (grind (arith, c.may_propose.ensures made calls s, c.if-may_propose.true))
+          (grind (arith, common_steps, c.lt.ensures, c.loop-view-test.true)),
+    )
 
 pub loop-view-smaller : goal.loop-view-smaller
 unfolding next_of

@@ -8,9 +8,14 @@ returns-then-le g c = λ made known k low. sym (gap_none made known c.args.paren
 
 pub returns : goal.returns
 returns g c = λ made known k low.
-    grind (arith, c.gap_from.ensures, c.term_length.ensures, k.settings.term_length,
+    grind (
+      arith,
+      c.gap_from.ensures,
+      c.term_length.ensures,
+      k.settings.term_length,
       gap_is made known c.args.self.now.covered c.args.parent c.next.result c.args.view
-      (λ v l. k.covered v (omega (arith, l, low)))
-      c.next.ensures
-      (grind (arith, common_steps, c.le.ensures, c.if-le.false))
-      (search rules))
+          (λ v l. k.covered v (omega (arith, l, low)))
+          c.next.ensures
+          (grind (arith, common_steps, c.le.ensures, c.if-le.false))
+          (search rules),
+    )

@@ -14,19 +14,30 @@ returns-in-None g c = λ made calls s.
 pub returns-then-self-last : goal.returns-then-self-last
 unfolding StandsFor progress_of
 returns-then-self-last g c = λ made calls s.
-    grind (arith, common_steps, c.covers.ensures, s.settings.term_length, s.progress,
+    grind (
+      arith,
+      common_steps,
+      c.covers.ensures,
+      s.settings.term_length,
+      s.progress,
       gated_by_last made (known_of made calls) c.args.view c.in-Some.last _ _ refl refl
-      (grind (arith, common_steps, s.nullified c.in-Some.last, c.in-Some.ensures.member))
-      (grind (arith, c.in-Some.ensures.bound, c.view.view_is))
-      (λ q le h. c.in-Some.ensures.greatest q (grind (arith, le, c.view.view_is)) (grind (arith, common_steps, s.nullified q, h)))
-      s.settings.some_length)
+          (grind (arith, common_steps, s.nullified c.in-Some.last, c.in-Some.ensures.member))
+          (grind (arith, c.in-Some.ensures.bound, c.view.view_is))
+          (λ q le h. c.in-Some.ensures.greatest q (grind (arith, le, c.view.view_is)) (grind (arith, common_steps, s.nullified q, h)))
+          s.settings.some_length,
+    )
 
 pub returns-else-self-last : goal.returns-else-self-last
 unfolding StandsFor progress_of
 returns-else-self-last g c = λ made calls s.
-    grind (arith, common_steps, s.settings.term_length, s.progress,
+    grind (
+      arith,
+      common_steps,
+      s.settings.term_length,
+      s.progress,
       gated_by_last made (known_of made calls) c.args.view c.in-Some.last _ _ refl refl
-      (grind (arith, common_steps, s.nullified c.in-Some.last, c.in-Some.ensures.member))
-      (grind (arith, c.in-Some.ensures.bound, c.view.view_is))
-      (λ q le h. c.in-Some.ensures.greatest q (grind (arith, le, c.view.view_is)) (grind (arith, common_steps, s.nullified q, h)))
-      s.settings.some_length)
+          (grind (arith, common_steps, s.nullified c.in-Some.last, c.in-Some.ensures.member))
+          (grind (arith, c.in-Some.ensures.bound, c.view.view_is))
+          (λ q le h. c.in-Some.ensures.greatest q (grind (arith, le, c.view.view_is)) (grind (arith, common_steps, s.nullified q, h)))
+          s.settings.some_length,
+    )
