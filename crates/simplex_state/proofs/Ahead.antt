@@ -1,10 +1,9 @@
 -- The current view is not before what was pruned.
-use Rattle.std.proofs.Common.{◌≡◌, ℕ, ◌-◌, ◌<◌, ◌≤◌, List, [], ◌∷◌, max, arith, true}
-use Rattle.std.proofs.lemmas.Grind.{common_steps}
-use Rattle.simplex_values.specs.Terms.{greatest_view, next_of, next_term_start}
+use Rattle.std.proofs.Common.{ℕ, ◌≤◌, List, [], ◌∷◌, arith}
+use Rattle.simplex_values.specs.Terms.{greatest_view, next_of}
 use Rattle.simplex_wire.specs.declared.certificate.Certificate.TheVariants as certificates
 use Rattle.simplex_rules.specs.Lists.{greatest_of}
-use Rattle.simplex_rules.specs.Known.{Made, Fact, Added, Judged, view_of}
+use Rattle.simplex_rules.specs.Known.{Made, Fact, Added}
 use Rattle.simplex_rules.specs.Views.{last_finalized, current_of, least_active, finalized_view, opened_view}
 use Rattle.simplex_state.specs.Progress.{progress_of}
 

@@ -1,16 +1,13 @@
 -- Whether the slot is checked, and whether it is the member's own, by the record of its view.
-use Rattle.std.proofs.Common.{◌≡◌, ℕ, ◌<◌, ◌≤◌, ◌&&◌, ◌||◌, not, Bool, true, false, List, Option, Some, None, refl, sym, ap, ◌∙◌, arith, if◌then◌else◌}
+use Rattle.std.proofs.Common.{◌≡◌, ℕ, ◌<◌, ◌&&◌, ◌||◌, not, Bool, true, false, List, Option, Some, None, refl, sym, arith, if◌then◌else◌}
 use Rattle.std.proofs.lemmas.Grind.{common_steps}
-use Rattle.std.specs.Option.{option_or, option_map, option_map_or, option_and_then, is_none, is_some}
+use Rattle.std.specs.Option.{option_map, is_none, is_some}
 use Rattle.simplex_values.specs.declared.proposal.Proposal.{Proposal}
 use Rattle.simplex_values.specs.declared.proposal.Subject.{Subject}
 use Rattle.simplex_values.specs.declared.proposal.Subject.TheVariants as subjects
 use Rattle.simplex_wire.specs.declared.attestation.Attestation.{Attestation}
-use Rattle.simplex_values.specs.Proposal.{is_same_proposal}
 use Rattle.simplex_wire.specs.declared.vote.Notarize.{Notarize}
-use Rattle.simplex_wire.specs.declared.certificate.Notarization.{Notarization}
-use Rattle.simplex_wire.specs.declared.certificate.Finalization.{Finalization}
-use Rattle.simplex_rules.specs.Known.{Made, Fact, view_of, notarization_of, finalization_of, own_notarize, was_answered, was_approved, has_nullified}
+use Rattle.simplex_rules.specs.Known.{Made, Fact, view_of, has_nullified}
 use Rattle.simplex_rules.specs.Slot.{slot_of, is_own_slot}
 use Rattle.simplex_rules.specs.Ancestry.{has_ancestry}
 use Rattle.simplex_rules.specs.Votes.{is_checked, is_vouched, is_unopposed, is_votable, notarizes, notarize_at, signed_notarize}

@@ -1,10 +1,10 @@
 -- The state behind an expiry.
-use Rattle.std.proofs.Common.{◌≡◌, ℕ, ◌+◌, ◌<◌, ◌≤◌, ◌==◌, not, Bool, true, false, List, ◌∷◌, ◌++◌, append_assoc, [], Option, Some, None, refl, sym, arith, if◌then◌else◌}
+use Rattle.std.proofs.Common.{◌≡◌, ℕ, ◌+◌, ◌<◌, ◌==◌, Bool, true, false, List, ◌∷◌, ◌++◌, append_assoc, [], Option, Some, None, refl, sym, arith, if◌then◌else◌}
 use Rattle.std.proofs.lemmas.Grind.{common_steps}
 use Rattle.std.specs.BTreeMap.{BTreeMap}
-use Rattle.std.specs.Option.{option_or, option_map, is_none}
+use Rattle.std.specs.Option.{option_or, option_map}
 use Rattle.simplex_values.specs.declared.timeout.TimeoutReason.{TimeoutReason}
-use Rattle.simplex_values.specs.declared.timeout.TimeoutReason.TheVariants.{LeaderTimeout, CertificationTimeout, StallTimeout, LeaderNullify, Inactivity, MissingProposal, IgnoredProposal, InvalidProposal, FailedCertification}
+use Rattle.simplex_values.specs.declared.timeout.TimeoutReason.TheVariants.{Inactivity, FailedCertification}
 use Rattle.simplex_values.specs.declared.proposal.Subject.{Subject}
 use Rattle.simplex_values.specs.declared.round.Round.{Round}
 use Rattle.simplex_wire.specs.declared.attestation.Attestation.{Attestation}
@@ -17,9 +17,9 @@ use Rattle.simplex_rules.specs.Calls.{takes_verdict}
 use Rattle.simplex_state.specs.declared.rounds.RoundRecord.{RoundRecord}
 use Rattle.simplex_state.specs.declared.progress.Progress.{Progress}
 use Rattle.simplex_state.specs.declared.state.State.{State}
-use Rattle.simplex_state.specs.Rounds.{round_in, round_of, learn_round}
+use Rattle.simplex_state.specs.Rounds.{round_in, learn_round}
 use Rattle.simplex_state.specs.Progress.{progress_of, learn_progress}
-use Rattle.simplex_state.specs.Stands.{Keeps, StandsFor}
+use Rattle.simplex_state.specs.Stands.{Keeps}
 use Rattle.simplex_state.proofs.Facts.{option_or-none}
 use Rattle.simplex_state.proofs.Quiet.{keeps_quiet}
 use Rattle.simplex_state.proofs.Sound.{sound_other, timely_step}

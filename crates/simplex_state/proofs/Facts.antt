@@ -1,5 +1,5 @@
 -- What one more fact changes.
-use Rattle.std.proofs.Common.{◌≡◌, ℕ, zero, suc, ◌+◌, ◌-◌, ◌<◌, ◌≤◌, not, Bool, true, false, List, [], ◌∷◌, Option, Some, None, max, refl, sym, ap, ◌∙◌, arith}
+use Rattle.std.proofs.Common.{◌≡◌, ℕ, true, false, List, ◌∷◌, Option, Some, None, refl, arith}
 use Rattle.std.proofs.lemmas.Grind.{common_steps}
 use Rattle.std.specs.Option.{option_map, option_or}
 use Rattle.simplex_values.specs.declared.timeout.TimeoutReason.TheVariants.{Inactivity}
@@ -7,7 +7,7 @@ use Rattle.simplex_wire.specs.declared.certificate.Certificate.TheVariants as ce
 use Rattle.simplex_wire.specs.declared.vote.Vote.TheVariants as votes
 use Rattle.simplex_values.specs.Terms.{next_of}
 use Rattle.simplex_rules.specs.Lists.{first_of, last_of, greatest_of}
-use Rattle.simplex_rules.specs.Known.{Made, Fact, FloorAt, Added, Taken, Answered, Approved, Judged, Voted, Published, Expired, Failed, Broadcast, ProposalAsked, ProposalFreed, VerifyAsked, CertifyAsked, MissingAsked, ParentAsked, Pruned, notarization_of, finalization_of, own_notarize, proposal_of, has_finalized, verdict_of, reached}
+use Rattle.simplex_rules.specs.Known.{Made, Fact, Added, Judged, Voted, Expired, Pruned, notarization_of, finalization_of, own_notarize, proposal_of, has_finalized, verdict_of, reached}
 use Rattle.simplex_rules.specs.Views.{last_finalized, current_of, entered_at, term_entered_at, finalized_at}
 use Rattle.simplex_rules.specs.Deadline.{published_at, inactivity_count}
 use Rattle.simplex_rules.specs.Requests.{was_proposal_asked, verify_asked}

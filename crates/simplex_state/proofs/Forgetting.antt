@@ -1,39 +1,30 @@
 -- What a state keeps where it forgets what is no longer asked for.
-use Rattle.std.proofs.Common.{◌≡◌, ℕ, zero, suc, ◌+◌, ◌-◌, ◌<◌, ◌≤◌, ◌^◌, ◌==◌, ◌&&◌, ◌||◌, not, Bool, true, false, List, [], ◌∷◌, Option, Some, None, max, refl, sym, ap, ◌∙◌, arith, if◌then◌else◌}
+use Rattle.std.proofs.Common.{◌≡◌, ℕ, ◌<◌, ◌≤◌, List, ◌∷◌, Option, refl, arith}
 use Rattle.std.proofs.lemmas.Grind.{common_steps}
-use Rattle.std.specs.Prelude.{nat_le, nat_lt, unwrap_or}
 use Rattle.std.specs.BTreeMap.{BTreeMap}
 use Rattle.std.specs.BTreeSet.{BTreeSet}
-use Rattle.std.specs.List.{list_any}
-use Rattle.std.specs.Option.{option_map, option_or, is_none, is_some}
-use Rattle.simplex_values.specs.declared.proposal.Proposal.{Proposal}
 use Rattle.simplex_values.specs.declared.proposal.Subject.{Subject}
 use Rattle.simplex_values.specs.declared.round.Round.{Round}
-use Rattle.simplex_wire.specs.declared.vote.Nullify.{Nullify}
-use Rattle.simplex_wire.specs.declared.vote.Vote.TheVariants as votes
 use Rattle.simplex_wire.specs.declared.certificate.Notarization.{Notarization}
 use Rattle.simplex_wire.specs.declared.certificate.Nullification.{Nullification}
 use Rattle.simplex_wire.specs.declared.certificate.Finalization.{Finalization}
-use Rattle.simplex_wire.specs.declared.certificate.Certificate.TheVariants as certificates
-use Rattle.simplex_wire.specs.declared.certificate.CertificateKind.TheVariants as kinds
 use Rattle.simplex_wire.specs.declared.attestation.Attestation.{Attestation}
-use Rattle.simplex_rules.specs.Lists.{first_of, last_of, greatest_of}
-use Rattle.simplex_rules.specs.Known.{Made, Fact, Added, Judged, Voted, Broadcast, Pruned, view_of, notarization_of, nullification_of, finalization_of, was_broadcast, verdict_of, was_answered, was_approved, has_nullified}
+use Rattle.simplex_rules.specs.Lists.{first_of, greatest_of}
+use Rattle.simplex_rules.specs.Known.{Made, Fact, Pruned, notarization_of, nullification_of, finalization_of, was_broadcast, verdict_of, has_nullified}
 use Rattle.simplex_rules.specs.Views.{least_active, last_finalized}
 use Rattle.simplex_rules.specs.Ancestry.{is_covered, has_true_verdict, has_false_verdict}
-use Rattle.simplex_rules.specs.Deadline.{published_at}
 use Rattle.simplex_rules.specs.Requests.{is_unjudged}
 use Rattle.simplex_rules.specs.Calls.{unsent_notarization, unsent_nullification, unsent_finalization}
 use Rattle.simplex_state.specs.declared.rounds.RoundRecord.{RoundRecord}
 use Rattle.simplex_state.specs.declared.held.Held.{Held}
 use Rattle.simplex_state.specs.declared.progress.Progress.{Progress}
 use Rattle.simplex_state.specs.declared.state.State.{State}
-use Rattle.simplex_values.specs.Terms.{next_of, next_term_start, covers, term_index}
+use Rattle.simplex_values.specs.Terms.{next_term_start, term_index}
 use Rattle.simplex_state.specs.Maps.{found, has}
-use Rattle.simplex_state.specs.Rounds.{round_in, round_of, learn_round}
+use Rattle.simplex_state.specs.Rounds.{round_in, learn_round}
 use Rattle.simplex_state.specs.Progress.{progress_of, learn_progress, opens, ends}
-use Rattle.simplex_state.specs.Certificates.{held, unsent_in, held_notarization, held_nullification, held_finalization}
-use Rattle.simplex_state.specs.Stands.{Keeps, IsSound, IsHeld, IsTimely, covered_in}
+use Rattle.simplex_state.specs.Certificates.{unsent_in, held_notarization, held_nullification, held_finalization}
+use Rattle.simplex_state.specs.Stands.{Keeps, covered_in}
 use Rattle.simplex_state.proofs.Facts.{round_step, progress_step, option_or-none}
 use Rattle.simplex_state.proofs.Gates.{term_rises}
 use Rattle.simplex_state.proofs.Sound.{sound_other, timely_step}

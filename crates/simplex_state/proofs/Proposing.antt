@@ -1,17 +1,16 @@
 -- The state behind a proposal, and behind a call.
-use Rattle.std.proofs.Common.{◌≡◌, ℕ, ◌+◌, ◌<◌, ◌≤◌, ◌==◌, ◌&&◌, ◌||◌, not, Bool, true, false, List, [], ◌∷◌, ◌++◌, Option, Some, None, refl, sym, ap, ◌∙◌, arith, if◌then◌else◌}
+use Rattle.std.proofs.Common.{◌≡◌, ℕ, ◌≤◌, ◌==◌, true, List, ◌∷◌, ◌++◌, Option, Some, None, refl, arith, if◌then◌else◌}
 use Rattle.std.proofs.lemmas.Grind.{common_steps}
 use Rattle.std.specs.BTreeMap.{BTreeMap}
-use Rattle.std.specs.Option.{option_map, option_or, is_none, is_some}
+use Rattle.std.specs.Option.{is_none}
 use Rattle.simplex_values.specs.declared.proposal.Proposal.{Proposal}
 use Rattle.simplex_values.specs.declared.proposal.Subject.{Subject}
 use Rattle.simplex_values.specs.declared.round.Round.{Round}
-use Rattle.simplex_values.specs.declared.round.Context.{Context}
 use Rattle.simplex_wire.specs.declared.attestation.Attestation.{Attestation}
 use Rattle.simplex_rules.specs.Known.{Made, Fact, Taken, Answered, view_of}
-use Rattle.simplex_rules.specs.Views.{least_active, last_finalized, admits_vote, admits_certificate}
-use Rattle.simplex_rules.specs.Slot.{slot_of, records_proposal, records_answer}
-use Rattle.simplex_rules.specs.Calls.{Call, SetProposal, Proposed, known_of, facts_of, proposal_on}
+use Rattle.simplex_rules.specs.Views.{least_active, admits_vote, admits_certificate}
+use Rattle.simplex_rules.specs.Slot.{slot_of, records_proposal}
+use Rattle.simplex_rules.specs.Calls.{Call, known_of, facts_of}
 use Rattle.simplex_state.specs.declared.rounds.RoundRecord.{RoundRecord}
 use Rattle.simplex_state.specs.declared.state.State.{State}
 use Rattle.simplex_state.specs.Rounds.{round_in, round_of, learn_round, slot_in}

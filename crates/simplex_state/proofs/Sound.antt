@@ -1,23 +1,19 @@
 -- What stays sound behind one more fact: proposals made and verified, certificates sent, and clocks.
-use Rattle.std.proofs.Common.{◌≡◌, ℕ, zero, suc, ◌+◌, ◌-◌, ◌<◌, ◌≤◌, ◌==◌, ◌^◌, ◌&&◌, ◌||◌, not, Bool, true, false, List, [], ◌∷◌, Option, Some, None, max, refl, sym, ap, ◌∙◌, arith, if◌then◌else◌}
+use Rattle.std.proofs.Common.{◌≡◌, ℕ, ◌<◌, ◌^◌, Bool, true, false, List, ◌∷◌, Some, None, refl, arith}
 use Rattle.std.proofs.lemmas.Grind.{common_steps}
-use Rattle.std.specs.List.{list_any}
-use Rattle.std.specs.Option.{option_map, option_or, is_none, is_some, IfSome}
+use Rattle.std.specs.Option.{IfSome}
 use Rattle.simplex_values.specs.declared.proposal.Proposal.{Proposal}
 use Rattle.simplex_values.specs.declared.timeout.TimeoutReason.TheVariants.{Inactivity}
-use Rattle.simplex_wire.specs.declared.certificate.CertificateKind.{CertificateKind}
-use Rattle.simplex_wire.specs.declared.certificate.CertificateKind.TheVariants as kinds
 use Rattle.simplex_wire.specs.declared.certificate.Certificate.TheVariants as certificates
 use Rattle.simplex_wire.specs.declared.vote.Vote.TheVariants as votes
-use Rattle.simplex_rules.specs.Lists.{first_of, last_of, greatest_of}
-use Rattle.simplex_rules.specs.Known.{Made, Fact, FloorAt, Added, Taken, Answered, Approved, Judged, Voted, Published, Expired, Failed, Broadcast, ProposalAsked, ProposalFreed, VerifyAsked, CertifyAsked, MissingAsked, ParentAsked, Pruned, view_of, notarization_of, nullification_of, finalization_of, was_broadcast, was_answered, was_approved}
+use Rattle.simplex_rules.specs.Lists.{last_of}
+use Rattle.simplex_rules.specs.Known.{Made, Fact, FloorAt, Added, Taken, Answered, Approved, Judged, Voted, Published, Expired, Failed, Broadcast, ProposalAsked, ProposalFreed, VerifyAsked, CertifyAsked, MissingAsked, ParentAsked, Pruned, view_of, was_answered, was_approved}
 use Rattle.simplex_rules.specs.Deadline.{published_at}
-use Rattle.simplex_rules.specs.Requests.{verify_asked}
 use Rattle.simplex_state.specs.declared.progress.Progress.{Progress}
-use Rattle.simplex_state.specs.Rounds.{round_of, learn_round, is_named}
+use Rattle.simplex_state.specs.Rounds.{round_of, learn_round}
 use Rattle.simplex_state.specs.Progress.{progress_of, learn_progress, opens, ends}
-use Rattle.simplex_state.specs.Stands.{IsSound, IsHeld, IsTimely}
-use Rattle.simplex_state.proofs.Facts.{round_step, progress_step, option_or-none}
+use Rattle.simplex_state.specs.Stands.{IsSound, IsTimely}
+use Rattle.simplex_state.proofs.Facts.{round_step, progress_step}
 
 false_true : false ≡ true → ⊥
 false_true e = cc

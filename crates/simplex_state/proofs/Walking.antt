@@ -1,10 +1,10 @@
 -- Walking over covered views from term to term, and to the greatest parent.
-use Rattle.std.proofs.Common.{◌≡◌, ℕ, zero, suc, ◌+◌, ◌-◌, ◌*◌, ◌/◌, ◌<◌, ◌≤◌, not, nat_lt, Bool, true, false, List, [], ◌∷◌, Option, Some, None, find, max, refl, sym, ap, ◌∙◌, inl, inr, ◌⊎◌, ◌^◌, ◌||◌, if◌then◌else◌, arith}
+use Rattle.std.proofs.Common.{◌≡◌, ℕ, zero, suc, ◌+◌, ◌-◌, ◌*◌, ◌/◌, ◌<◌, ◌≤◌, not, nat_lt, Bool, true, false, List, Option, Some, None, find, refl, sym, inl, inr, ◌⊎◌, ◌^◌, ◌||◌, if◌then◌else◌, arith}
 use Rattle.std.proofs.lemmas.Bool.{cases_eq}
 use Rattle.std.proofs.lemmas.Grind.{common_steps}
 use Rattle.std.proofs.Math.Nat.{div-lt_iff_lt-mul}
 use Rattle.std.specs.List.{range_with_len}
-use Rattle.std.specs.Option.{is_none, is_some, option_map_or}
+use Rattle.std.specs.Option.{is_none, is_some}
 use Rattle.std.specs.BTreeMap.{BTreeMap}
 use Rattle.simplex_values.specs.Terms.{greatest_view, next_of, term_index, term_end, next_term_start}
 use Rattle.simplex_rules.specs.Lists.{greatest_below}
@@ -12,7 +12,6 @@ use Rattle.simplex_rules.specs.Known.{Made, Fact}
 use Rattle.simplex_rules.specs.Views.{last_finalized}
 use Rattle.simplex_rules.specs.Ancestry.{is_covered, gap_between, is_certified, is_met, has_ancestry, greatest_parent}
 use Rattle.simplex_rules.proofs.Soundness.{covered_between}
-use Rattle.simplex_state.specs.Maps.{found}
 use Rattle.simplex_state.specs.Stands.{covered_in}
 use Rattle.simplex_state.proofs.Gates.{term_rises}
 

@@ -1,5 +1,5 @@
 -- When a floor may be set.
-use Rattle.std.specs.Prelude.{ℕ, nat_le, Bool, true, List}
+use Rattle.std.specs.Prelude.{nat_le, Bool, true, List}
 use Rattle.simplex_types.specs.declared.floor.Floor.{Floor}
 use Rattle.simplex_types.specs.declared.floor.Floor.TheVariants.{Genesis, Finalized}
 use Rattle.simplex_rules.specs.Lists.{greatest_of}

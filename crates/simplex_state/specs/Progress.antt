@@ -1,5 +1,5 @@
 -- How far a member is, from what it knows.
-use Rattle.std.specs.Prelude.{◌≡◌, ℕ, ◌+◌, ◌==◌, max, nat_lt, Bool, true, List, if◌then◌else◌}
+use Rattle.std.specs.Prelude.{ℕ, ◌+◌, ◌==◌, max, nat_lt, true, List, if◌then◌else◌}
 use Rattle.simplex_values.specs.declared.timeout.TimeoutReason.TheVariants.{Inactivity}
 use Rattle.simplex_wire.specs.declared.certificate.Certificate.TheVariants as certificates
 use Rattle.simplex_values.specs.Terms.{next_of, next_term_start, term_index}

@@ -1,5 +1,5 @@
 -- What the facts say of one view.
-use Rattle.std.specs.Prelude.{◌≡◌, ℕ, ◌==◌, ◌&&◌, ◌||◌, not, Bool, true, false, List, Option, Some, None, unwrap_or, if◌then◌else◌}
+use Rattle.std.specs.Prelude.{ℕ, ◌==◌, ◌&&◌, ◌||◌, Bool, true, false, List, Option, Some, None, unwrap_or, if◌then◌else◌}
 use Rattle.std.specs.List.{list_any}
 use Rattle.std.specs.Option.{option_or, option_map, option_map_or, is_none}
 use Rattle.simplex_state.specs.Maps.{found}
@@ -8,7 +8,7 @@ use Rattle.simplex_values.specs.declared.proposal.Proposal.{Proposal}
 use Rattle.simplex_values.specs.Proposal.{is_same_proposal}
 use Rattle.simplex_wire.specs.declared.vote.Vote.TheVariants as votes
 use Rattle.simplex_wire.specs.declared.certificate.Certificate.TheVariants as certificates
-use Rattle.simplex_rules.specs.Lists.{first_of, last_of}
+use Rattle.simplex_rules.specs.Lists.{first_of}
 use Rattle.simplex_rules.specs.Known.{Fact, FloorAt, Added, Taken, Answered, Approved, Judged, Voted, Published, Expired, Failed, ProposalAsked, ProposalFreed, VerifyAsked, CertifyAsked, ParentAsked, view_of, notarization_of, finalization_of, own_notarize, proposal_of, has_finalized, verdict_of}
 use Rattle.simplex_rules.specs.Ancestry.{floor_in}
 use Rattle.simplex_rules.specs.Deadline.{published_at, expired_in, failed_in}

@@ -1,4 +1,4 @@
-use Rattle.std.proofs.Common.{arith, ◌≡◌, ◌-◌, not, true, false, sym, ◌∙◌}
+use Rattle.std.proofs.Common.{arith, ◌∙◌}
 use Rattle.std.proofs.lemmas.Grind.{common_steps}
 use Rattle.simplex_state.proofs.Walking.{skip_term, term_ends_later}
 use Rattle.simplex_state.proofs.ancestry.gap_from.Goals as goal

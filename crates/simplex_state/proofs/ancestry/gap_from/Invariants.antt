@@ -1,4 +1,4 @@
-use Rattle.std.proofs.Common.{◌≡◌, ℕ, ◌-◌, ◌≤◌, not, find}
+use Rattle.std.proofs.Common.{◌≡◌, ◌-◌, not, find}
 use Rattle.std.specs.List.{range_with_len}
 use Rattle.simplex_state.specs.Stands.{covered_in}
 use Rattle.simplex_state.proofs.ancestry.gap_from.Given as goal

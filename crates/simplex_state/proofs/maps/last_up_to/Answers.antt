@@ -1,4 +1,4 @@
-use Rattle.std.proofs.Common.{arith, rules, ◌≡◌, ◌≤◌, ℕ, true, false, sym, refl}
+use Rattle.std.proofs.Common.{arith, rules}
 use Rattle.std.proofs.lemmas.Grind.{common_steps}
 use Rattle.simplex_state.specs.Maps.{has}
 use Rattle.simplex_state.proofs.maps.last_up_to.Goals as goal

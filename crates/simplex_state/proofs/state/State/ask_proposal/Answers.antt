@@ -1,10 +1,9 @@
-use Rattle.std.proofs.Common.{arith, rules, ◌≡◌, ◌∷◌, ◌++◌, ◌<◌, ◌-◌, ◌+◌, not, [], true, false, refl, sym, ◌∙◌, if◌then◌else◌, Some, None}
+use Rattle.std.proofs.Common.{arith, refl}
 use Rattle.std.proofs.lemmas.Grind.{common_steps}
 use Rattle.simplex_state.proofs.Recording.{keeps_record}
 use Rattle.simplex_state.specs.Rounds.{learn_round}
 use Rattle.simplex_state.specs.Progress.{learn_progress}
-use Rattle.simplex_rules.specs.Known.{ProposalAsked, ProposalFreed}
-use Rattle.simplex_rules.specs.Calls.{request_context}
+use Rattle.simplex_rules.specs.Known.{ProposalAsked}
 use Rattle.simplex_state.proofs.state.State.ask_proposal.Goals as goal
 
 pub returns : goal.returns

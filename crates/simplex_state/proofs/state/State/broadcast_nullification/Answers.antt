@@ -1,4 +1,4 @@
-use Rattle.std.proofs.Common.{arith, ◌≡◌, ◌∷◌, ◌++◌, ◌<◌, [], true, false, refl, if◌then◌else◌, Some, None}
+use Rattle.std.proofs.Common.{arith, ◌∷◌, []}
 use Rattle.std.proofs.lemmas.Grind.{common_steps}
 use Rattle.simplex_rules.specs.Known.{Broadcast}
 use Rattle.simplex_wire.specs.declared.certificate.CertificateKind.TheVariants as kinds

@@ -1,11 +1,9 @@
-use Rattle.std.proofs.Common.{arith, ◌≡◌, ◌∷◌, ◌++◌, ◌<◌, [], true, false, refl, if◌then◌else◌, Some, None}
+use Rattle.std.proofs.Common.{arith}
 use Rattle.std.proofs.lemmas.Grind.{common_steps}
 use Rattle.simplex_rules.specs.Calls.{facts_of, known_of, nullify_facts}
 use Rattle.simplex_state.specs.Stands.{StandsFor}
 use Rattle.simplex_state.proofs.Proposing.{takes_facts}
-use Rattle.simplex_state.proofs.Gates.{finalize_view, nullify_view}
-use Rattle.simplex_wire.specs.declared.vote.Vote.TheVariants as votes
-use Rattle.simplex_rules.specs.Known.{Voted, Published, has_nullified}
+use Rattle.simplex_state.proofs.Gates.{nullify_view}
 use Rattle.simplex_state.proofs.state.State.construct_nullify.Goals as goal
 
 pub returns-clause-stands : goal.returns-clause-stands

@@ -1,5 +1,4 @@
-use Rattle.std.proofs.Common.{arith, rules, ◌≡◌, ◌∷◌, ◌++◌, ◌<◌, ◌-◌, ◌+◌, not, [], true, false, refl, sym, ◌∙◌, if◌then◌else◌, Some, None}
-use Rattle.std.proofs.lemmas.Grind.{common_steps}
+use Rattle.std.proofs.Common.{◌≡◌, ◌-◌, ◌+◌}
 use Rattle.std.specs.Prelude.{find, List}
 use Rattle.std.specs.List.{range_with_len}
 use Rattle.simplex_rules.specs.Known.{Made}

@@ -1,4 +1,4 @@
-use Rattle.std.proofs.Common.{arith, rules, ◌≡◌, ◌∷◌, ◌++◌, ◌<◌, ◌-◌, not, [], true, false, refl, sym, ◌∙◌, if◌then◌else◌, Some, None}
+use Rattle.std.proofs.Common.{arith, rules, sym}
 use Rattle.std.proofs.lemmas.Grind.{common_steps}
 use Rattle.simplex_state.proofs.Walking.{gap_none, gap_is}
 use Rattle.simplex_state.proofs.state.State.gap_between.Goals as goal

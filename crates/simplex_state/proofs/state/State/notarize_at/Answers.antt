@@ -1,4 +1,4 @@
-use Rattle.std.proofs.Common.{arith, rules, ◌≡◌, ◌∷◌, ◌++◌, ◌<◌, ◌-◌, ◌^◌, [], true, false, refl, sym, ◌∙◌, if◌then◌else◌, Some, None}
+use Rattle.std.proofs.Common.{arith, ◌≡◌, sym, ◌∙◌}
 use Rattle.std.proofs.lemmas.Grind.{common_steps}
 use Rattle.simplex_rules.specs.Calls.{known_of}
 use Rattle.simplex_rules.specs.Votes.{notarize_at, signed_notarize}

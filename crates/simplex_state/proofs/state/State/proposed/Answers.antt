@@ -1,13 +1,11 @@
-use Rattle.std.proofs.Common.{arith, ◌≡◌, ◌∷◌, [], true, false}
+use Rattle.std.proofs.Common.{arith, ◌∷◌, []}
 use Rattle.std.proofs.lemmas.Grind.{common_steps}
-use Rattle.simplex_state.proofs.Proposing.{takes_facts, keeps_taken, keeps_answered, slot_is}
-use Rattle.simplex_rules.specs.Known.{Taken, Answered}
-use Rattle.simplex_rules.specs.Slot.{records_proposal, records_answer}
-use Rattle.simplex_rules.specs.Views.{admits_vote, admits_certificate}
+use Rattle.simplex_state.proofs.Proposing.{takes_facts, keeps_answered, slot_is}
+use Rattle.simplex_rules.specs.Known.{Answered}
+use Rattle.simplex_rules.specs.Slot.{records_answer}
 use Rattle.simplex_state.specs.Stands.{StandsFor}
 use Rattle.simplex_state.specs.Progress.{progress_of}
 use Rattle.simplex_rules.specs.Calls.{facts_of, known_of, proposal_on}
-use Rattle.simplex_state.proofs.Ahead.{pruned_below}
 use Rattle.simplex_state.proofs.state.State.proposed.Goals as goal
 
 pub returns-clause-stands : goal.returns-clause-stands

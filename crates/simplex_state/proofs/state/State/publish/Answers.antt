@@ -1,10 +1,9 @@
-use Rattle.std.proofs.Common.{arith, ◌≡◌, ◌∷◌, ◌++◌, ◌<◌, [], true, false, refl, if◌then◌else◌, Some, None}
+use Rattle.std.proofs.Common.{arith, refl}
 use Rattle.std.proofs.lemmas.Grind.{common_steps}
 use Rattle.simplex_state.proofs.Recording.{keeps_record}
 use Rattle.simplex_state.specs.Rounds.{learn_round}
 use Rattle.simplex_state.specs.Progress.{learn_progress}
-use Rattle.simplex_wire.specs.declared.vote.Vote.TheVariants as votes
-use Rattle.simplex_rules.specs.Known.{Voted, Published, has_nullified}
+use Rattle.simplex_rules.specs.Known.{Published}
 use Rattle.simplex_state.proofs.state.State.publish.Goals as goal
 
 pub returns : goal.returns

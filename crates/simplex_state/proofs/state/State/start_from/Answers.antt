@@ -1,8 +1,7 @@
-use Rattle.std.proofs.Common.{arith, rules, ◌≡◌, ◌∷◌, ◌++◌, ◌<◌, ◌-◌, ◌^◌, [], true, false, refl, sym, ◌∙◌, if◌then◌else◌, Some, None}
+use Rattle.std.proofs.Common.{arith}
 use Rattle.std.proofs.lemmas.Grind.{common_steps}
 use Rattle.simplex_rules.specs.Lists.{first_of}
-use Rattle.simplex_rules.specs.Known.{Added, FloorAt, Broadcast, view_of, finalization_of}
-use Rattle.simplex_wire.specs.declared.certificate.Certificate.TheVariants as certificates
+use Rattle.simplex_rules.specs.Known.{FloorAt, view_of, finalization_of}
 use Rattle.simplex_state.specs.Progress.{learn_progress}
 use Rattle.simplex_state.proofs.Facts.{progress_step}
 use Rattle.simplex_state.proofs.Moves.{keeps_sent_finalization}

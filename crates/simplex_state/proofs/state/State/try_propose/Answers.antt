@@ -1,9 +1,9 @@
-use Rattle.std.proofs.Common.{arith, rules, ◌≡◌, ◌∷◌, ◌++◌, ◌<◌, ◌-◌, ◌+◌, not, [], true, false, refl, sym, ◌∙◌, if◌then◌else◌, Some, None}
+use Rattle.std.proofs.Common.{arith, ◌∷◌, [], sym}
 use Rattle.std.proofs.lemmas.Grind.{common_steps}
 use Rattle.simplex_rules.specs.Calls.{facts_of, known_of}
 use Rattle.simplex_state.specs.Stands.{StandsFor}
-use Rattle.simplex_state.proofs.Proposing.{takes_facts, slot_is}
-use Rattle.simplex_rules.specs.Known.{ProposalAsked, ProposalFreed}
+use Rattle.simplex_state.proofs.Proposing.{takes_facts}
+use Rattle.simplex_rules.specs.Known.{ProposalAsked}
 use Rattle.simplex_rules.specs.Calls.{request_context}
 use Rattle.simplex_state.proofs.state.State.try_propose.Goals as goal
 

@@ -1,7 +1,5 @@
-use Rattle.std.proofs.Common.{arith, ◌≡◌, ◌∷◌, ◌++◌, ◌<◌, [], true, false, refl, if◌then◌else◌, Some, None}
+use Rattle.std.proofs.Common.{arith}
 use Rattle.std.proofs.lemmas.Grind.{common_steps}
-use Rattle.simplex_wire.specs.declared.vote.Vote.TheVariants as votes
-use Rattle.simplex_rules.specs.Known.{Voted, Published, has_nullified}
 use Rattle.simplex_state.proofs.Moves.{keeps_nullify}
 use Rattle.simplex_state.proofs.state.State.vote_nullify.Goals as goal
 
