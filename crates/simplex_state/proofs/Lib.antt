@@ -1,0 +1,13 @@
+pub mod Facts
+pub mod Quiet
+pub mod Sound
+pub mod Moves
+pub mod Ahead
+pub mod Proposing
+pub mod Recording
+pub mod Expiring
+pub mod Unsent
+pub mod Gates
+pub mod Walking
+pub mod Checking
+pub mod Forgetting

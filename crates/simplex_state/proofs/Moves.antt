@@ -1,0 +1,388 @@
+-- What a state keeps behind one more fact that moves it or changes a set.
+use Rattle.std.proofs.Common.{◌≡◌, ℕ, ◌<◌, ◌≤◌, ◌^◌, ◌==◌, ◌||◌, true, false, List, ◌∷◌, Option, Some, None, refl, arith, if◌then◌else◌}
+use Rattle.std.proofs.lemmas.Grind.{common_steps}
+use Rattle.std.specs.Prelude.{unwrap_or}
+use Rattle.std.specs.BTreeMap.{BTreeMap}
+use Rattle.std.specs.BTreeSet.{BTreeSet}
+use Rattle.std.specs.Option.{option_map, is_some}
+use Rattle.simplex_values.specs.declared.proposal.Subject.{Subject}
+use Rattle.simplex_values.specs.declared.round.Round.{Round}
+use Rattle.simplex_wire.specs.declared.vote.Nullify.{Nullify}
+use Rattle.simplex_wire.specs.declared.vote.Vote.TheVariants as votes
+use Rattle.simplex_wire.specs.declared.certificate.Notarization.{Notarization}
+use Rattle.simplex_wire.specs.declared.certificate.Nullification.{Nullification}
+use Rattle.simplex_wire.specs.declared.certificate.Finalization.{Finalization}
+use Rattle.simplex_wire.specs.declared.certificate.Certificate.TheVariants as certificates
+use Rattle.simplex_wire.specs.declared.certificate.CertificateKind.TheVariants as kinds
+use Rattle.simplex_wire.specs.declared.attestation.Attestation.{Attestation}
+use Rattle.simplex_rules.specs.Lists.{first_of, greatest_of}
+use Rattle.simplex_rules.specs.Known.{Made, Fact, Added, Judged, Voted, Broadcast, view_of, notarization_of, nullification_of, finalization_of, was_broadcast, verdict_of, has_nullified}
+use Rattle.simplex_rules.specs.Views.{least_active, last_finalized}
+use Rattle.simplex_rules.specs.Ancestry.{is_covered, has_true_verdict, has_false_verdict}
+use Rattle.simplex_rules.specs.Requests.{is_unjudged}
+use Rattle.simplex_rules.specs.Calls.{unsent_notarization, unsent_nullification, unsent_finalization}
+use Rattle.simplex_state.specs.declared.rounds.RoundRecord.{RoundRecord}
+use Rattle.simplex_state.specs.declared.held.Held.{Held}
+use Rattle.simplex_state.specs.declared.progress.Progress.{Progress}
+use Rattle.simplex_state.specs.declared.state.State.{State}
+use Rattle.simplex_values.specs.Terms.{next_of, next_term_start, covers}
+use Rattle.simplex_state.specs.Maps.{found, has}
+use Rattle.simplex_state.specs.Rounds.{round_in, learn_round}
+use Rattle.simplex_state.specs.Progress.{progress_of, learn_progress, opens, ends}
+use Rattle.simplex_state.specs.Certificates.{held, held_notarization, held_nullification, held_finalization}
+use Rattle.simplex_state.specs.Stands.{Keeps, covered_in}
+use Rattle.simplex_state.proofs.Facts.{round_step, progress_step, option_or-none}
+use Rattle.simplex_state.proofs.Sound.{sound_other, timely_step}
+
+module _ {S L : Type 0} (attests : S → Subject → Option Attestation) (elects : L → Round → ℕ) where
+  -- the member gave a view up
+  pub keeps_nullify : (state : State S L) (made : Made) (known : List Fact) (n : Nullify) (nullified' : BTreeSet ℕ)
+      → Keeps attests elects state made known
+      → ((q : ℕ) → has nullified' q ≡ (n.round.view == q || has state.nullified q))
+      → Keeps attests elects (record state { nullified = nullified' }) made (Voted (votes.Nullify n) ∷ known)
+  unfolding learn_progress learn_round opens ends least_active last_finalized has_nullified has_false_verdict has_true_verdict is_covered is_unjudged verdict_of notarization_of nullification_of finalization_of was_broadcast held_notarization held_nullification held_finalization unsent_notarization unsent_nullification unsent_finalization first_of greatest_of
+  keeps_nullify state made known n nullified' k nullified_are =
+      let f = Voted (votes.Nullify n) in
+      let w = progress_step made f known in
+      record {
+        attest = k.attest;
+        leads = k.leads;
+        settings = k.settings;
+        progress = grind (arith, common_steps, k.progress, w);
+        active = grind (arith, common_steps, k.active, w);
+        ahead = grind (arith, common_steps, k.ahead, w);
+        sound = sound_other f known refl k.sound;
+        held = record {
+          notarizations = λ v. grind (arith, common_steps, k.held.notarizations v, option_or-none);
+          nullifications = λ v. grind (arith, common_steps, k.held.nullifications v, option_or-none);
+          finalizations = λ v. grind (arith, common_steps, k.held.finalizations v, option_or-none);
+        };
+        timely = timely_step made f known (omega arith) k.timely;
+        rounds = λ view. grind (arith, common_steps, k.rounds view, w, round_step f known view);
+        nullified = λ view. grind (arith, common_steps, k.nullified view, nullified_are view);
+        failed = λ view. grind (arith, common_steps, k.failed view, option_or-none);
+        certified = λ view. grind (arith, common_steps, k.certified view, option_or-none, w);
+        covered = λ view. grind (arith, common_steps, k.covered view, w);
+        waiting = λ view. grind (arith, common_steps, k.waiting view, option_or-none);
+        notarizations = λ view. grind (arith, common_steps, k.notarizations view, option_or-none, w);
+        finalizations = λ view. grind (arith, common_steps, k.finalizations view, option_or-none, w);
+        nullifications = λ view. grind (arith, common_steps, k.nullifications view, option_or-none, w);
+        unsent_notarizations = λ view. grind (arith, common_steps, k.unsent_notarizations view, option_or-none);
+        unsent_nullifications = λ view. grind (arith, common_steps, k.unsent_nullifications view, option_or-none);
+        unsent_finalizations = λ view. grind (arith, common_steps, k.unsent_finalizations view, option_or-none);
+      }
+
+  -- a verdict is taken
+  pub keeps_good : (state : State S L) (made : Made) (known : List Fact) (v : ℕ) (now : ℕ) (progress' : Progress) (rounds' : BTreeMap ℕ RoundRecord) (certified' : BTreeSet ℕ)
+      → Keeps attests elects state made known
+      → now < 2 ^ 63
+      → verdict_of known v ≡ None
+      → progress' ≡ opens made.term_length (next_of v) now state.progress
+      → ((q : ℕ) → (progress_of made known).pruned ≤ q → round_in rounds' q ≡ learn_round (Judged v true now) q (round_in state.rounds q))
+      → ((q : ℕ) → has certified' q ≡ (v == q || has state.certified q))
+      → Keeps attests elects (record state { progress = progress'; rounds = rounds'; certified = certified' }) made (Judged v true now ∷ known)
+  unfolding learn_progress learn_round opens ends least_active last_finalized has_nullified has_false_verdict has_true_verdict is_covered is_unjudged verdict_of notarization_of nullification_of finalization_of was_broadcast held_notarization held_nullification held_finalization unsent_notarization unsent_nullification unsent_finalization first_of greatest_of
+  keeps_good state made known v now progress' rounds' certified' k stamp none progress_is rounds_are certified_are =
+      let f = Judged v true now in
+      let w = progress_step made f known in
+      record {
+        attest = k.attest;
+        leads = k.leads;
+        settings = k.settings;
+        progress = grind (arith, common_steps, k.progress, w, progress_is);
+        active = grind (arith, common_steps, k.active, w);
+        ahead = grind (arith, common_steps, k.ahead, w);
+        sound = sound_other f known refl k.sound;
+        held = record {
+          notarizations = λ v. grind (arith, common_steps, k.held.notarizations v, option_or-none);
+          nullifications = λ v. grind (arith, common_steps, k.held.nullifications v, option_or-none);
+          finalizations = λ v. grind (arith, common_steps, k.held.finalizations v, option_or-none);
+        };
+        timely = timely_step made f known (stamp) k.timely;
+        rounds = λ view. grind (arith, common_steps, k.rounds view, w, round_step f known view, rounds_are view);
+        nullified = λ view. grind (arith, common_steps, k.nullified view);
+        failed = λ view. grind (arith, common_steps, k.failed view, option_or-none, none);
+        certified = λ view. grind (arith, common_steps, k.certified view, option_or-none, w, certified_are view, none);
+        covered = λ view. grind (arith, common_steps, k.covered view, w);
+        waiting = λ view. grind (arith, common_steps, k.waiting view, option_or-none);
+        notarizations = λ view. grind (arith, common_steps, k.notarizations view, option_or-none, w);
+        finalizations = λ view. grind (arith, common_steps, k.finalizations view, option_or-none, w);
+        nullifications = λ view. grind (arith, common_steps, k.nullifications view, option_or-none, w);
+        unsent_notarizations = λ view. grind (arith, common_steps, k.unsent_notarizations view, option_or-none);
+        unsent_nullifications = λ view. grind (arith, common_steps, k.unsent_nullifications view, option_or-none);
+        unsent_finalizations = λ view. grind (arith, common_steps, k.unsent_finalizations view, option_or-none);
+      }
+
+  pub keeps_bad : (state : State S L) (made : Made) (known : List Fact) (v : ℕ) (now : ℕ) (rounds' : BTreeMap ℕ RoundRecord) (failed' : BTreeSet ℕ)
+      → Keeps attests elects state made known
+      → now < 2 ^ 63
+      → verdict_of known v ≡ None
+      → ((q : ℕ) → (progress_of made known).pruned ≤ q → round_in rounds' q ≡ learn_round (Judged v false now) q (round_in state.rounds q))
+      → ((q : ℕ) → has failed' q ≡ (v == q || has state.failed q))
+      → Keeps attests elects (record state { rounds = rounds'; failed = failed' }) made (Judged v false now ∷ known)
+  unfolding learn_progress learn_round opens ends least_active last_finalized has_nullified has_false_verdict has_true_verdict is_covered is_unjudged verdict_of notarization_of nullification_of finalization_of was_broadcast held_notarization held_nullification held_finalization unsent_notarization unsent_nullification unsent_finalization first_of greatest_of
+  keeps_bad state made known v now rounds' failed' k stamp none rounds_are failed_are =
+      let f = Judged v false now in
+      let w = progress_step made f known in
+      record {
+        attest = k.attest;
+        leads = k.leads;
+        settings = k.settings;
+        progress = grind (arith, common_steps, k.progress, w);
+        active = grind (arith, common_steps, k.active, w);
+        ahead = grind (arith, common_steps, k.ahead, w);
+        sound = sound_other f known refl k.sound;
+        held = record {
+          notarizations = λ v. grind (arith, common_steps, k.held.notarizations v, option_or-none);
+          nullifications = λ v. grind (arith, common_steps, k.held.nullifications v, option_or-none);
+          finalizations = λ v. grind (arith, common_steps, k.held.finalizations v, option_or-none);
+        };
+        timely = timely_step made f known (stamp) k.timely;
+        rounds = λ view. grind (arith, common_steps, k.rounds view, w, round_step f known view, rounds_are view);
+        nullified = λ view. grind (arith, common_steps, k.nullified view);
+        failed = λ view. grind (arith, common_steps, k.failed view, option_or-none, failed_are view, none);
+        certified = λ view. grind (arith, common_steps, k.certified view, option_or-none, w, none);
+        covered = λ view. grind (arith, common_steps, k.covered view, w);
+        waiting = λ view. grind (arith, common_steps, k.waiting view, option_or-none);
+        notarizations = λ view. grind (arith, common_steps, k.notarizations view, option_or-none, w);
+        finalizations = λ view. grind (arith, common_steps, k.finalizations view, option_or-none, w);
+        nullifications = λ view. grind (arith, common_steps, k.nullifications view, option_or-none, w);
+        unsent_notarizations = λ view. grind (arith, common_steps, k.unsent_notarizations view, option_or-none);
+        unsent_nullifications = λ view. grind (arith, common_steps, k.unsent_nullifications view, option_or-none);
+        unsent_finalizations = λ view. grind (arith, common_steps, k.unsent_finalizations view, option_or-none);
+      }
+
+  -- a certificate is known
+  pub keeps_notarization : (state : State S L) (made : Made) (known : List Fact) (n : Notarization) (now : ℕ) (rounds' : BTreeMap ℕ RoundRecord) (waiting' : BTreeSet ℕ) (notarizations' : BTreeMap ℕ (Held Notarization))
+      → Keeps attests elects state made known
+      → now < 2 ^ 63
+      → (progress_of made known).pruned ≤ view_of n.proposal
+      → ((q : ℕ) → (progress_of made known).pruned ≤ q → round_in rounds' q ≡ learn_round (Added (certificates.Notarization n) now) q (round_in state.rounds q))
+      → ((q : ℕ) → has waiting' q ≡ (view_of n.proposal == q || has state.waiting q))
+      → ((q : ℕ) → found notarizations' q ≡ (if view_of n.proposal == q then Some (unwrap_or (found state.notarizations q) (held false n)) else found state.notarizations q))
+      → Keeps attests elects (record state { rounds = rounds'; waiting = waiting'; notarizations = notarizations' }) made (Added (certificates.Notarization n) now ∷ known)
+  unfolding learn_progress learn_round opens ends least_active last_finalized has_nullified has_false_verdict has_true_verdict is_covered is_unjudged verdict_of notarization_of nullification_of finalization_of was_broadcast held_notarization held_nullification held_finalization unsent_notarization unsent_nullification unsent_finalization first_of greatest_of
+  keeps_notarization state made known n now rounds' waiting' notarizations' k stamp active rounds_are waiting_are held_are =
+      let f = Added (certificates.Notarization n) now in
+      let w = progress_step made f known in
+      record {
+        attest = k.attest;
+        leads = k.leads;
+        settings = k.settings;
+        progress = grind (arith, common_steps, k.progress, w);
+        active = grind (arith, common_steps, k.active, w);
+        ahead = grind (arith, common_steps, k.ahead, w);
+        sound = sound_other f known refl k.sound;
+        held = record {
+          notarizations = λ v. grind (arith, common_steps, k.held.notarizations v, option_or-none);
+          nullifications = λ v. grind (arith, common_steps, k.held.nullifications v, option_or-none);
+          finalizations = λ v. grind (arith, common_steps, k.held.finalizations v, option_or-none);
+        };
+        timely = timely_step made f known (stamp) k.timely;
+        rounds = λ view. grind (arith, common_steps, k.rounds view, w, round_step f known view, rounds_are view);
+        nullified = λ view. grind (arith, common_steps, k.nullified view);
+        failed = λ view. grind (arith, common_steps, k.failed view, option_or-none);
+        certified = λ view. grind (arith, common_steps, k.certified view, option_or-none, w);
+        covered = λ view. grind (arith, common_steps, k.covered view, w);
+        waiting = λ view. grind (arith, common_steps, k.waiting view, option_or-none, waiting_are view);
+        notarizations = λ view. grind (arith, common_steps, k.notarizations view, option_or-none, w, held_are view, k.held.notarizations view);
+        finalizations = λ view. grind (arith, common_steps, k.finalizations view, option_or-none, w);
+        nullifications = λ view. grind (arith, common_steps, k.nullifications view, option_or-none, w);
+        unsent_notarizations = λ view. grind (arith, common_steps, k.unsent_notarizations view, option_or-none, held_are view, k.held.notarizations view, k.notarizations view, active);
+        unsent_nullifications = λ view. grind (arith, common_steps, k.unsent_nullifications view, option_or-none);
+        unsent_finalizations = λ view. grind (arith, common_steps, k.unsent_finalizations view, option_or-none);
+      }
+
+  pub keeps_nullification : (state : State S L) (made : Made) (known : List Fact) (n : Nullification) (now : ℕ) (progress' : Progress) (covered' : BTreeMap ℕ ℕ) (nullifications' : BTreeMap ℕ (Held Nullification))
+      → Keeps attests elects state made known
+      → now < 2 ^ 63
+      → (progress_of made known).pruned ≤ n.round.view
+      → progress' ≡ opens made.term_length (next_term_start made.term_length n.round.view) now state.progress
+      → ((q : ℕ) → covered_in made.term_length covered' q ≡ (covers made.term_length n.round.view q || covered_in made.term_length state.covered q))
+      → ((q : ℕ) → found nullifications' q ≡ (if n.round.view == q then Some (unwrap_or (found state.nullifications q) (held false n)) else found state.nullifications q))
+      → Keeps attests elects (record state { progress = progress'; covered = covered'; nullifications = nullifications' }) made (Added (certificates.Nullification n) now ∷ known)
+  unfolding learn_progress learn_round opens ends least_active last_finalized has_nullified has_false_verdict has_true_verdict is_covered is_unjudged verdict_of notarization_of nullification_of finalization_of was_broadcast held_notarization held_nullification held_finalization unsent_notarization unsent_nullification unsent_finalization first_of greatest_of
+  keeps_nullification state made known n now progress' covered' nullifications' k stamp active progress_is covered_are held_are =
+      let f = Added (certificates.Nullification n) now in
+      let w = progress_step made f known in
+      record {
+        attest = k.attest;
+        leads = k.leads;
+        settings = k.settings;
+        progress = grind (arith, common_steps, k.progress, w, progress_is);
+        active = grind (arith, common_steps, k.active, w);
+        ahead = grind (arith, common_steps, k.ahead, w);
+        sound = sound_other f known refl k.sound;
+        held = record {
+          notarizations = λ v. grind (arith, common_steps, k.held.notarizations v, option_or-none);
+          nullifications = λ v. grind (arith, common_steps, k.held.nullifications v, option_or-none);
+          finalizations = λ v. grind (arith, common_steps, k.held.finalizations v, option_or-none);
+        };
+        timely = timely_step made f known (stamp) k.timely;
+        rounds = λ view. grind (arith, common_steps, k.rounds view, w, round_step f known view);
+        nullified = λ view. grind (arith, common_steps, k.nullified view);
+        failed = λ view. grind (arith, common_steps, k.failed view, option_or-none);
+        certified = λ view. grind (arith, common_steps, k.certified view, option_or-none, w);
+        covered = λ view. grind (arith, common_steps, k.covered view, w, covered_are view);
+        waiting = λ view. grind (arith, common_steps, k.waiting view, option_or-none);
+        notarizations = λ view. grind (arith, common_steps, k.notarizations view, option_or-none, w);
+        finalizations = λ view. grind (arith, common_steps, k.finalizations view, option_or-none, w);
+        nullifications = λ view. grind (arith, common_steps, k.nullifications view, option_or-none, w, held_are view, k.held.nullifications view, active);
+        unsent_notarizations = λ view. grind (arith, common_steps, k.unsent_notarizations view, option_or-none);
+        unsent_nullifications = λ view. grind (arith, common_steps, k.unsent_nullifications view, option_or-none, held_are view, k.held.nullifications view, k.nullifications view, active);
+        unsent_finalizations = λ view. grind (arith, common_steps, k.unsent_finalizations view, option_or-none);
+      }
+
+  pub keeps_finalization : (state : State S L) (made : Made) (known : List Fact) (n : Finalization) (now : ℕ) (progress' : Progress) (rounds' : BTreeMap ℕ RoundRecord) (finalizations' : BTreeMap ℕ (Held Finalization))
+      → Keeps attests elects state made known
+      → now < 2 ^ 63
+      → (progress_of made known).pruned ≤ view_of n.proposal
+      → progress' ≡ ends made.term_length (view_of n.proposal) now state.progress
+      → ((q : ℕ) → (progress_of made known).pruned ≤ q → round_in rounds' q ≡ learn_round (Added (certificates.Finalization n) now) q (round_in state.rounds q))
+      → ((q : ℕ) → found finalizations' q ≡ (if view_of n.proposal == q then Some (unwrap_or (found state.finalizations q) (held false n)) else found state.finalizations q))
+      → Keeps attests elects (record state { progress = progress'; rounds = rounds'; finalizations = finalizations' }) made (Added (certificates.Finalization n) now ∷ known)
+  unfolding learn_progress learn_round opens ends least_active last_finalized has_nullified has_false_verdict has_true_verdict is_covered is_unjudged verdict_of notarization_of nullification_of finalization_of was_broadcast held_notarization held_nullification held_finalization unsent_notarization unsent_nullification unsent_finalization first_of greatest_of
+  keeps_finalization state made known n now progress' rounds' finalizations' k stamp active progress_is rounds_are held_are =
+      let f = Added (certificates.Finalization n) now in
+      let w = progress_step made f known in
+      record {
+        attest = k.attest;
+        leads = k.leads;
+        settings = k.settings;
+        progress = grind (arith, common_steps, k.progress, w, progress_is);
+        active = grind (arith, common_steps, k.active, w);
+        ahead = grind (arith, common_steps, k.ahead, w);
+        sound = sound_other f known refl k.sound;
+        held = record {
+          notarizations = λ v. grind (arith, common_steps, k.held.notarizations v, option_or-none);
+          nullifications = λ v. grind (arith, common_steps, k.held.nullifications v, option_or-none);
+          finalizations = λ v. grind (arith, common_steps, k.held.finalizations v, option_or-none);
+        };
+        timely = timely_step made f known (stamp) k.timely;
+        rounds = λ view. grind (arith, common_steps, k.rounds view, w, round_step f known view, rounds_are view);
+        nullified = λ view. grind (arith, common_steps, k.nullified view);
+        failed = λ view. grind (arith, common_steps, k.failed view, option_or-none);
+        certified = λ view. grind (arith, common_steps, k.certified view, option_or-none, w);
+        covered = λ view. grind (arith, common_steps, k.covered view, w);
+        waiting = λ view. grind (arith, common_steps, k.waiting view, option_or-none);
+        notarizations = λ view. grind (arith, common_steps, k.notarizations view, option_or-none, w);
+        finalizations = λ view. grind (arith, common_steps, k.finalizations view, option_or-none, w, held_are view, k.held.finalizations view);
+        nullifications = λ view. grind (arith, common_steps, k.nullifications view, option_or-none, w);
+        unsent_notarizations = λ view. grind (arith, common_steps, k.unsent_notarizations view, option_or-none);
+        unsent_nullifications = λ view. grind (arith, common_steps, k.unsent_nullifications view, option_or-none);
+        unsent_finalizations = λ view. grind (arith, common_steps, k.unsent_finalizations view, option_or-none, held_are view, k.held.finalizations view, k.finalizations view, active);
+      }
+
+  -- a certificate counts as sent
+  pub keeps_sent_notarization : (state : State S L) (made : Made) (known : List Fact) (v : ℕ) (notarizations' : BTreeMap ℕ (Held Notarization))
+      → Keeps attests elects state made known
+      → is_some (notarization_of known v) ≡ true
+      → ((q : ℕ) → found notarizations' q ≡ (if v == q then option_map (λ h. held true h.certificate) (found state.notarizations q) else found state.notarizations q))
+      → Keeps attests elects (record state { notarizations = notarizations' }) made (Broadcast kinds.Notarization v ∷ known)
+  unfolding learn_progress learn_round opens ends least_active last_finalized has_nullified has_false_verdict has_true_verdict is_covered is_unjudged verdict_of notarization_of nullification_of finalization_of was_broadcast held_notarization held_nullification held_finalization unsent_notarization unsent_nullification unsent_finalization first_of greatest_of
+  keeps_sent_notarization state made known v notarizations' k some held_are =
+      let f = Broadcast kinds.Notarization v in
+      let w = progress_step made f known in
+      record {
+        attest = k.attest;
+        leads = k.leads;
+        settings = k.settings;
+        progress = grind (arith, common_steps, k.progress, w);
+        active = grind (arith, common_steps, k.active, w);
+        ahead = grind (arith, common_steps, k.ahead, w);
+        sound = sound_other f known refl k.sound;
+        held = record {
+          notarizations = λ u. grind (arith, common_steps, k.held.notarizations u, some, option_or-none);
+          nullifications = λ u. grind (arith, common_steps, k.held.nullifications u, some, option_or-none);
+          finalizations = λ u. grind (arith, common_steps, k.held.finalizations u, some, option_or-none);
+        };
+        timely = timely_step made f known (omega arith) k.timely;
+        rounds = λ view. grind (arith, common_steps, k.rounds view, w, round_step f known view);
+        nullified = λ view. grind (arith, common_steps, k.nullified view);
+        failed = λ view. grind (arith, common_steps, k.failed view, option_or-none);
+        certified = λ view. grind (arith, common_steps, k.certified view, option_or-none, w);
+        covered = λ view. grind (arith, common_steps, k.covered view, w);
+        waiting = λ view. grind (arith, common_steps, k.waiting view, option_or-none);
+        notarizations = λ view. grind (arith, common_steps, k.notarizations view, option_or-none, w, held_are view);
+        finalizations = λ view. grind (arith, common_steps, k.finalizations view, option_or-none, w);
+        nullifications = λ view. grind (arith, common_steps, k.nullifications view, option_or-none, w);
+        unsent_notarizations = λ view. grind (arith, common_steps, k.unsent_notarizations view, option_or-none, held_are view);
+        unsent_nullifications = λ view. grind (arith, common_steps, k.unsent_nullifications view, option_or-none);
+        unsent_finalizations = λ view. grind (arith, common_steps, k.unsent_finalizations view, option_or-none);
+      }
+
+  -- a certificate counts as sent
+  pub keeps_sent_nullification : (state : State S L) (made : Made) (known : List Fact) (v : ℕ) (nullifications' : BTreeMap ℕ (Held Nullification))
+      → Keeps attests elects state made known
+      → is_some (nullification_of known v) ≡ true
+      → ((q : ℕ) → found nullifications' q ≡ (if v == q then option_map (λ h. held true h.certificate) (found state.nullifications q) else found state.nullifications q))
+      → Keeps attests elects (record state { nullifications = nullifications' }) made (Broadcast kinds.Nullification v ∷ known)
+  unfolding learn_progress learn_round opens ends least_active last_finalized has_nullified has_false_verdict has_true_verdict is_covered is_unjudged verdict_of notarization_of nullification_of finalization_of was_broadcast held_notarization held_nullification held_finalization unsent_notarization unsent_nullification unsent_finalization first_of greatest_of
+  keeps_sent_nullification state made known v nullifications' k some held_are =
+      let f = Broadcast kinds.Nullification v in
+      let w = progress_step made f known in
+      record {
+        attest = k.attest;
+        leads = k.leads;
+        settings = k.settings;
+        progress = grind (arith, common_steps, k.progress, w);
+        active = grind (arith, common_steps, k.active, w);
+        ahead = grind (arith, common_steps, k.ahead, w);
+        sound = sound_other f known refl k.sound;
+        held = record {
+          notarizations = λ u. grind (arith, common_steps, k.held.notarizations u, some, option_or-none);
+          nullifications = λ u. grind (arith, common_steps, k.held.nullifications u, some, option_or-none);
+          finalizations = λ u. grind (arith, common_steps, k.held.finalizations u, some, option_or-none);
+        };
+        timely = timely_step made f known (omega arith) k.timely;
+        rounds = λ view. grind (arith, common_steps, k.rounds view, w, round_step f known view);
+        nullified = λ view. grind (arith, common_steps, k.nullified view);
+        failed = λ view. grind (arith, common_steps, k.failed view, option_or-none);
+        certified = λ view. grind (arith, common_steps, k.certified view, option_or-none, w);
+        covered = λ view. grind (arith, common_steps, k.covered view, w);
+        waiting = λ view. grind (arith, common_steps, k.waiting view, option_or-none);
+        notarizations = λ view. grind (arith, common_steps, k.notarizations view, option_or-none, w);
+        finalizations = λ view. grind (arith, common_steps, k.finalizations view, option_or-none, w);
+        nullifications = λ view. grind (arith, common_steps, k.nullifications view, option_or-none, w, held_are view);
+        unsent_notarizations = λ view. grind (arith, common_steps, k.unsent_notarizations view, option_or-none);
+        unsent_nullifications = λ view. grind (arith, common_steps, k.unsent_nullifications view, option_or-none, held_are view);
+        unsent_finalizations = λ view. grind (arith, common_steps, k.unsent_finalizations view, option_or-none);
+      }
+
+  -- a certificate counts as sent
+  pub keeps_sent_finalization : (state : State S L) (made : Made) (known : List Fact) (v : ℕ) (finalizations' : BTreeMap ℕ (Held Finalization))
+      → Keeps attests elects state made known
+      → is_some (finalization_of known v) ≡ true
+      → ((q : ℕ) → found finalizations' q ≡ (if v == q then option_map (λ h. held true h.certificate) (found state.finalizations q) else found state.finalizations q))
+      → Keeps attests elects (record state { finalizations = finalizations' }) made (Broadcast kinds.Finalization v ∷ known)
+  unfolding learn_progress learn_round opens ends least_active last_finalized has_nullified has_false_verdict has_true_verdict is_covered is_unjudged verdict_of notarization_of nullification_of finalization_of was_broadcast held_notarization held_nullification held_finalization unsent_notarization unsent_nullification unsent_finalization first_of greatest_of
+  keeps_sent_finalization state made known v finalizations' k some held_are =
+      let f = Broadcast kinds.Finalization v in
+      let w = progress_step made f known in
+      record {
+        attest = k.attest;
+        leads = k.leads;
+        settings = k.settings;
+        progress = grind (arith, common_steps, k.progress, w);
+        active = grind (arith, common_steps, k.active, w);
+        ahead = grind (arith, common_steps, k.ahead, w);
+        sound = sound_other f known refl k.sound;
+        held = record {
+          notarizations = λ u. grind (arith, common_steps, k.held.notarizations u, some, option_or-none);
+          nullifications = λ u. grind (arith, common_steps, k.held.nullifications u, some, option_or-none);
+          finalizations = λ u. grind (arith, common_steps, k.held.finalizations u, some, option_or-none);
+        };
+        timely = timely_step made f known (omega arith) k.timely;
+        rounds = λ view. grind (arith, common_steps, k.rounds view, w, round_step f known view);
+        nullified = λ view. grind (arith, common_steps, k.nullified view);
+        failed = λ view. grind (arith, common_steps, k.failed view, option_or-none);
+        certified = λ view. grind (arith, common_steps, k.certified view, option_or-none, w);
+        covered = λ view. grind (arith, common_steps, k.covered view, w);
+        waiting = λ view. grind (arith, common_steps, k.waiting view, option_or-none);
+        notarizations = λ view. grind (arith, common_steps, k.notarizations view, option_or-none, w);
+        finalizations = λ view. grind (arith, common_steps, k.finalizations view, option_or-none, w, held_are view);
+        nullifications = λ view. grind (arith, common_steps, k.nullifications view, option_or-none, w);
+        unsent_notarizations = λ view. grind (arith, common_steps, k.unsent_notarizations view, option_or-none);
+        unsent_nullifications = λ view. grind (arith, common_steps, k.unsent_nullifications view, option_or-none);
+        unsent_finalizations = λ view. grind (arith, common_steps, k.unsent_finalizations view, option_or-none, held_are view);
+      }

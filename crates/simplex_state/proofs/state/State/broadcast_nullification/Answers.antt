@@ -1,0 +1,19 @@
+use Rattle.std.proofs.Common.{arith, ◌∷◌, []}
+use Rattle.std.proofs.lemmas.Grind.{common_steps}
+use Rattle.simplex_rules.specs.Known.{Broadcast}
+use Rattle.simplex_wire.specs.declared.certificate.CertificateKind.TheVariants as kinds
+use Rattle.simplex_rules.specs.Calls.{facts_of, known_of}
+use Rattle.simplex_state.specs.Stands.{StandsFor}
+use Rattle.simplex_state.proofs.Proposing.{takes_facts}
+use Rattle.simplex_state.proofs.Moves.{keeps_sent_nullification}
+use Rattle.simplex_state.proofs.Unsent.{unsent_is_known_nullification}
+use Rattle.simplex_state.proofs.state.State.broadcast_nullification.Goals as goal
+
+pub returns-clause-stands : goal.returns-clause-stands
+unfolding StandsFor facts_of
+returns-clause-stands g c = λ made calls s.
+    takes_facts _ _ _ made calls _ (Broadcast kinds.Nullification c.args.view ∷ [])
+    (grind (arith, common_steps, s.unsent_nullifications c.args.view))
+    (keeps_sent_nullification _ _ _ made (known_of made calls) c.args.view _ s
+    (unsent_is_known_nullification (known_of made calls) c.args.view (grind (arith, common_steps, s.unsent_nullifications c.args.view)))
+    (λ q. grind (arith, common_steps, c.mark_sent.ensures q)))

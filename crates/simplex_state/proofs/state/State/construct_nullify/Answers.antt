@@ -1,0 +1,15 @@
+use Rattle.std.proofs.Common.{arith}
+use Rattle.std.proofs.lemmas.Grind.{common_steps}
+use Rattle.simplex_rules.specs.Calls.{facts_of, known_of, nullify_facts}
+use Rattle.simplex_state.specs.Stands.{StandsFor}
+use Rattle.simplex_state.proofs.Proposing.{takes_facts}
+use Rattle.simplex_state.proofs.Gates.{nullify_view}
+use Rattle.simplex_state.proofs.state.State.construct_nullify.Goals as goal
+
+pub returns-clause-stands : goal.returns-clause-stands
+unfolding StandsFor facts_of
+returns-clause-stands g c = λ made calls s.
+    takes_facts _ _ _ made calls _ (nullify_facts (known_of made calls) c.args.view c.args.now c.in-Some.vote)
+    (grind (arith, common_steps, c.nullify_at.ensures made calls s))
+    (c.in_ok-give_up.ensures made (known_of made calls) s
+    (nullify_view made c.args.view c.in-Some.vote (grind (arith, c.nullify_at.ensures made calls s))))

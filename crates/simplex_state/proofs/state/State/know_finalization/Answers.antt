@@ -1,0 +1,13 @@
+use Rattle.std.proofs.Common.{arith}
+use Rattle.std.proofs.lemmas.Grind.{common_steps}
+use Rattle.simplex_state.proofs.Moves.{keeps_finalization}
+use Rattle.simplex_state.specs.Rounds.{learn_round}
+use Rattle.simplex_state.proofs.state.State.know_finalization.Goals as goal
+
+pub returns : goal.returns
+unfolding learn_round
+returns g c = λ made known k active.
+    keeps_finalization _ _ _ made known _ _ _ _ _ k (omega arith) active
+    (grind (arith, common_steps, k.settings.term_length))
+    (λ q low. grind (arith, common_steps, c.in_ok-put_round.ensures q))
+    (λ q. grind (arith, common_steps, c.in_ok-hold.ensures q))

@@ -1,0 +1,12 @@
+-- When a floor may be set.
+use Rattle.std.specs.Prelude.{nat_le, Bool, true, List}
+use Rattle.simplex_types.specs.declared.floor.Floor.{Floor}
+use Rattle.simplex_types.specs.declared.floor.Floor.TheVariants.{Genesis, Finalized}
+use Rattle.simplex_rules.specs.Lists.{greatest_of}
+use Rattle.simplex_rules.specs.Known.{Fact, view_of}
+use Rattle.simplex_rules.specs.Calls.{pruned_view}
+
+-- whether nothing from the floor's view on was forgotten
+abbrev pub keeps_floor : List Fact → Floor → Bool
+keeps_floor known (Genesis payload) = true
+keeps_floor known (Finalized f) = nat_le (greatest_of pruned_view known) (view_of f.proposal)

@@ -1,0 +1,148 @@
+//! Which view a proposal may stand on.
+#![tactic(auto, unfolding(crate::specs::Stands::StandsFor, crate::specs::Rounds::round_of, crate::specs::Rounds::slot_in, simplex_rules::specs::Slot::slot_of, crate::specs::Progress::progress_of, simplex_rules::specs::Views::least_active))]
+
+ghost use Rattle.std.specs.Prelude.{◌≡◌, ◌≤◌, ◌<◌, ◌^◌, ◌-◌, ℕ, not, true, false, find, List};
+ghost use Rattle.std.specs.List.{range_with_len};
+ghost use Rattle.simplex_rules.specs.Known.{Made, Fact};
+ghost use Rattle.simplex_rules.specs.Views.{last_finalized};
+ghost use Rattle.simplex_rules.specs.Ancestry.{gap_between, has_ancestry, greatest_parent, is_certified, is_met};
+ghost use Rattle.simplex_rules.specs.Requests.{is_superseded, is_abandoned};
+ghost use Rattle.simplex_state.specs.Progress.{progress_of};
+ghost use Rattle.simplex_state.specs.Stands.{Answers, Keeps, covered_in};
+
+use crate::maps::{contains, last_up_to};
+use crate::rounds::round_at;
+use crate::state::State;
+use simplex_types::elector::Elector;
+use simplex_values::{Context, TermLength, View};
+use simplex_wire::Scheme;
+use std::collections::BTreeMap;
+
+impl<S: Scheme + Drop, L: Elector + Drop> State<S, L> {
+    /// Whether a proposal on the context's parent makes room for one on another parent.
+    #[tactic(auto, unfolding(simplex_rules::specs::Requests::is_superseded))]
+    pub fn supersede_proposal_request(&self, context: &Context) -> bool
+        ensures answer { Answers S.attests L.elects self.now (λ made known. is_superseded made known context.now.parent.view context.now.round.view) result }
+    {
+        !self.has_ancestry(context.parent.view, context.round.view)
+            && self.greatest_parent(context.round.view).is_some()
+    }
+
+    /// Whether a handoff is given up: the member gave up its view or its parent's, or the parent failed.
+    #[tactic(auto, unfolding(crate::specs::Stands::StandsFor, simplex_rules::specs::Requests::is_abandoned))]
+    pub fn pending_handoff_abandonment(&self, context: &Context) -> bool
+        ensures answer { Answers S.attests L.elects self.now (λ made known. is_abandoned known context.now.parent.view context.now.round.view) result }
+    {
+        let parent = context.parent.view.0;
+        contains(&self.nullified, context.round.view.0)
+            || contains(&self.nullified, parent)
+            || contains(&self.failed, parent)
+    }
+
+    /// Whether a proposal of the view may stand on the parent.
+    #[tactic(auto, unfolding(crate::specs::Stands::StandsFor, crate::specs::Progress::progress_of, simplex_rules::specs::Views::least_active, simplex_rules::specs::Ancestry::has_ancestry))]
+    pub(crate) fn has_ancestry(&self, parent: View, view: View) -> bool
+        ensures { Answers S.attests L.elects self.now (λ made known. has_ancestry made known parent view) result }
+    {
+        if parent < self.progress.last_finalized || view <= parent {
+            return false;
+        }
+        self.gap_between(parent, view).is_none()
+            && (self.is_certified(parent) || self.is_met(parent, view))
+    }
+
+    /// The greatest parent that a proposal of the view may stand on.
+    pub(crate) fn greatest_parent(&self, view: View) -> Option<View>
+        ensures { Answers S.attests L.elects self.now (λ made known. greatest_parent made known view) result }
+    {
+        let last = self.progress.last_finalized;
+        if view <= last {
+            return None;
+        }
+        let before = View(view.0 - 1);
+        if self.is_met(before, view) {
+            return Some(before);
+        }
+        let parent = self.last_certified(before);
+        if self.gap_between(parent, view).is_some() {
+            return None;
+        }
+        Some(parent)
+    }
+
+    /// The greatest certified view up to this one, which is not before the last final one.
+    #[tactic(auto, unfolding(crate::specs::Stands::StandsFor, crate::specs::Progress::progress_of, simplex_rules::specs::Views::least_active, simplex_rules::specs::Ancestry::is_certified))]
+    fn last_certified(&self, view: View) -> View
+        ensures above { (made : Made) (known : List Fact) → Keeps S.attests L.elects self.now made known → last_finalized known ≤ result }
+        ensures bound { (made : Made) (known : List Fact) → Keeps S.attests L.elects self.now made known → last_finalized known ≤ view → result ≤ view }
+        ensures certified { (made : Made) (known : List Fact) → Keeps S.attests L.elects self.now made known → is_certified known result ≡ true }
+        ensures greatest { (made : Made) (known : List Fact) → Keeps S.attests L.elects self.now made known
+            → (q : ℕ) → result < q → q ≤ view → is_certified known q ≡ false }
+    {
+        let last = self.progress.last_finalized;
+        match last_up_to(&self.certified, view.0) {
+            None => last,
+            Some(certified) => {
+                if certified <= last.0 {
+                    return last;
+                }
+                View(certified)
+            }
+        }
+    }
+
+    /// Whether the parent is the view just before, and the member voted for it and did not give it up.
+    #[tactic(auto, unfolding(crate::specs::Stands::StandsFor, crate::specs::Rounds::round_of, crate::specs::Rounds::slot_in, simplex_rules::specs::Slot::slot_of, simplex_rules::specs::Ancestry::is_met))]
+    fn is_met(&self, parent: View, view: View) -> bool
+        ensures { (made : Made) (known : List Fact) → Keeps S.attests L.elects self.now made known
+            → (progress_of made known).pruned ≤ parent → result ≡ is_met known parent view }
+    {
+        parent < view
+            && view.0 - parent.0 == 1
+            && round_at(&self.rounds, parent.0).voted.is_some()
+            && !contains(&self.nullified, parent.0)
+    }
+
+    /// The least view strictly between that no known nullification covers.
+    pub(crate) fn gap_between(&self, parent: View, view: View) -> Option<View>
+        ensures { (made : Made) (known : List Fact) → Keeps S.attests L.elects self.now made known
+            → (progress_of made known).pruned ≤ parent → result ≡ gap_between made known parent view }
+    {
+        if view <= parent {
+            return None;
+        }
+        gap_from(&self.covered, self.term_length(), parent.next(), view)
+    }
+}
+
+/// The least view from the first to before the second that is not covered.
+fn gap_from(
+    covered: &BTreeMap<u64, u64>,
+    length: TermLength,
+    first: View,
+    end: View,
+) -> Option<View>
+    requires some { 0 < length }
+    requires low { end < 2 ^ 64 }
+    ensures { result ≡ find (λ v. not (covered_in length covered.now v)) (range_with_len first (end - first)) }
+{
+    let mut view = first;
+    while view < end {
+        if !is_covered(covered, length, view) {
+            return Some(view);
+        }
+        view = view.next_term_start(length);
+    }
+    None
+}
+
+/// Whether the view's term has a nullified view that is not later.
+#[tactic(auto, unfolding(crate::specs::Stands::covered_in, crate::specs::Maps::found))]
+fn is_covered(covered: &BTreeMap<u64, u64>, length: TermLength, view: View) -> bool
+    ensures { result ≡ covered_in length covered.now view }
+{
+    match covered.get(&view.term_index(length)) {
+        Some(least) => *least <= view.0,
+        None => false,
+    }
+}

@@ -1,0 +1,22 @@
+//! What one member of a consensus group knows: its views, votes, deadline, requests and certificates.
+#![tactic(auto)]
+
+mod ancestry;
+mod certificates;
+mod config;
+mod deadline;
+mod floor;
+mod held;
+mod maps;
+mod progress;
+mod proposals;
+mod requests;
+mod rounds;
+mod sending;
+mod settings;
+mod state;
+mod verdicts;
+mod votes;
+
+pub use config::StateConfig;
+pub use state::State;

@@ -1,0 +1,88 @@
+//! Proposals that the batcher or the application gives.
+#![tactic(auto, unfolding(crate::specs::Rounds::round_of, crate::specs::Rounds::slot_in, crate::specs::Rounds::learn_round, crate::specs::Progress::learn_progress, simplex_rules::specs::Slot::slot_of, crate::specs::Stands::StandsFor, crate::specs::Progress::progress_of, simplex_rules::specs::Calls::known_of, simplex_rules::specs::Calls::facts_of, simplex_rules::specs::Slot::records_proposal, simplex_rules::specs::Slot::records_answer, simplex_rules::specs::Known::has_nullified, simplex_rules::specs::Views::admits_vote, simplex_rules::specs::Views::admits_certificate, simplex_rules::specs::Views::least_active))]
+
+ghost use Rattle.std.specs.Prelude.{◌≡◌, ◌≤◌, ◌∷◌, true, List, OnOk, IfOk};
+ghost use Rattle.std.specs.Option.{is_none};
+ghost use Rattle.simplex_rules.specs.Known.{Made, Fact, Taken, view_of};
+ghost use Rattle.simplex_rules.specs.Slot.{records_proposal, records_answer};
+ghost use Rattle.simplex_rules.specs.Calls.{SetProposal, Proposed};
+ghost use Rattle.simplex_state.specs.Rounds.{round_of, slot_in};
+ghost use Rattle.simplex_state.specs.Progress.{progress_of};
+ghost use Rattle.simplex_state.specs.Stands.{Takes, Answers, Keeps};
+
+use crate::maps::contains;
+use crate::rounds::{put_round, round_at};
+use crate::state::State;
+use simplex_types::elector::Elector;
+use simplex_values::{Context, Digest, Proposal, View};
+use simplex_wire::Scheme;
+use std::alloc::AllocError;
+
+impl<S: Scheme + Drop, L: Elector + Drop> State<S, L> {
+    /// Records a proposal from the batcher for its view, where one is still of use and none stands there.
+    pub fn set_proposal(&mut self, view: View, proposal: &Proposal) -> Result<bool, AllocError>
+        ensures stands { OnOk result (Takes S.attests L.elects self.old self.new (SetProposal view proposal.now)) }
+        ensures answer { IfOk result (Answers S.attests L.elects self.old (λ made known. records_proposal made known proposal.now)) }
+    {
+        if !self.records_proposal(proposal) {
+            return Ok(false);
+        }
+        self.take(proposal)?;
+        Ok(true)
+    }
+
+    /// Records the application's own proposal, where its view is not past, has no proposal and was not given up.
+    pub fn proposed(&mut self, context: &Context, payload: Digest) -> Result<bool, AllocError>
+        ensures stands { OnOk result (Takes S.attests L.elects self.old self.new (Proposed context.now payload)) }
+        ensures answer { IfOk result (Answers S.attests L.elects self.old (λ made known. records_answer made known context.now.round.view)) }
+    {
+        if !self.records_answer(context.round.view) {
+            return Ok(false);
+        }
+        let view = context.round.view.0;
+        let mut round = round_at(&self.rounds, view);
+        round.proposed = Some(Proposal {
+            round: context.round,
+            parent: context.parent.view,
+            payload,
+        });
+        round.answered = true;
+        put_round(&mut self.rounds, view, round)?;
+        Ok(true)
+    }
+
+    /// Takes a proposal for its view's.
+    #[tactic(auto)]
+    fn take(&mut self, proposal: &Proposal) -> Result<(), AllocError>
+        ensures { OnOk result ((made : Made) (known : List Fact) → Keeps S.attests L.elects self.old made known
+            → (progress_of made known).pruned ≤ view_of proposal.now
+            → is_none (slot_in (round_of known (view_of proposal.now))) ≡ true
+            → Keeps S.attests L.elects self.new made (Taken proposal.now ∷ known)) }
+    {
+        let view = proposal.view().0;
+        let mut round = round_at(&self.rounds, view);
+        round.proposed = Some(*proposal);
+        put_round(&mut self.rounds, view, round)?;
+        Ok(())
+    }
+
+    /// Whether a proposal from the batcher is recorded.
+    fn records_proposal(&self, proposal: &Proposal) -> bool
+        ensures { Answers S.attests L.elects self.now (λ made known. records_proposal made known proposal.now) result }
+    {
+        let view = proposal.view();
+        self.admits_vote(view)
+            && view > self.progress.last_finalized
+            && round_at(&self.rounds, view.0).slot().is_none()
+    }
+
+    /// Whether the application's proposal for the view is recorded.
+    #[tactic(auto, unfolding(crate::specs::Stands::StandsFor, crate::specs::Rounds::round_of, crate::specs::Rounds::slot_in, simplex_rules::specs::Slot::slot_of, crate::specs::Progress::progress_of, simplex_rules::specs::Slot::records_answer))]
+    fn records_answer(&self, view: View) -> bool
+        ensures { Answers S.attests L.elects self.now (λ made known. records_answer made known view) result }
+    {
+        view >= self.progress.current
+            && round_at(&self.rounds, view.0).slot().is_none()
+            && !contains(&self.nullified, view.0)
+    }
+}

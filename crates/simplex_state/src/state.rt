@@ -1,0 +1,151 @@
+//! What one member knows, and what it answers by the rules.
+#![tactic(auto, unfolding(crate::specs::Stands::StandsFor, crate::specs::Stands::made_of, crate::specs::Stands::covered_in, crate::specs::Rounds::round_in, crate::specs::Rounds::round_of, crate::specs::Progress::progress_of, crate::specs::Certificates::held_notarization, crate::specs::Certificates::held_nullification, crate::specs::Certificates::held_finalization, simplex_rules::specs::Lists::first_of, simplex_rules::specs::Lists::last_of, simplex_rules::specs::Lists::greatest_of, simplex_rules::specs::Known::reached, simplex_rules::specs::Known::notarization_of, simplex_rules::specs::Known::nullification_of, simplex_rules::specs::Known::finalization_of, simplex_rules::specs::Known::was_broadcast, simplex_rules::specs::Known::verdict_of, simplex_rules::specs::Known::proposal_of, simplex_rules::specs::Known::was_answered, simplex_rules::specs::Known::was_approved, simplex_rules::specs::Known::own_notarize, simplex_rules::specs::Known::has_nullified, simplex_rules::specs::Known::has_finalized, simplex_rules::specs::Views::last_finalized, simplex_rules::specs::Views::current_of, simplex_rules::specs::Views::entered_at, simplex_rules::specs::Views::term_entered_at, simplex_rules::specs::Views::finalized_at, simplex_rules::specs::Views::least_active, simplex_rules::specs::Ancestry::is_covered, simplex_rules::specs::Ancestry::has_true_verdict, simplex_rules::specs::Ancestry::has_false_verdict, simplex_rules::specs::Deadline::published_at, simplex_rules::specs::Deadline::inactivity_count, simplex_rules::specs::Requests::was_proposal_asked, simplex_rules::specs::Requests::verify_asked, simplex_rules::specs::Calls::known_of, simplex_rules::specs::Calls::unsent_notarization, simplex_rules::specs::Calls::unsent_nullification, simplex_rules::specs::Calls::unsent_finalization))]
+
+ghost use Rattle.std.specs.Prelude.{◌≡◌, ◌<◌, ◌^◌, [], IfOk};
+ghost use Rattle.simplex_rules.specs.Views.{last_finalized, current_of, least_active, admits_certificate, admits_vote};
+ghost use Rattle.simplex_rules.specs.Requests.{leader_of};
+ghost use Rattle.simplex_state.specs.Stands.{StandsFor, Answers, IsConfigured, made_of};
+
+use crate::config::StateConfig;
+use crate::held::Held;
+use crate::maps::{empty_map, empty_set};
+use crate::progress::Progress;
+use crate::rounds::RoundRecord;
+use crate::settings::Settings;
+use simplex_types::elector::Elector;
+use simplex_values::{Lookahead, Participant, Round, TermLength, View};
+use simplex_wire::{Finalization, Notarization, Nullification, Scheme};
+use std::alloc::{AllocError, Global};
+use std::collections::{BTreeMap, BTreeSet};
+
+/// What one member knows.
+#[derive(Drop)]
+pub struct State<S, L> {
+    pub(crate) alloc: Global,
+    pub(crate) scheme: S,
+    pub(crate) elector: L,
+    pub(crate) settings: Settings,
+    pub(crate) progress: Progress,
+    /// What is known of each view, but for its certificates.
+    pub(crate) rounds: BTreeMap<u64, RoundRecord>,
+    /// The views that the member gave up.
+    pub(crate) nullified: BTreeSet<u64>,
+    /// The views with a false verdict.
+    pub(crate) failed: BTreeSet<u64>,
+    /// The views with a true verdict.
+    pub(crate) certified: BTreeSet<u64>,
+    /// The least nullified view of each term.
+    pub(crate) covered: BTreeMap<u64, u64>,
+    /// The notarized views that wait for the verdict to be asked for, and maybe some that do not any more.
+    pub(crate) waiting: BTreeSet<u64>,
+    pub(crate) notarizations: BTreeMap<u64, Held<Notarization>>,
+    pub(crate) nullifications: BTreeMap<u64, Held<Nullification>>,
+    pub(crate) finalizations: BTreeMap<u64, Held<Finalization>>,
+}
+
+impl<S: Scheme + Drop, L: Elector + Drop> State<S, L> {
+    /// Nothing is known yet.
+    pub fn new(
+        alloc: Global,
+        config: StateConfig<S, L>,
+        now: u64,
+    ) -> Result<State<S, L>, AllocError>
+        requires limits { IsConfigured S.members L.built_for L.cuts config }
+        requires clock { now < 2 ^ 63 }
+        ensures { IfOk result (λ state. StandsFor S.attests L.elects state (made_of S.attests S.member L.elects L.cuts config now) []) }
+    {
+        let settings = Settings {
+            me: config.scheme.me(),
+            terms: config.elector.terms(),
+            epoch: config.epoch,
+            view_retention: config.view_retention,
+            leader_timeout: config.leader_timeout,
+            certification_timeout: config.certification_timeout,
+            timeout_retry: config.timeout_retry,
+            skip_budget: config.skip_budget,
+            handoff: config.handoff,
+            genesis: config.genesis,
+        };
+        Ok(State {
+            alloc,
+            scheme: config.scheme,
+            elector: config.elector,
+            settings,
+            progress: Progress::new(now),
+            rounds: empty_map(alloc),
+            nullified: empty_set(alloc),
+            failed: empty_set(alloc),
+            certified: empty_set(alloc),
+            covered: empty_map(alloc),
+            waiting: empty_set(alloc),
+            notarizations: empty_map(alloc),
+            nullifications: empty_map(alloc),
+            finalizations: empty_map(alloc),
+        })
+    }
+
+    /// The greatest view that is known to be final, or 0.
+    pub fn last_finalized(&self) -> View
+        ensures { Answers S.attests L.elects self.now (λ made known. last_finalized known) result }
+    {
+        self.progress.last_finalized
+    }
+
+    /// The view that the member is in.
+    pub fn current_view(&self) -> View
+        ensures { Answers S.attests L.elects self.now (λ made known. current_of made known) result }
+    {
+        self.progress.current
+    }
+
+    /// The least view whose certificates are still added.
+    pub fn min_active(&self) -> View
+        ensures { Answers S.attests L.elects self.now (λ made known. least_active made known) result }
+    {
+        self.progress
+            .last_finalized
+            .saturating_sub(self.settings.view_retention)
+    }
+
+    /// Whether a certificate of the view is of use.
+    #[tactic(auto, unfolding(crate::specs::Stands::StandsFor, crate::specs::Progress::progress_of, simplex_rules::specs::Views::admits_certificate, simplex_rules::specs::Views::least_active))]
+    pub fn admits_certificate(&self, view: View) -> bool
+        ensures { Answers S.attests L.elects self.now (λ made known. admits_certificate made known view) result }
+    {
+        self.min_active() <= view
+    }
+
+    /// Whether a vote of the view is of use.
+    #[tactic(auto, unfolding(crate::specs::Stands::StandsFor, crate::specs::Progress::progress_of, simplex_rules::specs::Views::admits_vote))]
+    pub fn admits_vote(&self, view: View) -> bool
+        ensures { Answers S.attests L.elects self.now (λ made known. admits_vote made known view) result }
+    {
+        self.admits_certificate(view) && self.lookahead().admits(self.progress.current, view)
+    }
+
+    /// The leader of the view.
+    #[tactic(auto, unfolding(crate::specs::Stands::StandsFor, crate::specs::Progress::progress_of, simplex_rules::specs::Requests::leader_of))]
+    pub fn leader_index(&self, view: View) -> Participant
+        ensures { Answers S.attests L.elects self.now (λ made known. leader_of made view) result }
+    {
+        self.elector.elect(Round {
+            epoch: self.settings.epoch,
+            view,
+        })
+    }
+
+    /// How many views a term has.
+    pub(crate) fn term_length(&self) -> TermLength
+        ensures { result ≡ self.now.settings.terms.length }
+    {
+        self.settings.terms.length
+    }
+
+    /// How far ahead the member works.
+    pub(crate) fn lookahead(&self) -> Lookahead
+        ensures length { result.length ≡ self.now.settings.terms.length }
+        ensures views { result.views ≡ self.now.settings.terms.lookahead }
+    {
+        Lookahead::new(&self.settings.terms)
+    }
+}

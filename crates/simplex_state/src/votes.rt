@@ -1,0 +1,222 @@
+//! The member's own votes.
+#![tactic(auto, unfolding(crate::specs::Stands::StandsFor, crate::specs::Rounds::round_of, crate::specs::Rounds::slot_in, crate::specs::Progress::progress_of, simplex_rules::specs::Slot::slot_of, simplex_rules::specs::Views::least_active, simplex_rules::specs::Calls::known_of, simplex_rules::specs::Calls::facts_of))]
+
+ghost use Rattle.std.specs.Prelude.{◌≡◌, ◌≤◌, ◌<◌, ◌^◌, ◌∷◌, ◌++◌, true, List, OnOk, IfOk};
+ghost use Rattle.simplex_wire.specs.declared.vote.Vote.TheVariants as votes;
+ghost use Rattle.simplex_rules.specs.Known.{Made, Fact, Voted, Published, has_nullified};
+ghost use Rattle.simplex_rules.specs.Views.{current_of};
+ghost use Rattle.simplex_rules.specs.Votes.{notarize_at, is_votable, finalize_at, nullify_at, finalizes, is_gated};
+ghost use Rattle.simplex_rules.specs.Calls.{ConstructNotarize, ConstructFinalize, ConstructNullify, construct_nullify_answer, nullify_facts};
+ghost use Rattle.simplex_state.specs.Progress.{progress_of};
+ghost use Rattle.simplex_state.specs.Stands.{Takes, Answers, Keeps};
+
+use crate::maps::{add, contains, last_up_to};
+use crate::rounds::{put_round, round_at};
+use crate::state::State;
+use simplex_types::elector::Elector;
+use simplex_values::{Round, TimeoutReason, View};
+use simplex_wire::{Finalize, Notarize, Nullify, Scheme};
+use std::alloc::AllocError;
+
+impl<S: Scheme + Drop, L: Elector + Drop> State<S, L> {
+    /// Votes for the proposal of the view, where the vote rule gives it and the scheme signs it.
+    pub fn construct_notarize(&mut self, view: View) -> Result<Option<Notarize>, AllocError>
+        ensures stands { OnOk result (Takes S.attests L.elects self.old self.new (ConstructNotarize view)) }
+        ensures answer { IfOk result (Answers S.attests L.elects self.old (λ made known. notarize_at made known view)) }
+    {
+        let Some(vote) = self.notarize_at(view) else {
+            return Ok(None);
+        };
+        self.vote_notarize(view, &vote)?;
+        Ok(Some(vote))
+    }
+
+    /// Votes that the proposal of the view is final, where the vote rule gives it and the scheme signs it.
+    pub fn construct_finalize(&mut self, view: View) -> Result<Option<Finalize>, AllocError>
+        ensures stands { OnOk result (Takes S.attests L.elects self.old self.new (ConstructFinalize view)) }
+        ensures answer { IfOk result (Answers S.attests L.elects self.old (λ made known. finalize_at made known view)) }
+    {
+        let Some(vote) = self.finalize_at(view) else {
+            return Ok(None);
+        };
+        self.vote_final(view, &vote)?;
+        Ok(Some(vote))
+    }
+
+    /// Gives the current view up, where the scheme signs it. The answer tells whether that is a repeat.
+    #[tactic(auto, unfolding(crate::specs::Stands::StandsFor, simplex_rules::specs::Calls::known_of, simplex_rules::specs::Calls::facts_of, simplex_rules::specs::Calls::construct_nullify_answer))]
+    pub fn construct_nullify(
+        &mut self,
+        view: View,
+        reason: TimeoutReason,
+        now: u64,
+    ) -> Result<Option<(bool, Nullify)>, AllocError>
+        requires clock { now < 2 ^ 63 }
+        requires current { Answers S.attests L.elects self.old (λ made known. current_of made known) view }
+        ensures stands { OnOk result (Takes S.attests L.elects self.old self.new (ConstructNullify view reason now)) }
+        ensures answer { IfOk result (Answers S.attests L.elects self.old (λ made known. construct_nullify_answer made known view)) }
+    {
+        let Some(vote) = self.nullify_at(view) else {
+            return Ok(None);
+        };
+        let repeated = contains(&self.nullified, view.0);
+        self.give_up(view, &vote, now)?;
+        Ok(Some((repeated, vote)))
+    }
+
+    /// Whether the member gave the view up.
+    #[tactic(auto, unfolding(crate::specs::Stands::StandsFor))]
+    pub fn voted_nullify(&self, view: View) -> bool
+        ensures answer { Answers S.attests L.elects self.now (λ made known. has_nullified known view) result }
+    {
+        contains(&self.nullified, view.0)
+    }
+
+    /// The member's vote for the view's proposal.
+    #[tactic(auto, using(crate::proofs::Checking::notarize_by, crate::proofs::Checking::notarize_none, crate::proofs::Checking::notarize_unvotable, crate::proofs::Proposing::slot_is), unfolding(crate::specs::Stands::StandsFor, crate::specs::Rounds::slot_in, simplex_rules::specs::Votes::signed_notarize))]
+    fn notarize_at(&self, view: View) -> Option<Notarize>
+        ensures { Answers S.attests L.elects self.now (λ made known. notarize_at made known view) result }
+    {
+        if !self.is_votable(view) {
+            return None;
+        }
+        let round = round_at(&self.rounds, view.0);
+        let Some(proposal) = round.slot() else {
+            return None;
+        };
+        let ready = round.is_checked()
+            && round.voted.is_none()
+            && !contains(&self.nullified, view.0)
+            && self.has_ancestry(proposal.parent, view);
+        if !ready {
+            return None;
+        }
+        Notarize::sign(&self.scheme, proposal)
+    }
+
+    /// Whether the member votes in the view now: the current one, one ahead of it, or its own first of the next term.
+    #[tactic(auto, using(crate::proofs::Checking::unvotable, crate::proofs::Checking::own_slot_is), unfolding(crate::specs::Stands::StandsFor, crate::specs::Progress::progress_of, simplex_rules::specs::Views::least_active, simplex_rules::specs::Votes::is_votable, simplex_rules::specs::Views::is_ahead))]
+    fn is_votable(&self, view: View) -> bool
+        ensures above { (made : Made) (known : List Fact) → Keeps S.attests L.elects self.now made known → result ≡ true → (progress_of made known).pruned ≤ view }
+        ensures answer { Answers S.attests L.elects self.now (λ made known. is_votable made known view) result }
+    {
+        let current = self.progress.current;
+        if view < current {
+            return false;
+        }
+        view == current
+            || self.lookahead().in_admission_window(current, view)
+            || (view == current.next_term_start(self.settings.terms.length)
+                && round_at(&self.rounds, view.0).has_own_slot())
+    }
+
+    /// Takes an own vote for a proposal.
+    fn vote_notarize(&mut self, view: View, vote: &Notarize) -> Result<(), AllocError>
+        ensures { OnOk result ((made : Made) (known : List Fact) → Keeps S.attests L.elects self.old made known
+            → vote.now.proposal.round.view ≡ view
+            → Keeps S.attests L.elects self.new made (Voted (votes.Notarize vote.now) ∷ known)) }
+    {
+        let mut round = round_at(&self.rounds, view.0);
+        round.voted = round.voted.or(Some(vote.proposal));
+        put_round(&mut self.rounds, view.0, round)?;
+        Ok(())
+    }
+
+    /// The member's vote that the view's proposal is final.
+    #[tactic(auto, unfolding(crate::specs::Stands::StandsFor, crate::specs::Rounds::round_of, crate::specs::Rounds::slot_in, crate::specs::Progress::progress_of, simplex_rules::specs::Slot::slot_of, simplex_rules::specs::Views::least_active, simplex_rules::specs::Calls::known_of, simplex_rules::specs::Calls::facts_of, simplex_rules::specs::Votes::finalize_at, simplex_rules::specs::Votes::signed_finalize))]
+    fn finalize_at(&self, view: View) -> Option<Finalize>
+        ensures { Answers S.attests L.elects self.now (λ made known. finalize_at made known view) result }
+    {
+        if !self.finalizes(view) {
+            return None;
+        }
+        let proposal = round_at(&self.rounds, view.0).slot()?;
+        Finalize::sign(&self.scheme, proposal)
+    }
+
+    /// The member's nullify of the view.
+    #[tactic(auto, unfolding(crate::specs::Stands::StandsFor, simplex_rules::specs::Votes::nullify_at, simplex_rules::specs::Votes::signed_nullify))]
+    fn nullify_at(&self, view: View) -> Option<Nullify>
+        ensures { Answers S.attests L.elects self.now (λ made known. nullify_at made view) result }
+    {
+        let round = Round {
+            epoch: self.settings.epoch,
+            view,
+        };
+        Nullify::sign(&self.scheme, round)
+    }
+
+    /// Whether the member votes for the finality of the view's slot.
+    #[tactic(auto, unfolding(crate::specs::Stands::StandsFor, crate::specs::Rounds::round_of, crate::specs::Rounds::slot_in, crate::specs::Progress::progress_of, simplex_rules::specs::Slot::slot_of, simplex_rules::specs::Views::least_active, simplex_rules::specs::Calls::known_of, simplex_rules::specs::Calls::facts_of, simplex_rules::specs::Votes::finalizes))]
+    fn finalizes(&self, view: View) -> bool
+        ensures above { (made : Made) (known : List Fact) → Keeps S.attests L.elects self.now made known → result ≡ true → (progress_of made known).pruned ≤ view }
+        ensures answer { Answers S.attests L.elects self.now (λ made known. finalizes made known view) result }
+    {
+        if view <= self.progress.last_finalized || !contains(&self.certified, view.0) {
+            return false;
+        }
+        !round_at(&self.rounds, view.0).voted_final && !self.is_gated(view)
+    }
+
+    /// Whether the member gave up a view that finality of this one would have to skip.
+    #[tactic(auto, unfolding(crate::specs::Stands::StandsFor, crate::specs::Progress::progress_of, simplex_rules::specs::Votes::is_gated))]
+    fn is_gated(&self, view: View) -> bool
+        ensures { Answers S.attests L.elects self.now (λ made known. is_gated made known view) result }
+    {
+        match last_up_to(&self.nullified, view.0) {
+            None => false,
+            Some(last) => {
+                self.progress.last_finalized.0 < last
+                    && View(last).covers(view, self.settings.terms.length)
+            }
+        }
+    }
+
+    /// Takes an own vote for finality.
+    fn vote_final(&mut self, view: View, vote: &Finalize) -> Result<(), AllocError>
+        ensures { OnOk result ((made : Made) (known : List Fact) → Keeps S.attests L.elects self.old made known
+            → vote.now.proposal.round.view ≡ view
+            → Keeps S.attests L.elects self.new made (Voted (votes.Finalize vote.now) ∷ known)) }
+    {
+        let mut round = round_at(&self.rounds, view.0);
+        round.voted_final = true;
+        put_round(&mut self.rounds, view.0, round)?;
+        Ok(())
+    }
+
+    /// Takes an own nullify, which goes out now.
+    fn give_up(&mut self, view: View, vote: &Nullify, now: u64) -> Result<(), AllocError>
+        requires clock { now < 2 ^ 63 }
+        ensures { OnOk result ((made : Made) (known : List Fact) → Keeps S.attests L.elects self.old made known
+            → vote.now.round.view ≡ view
+            → Keeps S.attests L.elects self.new made (nullify_facts known view now vote.now ++ known)) }
+    {
+        if !contains(&self.nullified, view.0) {
+            self.vote_nullify(view, vote)?;
+        }
+        self.publish(view, now)?;
+        Ok(())
+    }
+
+    /// Takes an own nullify.
+    fn vote_nullify(&mut self, view: View, vote: &Nullify) -> Result<(), AllocError>
+        ensures { OnOk result ((made : Made) (known : List Fact) → Keeps S.attests L.elects self.old made known
+            → vote.now.round.view ≡ view
+            → Keeps S.attests L.elects self.new made (Voted (votes.Nullify vote.now) ∷ known)) }
+    {
+        add(&mut self.nullified, view.0)?;
+        Ok(())
+    }
+
+    /// An own nullify goes out.
+    fn publish(&mut self, view: View, now: u64) -> Result<(), AllocError>
+        requires clock { now < 2 ^ 63 }
+        ensures { OnOk result ((made : Made) (known : List Fact) → Keeps S.attests L.elects self.old made known
+            → Keeps S.attests L.elects self.new made (Published view now ∷ known)) }
+    {
+        let mut round = round_at(&self.rounds, view.0);
+        round.published = Some(now);
+        put_round(&mut self.rounds, view.0, round)?;
+        Ok(())
+    }
+}
