@@ -1,4 +1,6 @@
 //! Votes in several orders, and each call once.
+ghost use Rattle.std.specs.Prelude.{◌<◌, ◌^◌};
+
 use super::*;
 use simplex_types::Keyed;
 use simplex_values::{
