@@ -5,3 +5,5 @@ pub mod Deadlines
 pub mod Listed
 pub mod Reached
 pub mod Sums
+pub mod Taken
+pub mod Kept

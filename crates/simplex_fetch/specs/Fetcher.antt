@@ -2,7 +2,8 @@
 use Rattle.std.specs.Prelude.{◌≡◌, ℕ, ◌+◌, ◌-◌, ◌%◌, ◌==◌, ◌<◌, ◌≤◌, ◌^◌, nat_lt, Bool, true, false, not, if◌then◌else◌, List, [], ◌∷◌, ◌++◌, length, slice_get, Option, Some, None, Result, Ok, Err}
 use Rattle.std.specs.Option.{is_some}
 use Rattle.std.specs.Ordering.{nat_cmp}
-use Rattle.std.specs.Map.{lookup, remove_entry}
+use Rattle.std.specs.Map.{lookup, remove_entry, keys_of}
+use Rattle.std.specs.List.Sorted.{IsStrictlySortedBy}
 use Rattle.std.specs.BTreeMap.{is_at, insert_entry}
 use Rattle.simplex_values.specs.declared.ask.Ask.{Ask}
 use Rattle.simplex_values.specs.declared.ask.Outcome.{Outcome}
@@ -119,6 +120,9 @@ unfoldable pub attempted_at : ℕ → ℕ → Machine → Option Entry → After
 attempted_at now view fetcher None = quiet fetcher
 attempted_at now view fetcher (Some entry) = attempted now view entry fetcher
 
+unfoldable pub attempting : ℕ → ℕ → Machine → After
+attempting now view fetcher = attempted_at now view fetcher (entry_at fetcher.views view)
+
 -- ---- fetching
 
 -- a view that is asked for: the view, and the ask with the target, if there is one
@@ -156,7 +160,7 @@ new_views before now = views_where (λ view entry. not (is_some (entry_at before
 unfoldable pub fetched : List Fetching → ℕ → Machine → After
 fetched fetchings now fetcher =
     let added = adding_all fetchings fetcher in
-    visited (λ view standing. attempted_at now view standing (entry_at standing.views view)) (new_views fetcher added) added
+    visited (attempting now) (new_views fetcher added) added
 
 -- ---- retiring
 
@@ -184,10 +188,13 @@ unfoldable pub retired_at : Retire → ℕ → Machine → Option Entry → Afte
 retired_at retire view fetcher None = quiet fetcher
 retired_at retire view fetcher (Some entry) = kept_or_left view (without (retires retire) entry) fetcher
 
+unfoldable pub retiring : Retire → ℕ → Machine → After
+retiring retire view fetcher = retired_at retire view fetcher (entry_at fetcher.views view)
+
 -- the asks that are done with are dropped, view by view
 unfoldable pub retained : Retire → Machine → After
 retained retire fetcher =
-    visited (λ view standing. retired_at retire view standing (entry_at standing.views view)) (views_where (λ view entry. reaches retire view) fetcher.views) fetcher
+    visited (retiring retire) (views_where (λ view entry. reaches retire view) fetcher.views) fetcher
 
 -- ---- hearing
 
@@ -239,9 +246,14 @@ heard sender bytes now fetcher = heard_message sender now fetcher (whole resolve
 -- ---- verdicts
 
 -- an answer that is no valid one blocks the peer
-abbrev pub blocked_by : Option Outcome → ℕ → List Out
-blocked_by (Some outcome.Invalid) peer = out.Block peer ∷ []
-blocked_by _ peer = []
+abbrev pub blocked_by : Option Outcome → State → List Out
+blocked_by (Some outcome.Invalid) (Judged id peer delivered) = out.Block peer ∷ []
+blocked_by _ _ = []
+
+-- the asks that the answer was delivered for
+abbrev pub delivered_of : State → List Ask
+delivered_of (Judged id peer delivered) = delivered
+delivered_of _ = []
 
 -- whether the delivered asks are done with: there is nothing to judge, nothing was left to settle, or all is settled
 abbrev pub is_done : Option Outcome → Bool
@@ -256,17 +268,17 @@ unfoldable pub asked_on : ℕ → ℕ → Entry → Machine → After
 asked_on now view others fetcher =
     if is_empty others then quiet (forgetting view fetcher) else attempted now view others fetcher
 
--- the view after the verdict on what its peer answered
-unfoldable pub judged_as : Option Outcome → ℕ → ℕ → Entry → Machine → State → After
-judged_as verdict now view entry fetcher (Judged id peer delivered) =
-    if is_done verdict then asked_on now view (without (holds_ask delivered) entry) fetcher
-    else record { fetcher = retrying now view entry fetcher; outs = blocked_by verdict peer }
-judged_as verdict now view entry fetcher _ = quiet fetcher
+-- the view, with this entry, after the verdict: where the delivered asks are done with the others are asked for,
+-- else it waits
+unfoldable pub judged_as : Option Outcome → ℕ → ℕ → Entry → Machine → After
+judged_as verdict now view entry fetcher =
+    if is_done verdict then asked_on now view (without (holds_ask (delivered_of entry.state)) entry) fetcher
+    else record { fetcher = retrying now view entry fetcher; outs = blocked_by verdict entry.state }
 
 -- the view as it stands after the verdict
 unfoldable pub judged_entry : Option Outcome → ℕ → ℕ → Machine → Option Entry → After
 judged_entry verdict now view fetcher None = quiet fetcher
-judged_entry verdict now view fetcher (Some entry) = judged_as verdict now view entry fetcher entry.state
+judged_entry verdict now view fetcher (Some entry) = judged_as verdict now view entry fetcher
 
 -- the view that is judged; there may be none
 unfoldable pub judged_at : Option Outcome → ℕ → Machine → Option ℕ → After
@@ -309,10 +321,13 @@ unfoldable pub expired_at : ℕ → ℕ → Machine → Option Entry → After
 expired_at now view fetcher None = quiet fetcher
 expired_at now view fetcher (Some entry) = expired_as now view entry fetcher entry.state
 
+unfoldable pub expiring : ℕ → ℕ → Machine → After
+expiring now view fetcher = expired_at now view fetcher (entry_at fetcher.views view)
+
 -- each view whose deadline is reached is changed once
 unfoldable pub expired : ℕ → Machine → After
 expired now fetcher =
-    visited (λ view standing. expired_at now view standing (entry_at standing.views view)) (views_where (λ view entry. is_due now entry) fetcher.views) fetcher
+    visited (expiring now) (views_where (λ view entry. is_due now entry) fetcher.views) fetcher
 
 -- ---- what always holds
 
@@ -338,7 +353,8 @@ abbrev pub IsSoundAt : ℕ → Option Entry → Type 0
 IsSoundAt next_id None = Unit {0}
 IsSoundAt next_id (Some entry) = IsSoundEntry next_id entry
 
--- the configuration leaves room, and each number that a view has was drawn
+-- the configuration leaves room, the views rise, and each number that a view has was drawn
 pub record IsSound (config : FetchConfig) (next_id : ℕ) (views : List (ℕ × Entry)) : Type 0 where
   pub configured : IsSoundConfig config
+  pub rising : IsStrictlySortedBy nat_cmp (keys_of views)
   pub drawn : (view : ℕ) → IsSoundAt next_id (entry_at views view)

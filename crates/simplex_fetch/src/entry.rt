@@ -1,5 +1,7 @@
 //! What a fetcher knows of a view that it asks for, and of a request that it is to answer.
 ghost use Rattle.std.specs.Prelude.{◌≡◌};
+ghost use Rattle.simplex_fetch.specs.Asks.{holds_ask};
+ghost use Rattle.simplex_fetch.specs.Fetcher.{without, delivered_of};
 ghost use Rattle.simplex_fetch.specs.Views.{deadline_of, id_of, is_asked_as, is_judged_as};
 
 use crate::arrivals::Arrivals;
@@ -76,6 +78,19 @@ pub(crate) struct Entry {
     /// How many attempts were made.
     pub(crate) attempts: u64,
     pub(crate) state: State,
+}
+
+impl Entry {
+    #[tactic(auto, using(crate::proofs::Kept::without_none))]
+    /// Drops the asks that the judged answer was delivered for.
+    pub(crate) fn drop_delivered(&mut self)
+        ensures { self.new ≡ without (holds_ask (delivered_of self.old.state)) self.old }
+    {
+        match &self.state {
+            State::Judged { delivered, .. } => self.arrivals.drop_asks(delivered.as_slice()),
+            State::Waiting { .. } | State::Asked { .. } => {}
+        }
+    }
 }
 
 /// A peer's request that is to be answered.

@@ -4,10 +4,13 @@ ghost use Rattle.std.specs.Option.{option_map, is_some};
 ghost use Rattle.std.specs.List.{All};
 ghost use Rattle.simplex_values.specs.declared.ask.Outcome.{Outcome};
 ghost use Rattle.simplex_fetch.specs.declared.arrivals.Arrival.{Arrival};
-ghost use Rattle.simplex_fetch.specs.Views as views;
-ghost use Rattle.simplex_fetch.specs.Views.{entry_at, id_of};
+ghost use Rattle.std.specs.Ordering.{nat_cmp};
+ghost use Rattle.std.specs.Map.{keys_of};
+ghost use Rattle.std.specs.List.Sorted.{IsStrictlySortedBy};
+ghost use Rattle.simplex_fetch.specs.Noted.{IsNoted};
+ghost use Rattle.simplex_fetch.specs.Views.{entry_at, asked_view, next_deadline};
 ghost use Rattle.simplex_fetch.specs.Index.{IsFree};
-ghost use Rattle.simplex_fetch.specs.Fetcher.{no_fetches, attempted, peer_of, retrying, of_all, of_target, fetched, adding, attempted_at, retained, retired_at, kept_or_left, heard, heard_body, requested, answered, refused, judged, judged_as, asked_on, served, expired, expired_at, message_bytes, keeping, in_state, cyclic, other_at, IsSoundConfig, IsSoundEntry};
+ghost use Rattle.simplex_fetch.specs.Fetcher.{no_fetches, attempted, attempting, expiring, retiring, peer_of, retrying, of_all, of_target, fetched, adding, attempted_at, retained, retired_at, kept_or_left, heard, heard_body, requested, answered, refused, judged, judged_as, asked_on, served, expired, expired_at, message_bytes, visited, is_done, blocked_by, answer_body, keeping, in_state, cyclic, other_at, IsSoundConfig, IsSoundEntry};
 ghost use Rattle.simplex_fetch.specs.declared.entry.State.TheVariants.{Waiting};
 
 use crate::arrivals::Arrivals;
@@ -17,7 +20,7 @@ use crate::out::Out;
 use crate::retire::Retire;
 use crate::views::Views;
 use simplex_types::{
-    Ask, Bytes, DecodeError, Outcome, Participant, Resolution, ResolverBody, ResolverMessage,
+    Bytes, DecodeError, Keep, Outcome, Participant, Resolution, ResolverBody, ResolverMessage,
     Sequence, View,
 };
 use std::alloc::{AllocError, Global};
@@ -134,6 +137,74 @@ impl Fetcher {
         Ok(())
     }
 
+    /// The next attempt of the view as it stands.
+    #[tactic(auto, unfolding(crate::specs::Fetcher::attempting, crate::specs::Fetcher::attempted_at))]
+    fn attempt_at(
+        &mut self,
+        alloc: Global,
+        view: u64,
+        now: u64,
+        outs: &mut Vec<Out>,
+    ) -> Result<(), AllocError>
+        requires early { now < 2 ^ 63 }
+        requires ids { self.old.next_id + 1 < 2 ^ 64 }
+        ensures fetcher { OnOk result (self.new ≡ (attempting now view self.old).fetcher) }
+        ensures outs { OnOk result (outs.new.items ≡ outs.old.items ++ (attempting now view self.old).outs) }
+    {
+        match self.views.take(view) {
+            None => Ok(()),
+            Some(entry) => self.attempt(alloc, view, entry, now, outs),
+        }
+    }
+
+    /// The view as it stands, whose deadline is reached.
+    #[tactic(auto, unfolding(crate::specs::Fetcher::expiring, crate::specs::Fetcher::expired_at, crate::specs::Fetcher::expired_as))]
+    fn expire_at(
+        &mut self,
+        alloc: Global,
+        view: u64,
+        now: u64,
+        outs: &mut Vec<Out>,
+    ) -> Result<(), AllocError>
+        requires early { now < 2 ^ 63 }
+        requires ids { self.old.next_id + 1 < 2 ^ 64 }
+        ensures fetcher { OnOk result (self.new ≡ (expiring now view self.old).fetcher) }
+        ensures outs { OnOk result (outs.new.items ≡ outs.old.items ++ (expiring now view self.old).outs) }
+    {
+        let Some(entry) = self.views.take(view) else {
+            return Ok(());
+        };
+        match &entry.state {
+            State::Asked { .. } => self.retry(view, entry, now),
+            State::Waiting { .. } => self.attempt(alloc, view, entry, now, outs),
+            State::Judged { .. } => self.views.put(view, entry),
+        }
+    }
+
+    /// The view as it stands without its asks that are done with.
+    #[tactic(auto, unfolding(crate::specs::Fetcher::retiring, crate::specs::Fetcher::retired_at, crate::specs::Fetcher::kept_or_left))]
+    fn retire_at(
+        &mut self,
+        view: u64,
+        retire: &Retire,
+        outs: &mut Vec<Out>,
+    ) -> Result<(), AllocError>
+        ensures fetcher { OnOk result (self.new ≡ (retiring retire.now view self.old).fetcher) }
+        ensures outs { OnOk result (outs.new.items ≡ outs.old.items ++ (retiring retire.now view self.old).outs) }
+    {
+        let Some(mut entry) = self.views.take(view) else {
+            return Ok(());
+        };
+        entry.arrivals.retire(retire);
+        if !entry.arrivals.is_empty() {
+            return self.views.put(view, entry);
+        }
+        if let State::Judged { id, .. } = &entry.state {
+            outs.push(Out::Left { id: *id })?;
+        }
+        Ok(())
+    }
+
     /// The view, with this entry, which was taken out, waits.
     fn wait(&mut self, view: u64, entry: Entry, until: Option<u64>) -> Result<(), AllocError>
         requires absent { entry_at self.old.views view ≡ None }
@@ -155,6 +226,391 @@ impl Fetcher {
     {
         let until = now + self.config.fetch_retry_delay;
         self.wait(view, entry, Some(until))
+    }
+
+    /// One more ask of the view, of this member alone where one is named. A view that was not asked for is new.
+    #[tactic(auto, unfolding(crate::specs::Fetcher::adding))]
+    fn add(
+        &mut self,
+        alloc: Global,
+        fetch: &Fetch,
+        target: Option<Participant>,
+        new: &mut BTreeSet<u64>,
+    ) -> Result<(), AllocError>
+        ensures fetcher { OnOk result (self.new ≡ adding (record { view = fetch.now.view; arrival = record { ask = fetch.now.ask; target = target } }) self.old) }
+        ensures new { OnOk result (IsNoted fetch.now.view self.old.views self.new.views new.old.keys new.new.keys) }
+    {
+        let view = fetch.view.0;
+        let ask = fetch.ask;
+        let mut entry = match self.views.take(view) {
+            Some(entry) => entry,
+            None => {
+                new.insert(view)?;
+                Entry {
+                    arrivals: Arrivals::new(alloc),
+                    attempts: 0,
+                    state: State::Waiting { until: None },
+                }
+            }
+        };
+        entry.arrivals.add(ask, target)?;
+        self.views.put(view, entry)
+    }
+
+    /// The next attempts of the new views.
+    fn start(
+        &mut self,
+        alloc: Global,
+        new: BTreeSet<u64>,
+        now: u64,
+    ) -> Result<Vec<Out>, AllocError>
+        requires early { now < 2 ^ 63 }
+        requires ids { self.old.next_id < 2 ^ 62 }
+        ensures fetcher { OnOk result (self.new ≡ (visited (attempting now) new.keys self.old).fetcher) }
+        ensures outs { IfOk result (λ outs. outs.items ≡ (visited (attempting now) new.keys self.old).outs) }
+        ensures rising { OnOk result (IsStrictlySortedBy nat_cmp (keys_of self.old.views)) }
+        ensures sorted { OnOk result (IsStrictlySortedBy nat_cmp new.keys) }
+    {
+        let mut views = new;
+        let mut outs = Vec::with_capacity(alloc, views.len())?;
+        while let Some(view) = views.pop_first() {
+            self.attempt_at(alloc, view, now, &mut outs)?;
+        }
+        Ok(outs)
+    }
+
+    /// Asks for what is wanted of the view.
+    pub fn fetch(&mut self, alloc: Global, fetch: Fetch, now: u64) -> Result<Vec<Out>, AllocError>
+        requires early { now < 2 ^ 63 }
+        requires ids { self.old.next_id < 2 ^ 62 }
+        ensures fetcher { OnOk result (self.new ≡ (fetched (of_all fetch ∷ []) now self.old).fetcher) }
+        ensures outs { IfOk result (λ outs. outs.items ≡ (fetched (of_all fetch ∷ []) now self.old).outs) }
+    {
+        let mut new = BTreeSet::new(alloc);
+        self.add(alloc, &fetch, None, &mut new)?;
+        self.start(alloc, new, now)
+    }
+
+    /// Asks for what is wanted of the view, this member alone.
+    pub fn fetch_targeted(
+        &mut self,
+        alloc: Global,
+        fetch: Fetch,
+        target: Participant,
+        now: u64,
+    ) -> Result<Vec<Out>, AllocError>
+        requires early { now < 2 ^ 63 }
+        requires ids { self.old.next_id < 2 ^ 62 }
+        ensures fetcher { OnOk result (self.new ≡ (fetched (of_target fetch target ∷ []) now self.old).fetcher) }
+        ensures outs { IfOk result (λ outs. outs.items ≡ (fetched (of_target fetch target ∷ []) now self.old).outs) }
+    {
+        let mut new = BTreeSet::new(alloc);
+        self.add(alloc, &fetch, Some(target), &mut new)?;
+        self.start(alloc, new, now)
+    }
+
+    /// Asks for all that is wanted.
+    pub fn fetch_all(
+        &mut self,
+        alloc: Global,
+        fetches: Vec<Fetch>,
+        now: u64,
+    ) -> Result<Vec<Out>, AllocError>
+        requires early { now < 2 ^ 63 }
+        requires ids { self.old.next_id < 2 ^ 62 }
+        ensures fetcher { OnOk result (self.new ≡ (fetched (map of_all fetches.items) now self.old).fetcher) }
+        ensures outs { IfOk result (λ outs. outs.items ≡ (fetched (map of_all fetches.items) now self.old).outs) }
+    {
+        let mut new = BTreeSet::new(alloc);
+        for fetch in &fetches {
+            self.add(alloc, fetch, None, &mut new)?;
+        }
+        self.start(alloc, new, now)
+    }
+
+    /// Drops the asks that are done with. A view without asks is forgotten.
+    #[tactic(auto, unfolding(crate::specs::Fetcher::retained, crate::specs::Fetcher::visited))]
+    pub fn retain(&mut self, alloc: Global, retire: &Retire) -> Result<Vec<Out>, AllocError>
+        ensures fetcher { OnOk result (self.new ≡ (retained retire.now self.old).fetcher) }
+        ensures outs { IfOk result (λ outs. outs.items ≡ (retained retire.now self.old).outs) }
+    {
+        let (first, last) = retire.reach();
+        let views = self.views.between(alloc, first, last)?;
+        let mut outs = Vec::new(alloc);
+        for view in &views {
+            self.retire_at(*view, retire, &mut outs)?;
+        }
+        Ok(outs)
+    }
+
+    /// Bytes of a peer.
+    pub fn hear(
+        &mut self,
+        alloc: Global,
+        sender: Participant,
+        bytes: &[u8],
+        now: u64,
+    ) -> Result<Vec<Out>, AllocError>
+        requires early { now < 2 ^ 63 }
+        requires serves { self.old.next_serve < 2 ^ 62 }
+        ensures fetcher { OnOk result (self.new ≡ (heard sender bytes.now now self.old).fetcher) }
+        ensures outs { IfOk result (λ outs. outs.items ≡ (heard sender bytes.now now self.old).outs) }
+    {
+        match ResolverMessage::decode(alloc, bytes) {
+            Ok(message) => self.hear_message(alloc, sender, message, now),
+            Err(DecodeError::Fault { .. }) => only(alloc, Out::Block(sender)),
+            Err(DecodeError::Memory) => Err(AllocError),
+        }
+    }
+
+    /// A message of a peer.
+    #[tactic(auto, unfolding(crate::specs::Fetcher::heard_body))]
+    fn hear_message(
+        &mut self,
+        alloc: Global,
+        sender: Participant,
+        message: ResolverMessage,
+        now: u64,
+    ) -> Result<Vec<Out>, AllocError>
+        requires early { now < 2 ^ 63 }
+        requires serves { self.old.next_serve < 2 ^ 62 }
+        ensures fetcher { OnOk result (self.new ≡ (heard_body sender message.id now self.old message.body).fetcher) }
+        ensures outs { IfOk result (λ outs. outs.items ≡ (heard_body sender message.id now self.old message.body).outs) }
+    {
+        let ResolverMessage { id, body } = message;
+        match body {
+            ResolverBody::Request { view } => self.hear_request(alloc, sender, id, view),
+            ResolverBody::Response { bytes } => self.hear_response(alloc, &sender, id, bytes),
+            ResolverBody::Error => {
+                self.hear_error(&sender, id, now)?;
+                Ok(Vec::new(alloc))
+            }
+        }
+    }
+
+    /// A peer's request is to be answered.
+    #[tactic(auto, unfolding(crate::specs::Fetcher::requested))]
+    fn hear_request(
+        &mut self,
+        alloc: Global,
+        sender: Participant,
+        request: u64,
+        view: View,
+    ) -> Result<Vec<Out>, AllocError>
+        requires serves { self.old.next_serve < 2 ^ 62 }
+        ensures fetcher { OnOk result (self.new ≡ (requested sender request view self.old).fetcher) }
+        ensures outs { IfOk result (λ outs. outs.items ≡ (requested sender request view self.old).outs) }
+    {
+        let id = self.next_serve;
+        let out = Out::Produce { id, view: View(view.0) };
+        let serving = Serving {
+            sender,
+            request,
+            view,
+        };
+        self.serving.insert(id, serving)?;
+        self.next_serve += 1;
+        only(alloc, out)
+    }
+
+    /// An answer is delivered, where it was asked for.
+    fn hear_response(
+        &mut self,
+        alloc: Global,
+        sender: &Participant,
+        id: u64,
+        bytes: Bytes,
+    ) -> Result<Vec<Out>, AllocError>
+        ensures fetcher { OnOk result (self.new ≡ (answered sender.now id bytes self.old (asked_view id sender.now self.old.views)).fetcher) }
+        ensures outs { IfOk result (λ outs. outs.items ≡ (answered sender.now id bytes self.old (asked_view id sender.now self.old.views)).outs) }
+    {
+        let Some(view) = self.views.asked_view(id, sender) else {
+            return Ok(Vec::new(alloc));
+        };
+        let Some(mut entry) = self.views.take(view) else {
+            return Ok(Vec::new(alloc));
+        };
+        let asks = Sequence::from_vec(entry.arrivals.asks(alloc)?);
+        let delivered = asks.keep(alloc)?;
+        entry.state = State::Judged {
+            id,
+            peer: *sender,
+            delivered,
+        };
+        self.views.put(view, entry)?;
+        only(
+            alloc,
+            Out::Deliver {
+                id,
+                view: View(view),
+                bytes,
+                asks,
+            },
+        )
+    }
+
+    /// An error of a peer, which has no answer.
+    fn hear_error(&mut self, sender: &Participant, id: u64, now: u64) -> Result<(), AllocError>
+        requires early { now < 2 ^ 63 }
+        ensures { OnOk result (self.new ≡ refused now self.old (asked_view id sender.now self.old.views)) }
+    {
+        let Some(view) = self.views.asked_view(id, sender) else {
+            return Ok(());
+        };
+        match self.views.take(view) {
+            Some(entry) => self.retry(view, entry, now),
+            None => Ok(()),
+        }
+    }
+
+    /// What became of the answer that was delivered under this number.
+    pub fn verdict(
+        &mut self,
+        alloc: Global,
+        id: u64,
+        verdict: Option<Outcome>,
+        now: u64,
+    ) -> Result<Vec<Out>, AllocError>
+        requires early { now < 2 ^ 63 }
+        requires ids { self.old.next_id < 2 ^ 62 }
+        ensures fetcher { OnOk result (self.new ≡ (judged id verdict now self.old).fetcher) }
+        ensures outs { IfOk result (λ outs. outs.items ≡ (judged id verdict now self.old).outs) }
+    {
+        let mut outs = Vec::new(alloc);
+        let Some(view) = self.views.judged_view(id) else {
+            return Ok(outs);
+        };
+        let Some(entry) = self.views.take(view) else {
+            return Ok(outs);
+        };
+        self.judge(alloc, view, entry, &verdict, now, &mut outs)?;
+        Ok(outs)
+    }
+
+    /// The view, with this entry, which was taken out, after the verdict.
+    #[tactic(auto, unfolding(crate::specs::Fetcher::judged_as, crate::specs::Fetcher::asked_on))]
+    fn judge(
+        &mut self,
+        alloc: Global,
+        view: u64,
+        entry: Entry,
+        verdict: &Option<Outcome>,
+        now: u64,
+        outs: &mut Vec<Out>,
+    ) -> Result<(), AllocError>
+        requires absent { entry_at self.old.views view ≡ None }
+        requires sound { IsSoundEntry self.old.next_id entry }
+        requires early { now < 2 ^ 63 }
+        requires ids { self.old.next_id < 2 ^ 62 }
+        ensures fetcher { OnOk result (self.new ≡ (judged_as verdict.now now view entry self.old).fetcher) }
+        ensures outs { OnOk result (outs.new.items ≡ outs.old.items ++ (judged_as verdict.now now view entry self.old).outs) }
+    {
+        let mut entry = entry;
+        if is_done(verdict) {
+            entry.drop_delivered();
+            if entry.arrivals.is_empty() {
+                return Ok(());
+            }
+            return self.attempt(alloc, view, entry, now, outs);
+        }
+        block_judged(verdict, &entry.state, outs)?;
+        self.retry(view, entry, now)
+    }
+
+    /// The answer to a peer's request: a certificate's bytes, or that there is none.
+    #[tactic(auto, unfolding(crate::specs::Fetcher::served, crate::specs::Fetcher::served_as))]
+    pub fn serve(
+        &mut self,
+        alloc: Global,
+        id: u64,
+        bytes: Option<Vec<u8>>,
+    ) -> Result<Vec<Out>, AllocError>
+        ensures fetcher { OnOk result (self.new ≡ (served id (option_map (λ vector. vector.items) bytes) self.old).fetcher) }
+        ensures outs { IfOk result (λ outs. outs.items ≡ (served id (option_map (λ vector. vector.items) bytes) self.old).outs) }
+    {
+        let Some(serving) = self.serving.remove(&id) else {
+            return Ok(Vec::new(alloc));
+        };
+        let body = answer_body(bytes);
+        let bytes = message_bytes(alloc, serving.request, body)?;
+        only(
+            alloc,
+            Out::Send {
+                to: serving.sender,
+                view: serving.view,
+                bytes,
+            },
+        )
+    }
+
+    /// When `expire` is to be called next.
+    pub fn next_deadline(&self) -> Option<u64>
+        ensures { result ≡ next_deadline self.now.views }
+    {
+        self.views.next_deadline()
+    }
+
+    /// Each view whose deadline is reached waits, or makes its next attempt.
+    #[tactic(auto, unfolding(crate::specs::Fetcher::expired))]
+    pub fn expire(&mut self, alloc: Global, now: u64) -> Result<Vec<Out>, AllocError>
+        requires early { now < 2 ^ 63 }
+        requires ids { self.old.next_id < 2 ^ 62 }
+        ensures fetcher { OnOk result (self.new ≡ (expired now self.old).fetcher) }
+        ensures outs { IfOk result (λ outs. outs.items ≡ (expired now self.old).outs) }
+    {
+        let mut views = self.views.due(alloc, now)?;
+        let mut outs = Vec::with_capacity(alloc, views.len())?;
+        while let Some(view) = views.pop_first() {
+            self.expire_at(alloc, view, now, &mut outs)?;
+        }
+        Ok(outs)
+    }
+}
+
+/// This alone.
+fn only(alloc: Global, out: Out) -> Result<Vec<Out>, AllocError>
+    ensures { IfOk result (λ outs. outs.items ≡ out ∷ []) }
+{
+    let mut outs = Vec::new(alloc);
+    outs.push(out)?;
+    Ok(outs)
+}
+
+/// Whether the delivered asks are done with.
+fn is_done(verdict: &Option<Outcome>) -> bool
+    ensures { result ≡ is_done verdict.now }
+{
+    match verdict {
+        None | Some(Outcome::Ignored) | Some(Outcome::Resolved(Resolution::Complete)) => true,
+        Some(Outcome::Invalid)
+        | Some(Outcome::Unresolved)
+        | Some(Outcome::Resolved(Resolution::Partial)) => false,
+    }
+}
+
+/// A peer whose answer is no valid one is blocked.
+fn block_judged(
+    verdict: &Option<Outcome>,
+    state: &State,
+    outs: &mut Vec<Out>,
+) -> Result<(), AllocError>
+    ensures { OnOk result (outs.new.items ≡ outs.old.items ++ blocked_by verdict.now state.now) }
+{
+    if let (Some(Outcome::Invalid), State::Judged { peer, .. }) = (verdict, state) {
+        outs.push(Out::Block(*peer))?;
+    }
+    Ok(())
+}
+
+/// The body of an answer.
+fn answer_body(bytes: Option<Vec<u8>>) -> ResolverBody
+    ensures { result ≡ answer_body (option_map (λ vector. vector.items) bytes) }
+{
+    match bytes {
+        Some(bytes) => ResolverBody::Response {
+            bytes: Sequence::from_vec(bytes),
+        },
+        None => ResolverBody::Error,
     }
 }
 

@@ -4,6 +4,8 @@ ghost use Rattle.std.specs.Option.{option_copied};
 ghost use Rattle.std.specs.Ordering.{nat_cmp};
 ghost use Rattle.std.specs.declared.ops.Bound.TheVariants.{Included};
 ghost use Rattle.std.specs.BTreeMap.Range.{entries_between};
+ghost use Rattle.std.specs.Map.{keys_of};
+ghost use Rattle.std.specs.List.Sorted.{IsStrictlySortedBy};
 ghost use Rattle.simplex_fetch.specs.declared.entry.Entry.{Entry};
 ghost use Rattle.simplex_fetch.specs.Views.{entry_at, with_entry, without_entry, views_where, id_of, next_deadline, asked_view, judged_view};
 ghost use Rattle.simplex_fetch.specs.Index.{IsFree, is_due};
@@ -81,6 +83,8 @@ impl Views {
         ensures without { self.new ≡ without_entry view self.old }
         ensures at { (q : ℕ) → entry_at self.new q ≡ (if view == q then None else entry_at self.old q) }
         ensures free { IfSome result (λ entry. IsFree (id_of entry.state) self.new) }
+        ensures none { IfNone result (self.new ≡ self.old) }
+        ensures rising { IsStrictlySortedBy nat_cmp (keys_of self.new) }
         // What is put there then is put there.
         ensures put { (entry : Entry) → with_entry view entry self.new ≡ with_entry view entry self.old }
         // Where it is put back, all is as before.
@@ -99,6 +103,7 @@ impl Views {
         requires free { IsFree (id_of entry.state) self.old }
         ensures ok { OnOk result (self.new ≡ with_entry view entry self.old) }
         ensures at { OnOk result ((q : ℕ) → entry_at self.new q ≡ (if view == q then Some entry else entry_at self.old q)) }
+        ensures rising { IsStrictlySortedBy nat_cmp (keys_of self.new) }
         ensures err { OnErr result (self.new ≡ self.old) }
     {
         let deadline = entry.state.deadline();
