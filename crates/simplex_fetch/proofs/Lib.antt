@@ -7,3 +7,4 @@ pub mod Reached
 pub mod Sums
 pub mod Taken
 pub mod Kept
+pub mod Visits

@@ -1,9 +1,15 @@
 -- A change of an entry that was taken out, and put back, is a change where it stands.
-use Rattle.std.proofs.Common.{◌≡◌, ℕ, List, Option, Some, None, refl, sym, ap, ◌∙◌, arith, rules}
+use Rattle.std.proofs.Common.{◌≡◌, ◌≤◌, ◌+◌, ℕ, Bool, true, false, List, [], ◌∷◌, Option, Some, None, refl, sym, ap, ◌∙◌, arith, rules}
+use Rattle.std.proofs.lemmas.Grind.{common_steps}
+use Rattle.std.specs.Ordering.{nat_cmp}
+use Rattle.std.specs.BTreeMap.{is_at}
+use Rattle.simplex_values.specs.declared.ask.Outcome.{Outcome}
+use Rattle.simplex_fetch.specs.Asks.{holds_ask}
 use Rattle.simplex_fetch.specs.declared.entry.Entry.{Entry}
-use Rattle.simplex_fetch.specs.declared.entry.State.TheVariants.{Waiting, Asked}
-use Rattle.simplex_fetch.specs.Views.{with_entry, entry_at}
-use Rattle.simplex_fetch.specs.Fetcher.{Machine, After, quiet, keeping, attempted, attempting, attempted_at, expiring, expired_at, expired_as, asking, retrying, peer_of}
+use Rattle.simplex_fetch.specs.declared.entry.State.{State}
+use Rattle.simplex_fetch.specs.declared.entry.State.TheVariants.{Waiting, Asked, Judged}
+use Rattle.simplex_fetch.specs.Views.{with_entry, without_entry, entry_at}
+use Rattle.simplex_fetch.specs.Fetcher.{Machine, After, quiet, keeping, attempted, attempting, attempted_at, expiring, expired_at, expired_as, asking, retrying, peer_of, judged_as, asked_on, without, delivered_of}
 
 -- what is put there is put there
 abbrev pub PutsAlike : ℕ → List (ℕ × Entry) → List (ℕ × Entry) → Type 0
@@ -44,3 +50,60 @@ pub expiring_waiting : (now view : ℕ) (entry : Entry) (fetcher : Machine) (tak
     → expiring now view fetcher ≡ attempted now view entry (record fetcher { views = taken })
 unfolding expiring expired_at expired_as
 expiring_waiting now view entry fetcher taken until at is alike = rw at (ap (expired_as now view entry fetcher) is ∙ sym (attempted_taken now view entry fetcher taken alike))
+
+-- where no view is there is nothing to take away
+pub without_absent : (v : ℕ) (es : List (ℕ × Entry)) → entry_at es v ≡ None → without_entry v es ≡ es
+unfolding entry_at without_entry
+without_absent v [] h = refl
+without_absent v (x ∷ es) h =
+    let rest : entry_at es v ≡ None → without_entry v es ≡ es = without_absent v es in
+    elim (is_at (nat_cmp v) x.0) as (λ b. is_at (nat_cmp v) x.0 ≡ b → without_entry v (x ∷ es) ≡ x ∷ es) [
+      | true ↦ λ at. let none : Some x.1 ≡ None = grind (arith, common_steps) in cc
+      | false ↦ λ apart. let later : entry_at es v ≡ None = grind (arith, common_steps) in
+          let is = rest later in grind (arith, common_steps)
+    ] refl
+
+-- a verdict on a view that was taken out
+pub judged_taken : (verdict : Option Outcome) (now view : ℕ) (entry : Entry) (fetcher : Machine) (taken : List (ℕ × Entry))
+    → taken ≡ without_entry view fetcher.views → entry_at taken view ≡ None → PutsAlike view taken fetcher.views
+    → judged_as verdict now view entry (record fetcher { views = taken }) ≡ judged_as verdict now view entry fetcher
+unfolding judged_as asked_on
+judged_taken verdict now view entry fetcher taken is gone alike =
+    let forgotten : without_entry view taken ≡ without_entry view fetcher.views = without_absent view taken gone ∙ is in
+    let again = attempted_taken now view (without (holds_ask (delivered_of entry.state)) entry) fetcher taken alike in
+    let waits = retrying_taken now view entry fetcher taken alike in
+    grind (arith, common_steps, forgotten, again, waits)
+
+-- an attempt draws at most one number
+pub asking_ids : (now view : ℕ) (entry : Entry) (fetcher : Machine) (peer : Option ℕ) → (asking now view entry fetcher peer).fetcher.next_id ≤ fetcher.next_id + 1
+unfolding asking
+asking_ids now view entry fetcher None = omega arith
+asking_ids now view entry fetcher (Some peer) = omega arith
+
+pub attempted_ids : (now view : ℕ) (entry : Entry) (fetcher : Machine) → (attempted now view entry fetcher).fetcher.next_id ≤ fetcher.next_id + 1
+unfolding attempted
+attempted_ids now view entry fetcher = asking_ids now view entry fetcher (peer_of fetcher.config view entry)
+
+pub attempted_at_ids : (now view : ℕ) (fetcher : Machine) (entry : Option Entry) → (attempted_at now view fetcher entry).fetcher.next_id ≤ fetcher.next_id + 1
+unfolding attempted_at
+attempted_at_ids now view fetcher None = omega arith
+attempted_at_ids now view fetcher (Some entry) = attempted_ids now view entry fetcher
+
+pub attempting_ids : (now view : ℕ) (fetcher : Machine) → (attempting now view fetcher).fetcher.next_id ≤ fetcher.next_id + 1
+unfolding attempting
+attempting_ids now view fetcher = attempted_at_ids now view fetcher (entry_at fetcher.views view)
+
+pub expired_as_ids : (now view : ℕ) (entry : Entry) (fetcher : Machine) (state : State) → (expired_as now view entry fetcher state).fetcher.next_id ≤ fetcher.next_id + 1
+unfolding expired_as retrying
+expired_as_ids now view entry fetcher (Waiting until) = attempted_ids now view entry fetcher
+expired_as_ids now view entry fetcher (Asked id peer deadline) = omega arith
+expired_as_ids now view entry fetcher (Judged id peer delivered) = omega arith
+
+pub expired_at_ids : (now view : ℕ) (fetcher : Machine) (entry : Option Entry) → (expired_at now view fetcher entry).fetcher.next_id ≤ fetcher.next_id + 1
+unfolding expired_at
+expired_at_ids now view fetcher None = omega arith
+expired_at_ids now view fetcher (Some entry) = expired_as_ids now view entry fetcher entry.state
+
+pub expiring_ids : (now view : ℕ) (fetcher : Machine) → (expiring now view fetcher).fetcher.next_id ≤ fetcher.next_id + 1
+unfolding expiring
+expiring_ids now view fetcher = expired_at_ids now view fetcher (entry_at fetcher.views view)

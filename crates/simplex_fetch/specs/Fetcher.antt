@@ -5,6 +5,7 @@ use Rattle.std.specs.Ordering.{nat_cmp}
 use Rattle.std.specs.Map.{lookup, remove_entry, keys_of}
 use Rattle.std.specs.List.Sorted.{IsStrictlySortedBy}
 use Rattle.std.specs.BTreeMap.{is_at, insert_entry}
+use Rattle.std.specs.BTreeSet.{insert_key}
 use Rattle.simplex_values.specs.declared.ask.Ask.{Ask}
 use Rattle.simplex_values.specs.declared.ask.Outcome.{Outcome}
 use Rattle.simplex_values.specs.declared.ask.Outcome.TheVariants as outcome
@@ -147,20 +148,18 @@ entry_with arrival (Some entry) = record entry { arrivals = with_arrival arrival
 unfoldable pub adding : Fetching → Machine → Machine
 adding fetching fetcher = keeping fetching.view (entry_with fetching.arrival (entry_at fetcher.views fetching.view)) fetcher
 
--- the fetcher with these asks
-unfoldable pub adding_all : List Fetching → Machine → Machine
-adding_all [] fetcher = fetcher
-adding_all (fetching ∷ others) fetcher = adding_all others (adding fetching fetcher)
+-- the new views, in rising order, with one more where it was not asked for before
+unfoldable pub noting : Fetching → Machine → List ℕ → List ℕ
+noting fetching fetcher new = if is_some (entry_at fetcher.views fetching.view) then new else insert_key nat_cmp new fetching.view
 
--- the views that are asked for now, and were not before
-unfoldable pub new_views : Machine → Machine → List ℕ
-new_views before now = views_where (λ view entry. not (is_some (entry_at before.views view))) now.views
+-- the asks are added, and then each new view is asked at once; these views are new already
+unfoldable pub fetched_beside : List Fetching → ℕ → List ℕ → Machine → After
+fetched_beside [] now new fetcher = visited (attempting now) new fetcher
+fetched_beside (fetching ∷ others) now new fetcher = fetched_beside others now (noting fetching fetcher new) (adding fetching fetcher)
 
 -- the asks are added, and then each new view is asked at once
-unfoldable pub fetched : List Fetching → ℕ → Machine → After
-fetched fetchings now fetcher =
-    let added = adding_all fetchings fetcher in
-    visited (attempting now) (new_views fetcher added) added
+abbrev pub fetched : List Fetching → ℕ → Machine → After
+fetched fetchings now fetcher = fetched_beside fetchings now [] fetcher
 
 -- ---- retiring
 

@@ -3,4 +3,3 @@ pub mod Retirement
 pub mod Views
 pub mod Index
 pub mod Fetcher
-pub mod Noted

@@ -4,13 +4,9 @@ ghost use Rattle.std.specs.Option.{option_map, is_some};
 ghost use Rattle.std.specs.List.{All};
 ghost use Rattle.simplex_values.specs.declared.ask.Outcome.{Outcome};
 ghost use Rattle.simplex_fetch.specs.declared.arrivals.Arrival.{Arrival};
-ghost use Rattle.std.specs.Ordering.{nat_cmp};
-ghost use Rattle.std.specs.Map.{keys_of};
-ghost use Rattle.std.specs.List.Sorted.{IsStrictlySortedBy};
-ghost use Rattle.simplex_fetch.specs.Noted.{IsNoted};
 ghost use Rattle.simplex_fetch.specs.Views.{entry_at, asked_view, next_deadline};
 ghost use Rattle.simplex_fetch.specs.Index.{IsFree};
-ghost use Rattle.simplex_fetch.specs.Fetcher.{no_fetches, attempted, attempting, expiring, retiring, peer_of, retrying, of_all, of_target, fetched, adding, attempted_at, retained, retired_at, kept_or_left, heard, heard_body, requested, answered, refused, judged, judged_as, asked_on, served, expired, expired_at, message_bytes, visited, is_done, blocked_by, answer_body, keeping, in_state, cyclic, other_at, IsSoundConfig, IsSoundEntry};
+ghost use Rattle.simplex_fetch.specs.Fetcher.{no_fetches, attempted, attempting, expiring, retiring, peer_of, retrying, of_all, of_target, fetched, noting, adding, attempted_at, retained, retired_at, kept_or_left, heard, heard_body, requested, answered, refused, judged, judged_as, asked_on, served, expired, expired_at, message_bytes, visited, is_done, blocked_by, answer_body, keeping, in_state, cyclic, other_at, IsSoundConfig, IsSoundEntry};
 ghost use Rattle.simplex_fetch.specs.declared.entry.State.TheVariants.{Waiting};
 
 use crate::arrivals::Arrivals;
@@ -229,7 +225,7 @@ impl Fetcher {
     }
 
     /// One more ask of the view, of this member alone where one is named. A view that was not asked for is new.
-    #[tactic(auto, unfolding(crate::specs::Fetcher::adding))]
+    #[tactic(auto, unfolding(crate::specs::Fetcher::adding, crate::specs::Fetcher::noting))]
     fn add(
         &mut self,
         alloc: Global,
@@ -238,7 +234,8 @@ impl Fetcher {
         new: &mut BTreeSet<u64>,
     ) -> Result<(), AllocError>
         ensures fetcher { OnOk result (self.new ≡ adding (record { view = fetch.now.view; arrival = record { ask = fetch.now.ask; target = target } }) self.old) }
-        ensures new { OnOk result (IsNoted fetch.now.view self.old.views self.new.views new.old.keys new.new.keys) }
+        ensures ids { OnOk result (self.new.next_id ≡ self.old.next_id) }
+        ensures new { OnOk result (new.new.keys ≡ noting (record { view = fetch.now.view; arrival = record { ask = fetch.now.ask; target = target } }) self.old new.old.keys) }
     {
         let view = fetch.view.0;
         let ask = fetch.ask;
@@ -268,8 +265,6 @@ impl Fetcher {
         requires ids { self.old.next_id < 2 ^ 62 }
         ensures fetcher { OnOk result (self.new ≡ (visited (attempting now) new.keys self.old).fetcher) }
         ensures outs { IfOk result (λ outs. outs.items ≡ (visited (attempting now) new.keys self.old).outs) }
-        ensures rising { OnOk result (IsStrictlySortedBy nat_cmp (keys_of self.old.views)) }
-        ensures sorted { OnOk result (IsStrictlySortedBy nat_cmp new.keys) }
     {
         let mut views = new;
         let mut outs = Vec::with_capacity(alloc, views.len())?;
@@ -279,6 +274,7 @@ impl Fetcher {
         Ok(outs)
     }
 
+    #[tactic(auto, unfolding(crate::specs::Fetcher::fetched_beside))]
     /// Asks for what is wanted of the view.
     pub fn fetch(&mut self, alloc: Global, fetch: Fetch, now: u64) -> Result<Vec<Out>, AllocError>
         requires early { now < 2 ^ 63 }
@@ -291,6 +287,7 @@ impl Fetcher {
         self.start(alloc, new, now)
     }
 
+    #[tactic(auto, unfolding(crate::specs::Fetcher::fetched_beside))]
     /// Asks for what is wanted of the view, this member alone.
     pub fn fetch_targeted(
         &mut self,
@@ -309,6 +306,7 @@ impl Fetcher {
         self.start(alloc, new, now)
     }
 
+    #[tactic(auto, unfolding(crate::specs::Fetcher::fetched_beside))]
     /// Asks for all that is wanted.
     pub fn fetch_all(
         &mut self,
@@ -329,7 +327,7 @@ impl Fetcher {
     }
 
     /// Drops the asks that are done with. A view without asks is forgotten.
-    #[tactic(auto, unfolding(crate::specs::Fetcher::retained, crate::specs::Fetcher::visited))]
+    #[tactic(auto, unfolding(crate::specs::Fetcher::retained))]
     pub fn retain(&mut self, alloc: Global, retire: &Retire) -> Result<Vec<Out>, AllocError>
         ensures fetcher { OnOk result (self.new ≡ (retained retire.now self.old).fetcher) }
         ensures outs { IfOk result (λ outs. outs.items ≡ (retained retire.now self.old).outs) }
@@ -343,6 +341,7 @@ impl Fetcher {
         Ok(outs)
     }
 
+    #[tactic(auto, unfolding(crate::specs::Fetcher::heard, crate::specs::Fetcher::heard_message))]
     /// Bytes of a peer.
     pub fn hear(
         &mut self,
@@ -413,6 +412,7 @@ impl Fetcher {
         only(alloc, out)
     }
 
+    #[tactic(auto, unfolding(crate::specs::Fetcher::answered, crate::specs::Fetcher::delivered))]
     /// An answer is delivered, where it was asked for.
     fn hear_response(
         &mut self,
@@ -449,6 +449,7 @@ impl Fetcher {
         )
     }
 
+    #[tactic(auto, unfolding(crate::specs::Fetcher::refused, crate::specs::Fetcher::retried))]
     /// An error of a peer, which has no answer.
     fn hear_error(&mut self, sender: &Participant, id: u64, now: u64) -> Result<(), AllocError>
         requires early { now < 2 ^ 63 }
@@ -463,6 +464,7 @@ impl Fetcher {
         }
     }
 
+    #[tactic(auto, unfolding(crate::specs::Fetcher::judged, crate::specs::Fetcher::judged_at, crate::specs::Fetcher::judged_entry))]
     /// What became of the answer that was delivered under this number.
     pub fn verdict(
         &mut self,
@@ -488,7 +490,7 @@ impl Fetcher {
     }
 
     /// The view, with this entry, which was taken out, after the verdict.
-    #[tactic(auto, unfolding(crate::specs::Fetcher::judged_as, crate::specs::Fetcher::asked_on))]
+    #[tactic(auto, unfolding(crate::specs::Fetcher::judged_as, crate::specs::Fetcher::asked_on), using(crate::proofs::Taken::without_absent))]
     fn judge(
         &mut self,
         alloc: Global,
