@@ -11,7 +11,7 @@ use Rattle.std.specs.BTreeMap.{is_at}
 use Rattle.simplex_fetch.specs.declared.entry.Entry.{Entry}
 use Rattle.simplex_fetch.specs.declared.entry.State.{State}
 use Rattle.simplex_fetch.specs.declared.entry.State.TheVariants.{Waiting, Asked, Judged}
-use Rattle.simplex_fetch.specs.Views.{entry_at, deadline_of, id_of, first_view, is_asked_as, is_judged_as}
+use Rattle.simplex_fetch.specs.Views.{entry_at, deadline_of, id_of, first_view, is_asked_as, is_judged_as, asked_view}
 use Rattle.simplex_fetch.specs.Index.{is_value, has_deadline, has_id, pair_cmp, IsIndexed, IsFree}
 use Rattle.simplex_fetch.proofs.Entries.{Rising, passes, first_view-some, first_view-none}
 
@@ -156,3 +156,14 @@ pub judged_needs : (id : ℕ) (s : State) → is_judged_as id s ≡ true → is_
 judged_needs id (Waiting until) h = cc
 judged_needs id (Asked asked peer deadline) h = cc
 judged_needs id (Judged judged peer delivered) h = grind (arith, common_steps, nat_tests)
+
+pub value_some : (n : ℕ) (o : Option ℕ) → is_value n o ≡ true → o ≡ Some n
+value_some n None h = cc
+value_some n (Some m) h = ap Some (sym (value_here n m h))
+
+-- the view of an open request has its number
+pub asked_open : (id sender view : ℕ) (es : List (ℕ × Entry)) (e : Entry) → Rising es → asked_view id sender es ≡ Some view → entry_at es view ≡ Some e → id_of e.state ≡ Some id
+asked_open id sender view es e s opened at =
+    let pass = first_view-some (λ (e : Entry). is_asked_as id sender e.state) es view s opened in
+    let here : is_asked_as id sender e.state ≡ true = rw at at pass in
+    value_some id (id_of e.state) (asked_needs id sender e.state here)

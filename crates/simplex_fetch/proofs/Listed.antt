@@ -68,3 +68,9 @@ pub where-is : (test : ℕ → Entry → Bool) (es : List (ℕ × Entry)) (ks : 
 where-is test es ks s rises has =
     btree_set_from_contains nat_cmp_total (record { keys = ks }) (record { keys = views_where test es }) rises (where-rising test es s)
     (λ q. has q ∙ sym (where-member test es q s)) exact_unsigned
+
+-- tests that agree give the same views
+pub where_same : (t u : ℕ → Entry → Bool) → ((v : ℕ) (e : Entry) → t v e ≡ u v e) → (es : List (ℕ × Entry)) → views_where t es ≡ views_where u es
+unfolding views_where
+where_same t u same [] = refl
+where_same t u same (x ∷ es) = let rest = where_same t u same es in let is = same x.0 x.1 in grind (arith, common_steps, rest, is)

@@ -1,5 +1,6 @@
 -- A change of an entry that was taken out, and put back, is a change where it stands.
-use Rattle.std.proofs.Common.{◌≡◌, ◌≤◌, ◌+◌, ℕ, Bool, true, false, List, [], ◌∷◌, Option, Some, None, refl, sym, ap, ◌∙◌, arith, rules}
+use Rattle.std.proofs.Common.{◌≡◌, ◌≤◌, ◌+◌, ◌==◌, ℕ, Bool, true, false, List, [], ◌∷◌, Option, Some, None, refl, sym, ap, ◌∙◌, arith, rules}
+use Rattle.std.specs.Prelude.{if◌then◌else◌}
 use Rattle.std.proofs.lemmas.Grind.{common_steps}
 use Rattle.std.specs.Ordering.{nat_cmp}
 use Rattle.std.specs.BTreeMap.{is_at}
@@ -8,8 +9,8 @@ use Rattle.simplex_fetch.specs.Asks.{holds_ask}
 use Rattle.simplex_fetch.specs.declared.entry.Entry.{Entry}
 use Rattle.simplex_fetch.specs.declared.entry.State.{State}
 use Rattle.simplex_fetch.specs.declared.entry.State.TheVariants.{Waiting, Asked, Judged}
-use Rattle.simplex_fetch.specs.Views.{with_entry, without_entry, entry_at}
-use Rattle.simplex_fetch.specs.Fetcher.{Machine, After, quiet, keeping, attempted, attempting, attempted_at, expiring, expired_at, expired_as, asking, retrying, peer_of, judged_as, asked_on, without, delivered_of}
+use Rattle.simplex_fetch.specs.Views.{with_entry, without_entry, entry_at, judged_view}
+use Rattle.simplex_fetch.specs.Fetcher.{Machine, After, quiet, keeping, attempted, attempting, attempted_at, expiring, expired_at, expired_as, asking, retrying, peer_of, judged, judged_at, judged_entry, refused, retried, IsSoundAt, IsSoundEntry, judged_as, asked_on, without, delivered_of}
 
 -- what is put there is put there
 abbrev pub PutsAlike : ℕ → List (ℕ × Entry) → List (ℕ × Entry) → Type 0
@@ -107,3 +108,26 @@ expired_at_ids now view fetcher (Some entry) = expired_as_ids now view entry fet
 pub expiring_ids : (now view : ℕ) (fetcher : Machine) → (expiring now view fetcher).fetcher.next_id ≤ fetcher.next_id + 1
 unfolding expiring
 expiring_ids now view fetcher = expired_at_ids now view fetcher (entry_at fetcher.views view)
+
+-- a peer's error of a view that was taken out
+pub refused_is : (now view : ℕ) (entry : Entry) (fetcher : Machine) (taken : List (ℕ × Entry)) (o : Option ℕ) → o ≡ Some view → entry_at fetcher.views view ≡ Some entry
+    → PutsAlike view taken fetcher.views → refused now fetcher o ≡ retrying now view entry (record fetcher { views = taken })
+unfolding refused retried
+refused_is now view entry fetcher taken o opened at alike = rw (opened, at) (sym (retrying_taken now view entry fetcher taken alike))
+
+-- each number was drawn, where an entry is put back whose number was drawn
+pub drawn_put : (next_id view : ℕ) (entry : Entry) (views taken after : List (ℕ × Entry))
+    → ((q : ℕ) → entry_at taken q ≡ (if view == q then None else entry_at views q)) → ((q : ℕ) → entry_at after q ≡ (if view == q then Some entry else entry_at taken q))
+    → ((q : ℕ) → IsSoundAt next_id (entry_at views q)) → IsSoundEntry next_id entry → (q : ℕ) → IsSoundAt next_id (entry_at after q)
+drawn_put next_id view entry views taken after left put drawn sound q =
+    elim (view == q) as (λ b. (view == q) ≡ b → IsSoundAt next_id (entry_at after q)) [
+      | true ↦ λ here. let is : entry_at after q ≡ Some entry = put q ∙ rw here refl in rw is sound
+      | false ↦ λ apart. let is : entry_at after q ≡ entry_at views q = put q ∙ rw apart (left q ∙ rw apart refl) in rw is (drawn q)
+    ] refl
+
+-- a verdict on the view that is judged
+pub judged_is : (id : ℕ) (verdict : Option Outcome) (now view : ℕ) (entry : Entry) (fetcher : Machine) (taken : List (ℕ × Entry)) → judged_view id fetcher.views ≡ Some view → entry_at fetcher.views view ≡ Some entry
+    → taken ≡ without_entry view fetcher.views → entry_at taken view ≡ None → PutsAlike view taken fetcher.views
+    → judged id verdict now fetcher ≡ judged_as verdict now view entry (record fetcher { views = taken })
+unfolding judged judged_at judged_entry
+judged_is id verdict now view entry fetcher taken opened at is gone alike = rw (opened, at) (sym (judged_taken verdict now view entry fetcher taken is gone alike))

@@ -1,6 +1,6 @@
 -- Changes of views, one after the other.
-use Rattle.std.proofs.Common.{◌≡◌, ◌≤◌, ◌+◌, ◌<◌, ℕ, List, [], ◌∷◌, ◌++◌, length, refl, sym, ap, ◌∙◌, append_assoc, append-nil, arith, rules}
-use Rattle.std.proofs.lemmas.Grind.{common_steps}
+use Rattle.std.proofs.Common.{◌≡◌, ◌≤◌, ◌+◌, ◌<◌, ℕ, List, [], ◌∷◌, ◌++◌, length, length-drop, drop, refl, sym, ap, ◌∙◌, append_assoc, append-nil, arith, rules}
+use Rattle.std.proofs.lemmas.List.{nil_from_length}
 use Rattle.simplex_fetch.specs.declared.out.Out.{Out}
 use Rattle.simplex_fetch.specs.Fetcher.{Machine, After, visited}
 
@@ -38,3 +38,7 @@ pub visit_outs : (change : ℕ → Machine → After) (views : List ℕ) (start 
 unfolding visited
 visit_outs change views start left now outs v is =
     sym (append-nil outs) ∙ ap (λ l. outs ++ l) (sym (ap (λ l. (visited change l now).outs) is)) ∙ v.wants
+
+-- behind the last there is nothing
+pub dropped_all : (i : ℕ) (xs : List ℕ) → length xs ≤ i → drop i xs ≡ []
+dropped_all i xs h = nil_from_length (drop i xs) (omega (arith, length-drop i xs))
