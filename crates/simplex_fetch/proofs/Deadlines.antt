@@ -83,13 +83,15 @@ deadline-some (x ∷ es) d s h =
       | true ↦ λ here. (x.0, grind (arith, common_steps, nat_tests, unsigned_tied x.0 x.0))
       | false ↦ λ apart.
           let later : next_deadline es ≡ Some d = least-some (deadline_of x.1.state) (next_deadline es) d h apart in
-          let found = deadline-some es d (tail_rises x es s) later in
-          (found.0, let none = entry_at-above x.0 es (above_head x es s) in let at = found.1 in
-              elim (cases_eq found.0 x.0) [
-                | inl same ↦ let gone : entry_at es found.0 ≡ None = rw same none in
-                    let no : has_deadline d None ≡ true = rw gone at at in cc
-                | inr other ↦ grind (arith, common_steps, nat_tests, unsigned_tied found.0 x.0)
-              ])
+          let found = deadline-some es d (tail_rises x es s) later in (
+            found.0,
+            let none = entry_at-above x.0 es (above_head x es s) in let at = found.1 in
+                elim (cases_eq found.0 x.0) [
+                  | inl same ↦ let gone : entry_at es found.0 ≡ None = rw same none in
+                      let no : has_deadline d None ≡ true = rw gone at at in cc
+                  | inr other ↦ grind (arith, common_steps, nat_tests, unsigned_tied found.0 x.0)
+                ],
+          )
     ] refl
 
 -- a pair that is not after another has no later deadline

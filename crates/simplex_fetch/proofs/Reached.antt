@@ -83,8 +83,8 @@ pub due-is : (views : List (ℕ × Entry)) (timers numbers : List (ℕ × ℕ)) 
 due-is views timers numbers ix now set made =
     where-is (λ view entry. is_due now entry) views set.keys ix.rising made.1
     (λ q. made.0 q ∙ same_tests (is_listed now q timers) (due_at now q (entry_at views q))
-        (λ yes_listed. let found = listed-found now q timers yes_listed in due-has now q found.0 (entry_at views q) (sym (ix.timed found.0 q) ∙ found.1.0) found.1.1)
-        (λ yes_due. let found = due-some now q (entry_at views q) yes_due in listed-there now q found.0 timers (ix.timed found.0 q ∙ found.1.0) found.1.1))
+    (λ yes_listed. let found = listed-found now q timers yes_listed in due-has now q found.0 (entry_at views q) (sym (ix.timed found.0 q) ∙ found.1.0) found.1.1)
+    (λ yes_due. let found = due-some now q (entry_at views q) yes_due in listed-there now q found.0 timers (ix.timed found.0 q ∙ found.1.0) found.1.1))
 
 -- the keys of a range are the views of the range
 pub between-is : (first last : ℕ) (es : List (ℕ × Entry))

@@ -61,10 +61,7 @@ fn holds_member(members: &[Participant], member: &Participant) -> bool
 }
 
 /// One more member, where one is named that is not among them.
-fn add_target(
-    members: &mut Vec<Participant>,
-    target: Option<Participant>,
-) -> Result<(), AllocError>
+fn add_target(members: &mut Vec<Participant>, target: Option<Participant>) -> Result<(), AllocError>
     ensures { OnOk result (members.new.items ≡ with_target members.old.items target) }
 {
     if let Some(member) = target

@@ -255,12 +255,7 @@ impl Fetcher {
     }
 
     /// The next attempts of the new views.
-    fn start(
-        &mut self,
-        alloc: Global,
-        new: BTreeSet<u64>,
-        now: u64,
-    ) -> Result<Vec<Out>, AllocError>
+    fn start(&mut self, alloc: Global, new: BTreeSet<u64>, now: u64) -> Result<Vec<Out>, AllocError>
         requires early { now < 2 ^ 63 }
         requires ids { self.old.next_id < 2 ^ 62 }
         ensures fetcher { OnOk result (self.new ≡ (visited (attempting now) new.keys self.old).fetcher) }
@@ -401,7 +396,10 @@ impl Fetcher {
         ensures outs { IfOk result (λ outs. outs.items ≡ (requested sender request view self.old).outs) }
     {
         let id = self.next_serve;
-        let out = Out::Produce { id, view: View(view.0) };
+        let out = Out::Produce {
+            id,
+            view: View(view.0),
+        };
         let serving = Serving {
             sender,
             request,

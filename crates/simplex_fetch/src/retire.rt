@@ -1,6 +1,5 @@
 //! Which asks are done with.
 ghost use Rattle.std.specs.Prelude.{◌≡◌, ◌&&◌, ℕ, nat_le};
-
 ghost use Rattle.simplex_fetch.specs.Retirement.{reaches, retires};
 
 use simplex_types::{Ask, Kind, Until, View};
@@ -9,11 +8,7 @@ use simplex_types::{Ask, Kind, Until, View};
 #[derive(Clone, Copy, Debug, PartialEq, Eq)]
 pub enum Retire {
     /// What is asked for of this kind, from the first view to the last.
-    Settled {
-        kind: Kind,
-        start: View,
-        end: View,
-    },
+    Settled { kind: Kind, start: View, end: View },
     /// All that is asked for up to the view.
     Finalized(View),
     /// What is asked for until the floor, up to the view.

@@ -13,9 +13,10 @@ loop-view-preserved c =
     let wanted : c.attempt_at.new.outs.items ≡ c.loop-view.outs.items ++ (attempting c.args.now c.in-Some.view c.loop-view.self).outs = search rules in
     let drawn = attempting_ids c.args.now c.in-Some.view c.loop-view.self in
     let fewer : length c.loop-view.views.keys ≡ suc (length c.pop_first.new.self.keys) = ap length is in
-    let same = ap (λ f. f.next_id) stands in
-    (visit_more (attempting c.args.now) c.args.new.keys c.args.self.now c.loop-view.views.keys c.loop-view.self c.loop-view.outs.items c.in-Some.view c.pop_first.new.self.keys c.attempt_at.new.self c.attempt_at.new.outs.items c.loop-view.invariant.0 is stands wanted,
-     omega (arith, drawn, same, fewer, c.loop-view.invariant.1))
+    let same = ap (λ f. f.next_id) stands in (
+      visit_more (attempting c.args.now) c.args.new.keys c.args.self.now c.loop-view.views.keys c.loop-view.self c.loop-view.outs.items c.in-Some.view c.pop_first.new.self.keys c.attempt_at.new.self c.attempt_at.new.outs.items c.loop-view.invariant.0 is stands wanted,
+      omega (arith, drawn, same, fewer, c.loop-view.invariant.1),
+    )
 
 pub returns-clause-fetcher : goal.returns-clause-fetcher
 returns-clause-fetcher c =
