@@ -104,7 +104,7 @@ asking now view entry fetcher (Some peer) =
     let asked = record entry { attempts = entry.attempts + 1; state = Asked fetcher.next_id peer (now + fetcher.config.fetch_timeout) } in
     record {
       fetcher = record (keeping view asked fetcher) { next_id = fetcher.next_id + 1 };
-      outs = out.Send peer view (message_bytes fetcher.next_id (body.Request view)) ∷ [];
+      outs = out.Send peer (message_bytes fetcher.next_id (body.Request view)) ∷ [];
     }
 
 -- the next attempt of the view, with this entry
@@ -200,7 +200,7 @@ retained retire fetcher =
 -- a peer's request is to be answered, under a number of the second count
 unfoldable pub requested : ℕ → ℕ → ℕ → Machine → After
 requested sender id view fetcher = record {
-  fetcher = record fetcher { serving = insert_entry nat_cmp fetcher.serving fetcher.next_serve (record { sender = sender; request = id; view = view }); next_serve = fetcher.next_serve + 1 };
+  fetcher = record fetcher { serving = insert_entry nat_cmp fetcher.serving fetcher.next_serve (record { sender = sender; request = id }); next_serve = fetcher.next_serve + 1 };
   outs = out.Produce fetcher.next_serve view ∷ [];
 }
 
@@ -298,7 +298,7 @@ answer_body (Some bytes) = body.Response bytes
 -- the answer to a request, with the number that the request has
 unfoldable pub served_as : Option (List ℕ) → Option Serving → List Out
 served_as bytes None = []
-served_as bytes (Some serving) = out.Send serving.sender serving.view (message_bytes serving.request (answer_body bytes)) ∷ []
+served_as bytes (Some serving) = out.Send serving.sender (message_bytes serving.request (answer_body bytes)) ∷ []
 
 -- a request is answered once
 unfoldable pub served : ℕ → Option (List ℕ) → Machine → After

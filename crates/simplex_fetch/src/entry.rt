@@ -5,7 +5,7 @@ ghost use Rattle.simplex_fetch.specs.Fetcher.{without, delivered_of};
 ghost use Rattle.simplex_fetch.specs.Views.{deadline_of, id_of, is_asked_as, is_judged_as};
 
 use crate::arrivals::Arrivals;
-use simplex_types::{Ask, Participant, Sequence, View};
+use simplex_types::{Ask, Participant, Sequence};
 
 /// Where a view stands.
 #[derive(Debug, Drop)]
@@ -99,5 +99,4 @@ pub(crate) struct Serving {
     pub(crate) sender: Participant,
     /// The request's own number.
     pub(crate) request: u64,
-    pub(crate) view: View,
 }

@@ -125,11 +125,7 @@ impl Fetcher {
         };
         self.next_id += 1;
         self.views.put(view, asked)?;
-        outs.push(Out::Send {
-            to: peer,
-            view: View(view),
-            bytes,
-        })?;
+        outs.push(Out::Send { to: peer, bytes })?;
         Ok(())
     }
 
@@ -396,15 +392,8 @@ impl Fetcher {
         ensures outs { IfOk result (λ outs. outs.items ≡ (requested sender request view self.old).outs) }
     {
         let id = self.next_serve;
-        let out = Out::Produce {
-            id,
-            view: View(view.0),
-        };
-        let serving = Serving {
-            sender,
-            request,
-            view,
-        };
+        let out = Out::Produce { id, view };
+        let serving = Serving { sender, request };
         self.serving.insert(id, serving)?;
         self.next_serve += 1;
         only(alloc, out)
@@ -537,7 +526,6 @@ impl Fetcher {
             alloc,
             Out::Send {
                 to: serving.sender,
-                view: serving.view,
                 bytes,
             },
         )

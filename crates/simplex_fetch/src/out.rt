@@ -4,10 +4,9 @@ use simplex_types::{Ask, Bytes, Participant, Sequence, View};
 /// Something that is to be done after a call.
 #[derive(Debug, PartialEq, Eq, Drop)]
 pub enum Out {
-    /// The bytes are for the member. They are about the view.
+    /// The bytes are for the member.
     Send {
         to: Participant,
-        view: View,
         bytes: Bytes,
     },
     /// A peer answered. What becomes of the answer is to be told by `verdict`.

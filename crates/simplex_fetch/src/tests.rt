@@ -53,27 +53,47 @@ fn view_seven_is_asked_of_the_member_at_its_place(rt: HostRuntime) -> Result<(),
     Ok(())
 }
 
+/// Whom the first output blocks.
+fn first_blocked(outs: &[Out]) -> Option<u32> {
+    match outs.first()? {
+        Out::Block(member) => Some(member.0),
+        _ => None,
+    }
+}
+
+/// Which view the first output asks for, and under which number.
+fn first_produced(outs: &[Out]) -> Option<(u64, u64)> {
+    match outs.first()? {
+        Out::Produce { id, view } => Some((*id, view.0)),
+        _ => None,
+    }
+}
+
+/// The bytes of a request for view 7, with number 3.
+fn request(alloc: Global) -> Result<Vec<u8>, AllocError> {
+    let message = ResolverMessage {
+        id: 3,
+        body: ResolverBody::Request { view: View(7) },
+    };
+    message.encode(alloc)
+}
+
 #[test]
 fn bytes_that_are_no_message_block_their_sender(rt: HostRuntime) -> Result<(), AllocError> {
     let alloc = rt.alloc();
     let mut deaf = fetcher(alloc);
     let outs = deaf.hear(alloc, Participant(1), &[9], 0)?;
-    assert!(rt; matches!(outs.first(), Some(Out::Block(Participant(1)))));
-    let request = ResolverMessage {
-        id: 3,
-        body: ResolverBody::Request { view: View(7) },
-    };
+    assert_eq!(rt; first_blocked(&outs), Some(1));
+    Ok(())
+}
+
+#[test]
+fn a_request_is_served_once(rt: HostRuntime) -> Result<(), AllocError> {
+    let alloc = rt.alloc();
+    let bytes = request(alloc)?;
     let mut asked = fetcher(alloc);
-    let outs = asked.hear(alloc, Participant(1), &request.encode(alloc)?, 0)?;
-    assert!(rt;
-        matches!(
-            outs.first(),
-            Some(Out::Produce {
-                id: 0,
-                view: View(7)
-            })
-        )
-    );
+    let outs = asked.hear(alloc, Participant(1), &bytes, 0)?;
+    assert_eq!(rt; first_produced(&outs), Some((0, 7)));
     let outs = asked.serve(alloc, 0, None)?;
     assert_eq!(rt; first_peer(&outs), Some(1));
     assert_eq!(rt; asked.serve(alloc, 0, None)?.len(), 0);
