@@ -1,0 +1,10 @@
+pub mod Pairs
+pub mod Entries
+pub mod Indexing
+pub mod Deadlines
+pub mod Listed
+pub mod Reached
+pub mod Sums
+pub mod Taken
+pub mod Kept
+pub mod Visits

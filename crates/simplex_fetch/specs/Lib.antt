@@ -1,0 +1,5 @@
+pub mod Asks
+pub mod Retirement
+pub mod Views
+pub mod Index
+pub mod Fetcher

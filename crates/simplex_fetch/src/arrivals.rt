@@ -1,0 +1,157 @@
+//! The asks of a view, as they came.
+ghost use Rattle.std.specs.Prelude.{◌≡◌, [], filter, not, IfOk, OnOk, OnErr, length, ◌==◌};
+ghost use Rattle.std.specs.List.{list_any};
+ghost use Rattle.simplex_fetch.specs.Asks.{same_ask, same_arrival, holds_ask, asks_of, targets_of, is_targeted, with_arrival, without_asks, holds_member, with_target};
+ghost use Rattle.simplex_fetch.specs.Retirement.{retires};
+
+use crate::retire::Retire;
+use simplex_types::{Ask, Participant};
+use std::alloc::{AllocError, Global};
+use std::marker::Model;
+
+/// An ask as it came: with the member that it named, if it named one.
+#[derive(Clone, Copy, Debug, PartialEq, Eq)]
+pub(crate) struct Arrival {
+    pub(crate) ask: Ask,
+    pub(crate) target: Option<Participant>,
+}
+
+/// The asks of a view that are held, each as often as it came with another target, in the order in which
+/// they came.
+#[derive(Debug, Drop)]
+pub(crate) struct Arrivals {
+    items: Vec<Arrival>,
+}
+
+impl Model for Arrivals {
+    ghost use Rattle.std.specs.Prelude.{List};
+    ghost use Rattle.simplex_fetch.specs.declared.arrivals.Arrival.{Arrival};
+
+    ghost Value = { List Arrival };
+
+    ghost view = { λ arrivals. arrivals.items.items };
+}
+
+/// Whether the two ask for the same.
+pub(crate) fn is_same_ask(one: &Ask, other: &Ask) -> bool
+    ensures { result ≡ same_ask one.now other.now }
+{
+    one == other
+}
+
+/// Whether the ask is among these.
+pub(crate) fn holds_ask(asks: &[Ask], ask: &Ask) -> bool
+    ensures { result ≡ holds_ask asks.now ask.now }
+{
+    asks.iter().any(|held| is_same_ask(ask, held))
+}
+
+/// Whether the two are one ask with one target.
+fn is_same_arrival(one: &Arrival, other: &Arrival) -> bool
+    ensures { result ≡ same_arrival one.now other.now }
+{
+    is_same_ask(&one.ask, &other.ask) && one.target == other.target
+}
+
+/// Whether the member is among these.
+fn holds_member(members: &[Participant], member: &Participant) -> bool
+    ensures { result ≡ holds_member members.now member.now }
+{
+    members.iter().any(|named| named.0 == member.0)
+}
+
+/// One more member, where one is named that is not among them.
+fn add_target(members: &mut Vec<Participant>, target: Option<Participant>) -> Result<(), AllocError>
+    ensures { OnOk result (members.new.items ≡ with_target members.old.items target) }
+{
+    if let Some(member) = target
+        && !holds_member(members, &member)
+    {
+        members.push(member)?;
+    }
+    Ok(())
+}
+
+impl Arrivals {
+    /// No asks.
+    pub(crate) fn new(alloc: Global) -> Arrivals
+        ensures { result ≡ [] }
+    {
+        Arrivals {
+            items: Vec::new(alloc),
+        }
+    }
+
+    /// One more ask, unless it came before with the same target.
+    pub(crate) fn add(&mut self, ask: Ask, target: Option<Participant>) -> Result<(), AllocError>
+        ensures ok { OnOk result (self.new ≡ with_arrival (record { ask = ask; target = target }) self.old) }
+        ensures err { OnErr result (self.new ≡ self.old) }
+    {
+        let arrival = Arrival { ask, target };
+        if !self.holds(&arrival) {
+            self.items.push(arrival)?;
+        }
+        Ok(())
+    }
+
+    /// Whether this ask came before with the same target.
+    fn holds(&self, arrival: &Arrival) -> bool
+        ensures { result ≡ list_any (same_arrival arrival.now) self.now }
+    {
+        self.items.iter().any(|held| is_same_arrival(arrival, held))
+    }
+
+    /// Whether none is left.
+    pub(crate) fn is_empty(&self) -> bool
+        ensures { result ≡ (length self.now == 0) }
+    {
+        self.items.is_empty()
+    }
+
+    /// Whether each ask named a member.
+    pub(crate) fn is_targeted(&self) -> bool
+        ensures { result ≡ is_targeted self.now }
+    {
+        self.items.iter().all(|arrival| arrival.target.is_some())
+    }
+
+    /// The asks, each once, in the order in which they came.
+    #[tactic(auto, unfolding(crate::specs::Asks::asks_behind))]
+    pub(crate) fn asks(&self, alloc: Global) -> Result<Vec<Ask>, AllocError>
+        ensures { IfOk result (λ asks. asks.items ≡ asks_of self.now) }
+    {
+        let mut asks = Vec::new(alloc);
+        for arrival in &self.items {
+            if !holds_ask(&asks, &arrival.ask) {
+                asks.push(arrival.ask)?;
+            }
+        }
+        Ok(asks)
+    }
+
+    /// The members that the asks name, each once, in the order in which they came.
+    #[tactic(auto, unfolding(crate::specs::Asks::targets_behind))]
+    pub(crate) fn targets(&self, alloc: Global) -> Result<Vec<Participant>, AllocError>
+        ensures { IfOk result (λ targets. targets.items ≡ targets_of self.now) }
+    {
+        let mut targets: Vec<Participant> = Vec::new(alloc);
+        for arrival in &self.items {
+            add_target(&mut targets, arrival.target)?;
+        }
+        Ok(targets)
+    }
+
+    /// Drops these asks.
+    pub(crate) fn drop_asks(&mut self, done: &[Ask])
+        ensures { self.new ≡ without_asks (holds_ask done.now) self.old }
+    {
+        self.items.retain(|arrival| !holds_ask(done, &arrival.ask));
+    }
+
+    /// Drops the asks that are done with.
+    pub(crate) fn retire(&mut self, retire: &Retire)
+        ensures { self.new ≡ without_asks (retires retire.now) self.old }
+    {
+        self.items.retain(|arrival| !retire.retires(&arrival.ask));
+    }
+}

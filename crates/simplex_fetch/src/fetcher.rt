@@ -1,0 +1,646 @@
+//! The fetcher.
+ghost use Rattle.std.specs.Prelude.{◌≡◌, ◌<◌, ◌≤◌, ◌+◌, ◌^◌, ◌++◌, ◌∷◌, ◌%◌, [], map, IfOk, OnOk, OnErr, None, Some, length, not};
+ghost use Rattle.std.specs.Option.{option_map, is_some};
+ghost use Rattle.std.specs.List.{All};
+ghost use Rattle.simplex_values.specs.declared.ask.Outcome.{Outcome};
+ghost use Rattle.simplex_fetch.specs.declared.arrivals.Arrival.{Arrival};
+ghost use Rattle.simplex_fetch.specs.Views.{entry_at, asked_view, next_deadline};
+ghost use Rattle.simplex_fetch.specs.Index.{IsFree};
+ghost use Rattle.simplex_fetch.specs.Fetcher.{no_fetches, attempted, attempting, expiring, retiring, peer_of, retrying, of_all, of_target, fetched, noting, adding, attempted_at, retained, retired_at, kept_or_left, heard, heard_body, requested, answered, refused, judged, judged_as, asked_on, served, expired, expired_at, message_bytes, visited, is_done, blocked_by, answer_body, keeping, in_state, cyclic, other_at, IsSoundConfig, IsSoundEntry};
+ghost use Rattle.simplex_fetch.specs.declared.entry.State.TheVariants.{Waiting};
+
+use crate::arrivals::Arrivals;
+use crate::config::{Fetch, FetchConfig};
+use crate::entry::{Entry, Serving, State};
+use crate::out::Out;
+use crate::retire::Retire;
+use crate::views::Views;
+use simplex_types::{
+    Bytes, DecodeError, Keep, Outcome, Participant, Resolution, ResolverBody, ResolverMessage,
+    Sequence, View,
+};
+use std::alloc::{AllocError, Global};
+use std::collections::{BTreeMap, BTreeSet};
+use std::marker::Model;
+
+/// What a member asks its peers for, and what they ask it for.
+///
+/// After an answer other than Ok a fetcher may only be dropped.
+#[derive(Drop)]
+pub struct Fetcher {
+    config: FetchConfig,
+    views: Views,
+    next_id: u64,
+    serving: BTreeMap<u64, Serving>,
+    next_serve: u64,
+}
+
+impl Model for Fetcher {
+    ghost use Rattle.simplex_fetch.specs.Fetcher.{Machine};
+
+    ghost Value = { Machine };
+
+    ghost view = { λ f. record { config = f.config; views = f.views; next_id = f.next_id; serving = f.serving.entries; next_serve = f.next_serve } };
+
+    ghost use Rattle.simplex_fetch.specs.Fetcher.{IsSound};
+
+    ghost invariant = { λ f. IsSound f.config f.next_id f.views };
+}
+
+impl Fetcher {
+    #[tactic(auto, unfolding(crate::specs::Views::entry_at))]
+    /// A fetcher that nothing was asked of.
+    pub fn new(alloc: Global, config: FetchConfig) -> Fetcher
+        requires { IsSoundConfig config }
+        ensures { result ≡ no_fetches config }
+    {
+        Fetcher {
+            config,
+            views: Views::new(alloc),
+            next_id: 0,
+            serving: BTreeMap::new(alloc),
+            next_serve: 0,
+        }
+    }
+
+    #[tactic(auto, unfolding(crate::specs::Fetcher::peer_of))]
+    /// Whom the next attempt of the view asks.
+    fn peer_of(
+        &self,
+        alloc: Global,
+        view: u64,
+        entry: &Entry,
+    ) -> Result<Option<Participant>, AllocError>
+        ensures { IfOk result (λ peer. peer ≡ peer_of self.now.config view entry.now) }
+    {
+        if self.config.n == 1 {
+            return Ok(None);
+        }
+        if entry.arrivals.is_targeted() {
+            let targets = entry.arrivals.targets(alloc)?;
+            return Ok(cyclic(&targets, entry.attempts));
+        }
+        let others = self.config.n - 1;
+        let place = sum_modulo(view, entry.attempts, others);
+        Ok(Some(other_at(&self.config.me, place)))
+    }
+
+    #[tactic(auto, unfolding(crate::specs::Fetcher::attempted, crate::specs::Fetcher::asking))]
+    /// The next attempt of the view, with this entry, which was taken out.
+    fn attempt(
+        &mut self,
+        alloc: Global,
+        view: u64,
+        entry: Entry,
+        now: u64,
+        outs: &mut Vec<Out>,
+    ) -> Result<(), AllocError>
+        requires absent { entry_at self.old.views view ≡ None }
+        requires sound { IsSoundEntry self.old.next_id entry }
+        requires early { now < 2 ^ 63 }
+        requires ids { self.old.next_id + 1 < 2 ^ 64 }
+        ensures fetcher { OnOk result (self.new ≡ (attempted now view entry self.old).fetcher) }
+        ensures outs { OnOk result (outs.new.items ≡ outs.old.items ++ (attempted now view entry self.old).outs) }
+    {
+        let Some(peer) = self.peer_of(alloc, view, &entry)? else {
+            return self.wait(view, entry, None);
+        };
+        let id = self.next_id;
+        let body = ResolverBody::Request { view: View(view) };
+        let bytes = message_bytes(alloc, id, body)?;
+        let state = State::Asked {
+            id,
+            peer,
+            deadline: now + self.config.fetch_timeout,
+        };
+        let Entry {
+            arrivals,
+            attempts,
+            state: _,
+        } = entry;
+        let asked = Entry {
+            arrivals,
+            attempts: attempts + 1,
+            state,
+        };
+        self.next_id += 1;
+        self.views.put(view, asked)?;
+        outs.push(Out::Send { to: peer, bytes })?;
+        Ok(())
+    }
+
+    /// The next attempt of the view as it stands.
+    #[tactic(auto, unfolding(crate::specs::Fetcher::attempting, crate::specs::Fetcher::attempted_at))]
+    fn attempt_at(
+        &mut self,
+        alloc: Global,
+        view: u64,
+        now: u64,
+        outs: &mut Vec<Out>,
+    ) -> Result<(), AllocError>
+        requires early { now < 2 ^ 63 }
+        requires ids { self.old.next_id + 1 < 2 ^ 64 }
+        ensures fetcher { OnOk result (self.new ≡ (attempting now view self.old).fetcher) }
+        ensures outs { OnOk result (outs.new.items ≡ outs.old.items ++ (attempting now view self.old).outs) }
+    {
+        match self.views.take(view) {
+            None => Ok(()),
+            Some(entry) => self.attempt(alloc, view, entry, now, outs),
+        }
+    }
+
+    /// The view as it stands, whose deadline is reached.
+    #[tactic(auto, unfolding(crate::specs::Fetcher::expiring, crate::specs::Fetcher::expired_at, crate::specs::Fetcher::expired_as))]
+    fn expire_at(
+        &mut self,
+        alloc: Global,
+        view: u64,
+        now: u64,
+        outs: &mut Vec<Out>,
+    ) -> Result<(), AllocError>
+        requires early { now < 2 ^ 63 }
+        requires ids { self.old.next_id + 1 < 2 ^ 64 }
+        ensures fetcher { OnOk result (self.new ≡ (expiring now view self.old).fetcher) }
+        ensures outs { OnOk result (outs.new.items ≡ outs.old.items ++ (expiring now view self.old).outs) }
+    {
+        let Some(entry) = self.views.take(view) else {
+            return Ok(());
+        };
+        match &entry.state {
+            State::Asked { .. } => self.retry(view, entry, now),
+            State::Waiting { .. } => self.attempt(alloc, view, entry, now, outs),
+            State::Judged { .. } => self.views.put(view, entry),
+        }
+    }
+
+    /// The view as it stands without its asks that are done with.
+    #[tactic(auto, unfolding(crate::specs::Fetcher::retiring, crate::specs::Fetcher::retired_at, crate::specs::Fetcher::kept_or_left))]
+    fn retire_at(
+        &mut self,
+        view: u64,
+        retire: &Retire,
+        outs: &mut Vec<Out>,
+    ) -> Result<(), AllocError>
+        ensures fetcher { OnOk result (self.new ≡ (retiring retire.now view self.old).fetcher) }
+        ensures outs { OnOk result (outs.new.items ≡ outs.old.items ++ (retiring retire.now view self.old).outs) }
+    {
+        let Some(mut entry) = self.views.take(view) else {
+            return Ok(());
+        };
+        entry.arrivals.retire(retire);
+        if !entry.arrivals.is_empty() {
+            return self.views.put(view, entry);
+        }
+        if let State::Judged { id, .. } = &entry.state {
+            outs.push(Out::Left { id: *id })?;
+        }
+        Ok(())
+    }
+
+    /// The view, with this entry, which was taken out, waits.
+    fn wait(&mut self, view: u64, entry: Entry, until: Option<u64>) -> Result<(), AllocError>
+        requires absent { entry_at self.old.views view ≡ None }
+        requires sound { IsSoundEntry self.old.next_id entry }
+        ensures { OnOk result (self.new ≡ keeping view (in_state (Waiting until) entry) self.old) }
+    {
+        let mut entry = entry;
+        entry.state = State::Waiting { until };
+        self.views.put(view, entry)
+    }
+
+    #[tactic(auto, unfolding(crate::specs::Fetcher::retrying))]
+    /// The view, with this entry, which was taken out, waits the retry delay.
+    fn retry(&mut self, view: u64, entry: Entry, now: u64) -> Result<(), AllocError>
+        requires absent { entry_at self.old.views view ≡ None }
+        requires sound { IsSoundEntry self.old.next_id entry }
+        requires early { now < 2 ^ 63 }
+        ensures { OnOk result (self.new ≡ retrying now view entry self.old) }
+    {
+        let until = now + self.config.fetch_retry_delay;
+        self.wait(view, entry, Some(until))
+    }
+
+    /// One more ask of the view, of this member alone where one is named. A view that was not asked for is new.
+    #[tactic(auto, unfolding(crate::specs::Fetcher::adding, crate::specs::Fetcher::noting))]
+    fn add(
+        &mut self,
+        alloc: Global,
+        fetch: &Fetch,
+        target: Option<Participant>,
+        new: &mut BTreeSet<u64>,
+    ) -> Result<(), AllocError>
+        ensures fetcher { OnOk result (self.new ≡ adding (record { view = fetch.now.view; arrival = record { ask = fetch.now.ask; target = target } }) self.old) }
+        ensures ids { OnOk result (self.new.next_id ≡ self.old.next_id) }
+        ensures new { OnOk result (new.new.keys ≡ noting (record { view = fetch.now.view; arrival = record { ask = fetch.now.ask; target = target } }) self.old new.old.keys) }
+    {
+        let view = fetch.view.0;
+        let ask = fetch.ask;
+        let mut entry = match self.views.take(view) {
+            Some(entry) => entry,
+            None => {
+                new.insert(view)?;
+                Entry {
+                    arrivals: Arrivals::new(alloc),
+                    attempts: 0,
+                    state: State::Waiting { until: None },
+                }
+            }
+        };
+        entry.arrivals.add(ask, target)?;
+        self.views.put(view, entry)
+    }
+
+    /// The next attempts of the new views.
+    fn start(&mut self, alloc: Global, new: BTreeSet<u64>, now: u64) -> Result<Vec<Out>, AllocError>
+        requires early { now < 2 ^ 63 }
+        requires ids { self.old.next_id < 2 ^ 62 }
+        ensures fetcher { OnOk result (self.new ≡ (visited (attempting now) new.keys self.old).fetcher) }
+        ensures outs { IfOk result (λ outs. outs.items ≡ (visited (attempting now) new.keys self.old).outs) }
+    {
+        let mut views = new;
+        let mut outs = Vec::with_capacity(alloc, views.len())?;
+        while let Some(view) = views.pop_first() {
+            self.attempt_at(alloc, view, now, &mut outs)?;
+        }
+        Ok(outs)
+    }
+
+    #[tactic(auto, unfolding(crate::specs::Fetcher::fetched_beside))]
+    /// Asks for what is wanted of the view.
+    pub fn fetch(&mut self, alloc: Global, fetch: Fetch, now: u64) -> Result<Vec<Out>, AllocError>
+        requires early { now < 2 ^ 63 }
+        requires ids { self.old.next_id < 2 ^ 62 }
+        ensures fetcher { OnOk result (self.new ≡ (fetched (of_all fetch ∷ []) now self.old).fetcher) }
+        ensures outs { IfOk result (λ outs. outs.items ≡ (fetched (of_all fetch ∷ []) now self.old).outs) }
+    {
+        let mut new = BTreeSet::new(alloc);
+        self.add(alloc, &fetch, None, &mut new)?;
+        self.start(alloc, new, now)
+    }
+
+    #[tactic(auto, unfolding(crate::specs::Fetcher::fetched_beside))]
+    /// Asks for what is wanted of the view, this member alone.
+    pub fn fetch_targeted(
+        &mut self,
+        alloc: Global,
+        fetch: Fetch,
+        target: Participant,
+        now: u64,
+    ) -> Result<Vec<Out>, AllocError>
+        requires early { now < 2 ^ 63 }
+        requires ids { self.old.next_id < 2 ^ 62 }
+        ensures fetcher { OnOk result (self.new ≡ (fetched (of_target fetch target ∷ []) now self.old).fetcher) }
+        ensures outs { IfOk result (λ outs. outs.items ≡ (fetched (of_target fetch target ∷ []) now self.old).outs) }
+    {
+        let mut new = BTreeSet::new(alloc);
+        self.add(alloc, &fetch, Some(target), &mut new)?;
+        self.start(alloc, new, now)
+    }
+
+    #[tactic(auto, unfolding(crate::specs::Fetcher::fetched_beside))]
+    /// Asks for all that is wanted.
+    pub fn fetch_all(
+        &mut self,
+        alloc: Global,
+        fetches: Vec<Fetch>,
+        now: u64,
+    ) -> Result<Vec<Out>, AllocError>
+        requires early { now < 2 ^ 63 }
+        requires ids { self.old.next_id < 2 ^ 62 }
+        ensures fetcher { OnOk result (self.new ≡ (fetched (map of_all fetches.items) now self.old).fetcher) }
+        ensures outs { IfOk result (λ outs. outs.items ≡ (fetched (map of_all fetches.items) now self.old).outs) }
+    {
+        let mut new = BTreeSet::new(alloc);
+        for fetch in &fetches {
+            self.add(alloc, fetch, None, &mut new)?;
+        }
+        self.start(alloc, new, now)
+    }
+
+    /// Drops the asks that are done with. A view without asks is forgotten.
+    #[tactic(auto, unfolding(crate::specs::Fetcher::retained))]
+    pub fn retain(&mut self, alloc: Global, retire: &Retire) -> Result<Vec<Out>, AllocError>
+        ensures fetcher { OnOk result (self.new ≡ (retained retire.now self.old).fetcher) }
+        ensures outs { IfOk result (λ outs. outs.items ≡ (retained retire.now self.old).outs) }
+    {
+        let (first, last) = retire.reach();
+        let views = self.views.between(alloc, first, last)?;
+        let mut outs = Vec::new(alloc);
+        for view in &views {
+            self.retire_at(*view, retire, &mut outs)?;
+        }
+        Ok(outs)
+    }
+
+    #[tactic(auto, unfolding(crate::specs::Fetcher::heard, crate::specs::Fetcher::heard_message))]
+    /// Bytes of a peer.
+    pub fn hear(
+        &mut self,
+        alloc: Global,
+        sender: Participant,
+        bytes: &[u8],
+        now: u64,
+    ) -> Result<Vec<Out>, AllocError>
+        requires early { now < 2 ^ 63 }
+        requires serves { self.old.next_serve < 2 ^ 62 }
+        ensures fetcher { OnOk result (self.new ≡ (heard sender bytes.now now self.old).fetcher) }
+        ensures outs { IfOk result (λ outs. outs.items ≡ (heard sender bytes.now now self.old).outs) }
+    {
+        match ResolverMessage::decode(alloc, bytes) {
+            Ok(message) => self.hear_message(alloc, sender, message, now),
+            Err(DecodeError::Fault { .. }) => only(alloc, Out::Block(sender)),
+            Err(DecodeError::Memory) => Err(AllocError),
+        }
+    }
+
+    /// A message of a peer.
+    #[tactic(auto, unfolding(crate::specs::Fetcher::heard_body))]
+    fn hear_message(
+        &mut self,
+        alloc: Global,
+        sender: Participant,
+        message: ResolverMessage,
+        now: u64,
+    ) -> Result<Vec<Out>, AllocError>
+        requires early { now < 2 ^ 63 }
+        requires serves { self.old.next_serve < 2 ^ 62 }
+        ensures fetcher { OnOk result (self.new ≡ (heard_body sender message.id now self.old message.body).fetcher) }
+        ensures outs { IfOk result (λ outs. outs.items ≡ (heard_body sender message.id now self.old message.body).outs) }
+    {
+        let ResolverMessage { id, body } = message;
+        match body {
+            ResolverBody::Request { view } => self.hear_request(alloc, sender, id, view),
+            ResolverBody::Response { bytes } => self.hear_response(alloc, &sender, id, bytes),
+            ResolverBody::Error => {
+                self.hear_error(&sender, id, now)?;
+                Ok(Vec::new(alloc))
+            }
+        }
+    }
+
+    /// A peer's request is to be answered.
+    #[tactic(auto, unfolding(crate::specs::Fetcher::requested))]
+    fn hear_request(
+        &mut self,
+        alloc: Global,
+        sender: Participant,
+        request: u64,
+        view: View,
+    ) -> Result<Vec<Out>, AllocError>
+        requires serves { self.old.next_serve < 2 ^ 62 }
+        ensures fetcher { OnOk result (self.new ≡ (requested sender request view self.old).fetcher) }
+        ensures outs { IfOk result (λ outs. outs.items ≡ (requested sender request view self.old).outs) }
+    {
+        let id = self.next_serve;
+        let out = Out::Produce { id, view };
+        let serving = Serving { sender, request };
+        self.serving.insert(id, serving)?;
+        self.next_serve += 1;
+        only(alloc, out)
+    }
+
+    #[tactic(auto, unfolding(crate::specs::Fetcher::answered, crate::specs::Fetcher::delivered))]
+    /// An answer is delivered, where it was asked for.
+    fn hear_response(
+        &mut self,
+        alloc: Global,
+        sender: &Participant,
+        id: u64,
+        bytes: Bytes,
+    ) -> Result<Vec<Out>, AllocError>
+        ensures fetcher { OnOk result (self.new ≡ (answered sender.now id bytes self.old (asked_view id sender.now self.old.views)).fetcher) }
+        ensures outs { IfOk result (λ outs. outs.items ≡ (answered sender.now id bytes self.old (asked_view id sender.now self.old.views)).outs) }
+    {
+        let Some(view) = self.views.asked_view(id, sender) else {
+            return Ok(Vec::new(alloc));
+        };
+        let Some(mut entry) = self.views.take(view) else {
+            return Ok(Vec::new(alloc));
+        };
+        let asks = Sequence::from_vec(entry.arrivals.asks(alloc)?);
+        let delivered = asks.keep(alloc)?;
+        entry.state = State::Judged {
+            id,
+            peer: *sender,
+            delivered,
+        };
+        self.views.put(view, entry)?;
+        only(
+            alloc,
+            Out::Deliver {
+                id,
+                view: View(view),
+                bytes,
+                asks,
+            },
+        )
+    }
+
+    #[tactic(auto, unfolding(crate::specs::Fetcher::refused, crate::specs::Fetcher::retried))]
+    /// An error of a peer, which has no answer.
+    fn hear_error(&mut self, sender: &Participant, id: u64, now: u64) -> Result<(), AllocError>
+        requires early { now < 2 ^ 63 }
+        ensures { OnOk result (self.new ≡ refused now self.old (asked_view id sender.now self.old.views)) }
+    {
+        let Some(view) = self.views.asked_view(id, sender) else {
+            return Ok(());
+        };
+        match self.views.take(view) {
+            Some(entry) => self.retry(view, entry, now),
+            None => Ok(()),
+        }
+    }
+
+    #[tactic(auto, unfolding(crate::specs::Fetcher::judged, crate::specs::Fetcher::judged_at, crate::specs::Fetcher::judged_entry))]
+    /// What became of the answer that was delivered under this number.
+    pub fn verdict(
+        &mut self,
+        alloc: Global,
+        id: u64,
+        verdict: Option<Outcome>,
+        now: u64,
+    ) -> Result<Vec<Out>, AllocError>
+        requires early { now < 2 ^ 63 }
+        requires ids { self.old.next_id < 2 ^ 62 }
+        ensures fetcher { OnOk result (self.new ≡ (judged id verdict now self.old).fetcher) }
+        ensures outs { IfOk result (λ outs. outs.items ≡ (judged id verdict now self.old).outs) }
+    {
+        let mut outs = Vec::new(alloc);
+        let Some(view) = self.views.judged_view(id) else {
+            return Ok(outs);
+        };
+        let Some(entry) = self.views.take(view) else {
+            return Ok(outs);
+        };
+        self.judge(alloc, view, entry, &verdict, now, &mut outs)?;
+        Ok(outs)
+    }
+
+    /// The view, with this entry, which was taken out, after the verdict.
+    #[tactic(auto, unfolding(crate::specs::Fetcher::judged_as, crate::specs::Fetcher::asked_on), using(crate::proofs::Taken::without_absent))]
+    fn judge(
+        &mut self,
+        alloc: Global,
+        view: u64,
+        entry: Entry,
+        verdict: &Option<Outcome>,
+        now: u64,
+        outs: &mut Vec<Out>,
+    ) -> Result<(), AllocError>
+        requires absent { entry_at self.old.views view ≡ None }
+        requires sound { IsSoundEntry self.old.next_id entry }
+        requires early { now < 2 ^ 63 }
+        requires ids { self.old.next_id < 2 ^ 62 }
+        ensures fetcher { OnOk result (self.new ≡ (judged_as verdict.now now view entry self.old).fetcher) }
+        ensures outs { OnOk result (outs.new.items ≡ outs.old.items ++ (judged_as verdict.now now view entry self.old).outs) }
+    {
+        let mut entry = entry;
+        if is_done(verdict) {
+            entry.drop_delivered();
+            if entry.arrivals.is_empty() {
+                return Ok(());
+            }
+            return self.attempt(alloc, view, entry, now, outs);
+        }
+        block_judged(verdict, &entry.state, outs)?;
+        self.retry(view, entry, now)
+    }
+
+    /// The answer to a peer's request: a certificate's bytes, or that there is none.
+    #[tactic(auto, unfolding(crate::specs::Fetcher::served, crate::specs::Fetcher::served_as))]
+    pub fn serve(
+        &mut self,
+        alloc: Global,
+        id: u64,
+        bytes: Option<Vec<u8>>,
+    ) -> Result<Vec<Out>, AllocError>
+        ensures fetcher { OnOk result (self.new ≡ (served id (option_map (λ vector. vector.items) bytes) self.old).fetcher) }
+        ensures outs { IfOk result (λ outs. outs.items ≡ (served id (option_map (λ vector. vector.items) bytes) self.old).outs) }
+    {
+        let Some(serving) = self.serving.remove(&id) else {
+            return Ok(Vec::new(alloc));
+        };
+        let body = answer_body(bytes);
+        let bytes = message_bytes(alloc, serving.request, body)?;
+        only(
+            alloc,
+            Out::Send {
+                to: serving.sender,
+                bytes,
+            },
+        )
+    }
+
+    /// When `expire` is to be called next.
+    pub fn next_deadline(&self) -> Option<u64>
+        ensures { result ≡ next_deadline self.now.views }
+    {
+        self.views.next_deadline()
+    }
+
+    /// Each view whose deadline is reached waits, or makes its next attempt.
+    #[tactic(auto, unfolding(crate::specs::Fetcher::expired))]
+    pub fn expire(&mut self, alloc: Global, now: u64) -> Result<Vec<Out>, AllocError>
+        requires early { now < 2 ^ 63 }
+        requires ids { self.old.next_id < 2 ^ 62 }
+        ensures fetcher { OnOk result (self.new ≡ (expired now self.old).fetcher) }
+        ensures outs { IfOk result (λ outs. outs.items ≡ (expired now self.old).outs) }
+    {
+        let mut views = self.views.due(alloc, now)?;
+        let mut outs = Vec::with_capacity(alloc, views.len())?;
+        while let Some(view) = views.pop_first() {
+            self.expire_at(alloc, view, now, &mut outs)?;
+        }
+        Ok(outs)
+    }
+}
+
+/// This alone.
+fn only(alloc: Global, out: Out) -> Result<Vec<Out>, AllocError>
+    ensures { IfOk result (λ outs. outs.items ≡ out ∷ []) }
+{
+    let mut outs = Vec::new(alloc);
+    outs.push(out)?;
+    Ok(outs)
+}
+
+/// Whether the delivered asks are done with.
+fn is_done(verdict: &Option<Outcome>) -> bool
+    ensures { result ≡ is_done verdict.now }
+{
+    match verdict {
+        None | Some(Outcome::Ignored) | Some(Outcome::Resolved(Resolution::Complete)) => true,
+        Some(Outcome::Invalid)
+        | Some(Outcome::Unresolved)
+        | Some(Outcome::Resolved(Resolution::Partial)) => false,
+    }
+}
+
+/// A peer whose answer is no valid one is blocked.
+fn block_judged(
+    verdict: &Option<Outcome>,
+    state: &State,
+    outs: &mut Vec<Out>,
+) -> Result<(), AllocError>
+    ensures { OnOk result (outs.new.items ≡ outs.old.items ++ blocked_by verdict.now state.now) }
+{
+    if let (Some(Outcome::Invalid), State::Judged { peer, .. }) = (verdict, state) {
+        outs.push(Out::Block(*peer))?;
+    }
+    Ok(())
+}
+
+/// The body of an answer.
+fn answer_body(bytes: Option<Vec<u8>>) -> ResolverBody
+    ensures { result ≡ answer_body (option_map (λ vector. vector.items) bytes) }
+{
+    match bytes {
+        Some(bytes) => ResolverBody::Response {
+            bytes: Sequence::from_vec(bytes),
+        },
+        None => ResolverBody::Error,
+    }
+}
+
+#[tactic(auto, unfolding(crate::specs::Fetcher::message_bytes))]
+/// The bytes of a request or an answer.
+fn message_bytes(alloc: Global, id: u64, body: ResolverBody) -> Result<Bytes, AllocError>
+    ensures { IfOk result (λ bytes. bytes ≡ message_bytes id body) }
+{
+    let message = ResolverMessage { id, body };
+    let bytes = message.encode(alloc)?;
+    Ok(Sequence::from_vec(bytes))
+}
+
+/// An item of the list, which goes round.
+fn cyclic(list: &[Participant], place: u64) -> Option<Participant>
+    ensures { result ≡ cyclic list.now place }
+{
+    if list.is_empty() {
+        return None;
+    }
+    let at = place % list.len() as u64;
+    list.get(at as usize).copied()
+}
+
+/// The member at this place among the members other than `me`.
+fn other_at(me: &Participant, place: u32) -> Participant
+    requires { place + 1 < 2 ^ 32 }
+    ensures { result ≡ other_at me.now place }
+{
+    if place < me.0 {
+        Participant(place)
+    } else {
+        Participant(place + 1)
+    }
+}
+
+#[tactic(auto, using(crate::proofs::Sums::sum_modulo))]
+/// The sum modulo a number, also where the sum has no room.
+fn sum_modulo(a: u64, b: u64, n: u32) -> u32
+    requires { 0 < n }
+    ensures { result ≡ (a + b) % n }
+{
+    let n = u64::from(n);
+    ((a % n + b % n) % n) as u32
+}
