@@ -1,5 +1,7 @@
 pub mod Facts
 pub mod Pairs
+pub mod Waiting
+pub mod Opening
 pub mod Quiet
 pub mod Sound
 pub mod Moves

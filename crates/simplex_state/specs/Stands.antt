@@ -45,6 +45,7 @@ pub record IsMadeWith (settings : Settings) (made : Made) : Type 0 where
   pub retention : settings.view_retention ≡ made.retention
   pub handoff : settings.handoff ≡ made.handoff
   pub some_length : 0 < made.term_length
+  pub some_retention : 0 < made.retention
   pub leader_limit : made.leader_timeout ≤ 2 ^ 62
   pub certification_limit : made.certification_timeout ≤ 2 ^ 62
   pub retry_limit : made.timeout_retry ≤ 2 ^ 62

@@ -93,7 +93,7 @@ impl<S: Scheme + Drop, L: Elector + Drop> State<S, L> {
 
     /// Whether the parent is the view just before, and the member voted for it and did not give it up.
     #[tactic(auto, unfolding(crate::specs::Stands::StandsFor, crate::specs::Rounds::round_of, crate::specs::Rounds::slot_in, simplex_rules::specs::Slot::slot_of, simplex_rules::specs::Ancestry::is_met))]
-    fn is_met(&self, parent: View, view: View) -> bool
+    pub(crate) fn is_met(&self, parent: View, view: View) -> bool
         ensures { (made : Made) (known : List Fact) → Keeps S.attests L.elects self.now made known
             → (progress_of made known).pruned ≤ parent → result ≡ is_met known parent view }
     {

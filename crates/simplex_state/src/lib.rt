@@ -2,6 +2,7 @@
 #![tactic(auto)]
 
 mod ancestry;
+mod best;
 mod certificates;
 mod config;
 mod deadline;
@@ -17,6 +18,7 @@ mod sending;
 mod settings;
 mod state;
 mod verdicts;
+mod verifying;
 mod votes;
 
 pub use config::StateConfig;

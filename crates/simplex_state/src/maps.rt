@@ -1,7 +1,8 @@
 //! Maps and sets by view.
 #![tactic(auto, unfolding(crate::specs::Maps::found, crate::specs::Maps::has))]
 
-ghost use Rattle.std.specs.Prelude.{◌≡◌, ◌≤◌, ℕ, ◌==◌, ◌||◌, true, false, IfSome, IfNone, Some, None, if◌then◌else◌, OnOk};
+ghost use Rattle.std.specs.Prelude.{◌≡◌, ◌≤◌, ◌<◌, ℕ, ◌==◌, ◌||◌, true, false, IfSome, IfNone, Some, None, if◌then◌else◌, OnOk};
+ghost use Rattle.std.specs.Option.{is_some};
 ghost use Rattle.simplex_state.specs.Maps.{found, has};
 
 use std::alloc::{AllocError, Global};
@@ -81,6 +82,44 @@ pub(crate) fn last_up_to(views: &BTreeSet<u64>, view: u64) -> Option<u64>
 {
     match views.range(..=view).next_back() {
         Some(last) => Some(*last),
+        None => None,
+    }
+}
+
+/// The least view of the map from one to another.
+pub(crate) fn first_between<V>(values: &BTreeMap<u64, V>, first: u64, last: u64) -> Option<u64>
+    ensures bounds { IfSome result (λ view. (first ≤ view) × (view ≤ last)) }
+    ensures least { IfSome result (λ view. (q : ℕ) → first ≤ q → q < view → found values.now q ≡ None) }
+    ensures none { IfNone result ((q : ℕ) → first ≤ q → q ≤ last → found values.now q ≡ None) }
+{
+    let (view, _) = values.range(first..).next()?;
+    if *view > last {
+        return None;
+    }
+    Some(*view)
+}
+
+/// The greatest view of the map below one.
+pub(crate) fn last_below<V>(values: &BTreeMap<u64, V>, end: u64) -> Option<u64>
+    ensures bound { IfSome result (λ view. view < end) }
+    ensures member { IfSome result (λ view. is_some (found values.now view) ≡ true) }
+    ensures greatest { IfSome result (λ view. (q : ℕ) → q < end → is_some (found values.now q) ≡ true → q ≤ view) }
+    ensures none { IfNone result ((q : ℕ) → q < end → found values.now q ≡ None) }
+{
+    match values.range(..end).next_back() {
+        Some((view, _)) => Some(*view),
+        None => None,
+    }
+}
+
+/// The greatest view of the map.
+pub(crate) fn last_view<V>(values: &BTreeMap<u64, V>) -> Option<u64>
+    ensures member { IfSome result (λ view. is_some (found values.now view) ≡ true) }
+    ensures greatest { IfSome result (λ view. (q : ℕ) → is_some (found values.now q) ≡ true → q ≤ view) }
+    ensures none { IfNone result ((q : ℕ) → found values.now q ≡ None) }
+{
+    match values.last_key_value() {
+        Some((view, _)) => Some(*view),
         None => None,
     }
 }

@@ -160,7 +160,7 @@ impl<S: Scheme + Drop, L: Elector + Drop> State<S, L> {
 
     /// The payload of a parent: the floor's, else the finalized one, else the slot's, else that of genesis.
     #[tactic(auto, unfolding(crate::specs::Stands::StandsFor, crate::specs::Rounds::round_of, crate::specs::Rounds::slot_in, simplex_rules::specs::Slot::slot_of, simplex_rules::specs::Ancestry::payload_at))]
-    fn payload(&self, view: View) -> Digest
+    pub(crate) fn payload(&self, view: View) -> Digest
         ensures { (made : Made) (known : List Fact) → Keeps S.attests L.elects self.now made known
             → (progress_of made known).pruned ≤ view → result ≡ payload_at made known view }
     {

@@ -1,11 +1,12 @@
 //! What a member keeps of each view.
-#![tactic(auto, unfolding(crate::specs::Rounds::round_in, crate::specs::Maps::found, crate::specs::Rounds::slot_in, crate::specs::Rounds::is_vouched_in, crate::specs::Rounds::is_checked_in, crate::specs::Rounds::own_slot_in))]
+#![tactic(auto, unfolding(crate::specs::Rounds::round_in, crate::specs::Maps::found, crate::specs::Rounds::slot_in, crate::specs::Rounds::is_vouched_in, crate::specs::Rounds::is_checked_in, crate::specs::Rounds::own_slot_in, crate::specs::Verifying::wants_in))]
 
-ghost use Rattle.std.specs.Prelude.{◌≡◌, ◌≤◌, ℕ, ◌==◌, false, if◌then◌else◌, OnOk};
+ghost use Rattle.std.specs.Prelude.{◌≡◌, ◌≤◌, ◌<◌, ℕ, ◌==◌, IfSome, IfNone, false, if◌then◌else◌, OnOk};
 ghost use Rattle.simplex_state.specs.Rounds.{round_in, blank, slot_in, is_vouched_in, is_checked_in, is_named, own_slot_in};
+ghost use Rattle.simplex_state.specs.Verifying.{wants_in};
 
-use crate::maps::{drop_below, put};
-use simplex_values::{Digest, Proposal, TimeoutReason};
+use crate::maps::{drop_below, first_between, put};
+use simplex_values::{Digest, Proposal, TimeoutReason, View};
 use std::alloc::AllocError;
 use std::collections::BTreeMap;
 
@@ -97,6 +98,18 @@ impl RoundRecord {
         }
     }
 
+    /// Whether the slot waits to be verified: another's, in a view without own notarize or certificate.
+    pub(crate) fn wants_verify(&self) -> bool
+        ensures { result ≡ wants_in self.now }
+    {
+        self.slot().is_some()
+            && !self.has_own_slot()
+            && self.asked.is_none()
+            && self.voted.is_none()
+            && self.notarized.is_none()
+            && self.finalized.is_none()
+    }
+
     /// Whether the slot's proposal is checked.
     pub(crate) fn is_checked(&self) -> bool
         ensures { result ≡ is_checked_in self.now }
@@ -152,6 +165,19 @@ pub(crate) fn free_proposal(rounds: &mut BTreeMap<u64, RoundRecord>, view: u64)
     if let Some(round) = rounds.get_mut(&view) {
         round.proposal_asked = false;
     }
+}
+
+/// The least view from one to another that has a record.
+pub(crate) fn first_round(
+    rounds: &BTreeMap<u64, RoundRecord>,
+    first: View,
+    last: View,
+) -> Option<View>
+    ensures bounds { IfSome result (λ view. (first ≤ view) × (view ≤ last)) }
+    ensures least { IfSome result (λ view. (q : ℕ) → first ≤ q → q < view → round_in rounds.now q ≡ blank) }
+    ensures none { IfNone result ((q : ℕ) → first ≤ q → q ≤ last → round_in rounds.now q ≡ blank) }
+{
+    Some(View(first_between(rounds, first.0, last.0)?))
 }
 
 /// Drops the records below a view.
