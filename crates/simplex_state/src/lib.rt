@@ -23,3 +23,6 @@ mod votes;
 
 pub use config::StateConfig;
 pub use state::State;
+
+#[cfg(test)]
+mod tests;
