@@ -1,6 +1,6 @@
 pub mod Facts
 pub mod Pairs
-pub mod Waiting
+pub mod Wanting
 pub mod Opening
 pub mod Quiet
 pub mod Sound

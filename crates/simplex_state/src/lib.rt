@@ -18,7 +18,7 @@ mod sending;
 mod settings;
 mod state;
 mod verdicts;
-mod verifying;
+mod verification;
 mod votes;
 
 pub use config::StateConfig;

@@ -1,6 +1,6 @@
 use Rattle.std.proofs.Common.{arith}
 use Rattle.std.proofs.lemmas.Grind.{common_steps}
-use Rattle.simplex_state.proofs.Waiting.{keeps_verify_asked}
+use Rattle.simplex_state.proofs.Wanting.{keeps_verify_asked}
 use Rattle.simplex_state.proofs.state.State.ask_verify.Goals as goal
 
 pub returns : goal.returns

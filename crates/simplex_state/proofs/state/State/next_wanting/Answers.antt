@@ -1,7 +1,7 @@
 use Rattle.std.proofs.Common.{arith, rules, ◌+◌, ◌<◌, ◌≤◌, ◌^◌, ◌∙◌}
 use Rattle.std.proofs.lemmas.Grind.{common_steps}
 use Rattle.simplex_values.specs.Terms.{next_of}
-use Rattle.simplex_state.proofs.Waiting.{wanting_here, wanting_on, wanting_end, wanting_out}
+use Rattle.simplex_state.proofs.Wanting.{wanting_here, wanting_on, wanting_end, wanting_out}
 use Rattle.simplex_state.proofs.state.State.next_wanting.Goals as goal
 
 pub returns-then-wants_verify-clause-bounds : goal.returns-then-wants_verify-clause-bounds

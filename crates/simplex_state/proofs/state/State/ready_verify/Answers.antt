@@ -3,7 +3,7 @@ use Rattle.std.proofs.lemmas.Grind.{common_steps}
 use Rattle.simplex_rules.specs.Calls.{known_of}
 use Rattle.simplex_state.specs.Stands.{StandsFor}
 use Rattle.simplex_state.proofs.Proposing.{slot_is}
-use Rattle.simplex_state.proofs.Waiting.{unasked_slot}
+use Rattle.simplex_state.proofs.Wanting.{unasked_slot}
 use Rattle.simplex_state.proofs.state.State.ready_verify.Goals as goal
 
 pub returns-clause-fresh : goal.returns-clause-fresh

@@ -3,7 +3,7 @@ use Rattle.simplex_values.specs.Terms.{admission_limit}
 use Rattle.simplex_rules.specs.Calls.{known_of}
 use Rattle.simplex_rules.specs.Requests.{wants_verify, is_founded}
 use Rattle.simplex_state.specs.Stands.{StandsFor}
-use Rattle.simplex_state.proofs.Waiting.{current_kept, admitted_find, both_from, ready_facts, request_wait, request_ready, request_missing}
+use Rattle.simplex_state.proofs.Wanting.{current_kept, admitted_find, both_from, ready_facts, request_wait, request_ready, request_missing}
 use Rattle.simplex_state.proofs.state.State.verify_request.Goals as goal
 
 pub returns-in_default-clause-answer : goal.returns-in_default-clause-answer

@@ -91,7 +91,7 @@ impl<S: Scheme + Drop, L: Elector + Drop> State<S, L> {
     }
 
     /// Whether the view's slot waits to be verified: another's, in a view without own vote or certificate.
-    #[tactic(auto, using(crate::proofs::Waiting::wants_by), unfolding(crate::specs::Stands::StandsFor))]
+    #[tactic(auto, using(crate::proofs::Wanting::wants_by), unfolding(crate::specs::Stands::StandsFor))]
     fn wants_verify(&self, view: View) -> bool
         ensures { (made : Made) (known : List Fact) → Keeps S.attests L.elects self.now made known
             → (progress_of made known).pruned ≤ view → result ≡ wants_verify known view }
@@ -113,7 +113,7 @@ impl<S: Scheme + Drop, L: Elector + Drop> State<S, L> {
     }
 
     /// The slot of the view, to be verified.
-    #[tactic(auto, using(crate::proofs::Waiting::founded_above), unfolding(crate::specs::Stands::StandsFor, crate::specs::Rounds::round_of, crate::specs::Rounds::slot_in, crate::specs::Progress::progress_of, simplex_rules::specs::Views::least_active, simplex_rules::specs::Slot::slot_of, simplex_rules::specs::Requests::verify_of))]
+    #[tactic(auto, using(crate::proofs::Wanting::founded_above), unfolding(crate::specs::Stands::StandsFor, crate::specs::Rounds::round_of, crate::specs::Rounds::slot_in, crate::specs::Progress::progress_of, simplex_rules::specs::Views::least_active, simplex_rules::specs::Slot::slot_of, simplex_rules::specs::Requests::verify_of))]
     fn ready_verify(&self, view: View) -> Verify
         ensures answer { (made : Made) (calls : List Call) → StandsFor S.attests L.elects self.now made calls
             → (progress_of made (known_of made calls)).pruned ≤ view
