@@ -3,6 +3,7 @@
 
 mod ancestry;
 mod certificates;
+mod certifying;
 mod config;
 mod deadline;
 mod floor;
@@ -10,6 +11,7 @@ mod held;
 mod maps;
 mod progress;
 mod proposals;
+mod replaying;
 mod requests;
 mod rounds;
 mod sending;

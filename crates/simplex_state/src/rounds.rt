@@ -1,8 +1,8 @@
 //! What a member keeps of each view.
-#![tactic(auto, unfolding(crate::specs::Rounds::round_in, crate::specs::Maps::found, crate::specs::Rounds::slot_in, crate::specs::Rounds::is_vouched_in, crate::specs::Rounds::is_checked_in, crate::specs::Rounds::own_slot_in))]
+#![tactic(auto, unfolding(crate::specs::Rounds::round_in, crate::specs::Maps::found, crate::specs::Rounds::slot_in, crate::specs::Rounds::is_vouched_in, crate::specs::Rounds::is_checked_in, crate::specs::Rounds::own_slot_in, crate::specs::Rounds::is_open))]
 
 ghost use Rattle.std.specs.Prelude.{◌≡◌, ◌≤◌, ℕ, ◌==◌, false, if◌then◌else◌, OnOk};
-ghost use Rattle.simplex_state.specs.Rounds.{round_in, blank, slot_in, is_vouched_in, is_checked_in, is_named, own_slot_in};
+ghost use Rattle.simplex_state.specs.Rounds.{round_in, blank, slot_in, is_vouched_in, is_checked_in, is_named, own_slot_in, is_open};
 
 use crate::maps::{drop_below, put};
 use simplex_values::{Digest, Proposal, TimeoutReason};
@@ -95,6 +95,13 @@ impl RoundRecord {
             None => false,
             Some(proposal) => self.answered && names(&self.proposed, &proposal),
         }
+    }
+
+    /// Whether the notarization waits for its verdict, and the application was not asked for it.
+    pub(crate) fn is_open(&self) -> bool
+        ensures { result ≡ is_open self.now }
+    {
+        self.verdict.is_none() && !self.certify_asked
     }
 
     /// Whether the slot's proposal is checked.
