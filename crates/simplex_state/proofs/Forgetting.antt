@@ -5,6 +5,7 @@ use Rattle.std.specs.BTreeMap.{BTreeMap}
 use Rattle.std.specs.BTreeSet.{BTreeSet}
 use Rattle.simplex_values.specs.declared.proposal.Subject.{Subject}
 use Rattle.simplex_values.specs.declared.round.Round.{Round}
+use Rattle.simplex_values.specs.declared.ask.Kind.{Kind}
 use Rattle.simplex_wire.specs.declared.certificate.Notarization.{Notarization}
 use Rattle.simplex_wire.specs.declared.certificate.Nullification.{Nullification}
 use Rattle.simplex_wire.specs.declared.certificate.Finalization.{Finalization}
@@ -17,10 +18,12 @@ use Rattle.simplex_rules.specs.Requests.{is_unjudged}
 use Rattle.simplex_rules.specs.Calls.{unsent_notarization, unsent_nullification, unsent_finalization}
 use Rattle.simplex_state.specs.declared.rounds.RoundRecord.{RoundRecord}
 use Rattle.simplex_state.specs.declared.held.Held.{Held}
+use Rattle.simplex_state.specs.declared.missing.Missing.{Missing}
 use Rattle.simplex_state.specs.declared.progress.Progress.{Progress}
 use Rattle.simplex_state.specs.declared.state.State.{State}
 use Rattle.simplex_values.specs.Terms.{next_term_start, term_index}
 use Rattle.simplex_state.specs.Maps.{found, has}
+use Rattle.simplex_state.specs.Missing.{is_asked}
 use Rattle.simplex_state.specs.Rounds.{round_in, learn_round}
 use Rattle.simplex_state.specs.Progress.{progress_of, learn_progress, opens, ends}
 use Rattle.simplex_state.specs.Certificates.{unsent_in, held_notarization, held_nullification, held_finalization}
@@ -30,7 +33,7 @@ use Rattle.simplex_state.proofs.Gates.{term_rises}
 use Rattle.simplex_state.proofs.Sound.{sound_other, timely_step}
 
 module _ {S L : Type 0} (attests : S → Subject → Option Attestation) (elects : L → Round → ℕ) where
-  pub keeps_pruned : (state : State S L) (made : Made) (known : List Fact) (v : ℕ) (progress' : Progress) (rounds' : BTreeMap ℕ RoundRecord) (certified' : BTreeSet ℕ) (covered' : BTreeMap ℕ ℕ) (waiting' : BTreeSet ℕ) (notarizations' : BTreeMap ℕ (Held Notarization)) (nullifications' : BTreeMap ℕ (Held Nullification)) (finalizations' : BTreeMap ℕ (Held Finalization))
+  pub keeps_pruned : (state : State S L) (made : Made) (known : List Fact) (v : ℕ) (progress' : Progress) (rounds' : BTreeMap ℕ RoundRecord) (certified' : BTreeSet ℕ) (covered' : BTreeMap ℕ ℕ) (waiting' : BTreeSet ℕ) (missing' : Missing) (notarizations' : BTreeMap ℕ (Held Notarization)) (nullifications' : BTreeMap ℕ (Held Nullification)) (finalizations' : BTreeMap ℕ (Held Finalization))
       → Keeps attests elects state made known
       → v ≡ least_active made known
       → v ≤ (progress_of made known).current
@@ -40,6 +43,7 @@ module _ {S L : Type 0} (attests : S → Subject → Option Attestation) (elects
       → ((q : ℕ) → v ≤ q → has certified' q ≡ has state.certified q)
       → ((q : ℕ) → v ≤ q → covered_in made.term_length covered' q ≡ covered_in made.term_length state.covered q)
       → ((q : ℕ) → v ≤ q → has waiting' q ≡ has state.waiting q)
+      → ((p u : ℕ) (kind : Kind) → v ≤ p → is_asked missing' p u kind ≡ is_asked state.missing p u kind)
       → ((q : ℕ) → v ≤ q → found notarizations' q ≡ found state.notarizations q)
       → ((q : ℕ) → unsent_in (found notarizations' q) ≡ unsent_in (found state.notarizations q))
       → ((q : ℕ) → v ≤ q → found nullifications' q ≡ found state.nullifications q)
@@ -47,9 +51,9 @@ module _ {S L : Type 0} (attests : S → Subject → Option Attestation) (elects
       → ((q : ℕ) → unsent_in (found nullifications' q) ≡ unsent_in (found state.nullifications q))
       → ((q : ℕ) → v ≤ q → found finalizations' q ≡ found state.finalizations q)
       → ((q : ℕ) → unsent_in (found finalizations' q) ≡ unsent_in (found state.finalizations q))
-      → Keeps attests elects (record state { progress = progress'; rounds = rounds'; certified = certified'; covered = covered'; waiting = waiting'; notarizations = notarizations'; nullifications = nullifications'; finalizations = finalizations' }) made (Pruned v ∷ known)
+      → Keeps attests elects (record state { progress = progress'; rounds = rounds'; certified = certified'; covered = covered'; waiting = waiting'; missing = missing'; notarizations = notarizations'; nullifications = nullifications'; finalizations = finalizations' }) made (Pruned v ∷ known)
   unfolding learn_progress learn_round opens ends least_active last_finalized has_nullified has_false_verdict has_true_verdict is_covered is_unjudged verdict_of notarization_of nullification_of finalization_of was_broadcast held_notarization held_nullification held_finalization unsent_notarization unsent_nullification unsent_finalization first_of greatest_of
-  keeps_pruned state made known v progress' rounds' certified' covered' waiting' notarizations' nullifications' finalizations' k active_is ahead_is rises progress_is rounds_are certified_are covered_are waiting_are notarized unsent_notarized nullified_are opening unsent_nullified finalized unsent_finalized =
+  keeps_pruned state made known v progress' rounds' certified' covered' waiting' missing' notarizations' nullifications' finalizations' k active_is ahead_is rises progress_is rounds_are certified_are covered_are waiting_are missing_are notarized unsent_notarized nullified_are opening unsent_nullified finalized unsent_finalized =
       let f = Pruned v in
       let w = progress_step made f known in
       record {
@@ -72,6 +76,7 @@ module _ {S L : Type 0} (attests : S → Subject → Option Attestation) (elects
         certified = λ view. grind (arith, common_steps, k.certified view, option_or-none, w, certified_are view, rises);
         covered = λ view. grind (arith, common_steps, k.covered view, w, covered_are view, rises);
         waiting = λ view. grind (arith, common_steps, k.waiting view, option_or-none, waiting_are view, active_is);
+        missing = λ p u kind. grind (arith, common_steps, k.missing p u kind, w, missing_are p u kind, rises);
         notarizations = λ view. grind (arith, common_steps, k.notarizations view, option_or-none, w, notarized view, rises);
         finalizations = λ view. grind (arith, common_steps, k.finalizations view, option_or-none, w, finalized view, rises);
         nullifications = λ view. grind (arith, common_steps, k.nullifications view, option_or-none, w, nullified_are view, opening view, rises);

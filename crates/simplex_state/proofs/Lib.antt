@@ -1,4 +1,5 @@
 pub mod Facts
+pub mod Pairs
 pub mod Quiet
 pub mod Sound
 pub mod Moves

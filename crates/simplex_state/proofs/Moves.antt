@@ -1,5 +1,5 @@
 -- What a state keeps behind one more fact that moves it or changes a set.
-use Rattle.std.proofs.Common.{◌≡◌, ℕ, ◌<◌, ◌≤◌, ◌^◌, ◌==◌, ◌||◌, true, false, List, ◌∷◌, Option, Some, None, refl, arith, if◌then◌else◌}
+use Rattle.std.proofs.Common.{◌≡◌, ℕ, ◌<◌, ◌≤◌, ◌^◌, ◌==◌, ◌&&◌, ◌||◌, true, false, List, ◌∷◌, Option, Some, None, refl, arith, if◌then◌else◌}
 use Rattle.std.proofs.lemmas.Grind.{common_steps}
 use Rattle.std.specs.Prelude.{unwrap_or}
 use Rattle.std.specs.BTreeMap.{BTreeMap}
@@ -7,6 +7,7 @@ use Rattle.std.specs.BTreeSet.{BTreeSet}
 use Rattle.std.specs.Option.{option_map, is_some}
 use Rattle.simplex_values.specs.declared.proposal.Subject.{Subject}
 use Rattle.simplex_values.specs.declared.round.Round.{Round}
+use Rattle.simplex_values.specs.declared.ask.Kind.{Kind}
 use Rattle.simplex_wire.specs.declared.vote.Nullify.{Nullify}
 use Rattle.simplex_wire.specs.declared.vote.Vote.TheVariants as votes
 use Rattle.simplex_wire.specs.declared.certificate.Notarization.{Notarization}
@@ -16,17 +17,19 @@ use Rattle.simplex_wire.specs.declared.certificate.Certificate.TheVariants as ce
 use Rattle.simplex_wire.specs.declared.certificate.CertificateKind.TheVariants as kinds
 use Rattle.simplex_wire.specs.declared.attestation.Attestation.{Attestation}
 use Rattle.simplex_rules.specs.Lists.{first_of, greatest_of}
-use Rattle.simplex_rules.specs.Known.{Made, Fact, Added, Judged, Voted, Broadcast, view_of, notarization_of, nullification_of, finalization_of, was_broadcast, verdict_of, has_nullified}
+use Rattle.simplex_rules.specs.Known.{Made, Fact, Added, Judged, Voted, Broadcast, MissingAsked, view_of, notarization_of, nullification_of, finalization_of, was_broadcast, verdict_of, has_nullified}
 use Rattle.simplex_rules.specs.Views.{least_active, last_finalized}
 use Rattle.simplex_rules.specs.Ancestry.{is_covered, has_true_verdict, has_false_verdict}
-use Rattle.simplex_rules.specs.Requests.{is_unjudged}
+use Rattle.simplex_rules.specs.Requests.{is_unjudged, is_kind}
 use Rattle.simplex_rules.specs.Calls.{unsent_notarization, unsent_nullification, unsent_finalization}
 use Rattle.simplex_state.specs.declared.rounds.RoundRecord.{RoundRecord}
 use Rattle.simplex_state.specs.declared.held.Held.{Held}
+use Rattle.simplex_state.specs.declared.missing.Missing.{Missing}
 use Rattle.simplex_state.specs.declared.progress.Progress.{Progress}
 use Rattle.simplex_state.specs.declared.state.State.{State}
 use Rattle.simplex_values.specs.Terms.{next_of, next_term_start, covers}
 use Rattle.simplex_state.specs.Maps.{found, has}
+use Rattle.simplex_state.specs.Missing.{is_asked}
 use Rattle.simplex_state.specs.Rounds.{round_in, learn_round}
 use Rattle.simplex_state.specs.Progress.{progress_of, learn_progress, opens, ends}
 use Rattle.simplex_state.specs.Certificates.{held, held_notarization, held_nullification, held_finalization}
@@ -64,6 +67,7 @@ module _ {S L : Type 0} (attests : S → Subject → Option Attestation) (elects
         certified = λ view. grind (arith, common_steps, k.certified view, option_or-none, w);
         covered = λ view. grind (arith, common_steps, k.covered view, w);
         waiting = λ view. grind (arith, common_steps, k.waiting view, option_or-none);
+        missing = λ p v kind. grind (arith, common_steps, k.missing p v kind, w);
         notarizations = λ view. grind (arith, common_steps, k.notarizations view, option_or-none, w);
         finalizations = λ view. grind (arith, common_steps, k.finalizations view, option_or-none, w);
         nullifications = λ view. grind (arith, common_steps, k.nullifications view, option_or-none, w);
@@ -105,6 +109,7 @@ module _ {S L : Type 0} (attests : S → Subject → Option Attestation) (elects
         certified = λ view. grind (arith, common_steps, k.certified view, option_or-none, w, certified_are view, none);
         covered = λ view. grind (arith, common_steps, k.covered view, w);
         waiting = λ view. grind (arith, common_steps, k.waiting view, option_or-none);
+        missing = λ p v kind. grind (arith, common_steps, k.missing p v kind, w);
         notarizations = λ view. grind (arith, common_steps, k.notarizations view, option_or-none, w);
         finalizations = λ view. grind (arith, common_steps, k.finalizations view, option_or-none, w);
         nullifications = λ view. grind (arith, common_steps, k.nullifications view, option_or-none, w);
@@ -144,6 +149,7 @@ module _ {S L : Type 0} (attests : S → Subject → Option Attestation) (elects
         certified = λ view. grind (arith, common_steps, k.certified view, option_or-none, w, none);
         covered = λ view. grind (arith, common_steps, k.covered view, w);
         waiting = λ view. grind (arith, common_steps, k.waiting view, option_or-none);
+        missing = λ p v kind. grind (arith, common_steps, k.missing p v kind, w);
         notarizations = λ view. grind (arith, common_steps, k.notarizations view, option_or-none, w);
         finalizations = λ view. grind (arith, common_steps, k.finalizations view, option_or-none, w);
         nullifications = λ view. grind (arith, common_steps, k.nullifications view, option_or-none, w);
@@ -185,6 +191,7 @@ module _ {S L : Type 0} (attests : S → Subject → Option Attestation) (elects
         certified = λ view. grind (arith, common_steps, k.certified view, option_or-none, w);
         covered = λ view. grind (arith, common_steps, k.covered view, w);
         waiting = λ view. grind (arith, common_steps, k.waiting view, option_or-none, waiting_are view);
+        missing = λ p v kind. grind (arith, common_steps, k.missing p v kind, w);
         notarizations = λ view. grind (arith, common_steps, k.notarizations view, option_or-none, w, held_are view, k.held.notarizations view);
         finalizations = λ view. grind (arith, common_steps, k.finalizations view, option_or-none, w);
         nullifications = λ view. grind (arith, common_steps, k.nullifications view, option_or-none, w);
@@ -225,6 +232,7 @@ module _ {S L : Type 0} (attests : S → Subject → Option Attestation) (elects
         certified = λ view. grind (arith, common_steps, k.certified view, option_or-none, w);
         covered = λ view. grind (arith, common_steps, k.covered view, w, covered_are view);
         waiting = λ view. grind (arith, common_steps, k.waiting view, option_or-none);
+        missing = λ p v kind. grind (arith, common_steps, k.missing p v kind, w);
         notarizations = λ view. grind (arith, common_steps, k.notarizations view, option_or-none, w);
         finalizations = λ view. grind (arith, common_steps, k.finalizations view, option_or-none, w);
         nullifications = λ view. grind (arith, common_steps, k.nullifications view, option_or-none, w, held_are view, k.held.nullifications view, active);
@@ -265,6 +273,7 @@ module _ {S L : Type 0} (attests : S → Subject → Option Attestation) (elects
         certified = λ view. grind (arith, common_steps, k.certified view, option_or-none, w);
         covered = λ view. grind (arith, common_steps, k.covered view, w);
         waiting = λ view. grind (arith, common_steps, k.waiting view, option_or-none);
+        missing = λ p v kind. grind (arith, common_steps, k.missing p v kind, w);
         notarizations = λ view. grind (arith, common_steps, k.notarizations view, option_or-none, w);
         finalizations = λ view. grind (arith, common_steps, k.finalizations view, option_or-none, w, held_are view, k.held.finalizations view);
         nullifications = λ view. grind (arith, common_steps, k.nullifications view, option_or-none, w);
@@ -303,6 +312,7 @@ module _ {S L : Type 0} (attests : S → Subject → Option Attestation) (elects
         certified = λ view. grind (arith, common_steps, k.certified view, option_or-none, w);
         covered = λ view. grind (arith, common_steps, k.covered view, w);
         waiting = λ view. grind (arith, common_steps, k.waiting view, option_or-none);
+        missing = λ p v kind. grind (arith, common_steps, k.missing p v kind, w);
         notarizations = λ view. grind (arith, common_steps, k.notarizations view, option_or-none, w, held_are view);
         finalizations = λ view. grind (arith, common_steps, k.finalizations view, option_or-none, w);
         nullifications = λ view. grind (arith, common_steps, k.nullifications view, option_or-none, w);
@@ -341,6 +351,7 @@ module _ {S L : Type 0} (attests : S → Subject → Option Attestation) (elects
         certified = λ view. grind (arith, common_steps, k.certified view, option_or-none, w);
         covered = λ view. grind (arith, common_steps, k.covered view, w);
         waiting = λ view. grind (arith, common_steps, k.waiting view, option_or-none);
+        missing = λ p v kind. grind (arith, common_steps, k.missing p v kind, w);
         notarizations = λ view. grind (arith, common_steps, k.notarizations view, option_or-none, w);
         finalizations = λ view. grind (arith, common_steps, k.finalizations view, option_or-none, w);
         nullifications = λ view. grind (arith, common_steps, k.nullifications view, option_or-none, w, held_are view);
@@ -379,10 +390,49 @@ module _ {S L : Type 0} (attests : S → Subject → Option Attestation) (elects
         certified = λ view. grind (arith, common_steps, k.certified view, option_or-none, w);
         covered = λ view. grind (arith, common_steps, k.covered view, w);
         waiting = λ view. grind (arith, common_steps, k.waiting view, option_or-none);
+        missing = λ p v kind. grind (arith, common_steps, k.missing p v kind, w);
         notarizations = λ view. grind (arith, common_steps, k.notarizations view, option_or-none, w);
         finalizations = λ view. grind (arith, common_steps, k.finalizations view, option_or-none, w, held_are view);
         nullifications = λ view. grind (arith, common_steps, k.nullifications view, option_or-none, w);
         unsent_notarizations = λ view. grind (arith, common_steps, k.unsent_notarizations view, option_or-none);
         unsent_nullifications = λ view. grind (arith, common_steps, k.unsent_nullifications view, option_or-none);
         unsent_finalizations = λ view. grind (arith, common_steps, k.unsent_finalizations view, option_or-none, held_are view);
+      }
+
+  -- what is missing below a proposal was asked for
+  pub keeps_missing : (state : State S L) (made : Made) (known : List Fact) (p v : ℕ) (kind : Kind) (missing' : Missing)
+      → Keeps attests elects state made known
+      → ((q u : ℕ) (other : Kind) → is_asked missing' q u other ≡ ((p == q && v == u && is_kind kind other) || is_asked state.missing q u other))
+      → Keeps attests elects (record state { missing = missing' }) made (MissingAsked p v kind ∷ known)
+  unfolding learn_progress learn_round opens ends least_active last_finalized has_nullified has_false_verdict has_true_verdict is_covered is_unjudged verdict_of notarization_of nullification_of finalization_of was_broadcast held_notarization held_nullification held_finalization unsent_notarization unsent_nullification unsent_finalization first_of greatest_of
+  keeps_missing state made known p v kind missing' k missing_are =
+      let f = MissingAsked p v kind in
+      let w = progress_step made f known in
+      record {
+        attest = k.attest;
+        leads = k.leads;
+        settings = k.settings;
+        progress = grind (arith, common_steps, k.progress, w);
+        active = grind (arith, common_steps, k.active, w);
+        ahead = grind (arith, common_steps, k.ahead, w);
+        sound = sound_other f known refl k.sound;
+        held = record {
+          notarizations = λ u. grind (arith, common_steps, k.held.notarizations u, option_or-none);
+          nullifications = λ u. grind (arith, common_steps, k.held.nullifications u, option_or-none);
+          finalizations = λ u. grind (arith, common_steps, k.held.finalizations u, option_or-none);
+        };
+        timely = timely_step made f known (omega arith) k.timely;
+        rounds = λ view. grind (arith, common_steps, k.rounds view, w, round_step f known view);
+        nullified = λ view. grind (arith, common_steps, k.nullified view);
+        failed = λ view. grind (arith, common_steps, k.failed view, option_or-none);
+        certified = λ view. grind (arith, common_steps, k.certified view, option_or-none, w);
+        covered = λ view. grind (arith, common_steps, k.covered view, w);
+        waiting = λ view. grind (arith, common_steps, k.waiting view, option_or-none);
+        missing = λ q u other. grind (arith, common_steps, k.missing q u other, w, missing_are q u other);
+        notarizations = λ view. grind (arith, common_steps, k.notarizations view, option_or-none, w);
+        finalizations = λ view. grind (arith, common_steps, k.finalizations view, option_or-none, w);
+        nullifications = λ view. grind (arith, common_steps, k.nullifications view, option_or-none, w);
+        unsent_notarizations = λ view. grind (arith, common_steps, k.unsent_notarizations view, option_or-none);
+        unsent_nullifications = λ view. grind (arith, common_steps, k.unsent_nullifications view, option_or-none);
+        unsent_finalizations = λ view. grind (arith, common_steps, k.unsent_finalizations view, option_or-none);
       }

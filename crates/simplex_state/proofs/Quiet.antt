@@ -2,8 +2,10 @@
 use Rattle.std.proofs.Common.{◌≡◌, ℕ, ◌≤◌, Bool, true, false, List, ◌∷◌, Option, refl, sym, ap, ◌∙◌, arith}
 use Rattle.std.proofs.lemmas.Grind.{common_steps}
 use Rattle.std.specs.BTreeMap.{BTreeMap}
+use Rattle.std.specs.List.{list_any}
 use Rattle.simplex_values.specs.declared.proposal.Subject.{Subject}
 use Rattle.simplex_values.specs.declared.round.Round.{Round}
+use Rattle.simplex_values.specs.declared.ask.Kind.{Kind}
 use Rattle.simplex_values.specs.declared.timeout.TimeoutReason.{TimeoutReason}
 use Rattle.simplex_values.specs.declared.timeout.TimeoutReason.TheVariants.{Inactivity}
 use Rattle.simplex_wire.specs.declared.attestation.Attestation.{Attestation}
@@ -14,7 +16,7 @@ use Rattle.simplex_rules.specs.Lists.{first_of, greatest_of}
 use Rattle.simplex_rules.specs.Known.{Made, Fact, FloorAt, Added, Taken, Answered, Approved, Judged, Voted, Published, Expired, Failed, Broadcast, ProposalAsked, ProposalFreed, VerifyAsked, CertifyAsked, MissingAsked, ParentAsked, Pruned, notarization_of, nullification_of, finalization_of, was_broadcast, verdict_of, has_nullified}
 use Rattle.simplex_rules.specs.Views.{least_active, last_finalized}
 use Rattle.simplex_rules.specs.Ancestry.{is_covered, has_true_verdict, has_false_verdict}
-use Rattle.simplex_rules.specs.Requests.{is_unjudged}
+use Rattle.simplex_rules.specs.Requests.{is_unjudged, is_missing_in}
 use Rattle.simplex_rules.specs.Calls.{unsent_notarization, unsent_nullification, unsent_finalization}
 use Rattle.simplex_state.specs.declared.rounds.RoundRecord.{RoundRecord}
 use Rattle.simplex_state.specs.declared.progress.Progress.{Progress}
@@ -30,6 +32,7 @@ is_round_fact (Added c now) = false
 is_round_fact (Judged v good now) = false
 is_round_fact (Voted (votes.Nullify n)) = false
 is_round_fact (Broadcast k v) = false
+is_round_fact (MissingAsked p v k) = false
 is_round_fact (Pruned v) = false
 is_round_fact _ = true
 
@@ -45,6 +48,7 @@ pub record Quiet (made : Made) (f : Fact) (known : List Fact) : Type 0 where
   pub nullification : (v : ℕ) → nullification_of (f ∷ known) v ≡ nullification_of known v
   pub finalization : (v : ℕ) → finalization_of (f ∷ known) v ≡ finalization_of known v
   pub sent : (k : CertificateKind) (v : ℕ) → was_broadcast (f ∷ known) k v ≡ was_broadcast known k v
+  pub asked : (p v : ℕ) (k : Kind) → list_any (is_missing_in p v k) (f ∷ known) ≡ list_any (is_missing_in p v k) known
   pub unjudged : (v : ℕ) → is_unjudged (f ∷ known) v ≡ true → is_unjudged known v ≡ true
 
 false_true : false ≡ true → ⊥
@@ -70,6 +74,7 @@ quiet made (Added c now) known e = none_true e
 quiet made (Judged v good now) known e = none_true e
 quiet made (Voted (votes.Nullify n)) known e = none_true e
 quiet made (Broadcast k v) known e = none_true e
+quiet made (MissingAsked p v k) known e = none_true e
 quiet made (Pruned v) known e = none_true e
 quiet made (Voted (votes.Notarize n)) known e = let p = progress_step made (Voted (votes.Notarize n)) known in record {
   pruned = grind (arith, p);
@@ -82,6 +87,7 @@ quiet made (Voted (votes.Notarize n)) known e = let p = progress_step made (Vote
   nullification = λ v. option_or-none _;
   finalization = λ v. option_or-none _;
   sent = λ k v. refl;
+  asked = λ p v k. refl;
   unjudged = λ v. grind (arith, common_steps, option_or-none);
 }
 quiet made (Voted (votes.Finalize n)) known e = let p = progress_step made (Voted (votes.Finalize n)) known in record {
@@ -95,6 +101,7 @@ quiet made (Voted (votes.Finalize n)) known e = let p = progress_step made (Vote
   nullification = λ v. option_or-none _;
   finalization = λ v. option_or-none _;
   sent = λ k v. refl;
+  asked = λ p v k. refl;
   unjudged = λ v. grind (arith, common_steps, option_or-none);
 }
 quiet made (FloorAt a b) known e = let p = progress_step made (FloorAt a b) known in record {
@@ -108,6 +115,7 @@ quiet made (FloorAt a b) known e = let p = progress_step made (FloorAt a b) know
   nullification = λ v. option_or-none _;
   finalization = λ v. option_or-none _;
   sent = λ k v. refl;
+  asked = λ p v k. refl;
   unjudged = λ v. grind (arith, common_steps, option_or-none);
 }
 quiet made (Taken a) known e = let p = progress_step made (Taken a) known in record {
@@ -121,6 +129,7 @@ quiet made (Taken a) known e = let p = progress_step made (Taken a) known in rec
   nullification = λ v. option_or-none _;
   finalization = λ v. option_or-none _;
   sent = λ k v. refl;
+  asked = λ p v k. refl;
   unjudged = λ v. grind (arith, common_steps, option_or-none);
 }
 quiet made (Answered a) known e = let p = progress_step made (Answered a) known in record {
@@ -134,6 +143,7 @@ quiet made (Answered a) known e = let p = progress_step made (Answered a) known 
   nullification = λ v. option_or-none _;
   finalization = λ v. option_or-none _;
   sent = λ k v. refl;
+  asked = λ p v k. refl;
   unjudged = λ v. grind (arith, common_steps, option_or-none);
 }
 quiet made (Approved a) known e = let p = progress_step made (Approved a) known in record {
@@ -147,6 +157,7 @@ quiet made (Approved a) known e = let p = progress_step made (Approved a) known 
   nullification = λ v. option_or-none _;
   finalization = λ v. option_or-none _;
   sent = λ k v. refl;
+  asked = λ p v k. refl;
   unjudged = λ v. grind (arith, common_steps, option_or-none);
 }
 quiet made (Published a b) known e = let p = progress_step made (Published a b) known in record {
@@ -160,6 +171,7 @@ quiet made (Published a b) known e = let p = progress_step made (Published a b) 
   nullification = λ v. option_or-none _;
   finalization = λ v. option_or-none _;
   sent = λ k v. refl;
+  asked = λ p v k. refl;
   unjudged = λ v. grind (arith, common_steps, option_or-none);
 }
 quiet made (Expired a b c) known e = let p = progress_step made (Expired a b c) known in record {
@@ -173,6 +185,7 @@ quiet made (Expired a b c) known e = let p = progress_step made (Expired a b c) 
   nullification = λ v. option_or-none _;
   finalization = λ v. option_or-none _;
   sent = λ k v. refl;
+  asked = λ p v k. refl;
   unjudged = λ v. grind (arith, common_steps, option_or-none);
 }
 quiet made (Failed a b) known e = let p = progress_step made (Failed a b) known in record {
@@ -186,6 +199,7 @@ quiet made (Failed a b) known e = let p = progress_step made (Failed a b) known 
   nullification = λ v. option_or-none _;
   finalization = λ v. option_or-none _;
   sent = λ k v. refl;
+  asked = λ p v k. refl;
   unjudged = λ v. grind (arith, common_steps, option_or-none);
 }
 quiet made (ProposalAsked a) known e = let p = progress_step made (ProposalAsked a) known in record {
@@ -199,6 +213,7 @@ quiet made (ProposalAsked a) known e = let p = progress_step made (ProposalAsked
   nullification = λ v. option_or-none _;
   finalization = λ v. option_or-none _;
   sent = λ k v. refl;
+  asked = λ p v k. refl;
   unjudged = λ v. grind (arith, common_steps, option_or-none);
 }
 quiet made (ProposalFreed a) known e = let p = progress_step made (ProposalFreed a) known in record {
@@ -212,6 +227,7 @@ quiet made (ProposalFreed a) known e = let p = progress_step made (ProposalFreed
   nullification = λ v. option_or-none _;
   finalization = λ v. option_or-none _;
   sent = λ k v. refl;
+  asked = λ p v k. refl;
   unjudged = λ v. grind (arith, common_steps, option_or-none);
 }
 quiet made (VerifyAsked a) known e = let p = progress_step made (VerifyAsked a) known in record {
@@ -225,6 +241,7 @@ quiet made (VerifyAsked a) known e = let p = progress_step made (VerifyAsked a) 
   nullification = λ v. option_or-none _;
   finalization = λ v. option_or-none _;
   sent = λ k v. refl;
+  asked = λ p v k. refl;
   unjudged = λ v. grind (arith, common_steps, option_or-none);
 }
 quiet made (CertifyAsked a) known e = let p = progress_step made (CertifyAsked a) known in record {
@@ -238,19 +255,7 @@ quiet made (CertifyAsked a) known e = let p = progress_step made (CertifyAsked a
   nullification = λ v. option_or-none _;
   finalization = λ v. option_or-none _;
   sent = λ k v. refl;
-  unjudged = λ v. grind (arith, common_steps, option_or-none);
-}
-quiet made (MissingAsked a b c) known e = let p = progress_step made (MissingAsked a b c) known in record {
-  pruned = grind (arith, p);
-  current = grind (arith, p);
-  last = grind arith;
-  nullified = λ v. refl;
-  verdict = λ v. option_or-none _;
-  covered = λ v. refl;
-  notarization = λ v. option_or-none _;
-  nullification = λ v. option_or-none _;
-  finalization = λ v. option_or-none _;
-  sent = λ k v. refl;
+  asked = λ p v k. refl;
   unjudged = λ v. grind (arith, common_steps, option_or-none);
 }
 quiet made (ParentAsked a) known e = let p = progress_step made (ParentAsked a) known in record {
@@ -264,6 +269,7 @@ quiet made (ParentAsked a) known e = let p = progress_step made (ParentAsked a) 
   nullification = λ v. option_or-none _;
   finalization = λ v. option_or-none _;
   sent = λ k v. refl;
+  asked = λ p v k. refl;
   unjudged = λ v. grind (arith, common_steps, option_or-none);
 }
 
@@ -300,6 +306,7 @@ module _ {S L : Type 0} (attests : S → Subject → Option Attestation) (elects
         certified = λ view. grind (arith, k.certified view, w.verdict view, w.pruned);
         covered = λ view. grind (arith, k.covered view, w.covered view, w.pruned);
         waiting = λ view. grind (arith, k.waiting view, w.unjudged view, w.notarization view);
+        missing = λ p v kind. grind (arith, k.missing p v kind, w.asked p v kind, w.pruned);
         notarizations = λ view. grind (arith, k.notarizations view, w.notarization view, w.sent kinds.Notarization view, w.pruned);
         finalizations = λ view. grind (arith, k.finalizations view, w.finalization view, w.sent kinds.Finalization view, w.pruned);
         nullifications = λ view. grind (arith, k.nullifications view, w.nullification view, w.sent kinds.Nullification view, w.pruned, w.current);

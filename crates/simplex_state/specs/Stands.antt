@@ -1,9 +1,11 @@
 -- Which calls a state stands for.
 use Rattle.std.specs.Prelude.{◌≡◌, ℕ, ◌^◌, ◌-◌, ◌<◌, ◌≤◌, ◌&&◌, ◌||◌, nat_le, Bool, true, false, List, ◌∷◌, Option, IfSome}
+use Rattle.std.specs.List.{list_any}
 use Rattle.std.specs.Option.{option_map_or, is_some}
 use Rattle.std.specs.BTreeMap.{BTreeMap}
 use Rattle.simplex_values.specs.declared.proposal.Proposal.{Proposal}
 use Rattle.simplex_values.specs.declared.proposal.Subject.{Subject}
+use Rattle.simplex_values.specs.declared.ask.Kind.{Kind}
 use Rattle.simplex_values.specs.declared.round.Round.{Round}
 use Rattle.simplex_values.specs.declared.terms.Terms.{Terms}
 use Rattle.simplex_values.specs.Terms.{term_index, next_term_start}
@@ -13,12 +15,13 @@ use Rattle.simplex_rules.specs.Known.{Made, Fact, view_of, was_answered, was_app
 use Rattle.simplex_rules.specs.Views.{least_active}
 use Rattle.simplex_rules.specs.Ancestry.{is_covered, has_true_verdict, has_false_verdict}
 use Rattle.simplex_rules.specs.Deadline.{published_at}
-use Rattle.simplex_rules.specs.Requests.{is_unjudged}
+use Rattle.simplex_rules.specs.Requests.{is_unjudged, is_missing_in}
 use Rattle.simplex_rules.specs.Calls.{Call, known_of, unsent_notarization, unsent_nullification, unsent_finalization}
 use Rattle.simplex_state.specs.declared.config.StateConfig.{StateConfig}
 use Rattle.simplex_state.specs.declared.settings.Settings.{Settings}
 use Rattle.simplex_state.specs.declared.state.State.{State}
 use Rattle.simplex_state.specs.Maps.{found, has}
+use Rattle.simplex_state.specs.Missing.{is_asked}
 use Rattle.simplex_state.specs.Rounds.{round_in, round_of, is_named}
 use Rattle.simplex_state.specs.Progress.{progress_of}
 use Rattle.simplex_state.specs.Certificates.{unsent_in, held_notarization, held_nullification, held_finalization}
@@ -120,6 +123,8 @@ module _ {S L : Type 0} where
     pub certified : (view : ℕ) → (progress_of made known).pruned ≤ view → has state.certified view ≡ has_true_verdict known view
     pub covered : (view : ℕ) → (progress_of made known).pruned ≤ view → covered_in made.term_length state.covered view ≡ is_covered made known view
     pub waiting : (view : ℕ) → is_some (notarization_of known view) ≡ true → is_unjudged known view ≡ true → has state.waiting view ≡ true
+    pub missing : (proposal view : ℕ) (kind : Kind) → (progress_of made known).pruned ≤ proposal
+        → is_asked state.missing proposal view kind ≡ list_any (is_missing_in proposal view kind) known
     pub notarizations : (view : ℕ) → (progress_of made known).pruned ≤ view → found state.notarizations view ≡ held_notarization known view
     pub finalizations : (view : ℕ) → (progress_of made known).pruned ≤ view → found state.finalizations view ≡ held_finalization known view
     pub nullifications : (view : ℕ) → (nat_le (progress_of made known).pruned view || nat_le (progress_of made known).current (next_term_start made.term_length view)) ≡ true

@@ -96,6 +96,7 @@ impl<S: Scheme + Drop, L: Elector + Drop> State<S, L> {
         drop_rounds(&mut self.rounds, least.0);
         remove_below(&mut self.certified, least.0);
         remove_below(&mut self.waiting, least.0);
+        self.missing.forget(least);
         drop_below(&mut self.covered, least.term_index(length));
         forget_sent(&mut self.notarizations, least.0);
         forget_sent(&mut self.finalizations, least.0);

@@ -9,6 +9,7 @@ mod deadline;
 mod floor;
 mod held;
 mod maps;
+mod missing;
 mod progress;
 mod proposals;
 mod replaying;

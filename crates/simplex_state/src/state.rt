@@ -9,6 +9,7 @@ ghost use Rattle.simplex_state.specs.Stands.{StandsFor, Answers, IsConfigured, m
 use crate::config::StateConfig;
 use crate::held::Held;
 use crate::maps::{empty_map, empty_set};
+use crate::missing::Missing;
 use crate::progress::Progress;
 use crate::rounds::RoundRecord;
 use crate::settings::Settings;
@@ -38,6 +39,8 @@ pub struct State<S, L> {
     pub(crate) covered: BTreeMap<u64, u64>,
     /// The notarized views that wait for the verdict to be asked for, and maybe some that do not any more.
     pub(crate) waiting: BTreeSet<u64>,
+    /// What was asked for below proposals.
+    pub(crate) missing: Missing,
     pub(crate) notarizations: BTreeMap<u64, Held<Notarization>>,
     pub(crate) nullifications: BTreeMap<u64, Held<Nullification>>,
     pub(crate) finalizations: BTreeMap<u64, Held<Finalization>>,
@@ -78,6 +81,7 @@ impl<S: Scheme + Drop, L: Elector + Drop> State<S, L> {
             certified: empty_set(alloc),
             covered: empty_map(alloc),
             waiting: empty_set(alloc),
+            missing: Missing::new(alloc),
             notarizations: empty_map(alloc),
             nullifications: empty_map(alloc),
             finalizations: empty_map(alloc),
