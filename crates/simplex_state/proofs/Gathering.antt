@@ -102,15 +102,15 @@ gathers give source (suc fuel) least [] (m ∷ ns) fits up rising same listed =
     let here : option_and_then give (source (view_of m.proposal)) ≡ give m = ap (option_and_then give) (same (view_of m.proposal) low ∙ at_first m ns) in
     let none : give m ≡ None = none_of (give m) (λ some. listed (view_of m.proposal) low (ap is_some here ∙ some)) in
     let rest = gathers give source fuel (view_of m.proposal + 1) [] ns (omega (arith, fits)) refl (grind (arith, common_steps, rising))
-        (λ v later. same v (omega (arith, later, low)) ∙ at_later m ns v (omega (arith, later)))
-        (λ v later some. listed v (omega (arith, later, low)) some) in
+    (λ v later. same v (omega (arith, later, low)) ∙ at_later m ns v (omega (arith, later)))
+    (λ v later some. listed v (omega (arith, later, low)) some) in
     rest ∙ sym (ap (λ o. cons_option o (filter_map give ns)) none))
 gathers give source (suc fuel) least (w ∷ vs) [] fits up rising same listed =
     (let low : least ≤ w = grind (arith, common_steps, up) in
     let none : option_and_then give (source w) ≡ None = ap (option_and_then give) (same w low) in
     let rest = gathers give source fuel (w + 1) vs [] (omega (arith, fits)) (grind (arith, common_steps, up)) refl
-        (λ v later. same v (omega (arith, later, low)))
-        (λ v later some. listed_later w vs v (omega (arith, later)) (listed v (omega (arith, later, low)) some)) in
+    (λ v later. same v (omega (arith, later, low)))
+    (λ v later some. listed_later w vs v (omega (arith, later)) (listed v (omega (arith, later, low)) some)) in
     ap (λ o. cons_option o (filter_map (λ v. option_and_then give (source v)) vs)) none ∙ rest)
 gathers give source (suc fuel) least (w ∷ vs) (m ∷ ns) fits up rising same listed =
     (let low : least ≤ w = grind (arith, common_steps, up) in
@@ -121,22 +121,22 @@ gathers give source (suc fuel) least (w ∷ vs) (m ∷ ns) fits up rising same l
       | inl is ↦
           (let here : source w ≡ Some m = same w low ∙ ap (notarization_at (m ∷ ns)) is ∙ at_first m ns in
           let rest = gathers give source fuel (w + 1) vs ns (omega (arith, fits)) after_w (rw is after_m)
-              (λ v later. same v (omega (arith, later, low)) ∙ at_later m ns v (omega (arith, later, is)))
-              (λ v later some. listed_later w vs v (omega (arith, later)) (listed v (omega (arith, later, low)) some)) in
+          (λ v later. same v (omega (arith, later, low)) ∙ at_later m ns v (omega (arith, later, is)))
+          (λ v later some. listed_later w vs v (omega (arith, later)) (listed v (omega (arith, later, low)) some)) in
           ap (λ o. cons_option (option_and_then give o) (filter_map (λ v. option_and_then give (source v)) vs)) here ∙ ap (cons_option (give m)) rest)
       | inr (inl less) ↦
           (let none : option_and_then give (source w) ≡ None = ap (option_and_then give) (same w low ∙ absent (m ∷ ns) w (view_of m.proposal) (grind (arith, common_steps, rising)) less) in
           let rest = gathers give source fuel (w + 1) vs (m ∷ ns) (omega (arith, fits)) after_w (grind (arith, common_steps, rising, less))
-              (λ v later. same v (omega (arith, later, low)))
-              (λ v later some. listed_later w vs v (omega (arith, later)) (listed v (omega (arith, later, low)) some)) in
+          (λ v later. same v (omega (arith, later, low)))
+          (λ v later some. listed_later w vs v (omega (arith, later)) (listed v (omega (arith, later, low)) some)) in
           ap (λ o. cons_option o (filter_map (λ v. option_and_then give (source v)) vs)) none ∙ rest)
       | inr (inr more) ↦
           (let here : option_and_then give (source (view_of m.proposal)) ≡ give m = ap (option_and_then give) (same (view_of m.proposal) below ∙ at_first m ns) in
           let none : give m ≡ None = none_of (give m)
-              (λ some. sym (unlisted (w ∷ vs) (view_of m.proposal) w (grind (arith, common_steps, up)) more) ∙ listed (view_of m.proposal) below (ap is_some here ∙ some)) in
+          (λ some. sym (unlisted (w ∷ vs) (view_of m.proposal) w (grind (arith, common_steps, up)) more) ∙ listed (view_of m.proposal) below (ap is_some here ∙ some)) in
           let rest = gathers give source fuel (view_of m.proposal + 1) (w ∷ vs) ns (omega (arith, fits)) (grind (arith, common_steps, up, more)) after_m
-              (λ v later. same v (omega (arith, later, below)) ∙ at_later m ns v (omega (arith, later)))
-              (λ v later some. listed v (omega (arith, later, below)) some) in
+          (λ v later. same v (omega (arith, later, below)) ∙ at_later m ns v (omega (arith, later)))
+          (λ v later some. listed v (omega (arith, later, below)) some) in
           rest ∙ sym (ap (λ o. cons_option o (filter_map give ns)) none))
     ])
 

@@ -56,6 +56,7 @@ module _ {S L : Type 0} (attests : S → Subject → Option Attestation) (elects
         certified = k.certified;
         covered = k.covered;
         waiting = waiting_are;
+        missing = k.missing;
         notarizations = k.notarizations;
         finalizations = k.finalizations;
         nullifications = k.nullifications;

@@ -1,5 +1,5 @@
 -- A replayed verdict.
-use Rattle.std.proofs.Common.{◌≡◌, ℕ, Bool, true, false, List, [], ◌∷◌, ◌++◌, sym, if◌then◌else◌}
+use Rattle.std.proofs.Common.{◌≡◌, ℕ, Bool, true, false, List, [], ◌∷◌, ◌++◌, if◌then◌else◌}
 use Rattle.simplex_values.specs.declared.timeout.TimeoutReason.TheVariants.{FailedCertification}
 use Rattle.simplex_rules.specs.Known.{Made, Fact, Judged}
 use Rattle.simplex_rules.specs.Deadline.{triggered}

@@ -1,19 +1,18 @@
 -- The state behind a proposal that was verified.
-use Rattle.std.proofs.Common.{◌≡◌, ℕ, ◌<◌, ◌≤◌, ◌==◌, true, List, [], ◌∷◌, ◌++◌, Option, Some, None, refl, ap, ◌∙◌, arith, if◌then◌else◌}
+use Rattle.std.proofs.Common.{◌≡◌, ℕ, ◌≤◌, ◌==◌, true, List, [], ◌∷◌, ◌++◌, Option, Some, None, refl, ap, ◌∙◌, arith, if◌then◌else◌}
 use Rattle.std.proofs.lemmas.Grind.{common_steps}
 use Rattle.std.specs.BTreeMap.{BTreeMap}
-use Rattle.std.specs.Option.{is_some, option_or}
+use Rattle.std.specs.Option.{is_some}
 use Rattle.simplex_values.specs.declared.proposal.Proposal.{Proposal}
 use Rattle.simplex_values.specs.declared.proposal.Subject.{Subject}
 use Rattle.simplex_values.specs.declared.round.Round.{Round}
 use Rattle.simplex_wire.specs.declared.attestation.Attestation.{Attestation}
 use Rattle.simplex_rules.specs.Lists.{first_of}
-use Rattle.simplex_rules.specs.Known.{Made, Fact, Approved, VerifyAsked, view_of, notarization_of}
-use Rattle.simplex_rules.specs.Requests.{verify_asked, verify_in, is_unjudged}
+use Rattle.simplex_rules.specs.Known.{Made, Fact, Approved, VerifyAsked, view_of}
+use Rattle.simplex_rules.specs.Requests.{verify_asked, verify_in}
 use Rattle.simplex_rules.specs.Calls.{fact_of}
 use Rattle.simplex_state.specs.declared.rounds.RoundRecord.{RoundRecord}
 use Rattle.simplex_state.specs.declared.state.State.{State}
-use Rattle.simplex_state.specs.Maps.{has}
 use Rattle.simplex_state.specs.Rounds.{round_in, round_of, learn_round}
 use Rattle.simplex_state.specs.Progress.{progress_of, learn_progress}
 use Rattle.simplex_state.specs.Stands.{Keeps}

@@ -1,5 +1,5 @@
 -- The views that wait, and what is asked for them.
-use Rattle.std.proofs.Common.{◌≡◌, ℕ, ◌+◌, ◌<◌, ◌&&◌, not, Bool, true, List, [], ◌∷◌, ◌++◌, map, filter, option_to_list, Option, Some, None, refl, sym, ap, ◌∙◌, append_assoc, ◌≤◌, length, drop, get_or, Less, arith, if◌then◌else◌}
+use Rattle.std.proofs.Common.{◌≡◌, ℕ, ◌+◌, ◌<◌, ◌&&◌, not, Bool, true, List, [], ◌∷◌, ◌++◌, map, filter, option_to_list, Option, Some, None, refl, sym, ap, ◌∙◌, subst, append_assoc, ◌≤◌, length, drop, get_or, Less, arith, if◌then◌else◌}
 use Rattle.std.proofs.lemmas.Grind.{common_steps}
 use Rattle.std.proofs.lemmas.List.{drop_all, at_drop_more}
 use Rattle.std.specs.Ordering.{nat_cmp}
@@ -13,12 +13,13 @@ use Rattle.simplex_wire.specs.declared.certificate.Notarization.{Notarization}
 use Rattle.simplex_wire.specs.declared.certificate.Certificate.TheVariants as certificates
 use Rattle.simplex_rules.specs.declared.request.CertificateFetch.{CertificateFetch}
 use Rattle.simplex_rules.specs.Lists.{first_of}
-use Rattle.simplex_rules.specs.Known.{Fact, Added, view_of, notarization_in, notarization_of}
+use Rattle.simplex_rules.specs.Known.{Made, Fact, Added, CertifyAsked, ParentAsked, view_of, notarization_in, notarization_of}
+use Rattle.simplex_rules.specs.Calls.{CertifyCandidates, facts_of}
 use Rattle.simplex_rules.specs.Requests.{is_parent_in, is_unjudged, may_certify, lacks_parent, notarizations_of, certify_requests, parent_fetches}
 use Rattle.simplex_rules.specs.Ancestry.{is_certified}
 use Rattle.simplex_state.specs.Maps.{has}
 use Rattle.simplex_state.specs.Certifying.{proposal_to_certify, parent_to_fetch, certify_at, fetch_at, open_at, is_lacking}
-use Rattle.simplex_state.proofs.Gathering.{rises, is_listed, notarization_at, known_rise, known_at, gathers, given}
+use Rattle.simplex_state.proofs.Gathering.{rises, is_listed, known_rise, known_at, gathers, given}
 
 -- ---- the views of a set
 
@@ -145,16 +146,23 @@ behind_both P first second known p = rw (append_assoc first second known) p
 
 -- ---- facts of a list, the last one's added first
 
+-- what the call adds
+pub asked_is : (made : Made) (known : List Fact) (proposals : List Proposal) (fetches : List CertificateFetch)
+    → proposals ≡ certify_requests known → fetches ≡ parent_fetches known
+    → facts_of made known CertifyCandidates ≡ map (λ (f : CertificateFetch). ParentAsked f.proposal) fetches ++ map (λ p. CertifyAsked (view_of p)) proposals
+unfolding facts_of
+asked_is made known proposals fetches ps fs = rw (ps, fs) refl
+
 pub marked_first : {A : Type 0} (P : List Fact → Type 0) (f : A → Fact) (xs : List A) (n : ℕ) (known : List Fact)
     → length xs ≤ n → P known → P (map f (drop n xs) ++ known)
 marked_first P f xs n known le p = let e : drop n xs ≡ [] = drop_all n xs le in rw e p
 
-pub marked_more : {A : Type 0} (P : List Fact → Type 0) (f : A → Fact) (xs : List A) (n i : ℕ) (known : List Fact) (x : A)
-    → n ≡ i + 1 → i < length xs → x ≡ get_or xs i x
-    → P (f x ∷ (map f (drop n xs) ++ known)) → P (map f (drop i xs) ++ known)
-marked_more P f xs n i known x up inside is p =
+pub marked_more : {A : Type 0} (P : List Fact → Type 0) (f : A → Fact) (xs : List A) (n i : ℕ) (known : List Fact) (x : A) (fact : Fact)
+    → n ≡ i + 1 → i < length xs → x ≡ get_or xs i x → fact ≡ f x
+    → P (fact ∷ (map f (drop n xs) ++ known)) → P (map f (drop i xs) ++ known)
+marked_more P f xs n i known x fact up inside is says p =
     let e : drop i xs ≡ x ∷ drop n xs = at_drop_more (λ ys. ys) xs i x inside ∙ ap (λ y. y ∷ drop (i + 1) xs) (sym is) ∙ ap (λ k. x ∷ drop k xs) (sym up) in
-    rw e p
+    rw e (subst (λ y. P (y ∷ (map f (drop n xs) ++ known))) says p)
 
 pub marked_all : {A : Type 0} (P : List Fact → Type 0) (f : A → Fact) (xs : List A) (n : ℕ) (known : List Fact)
     → n ≤ 0 → P (map f (drop n xs) ++ known) → P (map f xs ++ known)

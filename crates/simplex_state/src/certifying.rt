@@ -75,11 +75,7 @@ impl<S: Scheme + Drop, L: Elector + Drop> State<S, L> {
     }
 
     /// Notes the parent of the view's proposal, where its notarization has to be asked for.
-    fn note_parent(
-        &self,
-        view: View,
-        fetches: &mut Vec<CertificateFetch>,
-    ) -> Result<(), AllocError>
+    fn note_parent(&self, view: View, fetches: &mut Vec<CertificateFetch>) -> Result<(), AllocError>
         ensures { OnOk result (Answers S.attests L.elects self.now (λ made known. fetches.old.items ++ option_to_list (fetch_at known view)) fetches.new.items) }
     {
         if let Some(fetch) = self.parent_to_fetch(view) {

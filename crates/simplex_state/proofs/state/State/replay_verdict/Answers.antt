@@ -1,8 +1,4 @@
-use Rattle.std.proofs.Common.{arith, ◌∷◌, ◌++◌, [], if◌then◌else◌}
-use Rattle.std.proofs.lemmas.Grind.{common_steps}
-use Rattle.simplex_values.specs.declared.timeout.TimeoutReason.TheVariants.{FailedCertification}
-use Rattle.simplex_rules.specs.Known.{Judged}
-use Rattle.simplex_rules.specs.Deadline.{triggered}
+use Rattle.std.proofs.Common.{arith}
 use Rattle.simplex_rules.specs.Calls.{known_of}
 use Rattle.simplex_state.specs.Stands.{StandsFor, Keeps}
 use Rattle.simplex_state.proofs.Expiring.{behind_one, verdict_none}
