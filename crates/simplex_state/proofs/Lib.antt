@@ -9,6 +9,10 @@ pub mod Ahead
 pub mod Proposing
 pub mod Recording
 pub mod Expiring
+pub mod Verifying
+pub mod Gathering
+pub mod Waiting
+pub mod Replays
 pub mod Unsent
 pub mod Gates
 pub mod Walking

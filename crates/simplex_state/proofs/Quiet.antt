@@ -1,5 +1,5 @@
 -- Facts that say nothing but what the record of their view keeps.
-use Rattle.std.proofs.Common.{◌≡◌, ℕ, Bool, true, false, List, ◌∷◌, Option, refl, sym, ap, ◌∙◌, arith}
+use Rattle.std.proofs.Common.{◌≡◌, ℕ, ◌≤◌, Bool, true, false, List, ◌∷◌, Option, refl, sym, ap, ◌∙◌, arith}
 use Rattle.std.proofs.lemmas.Grind.{common_steps}
 use Rattle.std.specs.BTreeMap.{BTreeMap}
 use Rattle.std.specs.List.{list_any}
@@ -273,18 +273,18 @@ quiet made (ParentAsked a) known e = let p = progress_step made (ParentAsked a) 
   unjudged = λ v. grind (arith, common_steps, option_or-none);
 }
 
--- the state behind a quiet fact
+-- the state behind a quiet fact. The records below the last pruned view may be anything
 module _ {S L : Type 0} (attests : S → Subject → Option Attestation) (elects : L → Round → ℕ) where
-  pub keeps_quiet : (state : State S L) (made : Made) (f : Fact) (known : List Fact) (rounds : BTreeMap ℕ RoundRecord) (progress : Progress)
+  pub keeps_quiet_above : (state : State S L) (made : Made) (f : Fact) (known : List Fact) (rounds : BTreeMap ℕ RoundRecord) (progress : Progress)
       → Keeps attests elects state made known
       → is_round_fact f ≡ true
       → IsSound (f ∷ known)
       → IsTimely made (f ∷ known)
       → progress ≡ learn_progress made f state.progress
-      → ((q : ℕ) → round_in rounds q ≡ learn_round f q (round_in state.rounds q))
+      → ((q : ℕ) → (progress_of made known).pruned ≤ q → round_in rounds q ≡ learn_round f q (round_in state.rounds q))
       → Keeps attests elects (record state { rounds = rounds; progress = progress }) made (f ∷ known)
   unfolding least_active has_false_verdict has_true_verdict held_notarization held_nullification held_finalization unsent_notarization unsent_nullification unsent_finalization
-  keeps_quiet state made f known rounds progress k is_round sound timely progress_is rounds_are =
+  keeps_quiet_above state made f known rounds progress k is_round sound timely progress_is rounds_are =
       let w = quiet made f known is_round in
       record {
         attest = k.attest;
@@ -314,3 +314,14 @@ module _ {S L : Type 0} (attests : S → Subject → Option Attestation) (elects
         unsent_nullifications = λ view. grind (arith, k.unsent_nullifications view, w.nullification view, w.sent kinds.Nullification view);
         unsent_finalizations = λ view. grind (arith, k.unsent_finalizations view, w.finalization view, w.sent kinds.Finalization view);
       }
+
+  pub keeps_quiet : (state : State S L) (made : Made) (f : Fact) (known : List Fact) (rounds : BTreeMap ℕ RoundRecord) (progress : Progress)
+      → Keeps attests elects state made known
+      → is_round_fact f ≡ true
+      → IsSound (f ∷ known)
+      → IsTimely made (f ∷ known)
+      → progress ≡ learn_progress made f state.progress
+      → ((q : ℕ) → round_in rounds q ≡ learn_round f q (round_in state.rounds q))
+      → Keeps attests elects (record state { rounds = rounds; progress = progress }) made (f ∷ known)
+  keeps_quiet state made f known rounds progress k is_round sound timely progress_is rounds_are =
+      keeps_quiet_above state made f known rounds progress k is_round sound timely progress_is (λ q low. rounds_are q)

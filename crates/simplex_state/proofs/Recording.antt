@@ -1,14 +1,18 @@
 -- The state behind a fact that only the record of its view keeps.
-use Rattle.std.proofs.Common.{◌≡◌, ℕ, ◌<◌, ◌^◌, true, List, ◌∷◌, Option, sym}
+use Rattle.std.proofs.Common.{◌≡◌, ℕ, ◌<◌, ◌≤◌, ◌^◌, ◌∙◌, true, List, ◌∷◌, Option, sym}
 use Rattle.std.specs.BTreeMap.{BTreeMap}
+use Rattle.std.specs.BTreeSet.{BTreeSet}
+use Rattle.std.specs.Option.{is_some}
 use Rattle.simplex_values.specs.declared.proposal.Subject.{Subject}
 use Rattle.simplex_values.specs.declared.round.Round.{Round}
 use Rattle.simplex_wire.specs.declared.attestation.Attestation.{Attestation}
-use Rattle.simplex_rules.specs.Known.{Made, Fact}
+use Rattle.simplex_rules.specs.Known.{Made, Fact, notarization_of}
+use Rattle.simplex_rules.specs.Requests.{is_unjudged}
 use Rattle.simplex_state.specs.declared.rounds.RoundRecord.{RoundRecord}
 use Rattle.simplex_state.specs.declared.state.State.{State}
+use Rattle.simplex_state.specs.Maps.{has}
 use Rattle.simplex_state.specs.Rounds.{round_in, learn_round}
-use Rattle.simplex_state.specs.Progress.{learn_progress}
+use Rattle.simplex_state.specs.Progress.{progress_of, learn_progress}
 use Rattle.simplex_state.specs.Stands.{Keeps}
 use Rattle.simplex_state.proofs.Quiet.{keeps_quiet, is_round_fact}
 use Rattle.simplex_state.proofs.Sound.{sound_other, timely_step, is_no_proposal, stamp_of}
@@ -28,3 +32,35 @@ module _ {S L : Type 0} (attests : S → Subject → Option Attestation) (elects
       (timely_step made f known stamp k.timely)
       (sym p)
       e
+
+  -- nothing more is known. The records below the last pruned view, and what waits for nothing, may be anything
+  pub keeps_same : (state : State S L) (made : Made) (known : List Fact) (rounds' : BTreeMap ℕ RoundRecord) (waiting' : BTreeSet ℕ)
+      → Keeps attests elects state made known
+      → ((q : ℕ) → (progress_of made known).pruned ≤ q → round_in rounds' q ≡ round_in state.rounds q)
+      → ((q : ℕ) → is_some (notarization_of known q) ≡ true → is_unjudged known q ≡ true → has waiting' q ≡ true)
+      → Keeps attests elects (record state { rounds = rounds'; waiting = waiting' }) made known
+  keeps_same state made known rounds' waiting' k rounds_are waiting_are =
+      record {
+        attest = k.attest;
+        leads = k.leads;
+        settings = k.settings;
+        progress = k.progress;
+        active = k.active;
+        ahead = k.ahead;
+        sound = k.sound;
+        held = k.held;
+        timely = k.timely;
+        rounds = λ view low. rounds_are view low ∙ k.rounds view low;
+        nullified = k.nullified;
+        failed = k.failed;
+        certified = k.certified;
+        covered = k.covered;
+        waiting = waiting_are;
+        missing = k.missing;
+        notarizations = k.notarizations;
+        finalizations = k.finalizations;
+        nullifications = k.nullifications;
+        unsent_notarizations = k.unsent_notarizations;
+        unsent_nullifications = k.unsent_nullifications;
+        unsent_finalizations = k.unsent_finalizations;
+      }

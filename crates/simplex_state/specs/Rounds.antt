@@ -1,5 +1,5 @@
 -- What the facts say of one view.
-use Rattle.std.specs.Prelude.{ℕ, ◌==◌, ◌&&◌, ◌||◌, Bool, true, false, List, Option, Some, None, unwrap_or, if◌then◌else◌}
+use Rattle.std.specs.Prelude.{ℕ, ◌==◌, ◌&&◌, ◌||◌, not, Bool, true, false, List, Option, Some, None, unwrap_or, if◌then◌else◌}
 use Rattle.std.specs.List.{list_any}
 use Rattle.std.specs.Option.{option_or, option_map, option_map_or, is_none}
 use Rattle.simplex_state.specs.Maps.{found}
@@ -113,3 +113,7 @@ is_checked_in r =
 
 unfoldable pub own_slot_in : RoundRecord → Bool
 own_slot_in r = option_map_or (λ p. r.answered && is_named r.proposed p) (slot_in r) false
+
+-- whether the notarization waits for its verdict, and the application was not asked for it
+unfoldable pub is_open : RoundRecord → Bool
+is_open r = is_none r.verdict && not r.certify_asked

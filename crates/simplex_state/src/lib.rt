@@ -4,6 +4,7 @@
 mod ancestry;
 mod best;
 mod certificates;
+mod certifying;
 mod config;
 mod deadline;
 mod floor;
@@ -12,6 +13,7 @@ mod maps;
 mod missing;
 mod progress;
 mod proposals;
+mod replaying;
 mod requests;
 mod rounds;
 mod sending;

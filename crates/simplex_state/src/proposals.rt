@@ -5,7 +5,7 @@ ghost use Rattle.std.specs.Prelude.{◌≡◌, ◌≤◌, ◌∷◌, true, List,
 ghost use Rattle.std.specs.Option.{is_none};
 ghost use Rattle.simplex_rules.specs.Known.{Made, Fact, Taken, view_of};
 ghost use Rattle.simplex_rules.specs.Slot.{records_proposal, records_answer};
-ghost use Rattle.simplex_rules.specs.Calls.{SetProposal, Proposed};
+ghost use Rattle.simplex_rules.specs.Calls.{SetProposal, Proposed, Verified};
 ghost use Rattle.simplex_state.specs.Rounds.{round_of, slot_in};
 ghost use Rattle.simplex_state.specs.Progress.{progress_of};
 ghost use Rattle.simplex_state.specs.Stands.{Takes, Answers, Keeps};
@@ -49,6 +49,19 @@ impl<S: Scheme + Drop, L: Elector + Drop> State<S, L> {
         round.answered = true;
         put_round(&mut self.rounds, view, round)?;
         Ok(true)
+    }
+
+    /// Takes it that the application verified the proposal that it was asked to verify.
+    pub fn verified(&mut self, view: View) -> Result<(), AllocError>
+        ensures { OnOk result (Takes S.attests L.elects self.old self.new (Verified view)) }
+    {
+        let mut round = round_at(&self.rounds, view.0);
+        if round.asked.is_none() {
+            return Ok(());
+        }
+        round.approved = true;
+        put_round(&mut self.rounds, view.0, round)?;
+        Ok(())
     }
 
     /// Takes a proposal for its view's.

@@ -1,8 +1,8 @@
 //! What a member keeps of each view.
-#![tactic(auto, unfolding(crate::specs::Rounds::round_in, crate::specs::Maps::found, crate::specs::Rounds::slot_in, crate::specs::Rounds::is_vouched_in, crate::specs::Rounds::is_checked_in, crate::specs::Rounds::own_slot_in, crate::specs::Verifying::wants_in))]
+#![tactic(auto, unfolding(crate::specs::Rounds::round_in, crate::specs::Maps::found, crate::specs::Rounds::slot_in, crate::specs::Rounds::is_vouched_in, crate::specs::Rounds::is_checked_in, crate::specs::Rounds::own_slot_in, crate::specs::Rounds::is_open, crate::specs::Verifying::wants_in))]
 
 ghost use Rattle.std.specs.Prelude.{◌≡◌, ◌≤◌, ◌<◌, ℕ, ◌==◌, IfSome, IfNone, false, if◌then◌else◌, OnOk};
-ghost use Rattle.simplex_state.specs.Rounds.{round_in, blank, slot_in, is_vouched_in, is_checked_in, is_named, own_slot_in};
+ghost use Rattle.simplex_state.specs.Rounds.{round_in, blank, slot_in, is_vouched_in, is_checked_in, is_named, own_slot_in, is_open};
 ghost use Rattle.simplex_state.specs.Verifying.{wants_in};
 
 use crate::maps::{drop_below, first_between, put};
@@ -108,6 +108,13 @@ impl RoundRecord {
             && self.voted.is_none()
             && self.notarized.is_none()
             && self.finalized.is_none()
+    }
+
+    /// Whether the notarization waits for its verdict, and the application was not asked for it.
+    pub(crate) fn is_open(&self) -> bool
+        ensures { result ≡ is_open self.now }
+    {
+        self.verdict.is_none() && !self.certify_asked
     }
 
     /// Whether the slot's proposal is checked.

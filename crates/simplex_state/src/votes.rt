@@ -111,7 +111,7 @@ impl<S: Scheme + Drop, L: Elector + Drop> State<S, L> {
     }
 
     /// Takes an own vote for a proposal.
-    fn vote_notarize(&mut self, view: View, vote: &Notarize) -> Result<(), AllocError>
+    pub(crate) fn vote_notarize(&mut self, view: View, vote: &Notarize) -> Result<(), AllocError>
         ensures { OnOk result ((made : Made) (known : List Fact) → Keeps S.attests L.elects self.old made known
             → vote.now.proposal.round.view ≡ view
             → Keeps S.attests L.elects self.new made (Voted (votes.Notarize vote.now) ∷ known)) }
@@ -173,7 +173,7 @@ impl<S: Scheme + Drop, L: Elector + Drop> State<S, L> {
     }
 
     /// Takes an own vote for finality.
-    fn vote_final(&mut self, view: View, vote: &Finalize) -> Result<(), AllocError>
+    pub(crate) fn vote_final(&mut self, view: View, vote: &Finalize) -> Result<(), AllocError>
         ensures { OnOk result ((made : Made) (known : List Fact) → Keeps S.attests L.elects self.old made known
             → vote.now.proposal.round.view ≡ view
             → Keeps S.attests L.elects self.new made (Voted (votes.Finalize vote.now) ∷ known)) }
@@ -199,7 +199,7 @@ impl<S: Scheme + Drop, L: Elector + Drop> State<S, L> {
     }
 
     /// Takes an own nullify.
-    fn vote_nullify(&mut self, view: View, vote: &Nullify) -> Result<(), AllocError>
+    pub(crate) fn vote_nullify(&mut self, view: View, vote: &Nullify) -> Result<(), AllocError>
         ensures { OnOk result ((made : Made) (known : List Fact) → Keeps S.attests L.elects self.old made known
             → vote.now.round.view ≡ view
             → Keeps S.attests L.elects self.new made (Voted (votes.Nullify vote.now) ∷ known)) }

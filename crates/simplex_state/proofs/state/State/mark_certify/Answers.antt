@@ -1,0 +1,13 @@
+use Rattle.std.proofs.Common.{arith, refl}
+use Rattle.std.proofs.lemmas.Grind.{common_steps}
+use Rattle.simplex_state.proofs.Recording.{keeps_record}
+use Rattle.simplex_state.specs.Rounds.{learn_round}
+use Rattle.simplex_state.specs.Progress.{learn_progress}
+use Rattle.simplex_rules.specs.Known.{CertifyAsked}
+use Rattle.simplex_state.proofs.state.State.mark_certify.Goals as goal
+
+pub returns : goal.returns
+unfolding learn_round learn_progress
+returns g c = λ made known k.
+    keeps_record _ _ _ made known (CertifyAsked c.args.view) _ k refl refl (omega arith) refl
+    (λ q. grind (arith, common_steps, c.in_ok-put_round.ensures q))

@@ -1,0 +1,17 @@
+use Rattle.std.proofs.Common.{arith}
+use Rattle.simplex_rules.specs.Calls.{known_of}
+use Rattle.simplex_state.specs.Stands.{StandsFor, Keeps}
+use Rattle.simplex_state.proofs.Expiring.{behind_one, verdict_none}
+use Rattle.simplex_state.proofs.Replays.{judged_taken, judged_none}
+use Rattle.simplex_state.proofs.state.State.replay_verdict.Goals as goal
+
+pub returns-then-not-takes_verdict : goal.returns-then-not-takes_verdict
+unfolding StandsFor
+returns-then-not-takes_verdict g c = λ made calls s.
+    judged_none (Keeps _ _ _ made) made (known_of made calls) _ _ _ (grind (arith, c.takes_verdict.ensures made calls s)) s
+
+pub returns : goal.returns
+unfolding StandsFor
+returns g c = λ made calls s.
+    judged_taken (Keeps _ _ _ made) made (known_of made calls) _ _ _ (grind (arith, c.takes_verdict.ensures made calls s))
+    (behind_one (Keeps _ _ _ made) _ _ _ (c.in_ok-judge.ensures made (known_of made calls) s (verdict_none (known_of made calls) c.args.view (grind (arith, c.takes_verdict.ensures made calls s)))))
