@@ -19,7 +19,7 @@ use Rattle.simplex_rules.specs.Ancestry.{has_ancestry}
 use Rattle.simplex_rules.proofs.Soundness.{slot_view}
 use Rattle.simplex_state.specs.declared.rounds.RoundRecord.{RoundRecord}
 use Rattle.simplex_state.specs.declared.state.State.{State}
-use Rattle.simplex_state.specs.Rounds.{round_in, round_of, learn_round, slot_in, own_slot_in, blank}
+use Rattle.simplex_state.specs.Rounds.{round_in, round_of, learn_round, slot_in, blank}
 use Rattle.simplex_state.specs.Verifying.{wants_in}
 use Rattle.simplex_state.specs.Progress.{progress_of, learn_progress}
 use Rattle.simplex_state.specs.Stands.{Keeps, IsSound}

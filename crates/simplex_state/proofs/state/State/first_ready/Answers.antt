@@ -1,4 +1,4 @@
-use Rattle.std.proofs.Common.{arith, rules, ◌+◌, ◌<◌, ◌≤◌, ◌^◌, ◌∙◌}
+use Rattle.std.proofs.Common.{arith, rules, ◌+◌, ◌<◌, ◌^◌, ◌∙◌}
 use Rattle.std.proofs.lemmas.Grind.{common_steps}
 use Rattle.simplex_values.specs.Terms.{next_of}
 use Rattle.simplex_rules.specs.Calls.{known_of}

@@ -1,4 +1,4 @@
-use Rattle.std.proofs.Common.{arith, rules, ◌+◌, ◌<◌, ◌≤◌, ◌^◌, ◌∙◌}
+use Rattle.std.proofs.Common.{arith, rules, ◌+◌, ◌<◌, ◌^◌, ◌∙◌}
 use Rattle.std.proofs.lemmas.Grind.{common_steps}
 use Rattle.simplex_values.specs.Terms.{next_of}
 use Rattle.simplex_state.proofs.Wanting.{wanting_here, wanting_on, wanting_end, wanting_out}

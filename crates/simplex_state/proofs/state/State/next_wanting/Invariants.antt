@@ -1,4 +1,4 @@
-use Rattle.std.proofs.Common.{◌≡◌, ℕ, ◌≤◌, ◌-◌, ◌+◌}
+use Rattle.std.proofs.Common.{◌≡◌, ◌≤◌, ◌-◌, ◌+◌}
 use Rattle.std.specs.Prelude.{find, List}
 use Rattle.std.specs.List.{range_with_len}
 use Rattle.simplex_rules.specs.Known.{Made, Fact}

@@ -1,4 +1,4 @@
-use Rattle.std.proofs.Common.{arith, ◌+◌, ◌&&◌, ◌≡◌, ◌≤◌, ◌∙◌, sym}
+use Rattle.std.proofs.Common.{arith, ◌+◌, ◌&&◌, ◌≡◌, ◌∙◌, sym}
 use Rattle.simplex_values.specs.Terms.{admission_limit}
 use Rattle.simplex_rules.specs.Calls.{known_of}
 use Rattle.simplex_rules.specs.Requests.{wants_verify, is_founded}
