@@ -1,0 +1,20 @@
+-- Counting the members that were seen.
+use Rattle.std.proofs.Common.{arith, ℕ, zero, suc, ◌≡◌, ◌≤◌, ◌+◌, List, [], ◌∷◌, ◌++◌, Bool, length, filter, if◌then◌else◌}
+use Rattle.std.specs.List.{range_with_len}
+use Rattle.std.proofs.lemmas.Grind.{common_steps}
+
+-- one more number of a range
+pub filter_range_more : (test : ℕ → Bool) (a n : ℕ)
+    → filter test (range_with_len a (n + 1)) ≡ filter test (range_with_len a n) ++ (if test (a + n) then (a + n) ∷ [] else [])
+filter_range_more test a zero = grind (arith, common_steps)
+filter_range_more test a (suc n) = grind (arith, common_steps, filter_range_more test (a + 1) n)
+
+-- tests that agree leave the same
+pub filter_same : {A : Type 0} (p q : A → Bool) → ((x : A) → p x ≡ q x) → (xs : List A) → filter p xs ≡ filter q xs
+filter_same p q same [] = grind (arith, common_steps)
+filter_same p q same (x ∷ xs) = let rest = filter_same p q same xs in let is = same x in grind (arith, common_steps, rest, is)
+
+-- no more numbers pass than there are
+pub filter_range_fits : (test : ℕ → Bool) (a n : ℕ) → length (filter test (range_with_len a n)) ≤ n
+filter_range_fits test a zero = grind (arith, common_steps)
+filter_range_fits test a (suc n) = grind (arith, common_steps, filter_range_fits test (a + 1) n)
