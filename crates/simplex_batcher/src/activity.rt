@@ -28,9 +28,7 @@ fn count_seen(seen: &BTreeMap<u32, u64>, since: u64, members: u32) -> u32
 {
     let mut count = 0;
     for member in 0..members {
-        if was_seen_in(seen, since, member) {
-            count += 1;
-        }
+        count += u32::from(was_seen_in(seen, since, member));
     }
     count
 }

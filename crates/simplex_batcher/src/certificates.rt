@@ -92,7 +92,10 @@ impl<S: Scheme + Drop> Actor<S> {
     ) -> Result<(), AllocError>
         ensures { OnOk result (Marks S.verifies S.recovers S.members S.member self.old work.old dirty.old.items self.new work.new dirty.new.items (λ made. took_certificate made sender certificate)) }
     {
-        if !self.retains(certificate.view()) || self.holds_kind(&certificate) {
+        if !self.retains(certificate.view()) {
+            return Ok(());
+        }
+        if self.holds_kind(&certificate) {
             return Ok(());
         }
         if !self.is_certified(&certificate) {

@@ -94,7 +94,10 @@ impl<S: Scheme + Drop> Actor<S> {
             self.hint_nullify(work)?;
             return Ok(());
         }
-        if self.is_me(leader) || self.seems_active(leader, timeout, now) {
+        if self.is_me(leader) {
+            return Ok(());
+        }
+        if self.seems_active(leader, timeout, now) {
             return Ok(());
         }
         self.hint(TimeoutReason::Inactivity, work)?;

@@ -1,5 +1,5 @@
 //! Which views are kept, and the rounds that are made for them.
-ghost use Rattle.std.specs.Prelude.{◌≡◌, IfOk, OnOk, unwrap_or};
+ghost use Rattle.std.specs.Prelude.{◌≡◌, ◌&&◌, IfOk, OnOk, unwrap_or};
 ghost use Rattle.simplex_steps.specs.Batcher.{retains_view, admits_view, round_for, new_round};
 ghost use Rattle.simplex_batcher.specs.Rounds.{round_of};
 ghost use Rattle.simplex_batcher.specs.Working.{put, with_lead, lead_of};
@@ -38,6 +38,14 @@ impl<S: Scheme + Drop> Actor<S> {
         ensures { Reads S.verifies S.recovers S.members S.member self.now (λ made standing. admits_view made standing view) result }
     {
         self.config.lookahead.admits(self.current, view)
+    }
+
+    /// Whether a vote of the view is of use: the view is kept and admitted.
+    #[tactic(auto, unfolding(crate::specs::Stands::batcher_made, simplex_steps::specs::Batcher::retains_view, simplex_steps::specs::Batcher::admits_view))]
+    pub(crate) fn admits_vote(&self, view: View) -> bool
+        ensures { Reads S.verifies S.recovers S.members S.member self.now (λ made standing. retains_view made standing view && admits_view made standing view) result }
+    {
+        self.viewport().admits_vote(view)
     }
 
     /// A new round of the view: it is skipped where the view is below current and votes are not tracked.

@@ -1,5 +1,7 @@
 //! What a step takes, and all that it does with it.
-ghost use Rattle.std.specs.Prelude.{filter_map, IfOk, OnOk};
+ghost use Rattle.std.specs.Prelude.{List, filter_map, IfOk, OnOk};
+ghost use Rattle.std.specs.List.{cons_option};
+ghost use Rattle.simplex_messages.specs.declared.voter.Message.{Message};
 ghost use Rattle.simplex_wire.specs.Format.{whole};
 ghost use Rattle.simplex_wire.specs.Message as format;
 ghost use Rattle.simplex_mailbox.specs.Post.{Posted};
@@ -166,6 +168,25 @@ impl<S: Scheme + Drop> Actor<S> {
     }
 }
 
+/// A copy of the message, where it is for the voter, is put into its mailbox.
+fn post_one<V: Post<voter::Message>>(
+    alloc: Global,
+    message: &Handed,
+    post: &mut V,
+) -> Result<(), AllocError>
+    // What is posted behind it is posted behind its copy.
+    ensures { OnOk result ((rest : List Message) (after : V.Denot) → Posted V.puts post.new rest after → Posted V.puts post.old (cons_option (for_voter message.now) rest) after) }
+{
+    match message {
+        Handed::Voter(message) => {
+            let copy = message.keep(alloc)?;
+            post.enqueue(copy)?;
+            Ok(())
+        }
+        _ => Ok(()),
+    }
+}
+
 /// Copies of the messages for the voter are put into its mailbox.
 pub(crate) fn post_each<V: Post<voter::Message>>(
     alloc: Global,
@@ -175,9 +196,7 @@ pub(crate) fn post_each<V: Post<voter::Message>>(
     ensures { OnOk result (Posted V.puts post.old (filter_map for_voter handed.now) post.new) }
 {
     for message in handed {
-        if let Handed::Voter(message) = message {
-            post.enqueue(message.keep(alloc)?)?;
-        }
+        post_one(alloc, message, post)?;
     }
     Ok(())
 }

@@ -46,7 +46,7 @@ impl<S: Scheme + Drop> Actor<S> {
         ensures { OnOk result (Marks S.verifies S.recovers S.members S.member self.old work.old dirty.old.items self.new work.new dirty.new.items (λ made. took_vote made sender vote)) }
     {
         let view = vote.view();
-        if !self.retains(view) || !self.admits(view) {
+        if !self.admits_vote(view) {
             return Ok(());
         }
         let accepted = self.hear(sender, vote, dirty, work)?;

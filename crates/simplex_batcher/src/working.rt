@@ -2,11 +2,10 @@
 ghost use Rattle.std.specs.Prelude.{◌≡◌, ◌++◌, map, OnOk};
 ghost use Rattle.std.specs.Option.{option_to_list};
 ghost use Rattle.simplex_messages.specs.declared.handed.Handed.TheVariants.{Voter};
-ghost use Rattle.simplex_messages.specs.declared.voter.Message.TheVariants.{Verified};
-ghost use Rattle.simplex_messages.specs.declared.call.Call.TheVariants.{Block};
-ghost use Rattle.simplex_steps.specs.Batcher.{worked, worked_all, finished, dropped, constructing_times, number_of};
+ghost use Rattle.simplex_messages.specs.declared.voter.Message.TheVariants.{Verified, Proposal as ProposalMessage};
+ghost use Rattle.simplex_steps.specs.Batcher.{Doing, worked, worked_all, finished, dropped, constructing_times, number_of, with_batch};
 ghost use Rattle.simplex_batcher.specs.Working.{forwarded_at, constructing_at};
-ghost use Rattle.simplex_batcher.specs.Stands.{Does, Marks, Reads};
+ghost use Rattle.simplex_batcher.specs.Stands.{Does, Marks, Reads, work_of};
 ghost use Rattle.simplex_batcher.specs.declared.work.Work.{Work};
 
 use crate::actor::Actor;
@@ -14,19 +13,42 @@ use crate::rounds;
 use crate::work::{Work, block_each};
 use simplex_messages::voter;
 use simplex_round::Batch;
-use simplex_types::{Participant, Scheme, View};
+use simplex_types::{Certificate, Participant, Proposal, Scheme, View};
 use std::alloc::AllocError;
 
 impl Work {
-    /// The signers of invalid votes are blocked, and the certificate, if there is one, goes to the voter.
-    fn publish_batch(&mut self, batch: Batch) -> Result<(), AllocError>
-        ensures { OnOk result (self.new ≡ record self.old {
-          calls = self.old.calls ++ map Block batch.invalid;
-          handed = self.old.handed ++ map (λ certificate. Voter (Verified certificate)) (option_to_list batch.certificate);
-        }) }
+    /// The proposal, if there is one, goes to the voter.
+    fn hand_proposal(&mut self, proposal: Option<Proposal>) -> Result<(), AllocError>
+        ensures { OnOk result (self.new ≡ record self.old { handed = self.old.handed ++ map (λ it. Voter (ProposalMessage it)) (option_to_list proposal) }) }
     {
-        block_each(&mut self.calls, batch.invalid.as_slice())?;
-        if let Some(certificate) = batch.certificate {
+        if let Some(proposal) = proposal {
+            self.hand(voter::Message::Proposal { proposal })?;
+        }
+        Ok(())
+    }
+
+    /// The signers of invalid votes are blocked, and the certificate, if there is one, goes to the voter.
+    fn publish_batch(&mut self, batch: Option<Batch>) -> Result<(), AllocError>
+        ensures { OnOk result ((doing : Doing) → self.old ≡ work_of doing → self.new ≡ work_of (with_batch batch doing)) }
+    {
+        let Some(batch) = batch else {
+            return Ok(());
+        };
+        let Batch {
+            invalid,
+            certificate,
+            ..
+        } = batch;
+        block_each(&mut self.calls, invalid.as_slice())?;
+        self.hand_certificate(certificate)?;
+        Ok(())
+    }
+
+    /// The certificate, if there is one, goes to the voter.
+    fn hand_certificate(&mut self, certificate: Option<Certificate>) -> Result<(), AllocError>
+        ensures { OnOk result (self.new ≡ record self.old { handed = self.old.handed ++ map (λ it. Voter (Verified it)) (option_to_list certificate) }) }
+    {
+        if let Some(certificate) = certificate {
             self.hand(voter::Message::Verified { certificate })?;
         }
         Ok(())
@@ -48,9 +70,8 @@ impl<S: Scheme + Drop> Actor<S> {
         ensures { OnOk result (Does S.verifies S.recovers S.members S.member self.old work.old self.new work.new (λ made. forwarded_at made view)) }
     {
         let me = self.number();
-        if let Some(proposal) = rounds::try_forward(&mut self.rounds, view.0, me) {
-            work.hand(voter::Message::Proposal { proposal })?;
-        }
+        let proposal = rounds::try_forward(&mut self.rounds, view.0, me);
+        work.hand_proposal(proposal)?;
         Ok(())
     }
 
@@ -65,9 +86,7 @@ impl<S: Scheme + Drop> Actor<S> {
             self.alloc,
             &self.config.scheme,
         )?;
-        if let Some(batch) = batch {
-            work.publish_batch(batch)?;
-        }
+        work.publish_batch(batch)?;
         Ok(())
     }
 
