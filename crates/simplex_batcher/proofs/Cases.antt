@@ -19,14 +19,14 @@ pub update-nullified : (made : Made) (doing : Doing) (leader now timeout : ℕ) 
     → made.skip ≡ skip.Enabled timeout budget → leader_nullified doing.standing ≡ true
     → hinted_at_update made made.skip leader now doing ≡ hinting_nullify made doing
 unfolding hinted_at_update
-update-nullified made doing leader now timeout budget is yes = rw (is, yes) refl
+update-nullified made doing leader now timeout budget is so = rw (is, so) refl
 
 -- this member leads
 pub update-own : (made : Made) (doing : Doing) (leader now timeout : ℕ) (budget : SkipBudget)
     → made.skip ≡ skip.Enabled timeout budget → leader_nullified doing.standing ≡ false → is_me made leader ≡ true
     → hinted_at_update made made.skip leader now doing ≡ doing
 unfolding hinted_at_update
-update-own made doing leader now timeout budget is no me = rw (is, no, me) refl
+update-own made doing leader now timeout budget is isnt me = rw (is, isnt, me) refl
 
 -- the leader is active
 pub update-active : (made : Made) (doing : Doing) (leader now timeout : ℕ) (budget : SkipBudget)
@@ -34,7 +34,7 @@ pub update-active : (made : Made) (doing : Doing) (leader now timeout : ℕ) (bu
     → is_me made leader ≡ false → is_active made doing.standing leader timeout now ≡ true
     → hinted_at_update made made.skip leader now doing ≡ doing
 unfolding hinted_at_update
-update-active made doing leader now timeout budget is no other active = rw (is, no, other, active) refl
+update-active made doing leader now timeout budget is isnt other active = rw (is, isnt, other, active) refl
 
 -- the leader seems to be gone
 pub update-inactive : (made : Made) (doing : Doing) (leader now timeout : ℕ) (budget : SkipBudget)
@@ -42,14 +42,14 @@ pub update-inactive : (made : Made) (doing : Doing) (leader now timeout : ℕ) (
     → is_me made leader ≡ false → is_active made doing.standing leader timeout now ≡ false
     → hinted_at_update made made.skip leader now doing ≡ hinting made Inactivity doing
 unfolding hinted_at_update
-update-inactive made doing leader now timeout budget is no other gone = rw (is, no, other, gone) refl
+update-inactive made doing leader now timeout budget is isnt other gone = rw (is, isnt, other, gone) refl
 
 -- the vote shows that the leader gave the view up
 pub vote-nullified : (made : Made) (doing : Doing) (accepted : Bool)
     → accepted ≡ true → has_skipping made.skip ≡ true → doing.standing.hinted ≡ false → leader_nullified doing.standing ≡ true
     → hinted_at_vote made accepted doing ≡ hinting_nullify made doing
 unfolding hinted_at_vote
-vote-nullified made doing accepted yes skips first nullified = grind (arith, common_steps)
+vote-nullified made doing accepted so skips first nullified = grind (arith, common_steps)
 
 -- ---- votes
 

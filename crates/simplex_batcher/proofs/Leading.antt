@@ -1,6 +1,5 @@
 -- Loops that lead from one standing to another.
-use Rattle.std.proofs.Common.{◌≡◌, ℕ, ◌+◌, ◌<◌, List, [], ◌∷◌, length, get_or, fold, drop, refl, ap, sym, ◌∙◌, arith, add-one, suc}
-use Rattle.std.proofs.Math.Seq.{drop-cons}
+use Rattle.std.proofs.Common.{◌≡◌, ℕ, List, [], ◌∷◌, subst}
 use Rattle.simplex_steps.specs.Batcher.{Made, Standing, Doing, worked, worked_all}
 use Rattle.simplex_batcher.specs.Working.{with_lead, with_leads}
 
@@ -16,27 +15,26 @@ pub record Done (Stands : Doing → Type 0) (made : Made) (before : Doing) (all 
   pub stands : Stands doing
   pub ends : worked_all made left doing ≡ worked_all made all before
 
-pub drop-item : (xs : List ℕ) (i : ℕ) (x : ℕ) → i < length xs → x ≡ get_or xs i x → drop i xs ≡ x ∷ drop (i + 1) xs
-drop-item xs i x within is = rw add-one (drop-cons xs i x within ∙ ap (λ y. y ∷ drop (suc i) xs) (sym is))
-
 -- one view more
-pub led-item : (Before After : Standing → Type 0) (made : Made) (before : Standing) (xs : List ℕ) (i x : ℕ)
-    → i < length xs → x ≡ get_or xs i x → ((standing : Standing) → Before standing → After (with_lead made x standing))
-    → Led Before made before xs (drop i xs) → Led After made before xs (drop (i + 1) xs)
-led-item Before After made before xs i x within is item l =
-    record {
-      standing = with_lead made x l.standing;
-      stands = item l.standing l.stands;
-      ends = rw (drop-item xs i x within is) at l.ends;
-    }
+pub led-item : (Before After : Standing → Type 0) (made : Made) (before : Standing) (all left rest : List ℕ) (x : ℕ)
+    → left ≡ x ∷ rest → ((standing : Standing) → Before standing → After (with_lead made x standing))
+    → Led Before made before all left → Led After made before all rest
+led-item Before After made before all left rest x is item l =
+    record { standing = with_lead made x l.standing; stands = item l.standing l.stands; ends = rw is at l.ends }
 
-pub done-item : (Before After : Doing → Type 0) (made : Made) (before : Doing) (xs : List ℕ) (i x : ℕ)
-    → i < length xs → x ≡ get_or xs i x → ((doing : Doing) → Before doing → After (worked made x doing))
-    → Done Before made before xs (drop i xs) → Done After made before xs (drop (i + 1) xs)
+pub done-item : (Before After : Doing → Type 0) (made : Made) (before : Doing) (all left rest : List ℕ) (x : ℕ)
+    → left ≡ x ∷ rest → ((doing : Doing) → Before doing → After (worked made x doing))
+    → Done Before made before all left → Done After made before all rest
 unfolding worked_all
-done-item Before After made before xs i x within is item d =
-    record {
-      doing = worked made x d.doing;
-      stands = item d.doing d.stands;
-      ends = rw (drop-item xs i x within is) at d.ends;
-    }
+done-item Before After made before all left rest x is item d =
+    record { doing = worked made x d.doing; stands = item d.doing d.stands; ends = rw is at d.ends }
+
+-- all views led
+pub led-end : (Stands : Standing → Type 0) (made : Made) (before : Standing) (all left : List ℕ) → left ≡ [] → Led Stands made before all left → Stands (with_leads made all before)
+led-end Stands made before all left none l =
+    let e : l.standing ≡ with_leads made all before = rw none at l.ends in subst Stands e l.stands
+
+pub done-end : (Stands : Doing → Type 0) (made : Made) (before : Doing) (all left : List ℕ) → left ≡ [] → Done Stands made before all left → Stands (worked_all made all before)
+unfolding worked_all
+done-end Stands made before all left none d =
+    let e : d.doing ≡ worked_all made all before = rw none at d.ends in subst Stands e d.stands

@@ -1,5 +1,5 @@
 -- The rounds by view, when one is put at a view or takes a call.
-use Rattle.std.proofs.Common.{◌≡◌, ℕ, ◌==◌, Bool, true, false, refl, sym, ap, ◌∙◌, Option, Some, None, if◌then◌else◌, unwrap_or, inl, inr, arith, rules}
+use Rattle.std.proofs.Common.{◌≡◌, ℕ, ◌==◌, nat_le, Bool, true, false, refl, sym, ap, ◌∙◌, Option, Some, None, if◌then◌else◌, unwrap_or, inl, inr, arith, rules}
 use Rattle.std.specs.Option.{is_some, option_map, option_map_or}
 use Rattle.std.proofs.lemmas.Grind.{common_steps}
 use Rattle.std.proofs.lemmas.Bool.{cases_eq}
@@ -125,3 +125,12 @@ pub made-led : (made : Made) (standing : Standing) (view : ℕ) (now : ℕ → O
 unfolding led round_for
 made-led made standing view now s q =
     let is = s q in grind (arith, common_steps, nat_tests)
+
+-- the rounds below a view are dropped
+pub kept-from : (old new : ℕ → Option low.Standing) (histories : ℕ → Option RoundHistory) (least : ℕ)
+    → Stand old histories → ((q : ℕ) → new q ≡ (if nat_le least q then old q else None)) → Stand new (λ q. if nat_le least q then histories q else None)
+kept-from old new histories least s drops q =
+    drops q ∙ elim (nat_le least q) as (λ b. (if b then old q else None) ≡ option_map round_of (if b then histories q else None)) [
+      | true ↦ s q
+      | false ↦ refl
+    ]

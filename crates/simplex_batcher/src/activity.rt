@@ -22,7 +22,6 @@ fn was_seen_in(seen: &BTreeMap<u32, u64>, since: u64, member: u32) -> bool
 }
 
 /// How many of the first members were seen since.
-#[tactic(auto, using(crate::proofs::Counting::filter_range_more))]
 fn count_seen(seen: &BTreeMap<u32, u64>, since: u64, members: u32) -> u32
     ensures { result ≡ length (filter (seen_in seen.now since) (range_with_len 0 members)) }
 {

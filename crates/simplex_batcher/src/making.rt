@@ -79,16 +79,15 @@ impl<S: Scheme + Drop> Actor<S> {
     }
 
     /// The leader that a round of the view is given.
-    #[tactic(auto, unfolding(crate::specs::Stands::batcher_made, crate::specs::Rounds::lead_of))]
+    #[tactic(auto, unfolding(crate::specs::Stands::batcher_made, crate::specs::Working::lead_of))]
     fn leader_at(&self, view: View) -> Option<Participant>
         ensures { Reads S.verifies S.recovers S.members S.member self.now (λ made standing. lead_of made standing view) result }
     {
-        if view == self.current
-            || self
-                .config
-                .lookahead
-                .in_admission_window(self.current, view)
-        {
+        if view == self.current {
+            return self.leader;
+        }
+        let lookahead = self.config.lookahead;
+        if lookahead.in_admission_window(self.current, view) {
             return self.leader;
         }
         None
@@ -98,9 +97,10 @@ impl<S: Scheme + Drop> Actor<S> {
     pub(crate) fn lead(&mut self, view: View)
         ensures { Moves S.verifies S.recovers S.members S.member self.old self.new (λ made. with_lead made view) }
     {
-        if let Some(leader) = self.leader_at(view) {
-            rounds::set_leader(&mut self.rounds, view.0, leader);
-        }
+        let Some(leader) = self.leader_at(view) else {
+            return;
+        };
+        rounds::set_leader(&mut self.rounds, view.0, leader);
     }
 
     /// The view has a round from now on, with the leader where the view is current or in the admission window.

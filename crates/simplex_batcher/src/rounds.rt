@@ -3,6 +3,8 @@
 
 ghost use Rattle.std.specs.Prelude.{◌≡◌, ◌≤◌, ◌==◌, ◌++◌, ℕ, [], None, Some, false, nat_le, not, ◌&&◌, length, map, if◌then◌else◌, IfOk, OnOk};
 ghost use Rattle.std.specs.BTreeMap.Range.{entries_between};
+ghost use Rattle.std.specs.List.Sorted.{IsStrictlySortedBy};
+ghost use Rattle.std.specs.Map.{keys_of};
 ghost use Rattle.std.specs.Ordering.{nat_cmp};
 ghost use Rattle.std.specs.declared.ops.Bound.TheVariants.{Included};
 ghost use Rattle.simplex_round.specs.Acceptance.{heard, heard_from, has_nullify};
@@ -188,7 +190,8 @@ pub(crate) fn views_between(
     last: u64,
 ) -> Result<Vec<u64>, AllocError>
     requires { first ≤ last }
-    ensures { IfOk result (λ views. views.items ≡ map (λ e. e.0) (entries_between nat_cmp (Included first) (Included last) rounds.now.entries)) }
+    ensures rising { IsStrictlySortedBy nat_cmp (keys_of rounds.now.entries) }
+    ensures views { IfOk result (λ views. views.items ≡ map (λ e. e.0) (entries_between nat_cmp (Included first) (Included last) rounds.now.entries)) }
 {
     rounds
         .range(first..=last)

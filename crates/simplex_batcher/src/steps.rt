@@ -1,5 +1,6 @@
 //! What a step takes, and all that it does with it.
-ghost use Rattle.std.specs.Prelude.{List, filter_map, IfOk, OnOk};
+ghost use Rattle.std.specs.Prelude.{◌==◌, List, filter_map, IfOk, OnOk};
+ghost use Rattle.simplex_messages.specs.declared.batcher.BatcherInput.TheVariants.{Mail};
 ghost use Rattle.std.specs.List.{cons_option};
 ghost use Rattle.simplex_messages.specs.declared.voter.Message.{Message};
 ghost use Rattle.simplex_wire.specs.Format.{whole};
@@ -8,16 +9,24 @@ ghost use Rattle.simplex_mailbox.specs.Post.{Posted};
 ghost use Rattle.simplex_steps.specs.Batcher.{acted, heard_vote, heard_certificate, step};
 ghost use Rattle.simplex_steps.specs.Engine.{for_voter};
 ghost use Rattle.simplex_batcher.specs.Working.{decoded_vote, decoded_certificate};
-ghost use Rattle.simplex_batcher.specs.Stands.{Marks, WorksAs};
+ghost use Rattle.simplex_batcher.specs.Stands.{Marks, Reads, WorksAs};
 
 use crate::actor::Actor;
 use crate::work::Work;
 use simplex_mailbox::Post;
 use simplex_messages::{BatcherInput, Handed, batcher, voter};
-use simplex_types::{Certificate, DecodeError, Keep, Participant, Scheme, View, Vote};
+use simplex_types::{Certificate, DecodeError, Epoch, Keep, Participant, Scheme, View, Vote};
 use std::alloc::{AllocError, Global};
 
 impl<S: Scheme + Drop> Actor<S> {
+    /// Whether it is this batcher's epoch.
+    #[tactic(auto, unfolding(crate::specs::Stands::batcher_made))]
+    fn is_of_epoch(&self, epoch: Epoch) -> bool
+        ensures { Reads S.verifies S.recovers S.members S.member self.now (λ made standing. epoch == made.epoch) result }
+    {
+        epoch == self.config.epoch
+    }
+
     /// A vote: its sender is seen, and blocked where the vote is of another epoch.
     #[tactic(auto, unfolding(crate::specs::Stands::batcher_made, crate::specs::Working::decoded_vote))]
     fn hear_vote(
@@ -30,7 +39,7 @@ impl<S: Scheme + Drop> Actor<S> {
     ) -> Result<(), AllocError>
         ensures { OnOk result (Marks S.verifies S.recovers S.members S.member self.old work.old dirty.old.items self.new work.new dirty.new.items (λ made. decoded_vote made sender vote now)) }
     {
-        if vote.epoch() != self.config.epoch {
+        if !self.is_of_epoch(vote.epoch()) {
             work.block(sender)?;
             return Ok(());
         }
@@ -75,7 +84,7 @@ impl<S: Scheme + Drop> Actor<S> {
     ) -> Result<(), AllocError>
         ensures { OnOk result (Marks S.verifies S.recovers S.members S.member self.old work.old dirty.old.items self.new work.new dirty.new.items (λ made. decoded_certificate made sender certificate now)) }
     {
-        if certificate.epoch() != self.config.epoch {
+        if !self.is_of_epoch(certificate.epoch()) {
             work.block(sender)?;
             return Ok(());
         }
@@ -109,6 +118,35 @@ impl<S: Scheme + Drop> Actor<S> {
         }
     }
 
+    /// A message of the voter.
+    #[tactic(auto, unfolding(simplex_steps::specs::Batcher::acted))]
+    fn take_mail(
+        &mut self,
+        message: batcher::Message,
+        now: u64,
+        dirty: &mut Vec<View>,
+        work: &mut Work,
+    ) -> Result<(), AllocError>
+        ensures { OnOk result (Marks S.verifies S.recovers S.members S.member self.old work.old dirty.old.items self.new work.new dirty.new.items (λ made. acted made (Mail message) now)) }
+    {
+        match message {
+            batcher::Message::Update {
+                current,
+                leader,
+                finalized,
+                forwardable_proposal,
+            } => {
+                let proposal = &forwardable_proposal;
+                self.take_update(current, leader, finalized, proposal, now, dirty, work)?;
+                Ok(())
+            }
+            batcher::Message::Constructed(vote) => {
+                self.take_constructed(vote, dirty, work)?;
+                Ok(())
+            }
+        }
+    }
+
     /// What the step takes.
     #[tactic(auto, unfolding(simplex_steps::specs::Batcher::acted))]
     fn act(
@@ -121,27 +159,8 @@ impl<S: Scheme + Drop> Actor<S> {
         ensures { OnOk result (Marks S.verifies S.recovers S.members S.member self.old work.old dirty.old.items self.new work.new dirty.new.items (λ made. acted made input now)) }
     {
         match input {
-            BatcherInput::Mail(
-                batcher::Message::Update {
-                    current,
-                    leader,
-                    finalized,
-                    forwardable_proposal,
-                },
-            ) => {
-                self.take_update(
-                    current,
-                    leader,
-                    finalized,
-                    &forwardable_proposal,
-                    now,
-                    dirty,
-                    work,
-                )?;
-                Ok(())
-            }
-            BatcherInput::Mail(batcher::Message::Constructed(vote)) => {
-                self.take_constructed(vote, dirty, work)?;
+            BatcherInput::Mail(message) => {
+                self.take_mail(message, now, dirty, work)?;
                 Ok(())
             }
             BatcherInput::Vote { sender, bytes } => {

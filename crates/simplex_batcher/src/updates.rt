@@ -30,7 +30,9 @@ impl<S: Scheme + Drop> Actor<S> {
         if limit <= self.current {
             return Ok(Vec::new(self.alloc));
         }
-        rounds::views_between(self.alloc, &self.rounds, self.current.0 + 1, limit.0)
+        let first = self.current.0 + 1;
+        let views = rounds::views_between(self.alloc, &self.rounds, first, limit.0)?;
+        Ok(views)
     }
 
     /// The rounds of these views are given the leader.

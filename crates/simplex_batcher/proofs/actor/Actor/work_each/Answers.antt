@@ -1,0 +1,13 @@
+use Rattle.std.proofs.Common.{◌≡◌, refl, sym, ◌∙◌, ap, drop, length, arith, rules}
+use Rattle.std.proofs.lemmas.List.{drop_more, drop_all}
+use Rattle.simplex_batcher.proofs.Leading.{done-item, done-end}
+use Rattle.simplex_batcher.proofs.actor.Actor.work_each.Goals as goal
+
+pub loop-view-preserved : goal.loop-view-preserved
+loop-view-preserved g c = λ dirty made doing s.
+    done-item _ _ made doing c.args.views.now _ _ _ (drop_more c.args.views.now c.loop-view.view-index 0 (omega arith))
+    (λ now stands. c.in_ok-work.ensures dirty made now stands) (c.loop-view.invariant dirty made doing s)
+
+pub returns : goal.returns
+returns g c = λ dirty made doing s.
+    done-end _ made doing c.args.views.now _ (drop_all c.loop-view.view-index c.args.views.now (omega arith)) (c.loop-view.invariant dirty made doing s)
