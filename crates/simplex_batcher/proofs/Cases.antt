@@ -1,7 +1,9 @@
 -- What the rules of a step come to in each case.
-use Rattle.std.proofs.Common.{◌≡◌, ℕ, ◌==◌, nat_le, Bool, true, false, not, ◌&&◌, ◌||◌, refl, sym, ap, ◌∙◌, Option, Some, None, if◌then◌else◌, arith, rules}
+use Rattle.std.proofs.Common.{◌≡◌, ℕ, ◌==◌, nat_le, Bool, true, false, not, ◌&&◌, ◌||◌, refl, sym, ap, ◌∙◌, ◌++◌, ◌∷◌, [], Option, Some, None, if◌then◌else◌, arith, rules}
 use Rattle.std.proofs.lemmas.Grind.{common_steps}
 use Rattle.simplex_values.specs.declared.policy.SkipBudget.{SkipBudget}
+use Rattle.simplex_values.specs.declared.policy.ForwardPolicy.TheVariants.{SilentLeader}
+use Rattle.simplex_values.specs.declared.proposal.Proposal.{Proposal}
 use Rattle.simplex_values.specs.declared.policy.SkipPolicy.TheVariants as skip
 use Rattle.simplex_values.specs.declared.timeout.TimeoutReason.TheVariants.{Inactivity}
 use Rattle.simplex_wire.specs.declared.vote.Vote.{Vote}
@@ -9,7 +11,8 @@ use Rattle.simplex_wire.specs.declared.certificate.Certificate.{Certificate}
 use Rattle.simplex_wire.specs.Certified.{is_certified}
 use Rattle.simplex_wire.specs.Fields.{certificate_subject, certificate_signatures}
 use Rattle.simplex_round.specs.Acceptance.{heard_from}
-use Rattle.simplex_steps.specs.Batcher.{Made, Standing, Doing, leader_nullified, hinted_at_update, hinted_at_vote, hinting_nullify, hinting, has_skipping, is_me, is_active, retains_view, admits_view, vote_view, vote_epoch, certificate_view, certificate_epoch, took_vote, took_constructed, took_certificate, kept_certificate, holds_kind, and_blocked, known_in, round_for, worked, constructing_times, heard_vote, heard_certificate, seen_now}
+use Rattle.simplex_round.specs.Forwarding.{is_missing_voter}
+use Rattle.simplex_steps.specs.Batcher.{Made, Standing, Doing, leader_nullified, hinted_at_update, hinted_at_vote, hinting_nullify, hinting, has_skipping, is_me, is_active, required_active, retains_view, admits_view, vote_view, vote_epoch, certificate_view, certificate_epoch, took_vote, took_constructed, took_certificate, kept_certificate, holds_kind, and_blocked, known_in, round_for, worked, constructing_times, RoundHistory, forwarding, relayed, targets_of, heard_vote, heard_certificate, seen_now}
 use Rattle.simplex_batcher.specs.Working.{heard_at, own_heard_at, forwarded_at, decoded_vote, decoded_certificate}
 
 -- ---- hints
@@ -33,7 +36,7 @@ pub update-active : (made : Made) (doing : Doing) (leader now timeout : ℕ) (bu
     → made.skip ≡ skip.Enabled timeout budget → leader_nullified doing.standing ≡ false
     → is_me made leader ≡ false → is_active made doing.standing leader timeout now ≡ true
     → hinted_at_update made made.skip leader now doing ≡ doing
-unfolding hinted_at_update
+unfolding hinted_at_update is_active required_active
 update-active made doing leader now timeout budget is isnt other active = rw (is, isnt, other, active) refl
 
 -- the leader seems to be gone
@@ -41,7 +44,7 @@ pub update-inactive : (made : Made) (doing : Doing) (leader now timeout : ℕ) (
     → made.skip ≡ skip.Enabled timeout budget → leader_nullified doing.standing ≡ false
     → is_me made leader ≡ false → is_active made doing.standing leader timeout now ≡ false
     → hinted_at_update made made.skip leader now doing ≡ hinting made Inactivity doing
-unfolding hinted_at_update
+unfolding hinted_at_update is_active required_active
 update-inactive made doing leader now timeout budget is isnt other gone = rw (is, isnt, other, gone) refl
 
 -- the vote shows that the leader gave the view up
@@ -133,3 +136,24 @@ pub certificate-own : (made : Made) (doing : Doing) (sender : ℕ) (certificate 
     → decoded_certificate made sender certificate now doing ≡ took_certificate made sender certificate (record doing { standing = seen_now sender now doing.standing })
 unfolding decoded_certificate heard_certificate
 certificate-own made doing sender certificate now own = rw own refl
+
+-- ---- forwarding
+
+pub leader-own : (made : Made) (leader : ℕ) (proposal : Proposal) (history : RoundHistory) → is_me made leader ≡ true → targets_of made SilentLeader leader proposal history ≡ []
+unfolding targets_of
+leader-own made leader proposal history me = rw me refl
+
+pub leader-heard : (made : Made) (leader : ℕ) (proposal : Proposal) (history : RoundHistory) → is_me made leader ≡ false
+    → is_missing_voter history.made (known_in history) proposal leader ≡ false → targets_of made SilentLeader leader proposal history ≡ []
+unfolding targets_of
+leader-heard made leader proposal history other heard = rw (other, heard) refl
+
+pub leader-silent : (made : Made) (leader : ℕ) (proposal : Proposal) (history : RoundHistory) → is_me made leader ≡ false
+    → is_missing_voter history.made (known_in history) proposal leader ≡ true → targets_of made SilentLeader leader proposal history ≡ leader ∷ []
+unfolding targets_of
+leader-silent made leader proposal history other silent = rw (other, silent) refl
+
+pub forward-at : (made : Made) (leader : ℕ) (proposal : Proposal) (doing : Doing) (history : RoundHistory) → doing.standing.rounds proposal.round.view ≡ Some history
+    → forwarding made leader (Some proposal) doing ≡ record doing { calls = doing.calls ++ relayed proposal (targets_of made made.forward leader proposal history) }
+unfolding forwarding
+forward-at made leader proposal doing history at = rw at refl

@@ -10,6 +10,9 @@ use Rattle.simplex_steps.specs.Batcher.{Made, Standing, RoundHistory, called, le
 use Rattle.simplex_batcher.specs.Rounds.{round_of}
 use Rattle.simplex_batcher.specs.Working.{put, with_lead, lead_of}
 
+pub same-some : {A : Type 0} → (x y : A) → Some x ≡ Some y → x ≡ y
+same-some x y e = cc
+
 -- the rounds stand for these histories
 abbrev pub Stand : (ℕ → Option low.Standing) → (ℕ → Option RoundHistory) → Type 0
 Stand now histories = (q : ℕ) → now q ≡ option_map round_of (histories q)

@@ -75,7 +75,7 @@ pub leads-at : (made : Made) (test : ℕ → Bool) (n a : ℕ) (s : Standing) (q
 leads-at made test zero a s q = rw (among-none test a q) refl
 leads-at made test (suc n) a s q =
     elim (test a) as (λ b. test a ≡ b
-        → (with_leads made (if b then a ∷ filter test (range_with_len (a + 1) n) else filter test (range_with_len (a + 1) n)) s).rounds q ≡ led_if made s q (is_among test a (suc n) q)) [
+    → (with_leads made (if b then a ∷ filter test (range_with_len (a + 1) n) else filter test (range_with_len (a + 1) n)) s).rounds q ≡ led_if made s q (is_among test a (suc n) q)) [
       | true ↦ λ so.
           elim (cases_eq q a) [
             | inl same ↦ rw same (

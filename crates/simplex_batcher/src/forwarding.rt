@@ -1,15 +1,15 @@
 //! To whom a notarized proposal is forwarded.
-ghost use Rattle.std.specs.Prelude.{◌≡◌, ◌++◌, ℕ, filter, not, IfOk, OnOk};
+ghost use Rattle.std.specs.Prelude.{◌≡◌, ◌++◌, ◌==◌, ℕ, filter, not, IfOk, OnOk};
 ghost use Rattle.simplex_values.specs.declared.policy.ForwardPolicy.TheVariants.{SilentVoters, SilentLeader};
-ghost use Rattle.simplex_steps.specs.Batcher.{forwarding, targets_of, relayed, is_me};
-ghost use Rattle.simplex_batcher.specs.Stands.{Does, Reads, ReadsRound};
+ghost use Rattle.simplex_steps.specs.Batcher.{forwarding, targets_of, relayed, some_passes};
+ghost use Rattle.simplex_batcher.specs.Stands.{Does, ReadsRound};
 
 use crate::actor::Actor;
 use crate::work::Work;
 use simplex_messages::Call;
 use simplex_round::Round;
 use simplex_types::{ForwardPolicy, Participant, Plan, Proposal, Recipients, Scheme, Sequence};
-use std::alloc::AllocError;
+use std::alloc::{AllocError, Global};
 
 impl Work {
     /// The proposal is sent to these members, if there is any.
@@ -30,20 +30,34 @@ impl Work {
     }
 }
 
-impl<S: Scheme + Drop> Actor<S> {
-    /// These members but for this one.
-    fn without_me(&self, members: &[Participant]) -> Result<Vec<Participant>, AllocError>
-        ensures { IfOk result (λ others. Reads S.verifies S.recovers S.members S.member self.now (λ made standing. filter (λ member. not (is_me made member)) members.now) others.items) }
-    {
-        let mut others = Vec::new(self.alloc);
-        for member in members {
-            if !self.is_me(*member) {
-                others.push(*member)?;
-            }
-        }
-        Ok(others)
+/// Whether it is another member than this.
+fn is_other(me: Option<Participant>, member: Participant) -> bool
+    ensures { result ≡ not (some_passes (λ own. own == member) me) }
+{
+    match me {
+        None => true,
+        Some(own) => own != member,
     }
+}
 
+/// The members of the list other than this.
+fn without(
+    alloc: Global,
+    me: Option<Participant>,
+    members: &[Participant],
+) -> Result<Vec<Participant>, AllocError>
+    ensures { IfOk result (λ others. others.items ≡ filter (λ member. not (some_passes (λ own. own == member) me)) members.now) }
+{
+    let mut others = Vec::new(alloc);
+    for member in members {
+        if is_other(me, *member) {
+            others.push(*member)?;
+        }
+    }
+    Ok(others)
+}
+
+impl<S: Scheme + Drop> Actor<S> {
     /// The leader, where it is not this member and its notarize of the proposal was not seen.
     #[tactic(auto, unfolding(crate::specs::Rounds::round_of, simplex_round::specs::Stands::StandsFor, simplex_steps::specs::Batcher::targets_of))]
     fn silent_leader(
@@ -54,10 +68,14 @@ impl<S: Scheme + Drop> Actor<S> {
     ) -> Result<Vec<Participant>, AllocError>
         ensures { IfOk result (λ targets. ReadsRound S.verifies S.recovers S.members S.member self.now round.now (λ made history. targets_of made SilentLeader leader proposal.now history) targets.items) }
     {
-        let mut targets = Vec::new(self.alloc);
-        if !self.is_me(leader) && round.is_missing_voter(proposal, leader) {
-            targets.push(leader)?;
+        if self.is_me(leader) {
+            return Ok(Vec::new(self.alloc));
         }
+        if !round.is_missing_voter(proposal, leader) {
+            return Ok(Vec::new(self.alloc));
+        }
+        let mut targets = Vec::new(self.alloc);
+        targets.push(leader)?;
         Ok(targets)
     }
 
@@ -71,7 +89,8 @@ impl<S: Scheme + Drop> Actor<S> {
         ensures { IfOk result (λ targets. (leader : ℕ) → ReadsRound S.verifies S.recovers S.members S.member self.now round.now (λ made history. targets_of made SilentVoters leader proposal.now history) targets.items) }
     {
         let missing = round.missing_voters(self.alloc, proposal)?;
-        let others = self.without_me(&missing)?;
+        let me = self.config.scheme.me();
+        let others = without(self.alloc, me, &missing)?;
         Ok(others)
     }
 

@@ -70,11 +70,12 @@ impl<S: Scheme + Drop> Actor<S> {
     fn make_bare_round(&mut self, view: View) -> Result<(), AllocError>
         ensures { OnOk result (Moves S.verifies S.recovers S.members S.member self.old self.new (λ made standing. put view (unwrap_or (standing.rounds view) (new_round made standing view)) standing)) }
     {
-        if self.rounds.contains_key(&view.0) {
+        let number = view.0;
+        if self.rounds.contains_key(&number) {
             return Ok(());
         }
         let round = self.new_round(view)?;
-        rounds::put(&mut self.rounds, view.0, round)?;
+        rounds::put(&mut self.rounds, number, round)?;
         Ok(())
     }
 

@@ -12,4 +12,4 @@ pub returns : goal.returns
 returns g c = λ made doing s.
     rw (certificate-own made doing c.args.sender c.args.certificate c.args.now (sym (rw c.epoch.ensures at c.is_of_epoch.ensures made doing.standing s.stands) ∙ c.if-not-is_of_epoch.false))
     (c.in_ok-take_certificate.ensures made (record doing { standing = seen_now c.args.sender c.args.now doing.standing })
-        (record { stands = c.in_ok-see.ensures made doing.standing s.stands; does = s.does; marks = s.marks }))
+    (record { stands = c.in_ok-see.ensures made doing.standing s.stands; does = s.does; marks = s.marks }))

@@ -14,11 +14,11 @@ returns g c = λ made doing s.
     let at = c.in_ok-make_round.ensures made doing.standing s.stands in
     let round = round_for made doing.standing c.view-view.result in
     let here = at-set (found c.make_round.new.self.rounds) doing.standing.rounds c.view-view.result round at.round_is in
-    let taken = taken-set (found c.make_round.new.self.rounds) (found c.accept_vote-accepted.new.rounds) doing.standing.rounds c.view-view.result (AcceptVote c.args.vote) round at.round_is c.in_ok-accepted.ensures.stands in
-    let reports : c.accept_vote-accepted.new.out.reports ≡ (heard (known_in round) c.args.vote).reports = c.in_ok-accepted.ensures.reports round here in
-    let blocks : c.accept_vote-accepted.new.out.blocks ≡ (heard (known_in round) c.args.vote).blocks = c.in_ok-accepted.ensures.blocks round here in
+    let taken = taken-set (found c.make_round.new.self.rounds) (found c.accept_vote.new.rounds) doing.standing.rounds c.view-view.result (AcceptVote c.args.vote) round at.round_is (rw c.view.view_is at c.in_ok-accepted.ensures.stands) in
+    let reports : c.accept_vote.new.out.reports ≡ (heard (known_in round) c.args.vote).reports = (rw c.view.view_is at c.in_ok-accepted.ensures.reports) round here in
+    let blocks : c.accept_vote.new.out.blocks ≡ (heard (known_in round) c.args.vote).blocks = (rw c.view.view_is at c.in_ok-accepted.ensures.blocks) round here in
     rw (← c.view-view.ensures) (record {
-      stands = moved _ _ _ _ c.make_round.new.self made (put c.view-view.result round doing.standing) c.accept_vote-accepted.new.rounds (set c.view-view.result (called (AcceptVote c.args.vote) round) doing.standing.rounds) at taken;
+      stands = moved _ _ _ _ c.make_round.new.self made (put c.view-view.result round doing.standing) c.accept_vote.new.rounds (set c.view-view.result (called (AcceptVote c.args.vote) round) doing.standing.rounds) at taken;
       does = c.in_ok-publish.ensures ∙ rw (s.does, reports, blocks) refl;
-      marks = c.in_ok-mark.ensures ∙ rw (s.marks, c.in_ok-accepted.ensures.answer round here) refl;
+      marks = c.in_ok-mark.ensures ∙ rw (s.marks, (rw c.view.view_is at c.in_ok-accepted.ensures.answer) round here) refl;
     })

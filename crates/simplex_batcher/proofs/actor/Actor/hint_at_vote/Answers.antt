@@ -10,7 +10,7 @@ unfolding batcher_made
 returns-in_ok-hint_nullify g c = λ dirty made doing s.
     let first : doing.standing.hinted ≡ false = s.stands.hinted_is ∙ c.if-not-self.true in
     rw (vote-nullified made doing c.args.accepted c.if-accepted.true
-        (ap (λ m. has_skipping m.skip) s.stands.made_is ∙ sym c.has_skipping-is_skipping.ensures ∙ c.if-is_skipping.true)
-        first
-        (sym (c.leader_nullified.ensures made doing.standing s.stands) ∙ c.if-leader_nullified.true))
+    (ap (λ m. has_skipping m.skip) s.stands.made_is ∙ sym c.has_skipping-is_skipping.ensures ∙ c.if-is_skipping.true)
+    first
+    (sym (c.leader_nullified.ensures made doing.standing s.stands) ∙ c.if-leader_nullified.true))
     (c.in_ok-hint_nullify.ensures dirty made doing s)

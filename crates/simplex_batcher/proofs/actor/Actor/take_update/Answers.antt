@@ -11,5 +11,5 @@ returns g c = λ made doing s.
     let led = c.in_ok-window.ensures.stands made start at in
     let views = c.in_ok-window.ensures.views made start at in
     let marked = record doing { standing = with_leader made start; dirty = c.args.current ∷ window_views made (with_leader made start) } in
-    let marks = c.in_ok-marks_of.ensures ∙ ap (λ xs. c.args.current ∷ xs) (c.deref.ensures.value ∙ views) in
+    let marks = c.in_ok-dirty.ensures ∙ ap (λ xs. c.args.current ∷ xs) (c.deref.ensures.value ∙ views) in
     c.in_ok-forward.ensures _ made _ (c.in_ok-hint_at_update.ensures _ made marked (record { stands = led; does = s.does; marks = marks }))
