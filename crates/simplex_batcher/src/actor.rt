@@ -55,6 +55,7 @@ impl<S: Scheme + Drop> Actor<S> {
     }
 
     /// Whether the member was seen within this time, or too few members were to tell.
+    #[tactic(auto, unfolding(crate::specs::Stands::StandsFor, simplex_steps::specs::Batcher::active_after))]
     pub fn is_active(&self, member: Participant, skip_timeout: u64, now: u64) -> bool
         ensures { Answers S.verifies S.recovers S.members S.member self.now (λ made past. active_after made past member skip_timeout now) result }
     {

@@ -1,5 +1,5 @@
 //! To whom a notarized proposal is forwarded.
-ghost use Rattle.std.specs.Prelude.{◌≡◌, ◌++◌, ◌==◌, ℕ, filter, not, IfOk, OnOk};
+ghost use Rattle.std.specs.Prelude.{◌≡◌, ◌++◌, ◌∷◌, [], ◌==◌, ℕ, filter, not, IfOk, OnOk};
 ghost use Rattle.simplex_values.specs.declared.policy.ForwardPolicy.TheVariants.{SilentVoters, SilentLeader};
 ghost use Rattle.simplex_steps.specs.Batcher.{forwarding, targets_of, relayed, some_passes};
 ghost use Rattle.simplex_batcher.specs.Stands.{Does, ReadsRound};
@@ -31,22 +31,31 @@ impl Work {
 }
 
 /// Whether it is another member than this.
-fn is_other(me: Option<Participant>, member: Participant) -> bool
-    ensures { result ≡ not (some_passes (λ own. own == member) me) }
+fn is_other(me: &Option<Participant>, member: Participant) -> bool
+    ensures { result ≡ not (some_passes (λ own. own == member) me.now) }
 {
     match me {
         None => true,
-        Some(own) => own != member,
+        Some(own) => *own != member,
     }
+}
+
+/// This member alone.
+fn only(alloc: Global, member: Participant) -> Result<Vec<Participant>, AllocError>
+    ensures { IfOk result (λ members. members.items ≡ member ∷ []) }
+{
+    let mut members = Vec::new(alloc);
+    members.push(member)?;
+    Ok(members)
 }
 
 /// The members of the list other than this.
 fn without(
     alloc: Global,
-    me: Option<Participant>,
+    me: &Option<Participant>,
     members: &[Participant],
 ) -> Result<Vec<Participant>, AllocError>
-    ensures { IfOk result (λ others. others.items ≡ filter (λ member. not (some_passes (λ own. own == member) me)) members.now) }
+    ensures { IfOk result (λ others. others.items ≡ filter (λ member. not (some_passes (λ own. own == member) me.now)) members.now) }
 {
     let mut others = Vec::new(alloc);
     for member in members {
@@ -74,8 +83,7 @@ impl<S: Scheme + Drop> Actor<S> {
         if !round.is_missing_voter(proposal, leader) {
             return Ok(Vec::new(self.alloc));
         }
-        let mut targets = Vec::new(self.alloc);
-        targets.push(leader)?;
+        let targets = only(self.alloc, leader)?;
         Ok(targets)
     }
 
@@ -90,7 +98,7 @@ impl<S: Scheme + Drop> Actor<S> {
     {
         let missing = round.missing_voters(self.alloc, proposal)?;
         let me = self.config.scheme.me();
-        let others = without(self.alloc, me, &missing)?;
+        let others = without(self.alloc, &me, &missing)?;
         Ok(others)
     }
 

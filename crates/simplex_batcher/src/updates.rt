@@ -26,11 +26,12 @@ impl<S: Scheme + Drop> Actor<S> {
     fn window_views(&self) -> Result<Vec<u64>, AllocError>
         ensures { IfOk result (λ views. Reads S.verifies S.recovers S.members S.member self.now (λ made standing. window_views made standing) views.items) }
     {
-        let limit = self.config.lookahead.admission_limit(self.current);
-        if limit <= self.current {
+        let current = self.current;
+        let limit = self.config.lookahead.admission_limit(current);
+        if limit <= current {
             return Ok(Vec::new(self.alloc));
         }
-        let first = self.current.0 + 1;
+        let first = current.0 + 1;
         let views = rounds::views_between(self.alloc, &self.rounds, first, limit.0)?;
         Ok(views)
     }

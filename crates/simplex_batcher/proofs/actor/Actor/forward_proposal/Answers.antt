@@ -1,4 +1,4 @@
-use Rattle.std.proofs.Common.{◌≡◌, ◌∙◌, ap, sym, refl, Option, Some, None}
+use Rattle.std.proofs.Common.{◌≡◌, ◌∙◌, ap, sym, refl, append-nil, Option, Some, None}
 use Rattle.std.specs.Option.{option_map, option_map_or, option_to_list}
 use Rattle.simplex_round.specs.Calls.{TryForward}
 use Rattle.simplex_round.specs.Forwarding.{forwarded_to_voter}
@@ -21,7 +21,7 @@ returns g c = λ dirty made doing s.
           record {
             stands = moved _ _ _ _ c.args.self.now made doing.standing c.try_forward-proposal.new.rounds doing.standing.rounds s.stands
                 (λ q. (rw c.view.view_is at c.try_forward-proposal.ensures.none) none q ∙ s.stands.round_is q);
-            does = c.in_ok-hand_proposal.ensures ∙ rw (s.does, (rw c.view.view_is at c.try_forward-proposal.ensures.nothing) none) refl;
+            does = c.in_ok-hand_proposal.ensures ∙ rw (s.does, (rw c.view.view_is at c.try_forward-proposal.ensures.nothing) none, append-nil doing.handed) refl;
             marks = s.marks;
           }
       | Some h ↦ λ is.

@@ -1,7 +1,7 @@
 use Rattle.std.proofs.Common.{◌≡◌, refl, sym, ◌∙◌}
 use Rattle.simplex_round.specs.Acceptance.{heard_from}
 use Rattle.simplex_round.specs.Calls.{AddNetwork}
-use Rattle.simplex_steps.specs.Batcher.{round_for, known_in, called}
+use Rattle.simplex_steps.specs.Batcher.{with_heard, round_for, known_in, called}
 use Rattle.simplex_batcher.specs.Rounds.{found}
 use Rattle.simplex_batcher.specs.Working.{heard_at, put}
 use Rattle.simplex_batcher.proofs.Moving.{moved}
@@ -9,7 +9,7 @@ use Rattle.simplex_batcher.proofs.Placing.{taken-set, at-set, set}
 use Rattle.simplex_batcher.proofs.actor.Actor.hear.Goals as goal
 
 pub returns-clause-stands : goal.returns-clause-stands
-unfolding heard_at
+unfolding heard_at with_heard
 returns-clause-stands g c = λ made doing s.
     let at = c.in_ok-make_round.ensures made doing.standing s.stands in
     let round = round_for made doing.standing c.view-view.result in

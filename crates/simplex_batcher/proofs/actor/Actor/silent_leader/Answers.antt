@@ -11,11 +11,11 @@ returns-then-is_me g c = λ made standing history s is.
 pub returns-then-not-is_missing_voter : goal.returns-then-not-is_missing_voter
 unfolding StandsFor round_of
 returns-then-not-is_missing_voter g c = λ made standing history s is.
-    c.new.ensures.items ∙ sym (leader-heard made c.args.leader c.args.proposal.now history (sym (c.is_me.ensures made standing s) ∙ c.if-is_me.false)
+    c.new-then-not-is_missing_voter.ensures.items ∙ sym (leader-heard made c.args.leader c.args.proposal.now history (sym (c.is_me.ensures made standing s) ∙ c.if-is_me.false)
     (sym (c.is_missing_voter.ensures history.made history.calls is) ∙ c.if-not-is_missing_voter.true))
 
 pub returns : goal.returns
 unfolding StandsFor round_of
 returns g c = λ made standing history s is.
-    c.push.ensures.items ∙ rw (c.new-targets.ensures.items) (sym (leader-silent made c.args.leader c.args.proposal.now history (sym (c.is_me.ensures made standing s) ∙ c.if-is_me.false)
-    (sym (c.is_missing_voter.ensures history.made history.calls is) ∙ c.if-not-is_missing_voter.false)))
+    c.in_ok-targets.ensures ∙ sym (leader-silent made c.args.leader c.args.proposal.now history (sym (c.is_me.ensures made standing s) ∙ c.if-is_me.false)
+    (sym (c.is_missing_voter.ensures history.made history.calls is) ∙ c.if-not-is_missing_voter.false))
