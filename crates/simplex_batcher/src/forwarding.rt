@@ -138,7 +138,8 @@ impl<S: Scheme + Drop> Actor<S> {
         let Some(proposal) = proposal else {
             return Ok(());
         };
-        let Some(round) = self.rounds.get(&proposal.round.view.0) else {
+        let view = proposal.round.view;
+        let Some(round) = self.rounds.get(&view.0) else {
             return Ok(());
         };
         let targets = self.targets(leader, proposal, round)?;

@@ -22,3 +22,6 @@ mod working;
 
 pub use actor::Actor;
 pub use config::Config;
+
+#[cfg(test)]
+mod tests;
