@@ -1,0 +1,31 @@
+-- Counting the members that were seen.
+use Rattle.std.proofs.Common.{arith, zero-add, refl, ap, nat_le, ℕ, zero, suc, ◌≡◌, ◌+◌, List, [], ◌∷◌, ◌++◌, Bool, length, filter, if◌then◌else◌}
+use Rattle.std.specs.List.{range_with_len}
+use Rattle.std.proofs.lemmas.Grind.{common_steps}
+use Rattle.std.specs.BTreeMap.{BTreeMap}
+use Rattle.simplex_steps.specs.Batcher.{Standing, was_seen, some_passes}
+use Rattle.simplex_batcher.specs.Rounds.{found}
+use Rattle.simplex_batcher.specs.Activity.{seen_in}
+
+-- one more number of a range
+pub filter_range_more : (test : ℕ → Bool) (a n : ℕ)
+    → filter test (range_with_len a (n + 1)) ≡ filter test (range_with_len a n) ++ (if test (a + n) then (a + n) ∷ [] else [])
+filter_range_more test a zero = grind (arith, common_steps)
+filter_range_more test a (suc n) = grind (arith, common_steps, filter_range_more test (a + 1) n)
+
+-- and how many pass
+pub count_more : (test : ℕ → Bool) (n : ℕ)
+    → length (filter test (range_with_len 0 (n + 1))) ≡ length (filter test (range_with_len 0 n)) + (if test n then 1 else 0)
+count_more test n = rw (filter_range_more test 0 n, zero-add n) (grind (arith, common_steps))
+
+-- tests that agree leave the same
+pub filter_same : {A : Type 0} (p q : A → Bool) → ((x : A) → p x ≡ q x) → (xs : List A) → filter p xs ≡ filter q xs
+filter_same p q same [] = grind (arith, common_steps)
+filter_same p q same (x ∷ xs) = let rest = filter_same p q same xs in let is = same x in grind (arith, common_steps, rest, is)
+
+-- as many were seen by the map as by the batcher's standing
+pub seen-same : (seen : BTreeMap ℕ ℕ) (standing : Standing) (since : ℕ) → ((q : ℕ) → found seen q ≡ standing.seen q) → (n m : ℕ) → n ≡ m
+    → length (filter (seen_in seen since) (range_with_len 0 n)) ≡ length (filter (was_seen standing since) (range_with_len 0 m))
+unfolding seen_in was_seen
+seen-same seen standing since is n m same =
+    rw (same, filter_same (seen_in seen since) (was_seen standing since) (λ q. ap (some_passes (nat_le since)) (is q)) (range_with_len 0 m)) refl

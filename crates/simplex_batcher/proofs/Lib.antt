@@ -1,0 +1,9 @@
+pub mod Accepting
+pub mod Batches
+pub mod Cases
+pub mod Counting
+pub mod Leading
+pub mod Moving
+pub mod Placing
+pub mod Updating
+pub mod Window

@@ -1,0 +1,27 @@
+-- Where a batcher stands when its rounds change.
+use Rattle.std.proofs.Common.{◌≡◌, ℕ, Bool, List, Option, refl}
+use Rattle.std.specs.Option.{option_map}
+use Rattle.std.specs.BTreeMap.{BTreeMap}
+use Rattle.simplex_values.specs.declared.proposal.Subject.{Subject}
+use Rattle.simplex_wire.specs.declared.attestation.Attestation.{Attestation}
+use Rattle.simplex_round.specs.Known as low
+use Rattle.simplex_steps.specs.Batcher.{Made, Standing, RoundHistory}
+use Rattle.simplex_batcher.specs.declared.actor.Actor.{Actor}
+use Rattle.simplex_batcher.specs.Rounds.{found, round_of}
+use Rattle.simplex_batcher.specs.Stands.{IsAt}
+use Rattle.simplex_batcher.proofs.Placing.{Stand}
+
+-- its rounds stand for these histories from now on
+pub moved : {S : Type 0} (verifies : S → Subject → Attestation → Bool) (recovers : S → Bool) (members : S → ℕ) (member : S → Option ℕ)
+    (actor : Actor S) (made : Made) (standing : Standing) (rounds : BTreeMap ℕ low.Standing) (histories : ℕ → Option RoundHistory)
+    → IsAt verifies recovers members member actor made standing → Stand (found rounds) histories
+    → IsAt verifies recovers members member (record actor { rounds = rounds }) made (record standing { rounds = histories })
+moved verifies recovers members member actor made standing rounds histories s stand = record {
+  made_is = s.made_is;
+  current_is = s.current_is;
+  leader_is = s.leader_is;
+  finalized_is = s.finalized_is;
+  hinted_is = s.hinted_is;
+  seen_is = s.seen_is;
+  round_is = stand;
+}

@@ -1,0 +1,31 @@
+use Rattle.std.proofs.Common.{◌≡◌, refl, sym, ◌∙◌}
+use Rattle.simplex_round.specs.Acceptance.{heard_from}
+use Rattle.simplex_round.specs.Calls.{AddNetwork}
+use Rattle.simplex_steps.specs.Batcher.{with_heard, round_for, known_in, called}
+use Rattle.simplex_batcher.specs.Rounds.{found}
+use Rattle.simplex_batcher.specs.Working.{heard_at, put}
+use Rattle.simplex_batcher.proofs.Moving.{moved}
+use Rattle.simplex_batcher.proofs.Placing.{taken-set, at-set, set}
+use Rattle.simplex_batcher.proofs.actor.Actor.hear.Goals as goal
+
+pub returns-clause-stands : goal.returns-clause-stands
+unfolding heard_at with_heard
+returns-clause-stands g c = λ made doing s.
+    let at = c.in_ok-make_round.ensures made doing.standing s.stands in
+    let round = round_for made doing.standing c.view-view.result in
+    let here = at-set (found c.make_round.new.self.rounds) doing.standing.rounds c.view-view.result round at.round_is in
+    let taken = taken-set (found c.make_round.new.self.rounds) (found c.add_network.new.rounds) doing.standing.rounds c.view-view.result (AddNetwork c.args.sender c.args.vote) round at.round_is (rw c.view.view_is at c.in_ok-accepted.ensures.stands) in
+    let reports : c.add_network.new.out.reports ≡ (heard_from (known_in round) c.args.sender c.args.vote).reports = rw c.new-out.ensures.reports at (rw c.view.view_is at c.in_ok-accepted.ensures.reports) round here in
+    let blocks : c.add_network.new.out.blocks ≡ (heard_from (known_in round) c.args.sender c.args.vote).blocks = rw c.new-out.ensures.blocks at (rw c.view.view_is at c.in_ok-accepted.ensures.blocks) round here in
+    rw (← c.view-view.ensures) (record {
+      stands = moved _ _ _ _ c.make_round.new.self made (put c.view-view.result round doing.standing) c.add_network.new.rounds (set c.view-view.result (called (AddNetwork c.args.sender c.args.vote) round) doing.standing.rounds) at taken;
+      does = c.in_ok-publish.ensures ∙ rw (s.does, reports, blocks) refl;
+      marks = c.in_ok-mark.ensures ∙ rw (s.marks, (rw c.view.view_is at c.in_ok-accepted.ensures.answer) round here) refl;
+    })
+
+pub returns-clause-answer : goal.returns-clause-answer
+returns-clause-answer g c = λ made standing s.
+    let at = c.in_ok-make_round.ensures made standing s in
+    let round = round_for made standing c.view-view.result in
+    let here = at-set (found c.make_round.new.self.rounds) standing.rounds c.view-view.result round at.round_is in
+    rw (← c.view-view.ensures) ((rw c.view.view_is at c.in_ok-accepted.ensures.answer) round here)

@@ -1,0 +1,10 @@
+use Rattle.std.proofs.Common.{drop}
+use Rattle.simplex_steps.specs.Batcher.{Made, Standing}
+use Rattle.simplex_batcher.specs.Stands.{IsAt}
+use Rattle.simplex_batcher.proofs.Leading.{Led}
+use Rattle.simplex_batcher.proofs.actor.Actor.lead_each.Given as goal
+
+abbrev pub invariant-loop-view : goal.invariant-loop-view
+invariant-loop-view g l =
+    (made : Made) (standing : Standing) → IsAt g.S.Scheme.verifies g.S.Scheme.recovers g.S.Scheme.members g.S.Scheme.member l.fn.self made standing
+    → Led (IsAt g.S.Scheme.verifies g.S.Scheme.recovers g.S.Scheme.members g.S.Scheme.member l.self made) made standing l.views (drop l.view-index l.views)

@@ -1,0 +1,4 @@
+pub mod Rounds
+pub mod Activity
+pub mod Working
+pub mod Stands

@@ -1,0 +1,32 @@
+-- The batcher's maps, and the histories of the rounds in them.
+use Rattle.std.specs.Prelude.{◌≡◌, ℕ, ◌==◌, Option, Some, None, if◌then◌else◌}
+use Rattle.std.specs.Option.{option_map}
+use Rattle.std.specs.Ordering.{nat_cmp}
+use Rattle.std.specs.BTreeMap as tree
+use Rattle.std.specs.BTreeMap.{BTreeMap}
+use Rattle.simplex_round.specs.Known.{Made, Known, Standing}
+use Rattle.simplex_round.specs.Calls.{Call}
+use Rattle.simplex_steps.specs.Batcher.{RoundHistory, known_in, called}
+
+-- what the map has at a number
+unfoldable pub found : {V : Type 0} → BTreeMap ℕ V → ℕ → Option V
+found values number = tree.get nat_cmp values number
+
+-- the round as it stands behind the calls of its history
+unfoldable pub round_of : RoundHistory → Standing
+round_of history = record { made = history.made; known = known_in history }
+
+-- whatever history the round of the view has, it has it with the call behind it, and the others stay
+abbrev pub TakesAt : BTreeMap ℕ Standing → BTreeMap ℕ Standing → ℕ → Call → Type 0
+TakesAt old new view call =
+    (history : RoundHistory) → found old view ≡ Some (round_of history)
+    → (q : ℕ) → found new q ≡ (if q == view then Some (round_of (called call history)) else found old q)
+
+-- where the view has no round, all stay
+abbrev pub StaysWithout : BTreeMap ℕ Standing → BTreeMap ℕ Standing → ℕ → Type 0
+StaysWithout old new view = found old view ≡ None → (q : ℕ) → found new q ≡ found old q
+
+-- whatever history the round of the view has, the answer is the rule's
+abbrev pub AnswersAt : {R : Type 0} → BTreeMap ℕ Standing → ℕ → (Made → Known → R) → R → Type 0
+AnswersAt rounds view rule answer =
+    (history : RoundHistory) → found rounds view ≡ Some (round_of history) → answer ≡ rule history.made (known_in history)

@@ -1,0 +1,86 @@
+//! The batcher's actor.
+#![tactic(auto, unfolding(crate::specs::Stands::StandsFor, crate::specs::Stands::batcher_made, crate::specs::Rounds::found, simplex_steps::specs::Batcher::standing_after))]
+
+ghost use Rattle.std.specs.Prelude.{◌≡◌, ◌<◌, ◌^◌, [], filter_map, IfOk, OnOk};
+ghost use Rattle.simplex_mailbox.specs.Post.{Posted};
+ghost use Rattle.simplex_messages.specs.Step.{no_out};
+ghost use Rattle.simplex_messages.specs.declared.step.Outcome.TheVariants.{Done};
+ghost use Rattle.simplex_steps.specs.Batcher.{active_after, step_out};
+ghost use Rattle.simplex_steps.specs.Engine.{for_voter};
+ghost use Rattle.simplex_batcher.specs.Stands.{StandsFor, Takes, Answers, batcher_made};
+
+use crate::config::Config;
+use crate::rounds::Rounds;
+use crate::steps::post_each;
+use crate::work::Work;
+use simplex_mailbox::Post;
+use simplex_messages::{BatcherInput, Outcome, StepOut, voter};
+use simplex_types::{Participant, Scheme, View};
+use std::alloc::{AllocError, Global};
+use std::collections::BTreeMap;
+
+/// A batcher between two steps.
+#[derive(Drop)]
+pub struct Actor<S> {
+    pub(crate) alloc: Global,
+    pub(crate) config: Config<S>,
+    /// The view that the voter is in, and its leader.
+    pub(crate) current: View,
+    pub(crate) leader: Option<Participant>,
+    /// The last final view.
+    pub(crate) finalized: View,
+    /// Whether the leader's nullify of the current view was hinted at.
+    pub(crate) hinted: bool,
+    /// When each member was seen last.
+    pub(crate) seen: BTreeMap<u32, u64>,
+    pub(crate) rounds: Rounds,
+}
+
+impl<S: Scheme + Drop> Actor<S> {
+    /// A batcher that was given nothing yet.
+    #[tactic(auto, unfolding(crate::specs::Stands::StandsFor, crate::specs::Stands::batcher_made, crate::specs::Rounds::found, simplex_steps::specs::Batcher::standing_after, simplex_steps::specs::Batcher::at_first))]
+    pub fn new(alloc: Global, config: Config<S>) -> Result<Actor<S>, AllocError>
+        ensures { IfOk result (λ actor. StandsFor S.verifies S.recovers S.members S.member actor (batcher_made S.verifies S.recovers S.members S.member config) []) }
+    {
+        Ok(Actor {
+            alloc,
+            current: View(0),
+            leader: None,
+            finalized: config.floor,
+            hinted: false,
+            seen: BTreeMap::new(alloc),
+            rounds: BTreeMap::new(alloc),
+            config,
+        })
+    }
+
+    /// Whether the member was seen within this time, or too few members were to tell.
+    #[tactic(auto, unfolding(crate::specs::Stands::StandsFor, simplex_steps::specs::Batcher::active_after))]
+    pub fn is_active(&self, member: Participant, skip_timeout: u64, now: u64) -> bool
+        ensures { Answers S.verifies S.recovers S.members S.member self.now (λ made past. active_after made past member skip_timeout now) result }
+    {
+        self.seems_active(member, skip_timeout, now)
+    }
+
+    /// A step: it takes the input, and hands on what comes of it.
+    pub fn step<V: Post<voter::Message>>(
+        &mut self,
+        input: BatcherInput,
+        now: u64,
+        voter: &mut V,
+        out: &mut StepOut,
+    ) -> Result<Outcome, AllocError>
+        requires clock { now < 2 ^ 63 }
+        requires empty { out.old ≡ no_out }
+        ensures stands { OnOk result (Takes S.verifies S.recovers S.members S.member self.old self.new (record { input = input; now = now })) }
+        ensures out { OnOk result (Answers S.verifies S.recovers S.members S.member self.old (λ made past. step_out made past (record { input = input; now = now })) out.new) }
+        ensures outcome { IfOk result (λ outcome. outcome ≡ Done) }
+        ensures voter { OnOk result (Posted V.puts voter.old (filter_map for_voter out.new.handed) voter.new) }
+    {
+        let Work { handed, calls } = self.take(input, now)?;
+        post_each(self.alloc, handed.as_slice(), voter)?;
+        out.handed = handed;
+        out.calls = calls;
+        Ok(Outcome::Done)
+    }
+}

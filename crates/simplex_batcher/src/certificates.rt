@@ -1,0 +1,108 @@
+//! Certificates from the network.
+ghost use Rattle.std.specs.Prelude.{◌≡◌, OnOk};
+ghost use Rattle.simplex_wire.specs.Certified.{is_certified};
+ghost use Rattle.simplex_wire.specs.Fields.{certificate_signatures, certificate_subject};
+ghost use Rattle.simplex_steps.specs.Batcher.{holds_kind, kept_certificate, took_certificate};
+ghost use Rattle.simplex_batcher.specs.Working.{recorded_at};
+ghost use Rattle.simplex_batcher.specs.Stands.{Marks, Reads};
+
+use crate::actor::Actor;
+use crate::marks::mark;
+use crate::rounds;
+use crate::work::Work;
+use simplex_messages::voter;
+use simplex_types::{Certificate, Participant, Scheme, Signatures, View};
+use std::alloc::AllocError;
+
+/// The signatures of the certificate.
+fn signatures_of(certificate: &Certificate) -> &Signatures
+    ensures { result.now ≡ certificate_signatures certificate.now }
+{
+    match certificate {
+        Certificate::Notarization(it) => &it.certificate,
+        Certificate::Nullification(it) => &it.certificate,
+        Certificate::Finalization(it) => &it.certificate,
+    }
+}
+
+impl<S: Scheme + Drop> Actor<S> {
+    /// Whether a certificate of the kind is held for the view.
+    #[tactic(auto, unfolding(simplex_steps::specs::Batcher::holds_kind))]
+    fn holds_kind(&self, certificate: &Certificate) -> bool
+        ensures { Reads S.verifies S.recovers S.members S.member self.now (λ made standing. holds_kind standing certificate.now) result }
+    {
+        rounds::has_certificate(&self.rounds, certificate.view().0, certificate.kind())
+    }
+
+    /// Whether a quorum signed the certificate.
+    #[tactic(auto, unfolding(crate::specs::Stands::batcher_made))]
+    fn is_certified(&self, certificate: &Certificate) -> bool
+        ensures { Reads S.verifies S.recovers S.members S.member self.now (λ made standing. is_certified (made.scheme.verifies (certificate_subject certificate.now)) made.members (certificate_signatures certificate.now)) result }
+    {
+        let subject = certificate.subject();
+        self.config
+            .scheme
+            .verify_certificate(&subject, signatures_of(certificate))
+    }
+
+    /// The certificate, by the round of its view.
+    fn record(
+        &mut self,
+        certificate: &Certificate,
+        dirty: &mut Vec<View>,
+        work: &mut Work,
+    ) -> Result<(), AllocError>
+        ensures { OnOk result (Marks S.verifies S.recovers S.members S.member self.old work.old dirty.old.items self.new work.new dirty.new.items (λ made. recorded_at made certificate.now)) }
+    {
+        let view = certificate.view();
+        self.make_round(view)?;
+        let is_marked = rounds::record_certificate(
+            &mut self.rounds,
+            view.0,
+            self.alloc,
+            certificate,
+        )?;
+        mark(dirty, is_marked, view)?;
+        Ok(())
+    }
+
+    /// A certificate that verifies.
+    #[tactic(auto, unfolding(crate::specs::Working::recorded_at, simplex_steps::specs::Batcher::kept_certificate))]
+    fn keep_certificate(
+        &mut self,
+        certificate: Certificate,
+        dirty: &mut Vec<View>,
+        work: &mut Work,
+    ) -> Result<(), AllocError>
+        ensures { OnOk result (Marks S.verifies S.recovers S.members S.member self.old work.old dirty.old.items self.new work.new dirty.new.items (λ made. kept_certificate made certificate)) }
+    {
+        self.record(&certificate, dirty, work)?;
+        work.hand(voter::Message::Verified { certificate })?;
+        Ok(())
+    }
+
+    /// A certificate from the network, where it is still of use. A sender of one that does not verify is blocked.
+    #[tactic(auto, unfolding(simplex_steps::specs::Batcher::took_certificate))]
+    pub(crate) fn take_certificate(
+        &mut self,
+        sender: Participant,
+        certificate: Certificate,
+        dirty: &mut Vec<View>,
+        work: &mut Work,
+    ) -> Result<(), AllocError>
+        ensures { OnOk result (Marks S.verifies S.recovers S.members S.member self.old work.old dirty.old.items self.new work.new dirty.new.items (λ made. took_certificate made sender certificate)) }
+    {
+        if !self.retains(certificate.view()) {
+            return Ok(());
+        }
+        if self.holds_kind(&certificate) {
+            return Ok(());
+        }
+        if !self.is_certified(&certificate) {
+            work.block(sender)?;
+            return Ok(());
+        }
+        self.keep_certificate(certificate, dirty, work)?;
+        Ok(())
+    }
+}

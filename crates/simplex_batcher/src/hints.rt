@@ -1,0 +1,106 @@
+//! Hints to the voter that the current view's leader is of no use.
+ghost use Rattle.std.specs.Prelude.{◌≡◌, OnOk};
+ghost use Rattle.simplex_steps.specs.Batcher.{leader_nullified, hinting, hinting_nullify, hinted_at_vote, hinted_at_update, is_me, has_skipping};
+ghost use Rattle.simplex_batcher.specs.Stands.{Does, Reads};
+
+use crate::actor::Actor;
+use crate::rounds;
+use crate::work::Work;
+use simplex_messages::voter;
+use simplex_types::{Participant, Round, Scheme, SkipPolicy, TimeoutReason};
+use std::alloc::AllocError;
+
+/// Whether leaders that seem to be gone are hinted at.
+fn has_skipping(skip: SkipPolicy) -> bool
+    ensures { result ≡ has_skipping skip }
+{
+    match skip {
+        SkipPolicy::Disabled => false,
+        SkipPolicy::Enabled { .. } => true,
+    }
+}
+
+impl<S: Scheme + Drop> Actor<S> {
+    /// Whether the leader's nullify of the current view is accepted.
+    #[tactic(auto, unfolding(simplex_steps::specs::Batcher::leader_nullified))]
+    fn leader_nullified(&self) -> bool
+        ensures { Reads S.verifies S.recovers S.members S.member self.now (λ made standing. leader_nullified standing) result }
+    {
+        match self.leader {
+            None => false,
+            Some(leader) => rounds::has_nullify(&self.rounds, self.current.0, leader),
+        }
+    }
+
+    /// Whether it is this member.
+    #[tactic(auto, unfolding(crate::specs::Stands::batcher_made))]
+    pub(crate) fn is_me(&self, member: Participant) -> bool
+        ensures { Reads S.verifies S.recovers S.members S.member self.now (λ made standing. is_me made member) result }
+    {
+        match self.config.scheme.me() {
+            None => false,
+            Some(me) => me == member,
+        }
+    }
+
+    /// The voter is told that the current view is to be given up.
+    #[tactic(auto, unfolding(crate::specs::Stands::batcher_made))]
+    fn hint(&self, reason: TimeoutReason, work: &mut Work) -> Result<(), AllocError>
+        ensures { OnOk result (Does S.verifies S.recovers S.members S.member self.now work.old self.now work.new (λ made. hinting made reason)) }
+    {
+        let round = Round {
+            epoch: self.config.epoch,
+            view: self.current,
+        };
+        work.hand(voter::Message::Timeout { round, reason })?;
+        Ok(())
+    }
+
+    /// The voter is told that the leader gave the current view up.
+    fn hint_nullify(&mut self, work: &mut Work) -> Result<(), AllocError>
+        ensures { OnOk result (Does S.verifies S.recovers S.members S.member self.old work.old self.new work.new (λ made. hinting_nullify made)) }
+    {
+        self.hinted = true;
+        self.hint(TimeoutReason::LeaderNullify, work)?;
+        Ok(())
+    }
+
+    /// The hint that a vote from the network gives, once between two updates.
+    #[tactic(auto, unfolding(crate::specs::Stands::batcher_made, simplex_steps::specs::Batcher::hinted_at_vote))]
+    pub(crate) fn hint_at_vote(&mut self, accepted: bool, work: &mut Work) -> Result<(), AllocError>
+        ensures { OnOk result (Does S.verifies S.recovers S.members S.member self.old work.old self.new work.new (λ made. hinted_at_vote made accepted)) }
+    {
+        let is_skipping = has_skipping(self.config.skip);
+        if accepted && is_skipping && !self.hinted && self.leader_nullified() {
+            self.hint_nullify(work)?;
+        }
+        Ok(())
+    }
+
+    /// The hint that an update gives, where views are skipped.
+    #[tactic(auto, unfolding(crate::specs::Stands::batcher_made, simplex_steps::specs::Batcher::hinted_at_update))]
+    pub(crate) fn hint_at_update(
+        &mut self,
+        leader: Participant,
+        now: u64,
+        work: &mut Work,
+    ) -> Result<(), AllocError>
+        ensures { OnOk result (Does S.verifies S.recovers S.members S.member self.old work.old self.new work.new (λ made. hinted_at_update made made.skip leader now)) }
+    {
+        let SkipPolicy::Enabled { timeout, .. } = self.config.skip else {
+            return Ok(());
+        };
+        if self.leader_nullified() {
+            self.hint_nullify(work)?;
+            return Ok(());
+        }
+        if self.is_me(leader) {
+            return Ok(());
+        }
+        if self.seems_active(leader, timeout, now) {
+            return Ok(());
+        }
+        self.hint(TimeoutReason::Inactivity, work)?;
+        Ok(())
+    }
+}

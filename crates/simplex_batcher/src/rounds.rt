@@ -1,0 +1,200 @@
+//! The rounds by view.
+#![tactic(auto, unfolding(crate::specs::Rounds::found, crate::specs::Rounds::round_of, simplex_round::specs::Stands::StandsFor))]
+
+ghost use Rattle.std.specs.Prelude.{◌≡◌, ◌≤◌, ◌==◌, ◌++◌, ℕ, [], None, Some, false, nat_le, not, ◌&&◌, length, map, if◌then◌else◌, IfOk, OnOk};
+ghost use Rattle.std.specs.BTreeMap.Range.{entries_between};
+ghost use Rattle.std.specs.List.Sorted.{IsStrictlySortedBy};
+ghost use Rattle.std.specs.Map.{keys_of};
+ghost use Rattle.std.specs.Ordering.{nat_cmp};
+ghost use Rattle.std.specs.declared.ops.Bound.TheVariants.{Included};
+ghost use Rattle.simplex_round.specs.Acceptance.{heard, heard_from, has_nullify};
+ghost use Rattle.simplex_round.specs.Assembly.{as_scheme, constructed};
+ghost use Rattle.simplex_round.specs.Calls.{AddNetwork, AcceptVote, SetLeader, RecordCertificate, TryConstruct, TryForward};
+ghost use Rattle.simplex_round.specs.Forwarding.{gives_proposal, forwarded_to_voter, is_held};
+ghost use Rattle.simplex_batcher.specs.Rounds.{found, round_of, TakesAt, StaysWithout, AnswersAt};
+
+use simplex_round::{Batch, Round, RoundOut};
+use simplex_types::{Certificate, CertificateKind, Participant, Proposal, Scheme, Vote};
+use std::alloc::{AllocError, Global};
+use std::collections::BTreeMap;
+
+/// The rounds by view.
+pub(crate) type Rounds = BTreeMap<u64, Round>;
+
+/// The view's round takes the leader.
+pub(crate) fn set_leader(rounds: &mut Rounds, view: u64, leader: Participant)
+    ensures stands { TakesAt rounds.old rounds.new view (SetLeader leader) }
+    ensures none { StaysWithout rounds.old rounds.new view }
+{
+    if let Some(round) = rounds.get_mut(&view) {
+        round.set_leader(leader);
+    }
+}
+
+/// The view's round takes a vote from the network: whether it is accepted.
+pub(crate) fn add_network(
+    rounds: &mut Rounds,
+    view: u64,
+    sender: Participant,
+    vote: Vote,
+    out: &mut RoundOut,
+) -> Result<bool, AllocError>
+    ensures stands { OnOk result (TakesAt rounds.old rounds.new view (AddNetwork sender vote)) }
+    ensures answer { IfOk result (AnswersAt rounds.old view (λ made known. (heard_from known sender vote).accepted)) }
+    ensures reports { OnOk result (AnswersAt rounds.old view (λ made known. out.old.reports ++ (heard_from known sender vote).reports) out.new.reports) }
+    ensures blocks { OnOk result (AnswersAt rounds.old view (λ made known. out.old.blocks ++ (heard_from known sender vote).blocks) out.new.blocks) }
+{
+    match rounds.get_mut(&view) {
+        None => Ok(false),
+        Some(round) => round.add_network(sender, vote, out),
+    }
+}
+
+/// The view's round takes an own vote: whether it is accepted. What comes of it is put into an empty `out`.
+pub(crate) fn accept_vote(
+    rounds: &mut Rounds,
+    view: u64,
+    vote: Vote,
+    out: &mut RoundOut,
+) -> Result<bool, AllocError>
+    requires reports { out.old.reports ≡ [] }
+    requires blocks { out.old.blocks ≡ [] }
+    ensures stands { OnOk result (TakesAt rounds.old rounds.new view (AcceptVote vote)) }
+    ensures answer { IfOk result (AnswersAt rounds.old view (λ made known. (heard known vote).accepted)) }
+    ensures reports { OnOk result (AnswersAt rounds.old view (λ made known. (heard known vote).reports) out.new.reports) }
+    ensures blocks { OnOk result (AnswersAt rounds.old view (λ made known. (heard known vote).blocks) out.new.blocks) }
+{
+    take_own(rounds, view, vote, out)?;
+    Ok(was_accepted(out))
+}
+
+/// The view's round takes an own vote.
+fn take_own(
+    rounds: &mut Rounds,
+    view: u64,
+    vote: Vote,
+    out: &mut RoundOut,
+) -> Result<(), AllocError>
+    ensures stands { OnOk result (TakesAt rounds.old rounds.new view (AcceptVote vote)) }
+    ensures reports { OnOk result (AnswersAt rounds.old view (λ made known. out.old.reports ++ (heard known vote).reports) out.new.reports) }
+    ensures blocks { OnOk result (AnswersAt rounds.old view (λ made known. out.old.blocks ++ (heard known vote).blocks) out.new.blocks) }
+{
+    match rounds.get_mut(&view) {
+        None => Ok(()),
+        Some(round) => round.accept_vote(vote, out),
+    }
+}
+
+/// Whether the vote that this came of was accepted: it is reported, and nobody is blocked for it.
+fn was_accepted(out: &RoundOut) -> bool
+    ensures { result ≡ (not (length out.now.reports == 0) && length out.now.blocks == 0) }
+{
+    !out.reports.is_empty() && out.blocks.is_empty()
+}
+
+/// The view's round takes a certificate: whether it gives the round another proposal than before.
+pub(crate) fn record_certificate(
+    rounds: &mut Rounds,
+    view: u64,
+    alloc: Global,
+    certificate: &Certificate,
+) -> Result<bool, AllocError>
+    ensures stands { OnOk result (TakesAt rounds.old rounds.new view (RecordCertificate certificate.now)) }
+    ensures answer { IfOk result (AnswersAt rounds.old view (λ made known. gives_proposal known certificate.now)) }
+{
+    match rounds.get_mut(&view) {
+        None => Ok(false),
+        Some(round) => round.record_certificate(alloc, certificate),
+    }
+}
+
+/// The view's round checks the votes of the first kind for which there is something to do, and assembles their
+/// certificate.
+pub(crate) fn try_construct<S: Scheme>(
+    rounds: &mut Rounds,
+    view: u64,
+    alloc: Global,
+    scheme: &S,
+) -> Result<Option<Batch>, AllocError>
+    ensures stands { OnOk result (TakesAt rounds.old rounds.new view (TryConstruct (as_scheme (S.verifies scheme.now) (S.recovers scheme.now) (S.members scheme.now)))) }
+    ensures answer { IfOk result (AnswersAt rounds.old view (λ made known. constructed made (as_scheme (S.verifies scheme.now) (S.recovers scheme.now) (S.members scheme.now)) known)) }
+    ensures none { OnOk result (StaysWithout rounds.old rounds.new view) }
+    ensures nothing { IfOk result (λ batch. found rounds.old view ≡ None → batch ≡ None) }
+{
+    match rounds.get_mut(&view) {
+        None => Ok(None),
+        Some(round) => round.try_construct(alloc, scheme),
+    }
+}
+
+/// The proposal that the view's round hands to the voter, once.
+pub(crate) fn try_forward(rounds: &mut Rounds, view: u64, me: Participant) -> Option<Proposal>
+    ensures stands { TakesAt rounds.old rounds.new view (TryForward me) }
+    ensures answer { AnswersAt rounds.old view (λ made known. forwarded_to_voter known me) result }
+    ensures none { StaysWithout rounds.old rounds.new view }
+    ensures nothing { found rounds.old view ≡ None → result ≡ None }
+{
+    match rounds.get_mut(&view) {
+        None => None,
+        Some(round) => round.try_forward_proposal(me),
+    }
+}
+
+/// Whether the view's round holds a certificate of the kind.
+pub(crate) fn has_certificate(rounds: &Rounds, view: u64, kind: CertificateKind) -> bool
+    ensures answer { AnswersAt rounds.now view (λ made known. is_held known kind) result }
+    ensures none { found rounds.now view ≡ None → result ≡ false }
+{
+    match rounds.get(&view) {
+        None => false,
+        Some(round) => round.has_certificate(kind),
+    }
+}
+
+/// Whether the view's round accepted a nullify of the member.
+pub(crate) fn has_nullify(rounds: &Rounds, view: u64, member: Participant) -> bool
+    ensures answer { AnswersAt rounds.now view (λ made known. has_nullify known member) result }
+    ensures none { found rounds.now view ≡ None → result ≡ false }
+{
+    match rounds.get(&view) {
+        None => false,
+        Some(round) => round.has_nullify(member),
+    }
+}
+
+/// Puts a round at a view.
+pub(crate) fn put(rounds: &mut Rounds, view: u64, round: Round) -> Result<(), AllocError>
+    ensures { OnOk result ((q : ℕ) → found rounds.new q ≡ (if q == view then Some round else found rounds.old q)) }
+{
+    rounds.insert(view, round)?;
+    Ok(())
+}
+
+/// Drops the rounds below a view.
+pub(crate) fn drop_below(rounds: &mut Rounds, least: u64)
+    ensures { (q : ℕ) → found rounds.new q ≡ (if nat_le least q then found rounds.old q else None) }
+{
+    while let Some((first, _)) = rounds.first_key_value() {
+        if *first >= least {
+            break;
+        }
+        rounds.pop_first();
+    }
+}
+
+/// The views from the first of these to the last that have a round, in rising order.
+pub(crate) fn views_between(
+    alloc: Global,
+    rounds: &Rounds,
+    first: u64,
+    last: u64,
+) -> Result<Vec<u64>, AllocError>
+    requires { first ≤ last }
+    ensures rising { IsStrictlySortedBy nat_cmp (keys_of rounds.now.entries) }
+    ensures views { IfOk result (λ views. views.items ≡ map (λ e. e.0) (entries_between nat_cmp (Included first) (Included last) rounds.now.entries)) }
+{
+    rounds
+        .range(first..=last)
+        .map(|(view, _)| *view)
+        .collect(alloc)
+}

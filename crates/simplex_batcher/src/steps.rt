@@ -1,0 +1,221 @@
+//! What a step takes, and all that it does with it.
+ghost use Rattle.std.specs.Prelude.{◌==◌, List, filter_map, IfOk, OnOk};
+ghost use Rattle.simplex_messages.specs.declared.batcher.BatcherInput.TheVariants.{Mail};
+ghost use Rattle.std.specs.List.{cons_option};
+ghost use Rattle.simplex_messages.specs.declared.voter.Message.{Message};
+ghost use Rattle.simplex_wire.specs.Format.{whole};
+ghost use Rattle.simplex_wire.specs.Message as format;
+ghost use Rattle.simplex_mailbox.specs.Post.{Posted};
+ghost use Rattle.simplex_steps.specs.Batcher.{acted, heard_vote, heard_certificate, step};
+ghost use Rattle.simplex_steps.specs.Engine.{for_voter};
+ghost use Rattle.simplex_batcher.specs.Working.{decoded_vote, decoded_certificate};
+ghost use Rattle.simplex_batcher.specs.Stands.{Marks, Reads, WorksAs};
+
+use crate::actor::Actor;
+use crate::work::Work;
+use simplex_mailbox::Post;
+use simplex_messages::{BatcherInput, Handed, batcher, voter};
+use simplex_types::{Certificate, DecodeError, Epoch, Keep, Participant, Scheme, View, Vote};
+use std::alloc::{AllocError, Global};
+
+impl<S: Scheme + Drop> Actor<S> {
+    /// Whether it is this batcher's epoch.
+    #[tactic(auto, unfolding(crate::specs::Stands::batcher_made))]
+    fn is_of_epoch(&self, epoch: Epoch) -> bool
+        ensures { Reads S.verifies S.recovers S.members S.member self.now (λ made standing. epoch == made.epoch) result }
+    {
+        epoch == self.config.epoch
+    }
+
+    /// A vote: its sender is seen, and blocked where the vote is of another epoch.
+    #[tactic(auto, unfolding(crate::specs::Stands::batcher_made, crate::specs::Working::decoded_vote))]
+    fn hear_vote(
+        &mut self,
+        sender: Participant,
+        vote: Vote,
+        now: u64,
+        dirty: &mut Vec<View>,
+        work: &mut Work,
+    ) -> Result<(), AllocError>
+        ensures { OnOk result (Marks S.verifies S.recovers S.members S.member self.old work.old dirty.old.items self.new work.new dirty.new.items (λ made. decoded_vote made sender vote now)) }
+    {
+        if !self.is_of_epoch(vote.epoch()) {
+            work.block(sender)?;
+            return Ok(());
+        }
+        self.see(sender, now)?;
+        self.take_vote(sender, vote, dirty, work)?;
+        Ok(())
+    }
+
+    /// A packet of the vote channel. A sender of one that does not decode is blocked.
+    #[tactic(auto, unfolding(crate::specs::Working::decoded_vote, simplex_steps::specs::Batcher::heard_vote))]
+    fn hear_vote_packet(
+        &mut self,
+        sender: Participant,
+        bytes: &[u8],
+        now: u64,
+        dirty: &mut Vec<View>,
+        work: &mut Work,
+    ) -> Result<(), AllocError>
+        ensures { OnOk result (Marks S.verifies S.recovers S.members S.member self.old work.old dirty.old.items self.new work.new dirty.new.items (λ made. heard_vote made sender (whole format.vote bytes.now) now)) }
+    {
+        match Vote::decode(bytes) {
+            Err(_) => {
+                work.block(sender)?;
+                Ok(())
+            }
+            Ok(vote) => {
+                self.hear_vote(sender, vote, now, dirty, work)?;
+                Ok(())
+            }
+        }
+    }
+
+    /// A certificate: its sender is seen, and blocked where the certificate is of another epoch.
+    #[tactic(auto, unfolding(crate::specs::Stands::batcher_made, crate::specs::Working::decoded_certificate))]
+    fn hear_certificate(
+        &mut self,
+        sender: Participant,
+        certificate: Certificate,
+        now: u64,
+        dirty: &mut Vec<View>,
+        work: &mut Work,
+    ) -> Result<(), AllocError>
+        ensures { OnOk result (Marks S.verifies S.recovers S.members S.member self.old work.old dirty.old.items self.new work.new dirty.new.items (λ made. decoded_certificate made sender certificate now)) }
+    {
+        if !self.is_of_epoch(certificate.epoch()) {
+            work.block(sender)?;
+            return Ok(());
+        }
+        self.see(sender, now)?;
+        self.take_certificate(sender, certificate, dirty, work)?;
+        Ok(())
+    }
+
+    /// A packet of the certificate channel. A sender of one that does not decode is blocked.
+    #[tactic(auto, unfolding(crate::specs::Working::decoded_certificate, simplex_steps::specs::Batcher::heard_certificate))]
+    fn hear_certificate_packet(
+        &mut self,
+        sender: Participant,
+        bytes: &[u8],
+        now: u64,
+        dirty: &mut Vec<View>,
+        work: &mut Work,
+    ) -> Result<(), AllocError>
+        ensures { OnOk result (Marks S.verifies S.recovers S.members S.member self.old work.old dirty.old.items self.new work.new dirty.new.items (λ made. heard_certificate made sender (whole format.certificate bytes.now) now)) }
+    {
+        match Certificate::decode(self.alloc, bytes) {
+            Err(DecodeError::Memory) => Err(AllocError),
+            Err(DecodeError::Fault { .. }) => {
+                work.block(sender)?;
+                Ok(())
+            }
+            Ok(certificate) => {
+                self.hear_certificate(sender, certificate, now, dirty, work)?;
+                Ok(())
+            }
+        }
+    }
+
+    /// A message of the voter.
+    #[tactic(auto, unfolding(simplex_steps::specs::Batcher::acted))]
+    fn take_mail(
+        &mut self,
+        message: batcher::Message,
+        now: u64,
+        dirty: &mut Vec<View>,
+        work: &mut Work,
+    ) -> Result<(), AllocError>
+        ensures { OnOk result (Marks S.verifies S.recovers S.members S.member self.old work.old dirty.old.items self.new work.new dirty.new.items (λ made. acted made (Mail message) now)) }
+    {
+        match message {
+            batcher::Message::Update {
+                current,
+                leader,
+                finalized,
+                forwardable_proposal,
+            } => {
+                let proposal = &forwardable_proposal;
+                self.take_update(current, leader, finalized, proposal, now, dirty, work)?;
+                Ok(())
+            }
+            batcher::Message::Constructed(vote) => {
+                self.take_constructed(vote, dirty, work)?;
+                Ok(())
+            }
+        }
+    }
+
+    /// What the step takes.
+    #[tactic(auto, unfolding(simplex_steps::specs::Batcher::acted))]
+    fn act(
+        &mut self,
+        input: BatcherInput,
+        now: u64,
+        dirty: &mut Vec<View>,
+        work: &mut Work,
+    ) -> Result<(), AllocError>
+        ensures { OnOk result (Marks S.verifies S.recovers S.members S.member self.old work.old dirty.old.items self.new work.new dirty.new.items (λ made. acted made input now)) }
+    {
+        match input {
+            BatcherInput::Mail(message) => {
+                self.take_mail(message, now, dirty, work)?;
+                Ok(())
+            }
+            BatcherInput::Vote { sender, bytes } => {
+                self.hear_vote_packet(sender, bytes.as_slice(), now, dirty, work)?;
+                Ok(())
+            }
+            BatcherInput::Certificate { sender, bytes } => {
+                self.hear_certificate_packet(sender, bytes.as_slice(), now, dirty, work)?;
+                Ok(())
+            }
+        }
+    }
+
+    /// A whole step, but for the posting. What it has done.
+    #[tactic(auto, unfolding(simplex_steps::specs::Batcher::step))]
+    pub(crate) fn take(&mut self, input: BatcherInput, now: u64) -> Result<Work, AllocError>
+        ensures { IfOk result (λ work. WorksAs S.verifies S.recovers S.members S.member self.old self.new work (λ made standing. step made standing (record { input = input; now = now }))) }
+    {
+        let mut dirty = Vec::new(self.alloc);
+        let mut work = Work::new(self.alloc);
+        self.act(input, now, &mut dirty, &mut work)?;
+        self.finish(&dirty, &mut work)?;
+        Ok(work)
+    }
+}
+
+/// A copy of the message, where it is for the voter, is put into its mailbox.
+fn post_one<V: Post<voter::Message>>(
+    alloc: Global,
+    message: &Handed,
+    post: &mut V,
+) -> Result<(), AllocError>
+    // What is posted behind it is posted behind its copy.
+    ensures { OnOk result ((rest : List Message) (after : V) → Posted V.puts post.new rest after → Posted V.puts post.old (cons_option (for_voter message.now) rest) after) }
+{
+    match message {
+        Handed::Voter(message) => {
+            let copy = message.keep(alloc)?;
+            post.enqueue(copy)?;
+            Ok(())
+        }
+        _ => Ok(()),
+    }
+}
+
+/// Copies of the messages for the voter are put into its mailbox.
+pub(crate) fn post_each<V: Post<voter::Message>>(
+    alloc: Global,
+    handed: &[Handed],
+    post: &mut V,
+) -> Result<(), AllocError>
+    ensures { OnOk result (Posted V.puts post.old (filter_map for_voter handed.now) post.new) }
+{
+    for message in handed {
+        post_one(alloc, message, post)?;
+    }
+    Ok(())
+}

@@ -1,0 +1,90 @@
+//! Updates from the voter.
+ghost use Rattle.std.specs.Prelude.{◌≡◌, IfOk, OnOk};
+ghost use Rattle.simplex_steps.specs.Batcher.{took_update, with_leader, window_views};
+ghost use Rattle.simplex_batcher.specs.Working.{entered, with_leads, with_window};
+ghost use Rattle.simplex_batcher.specs.Stands.{Marks, Moves, Reads};
+
+use crate::actor::Actor;
+use crate::marks::marks_of;
+use crate::rounds;
+use crate::work::Work;
+use simplex_types::{Participant, Proposal, Scheme, View};
+use std::alloc::AllocError;
+
+impl<S: Scheme + Drop> Actor<S> {
+    /// The voter is in a view now.
+    fn enter(&mut self, current: View, leader: Participant, finalized: View)
+        ensures { Moves S.verifies S.recovers S.members S.member self.old self.new (λ made. entered current leader finalized) }
+    {
+        self.current = current;
+        self.leader = Some(leader);
+        self.finalized = finalized;
+        self.hinted = false;
+    }
+
+    /// The views of the admission window that have a round, in rising order.
+    fn window_views(&self) -> Result<Vec<u64>, AllocError>
+        ensures { IfOk result (λ views. Reads S.verifies S.recovers S.members S.member self.now (λ made standing. window_views made standing) views.items) }
+    {
+        let current = self.current;
+        let limit = self.config.lookahead.admission_limit(current);
+        if limit <= current {
+            return Ok(Vec::new(self.alloc));
+        }
+        let first = current.0 + 1;
+        let views = rounds::views_between(self.alloc, &self.rounds, first, limit.0)?;
+        Ok(views)
+    }
+
+    /// The rounds of these views are given the leader.
+    fn lead_each(&mut self, views: &[u64])
+        ensures { Moves S.verifies S.recovers S.members S.member self.old self.new (λ made. with_leads made views.now) }
+    {
+        for view in views {
+            self.lead(View(*view));
+        }
+    }
+
+    /// The rounds of the admission window are given the leader. Which views these are.
+    fn lead_window(&mut self) -> Result<Vec<u64>, AllocError>
+        ensures stands { OnOk result (Moves S.verifies S.recovers S.members S.member self.old self.new (λ made. with_window made)) }
+        ensures views { IfOk result (λ views. Reads S.verifies S.recovers S.members S.member self.old (λ made standing. window_views made standing) views.items) }
+    {
+        let views = self.window_views()?;
+        self.lead_each(&views);
+        Ok(views)
+    }
+
+    /// The current view has a round, and it and those of the admission window have the leader. Which views the
+    /// latter are.
+    fn lead_current(&mut self) -> Result<Vec<u64>, AllocError>
+        ensures stands { OnOk result (Moves S.verifies S.recovers S.members S.member self.old self.new (λ made. with_leader made)) }
+        ensures views { IfOk result (λ views. Reads S.verifies S.recovers S.members S.member self.old (λ made standing. window_views made (with_leader made standing)) views.items) }
+    {
+        self.make_round(self.current)?;
+        let views = self.lead_window()?;
+        Ok(views)
+    }
+
+    /// The voter is in a view now.
+    #[tactic(auto, unfolding(simplex_steps::specs::Batcher::took_update))]
+    pub(crate) fn take_update(
+        &mut self,
+        current: View,
+        leader: Participant,
+        finalized: View,
+        proposal: &Option<Proposal>,
+        now: u64,
+        dirty: &mut Vec<View>,
+        work: &mut Work,
+    ) -> Result<(), AllocError>
+        ensures { OnOk result (Marks S.verifies S.recovers S.members S.member self.old work.old dirty.old.items self.new work.new dirty.new.items (λ made. took_update made current leader finalized proposal.now now)) }
+    {
+        self.enter(current, leader, finalized);
+        let window = self.lead_current()?;
+        *dirty = marks_of(self.alloc, current, &window)?;
+        self.hint_at_update(leader, now, work)?;
+        self.forward(leader, proposal, work)?;
+        Ok(())
+    }
+}
