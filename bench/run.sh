@@ -1,34 +1,61 @@
 #!/bin/bash
-# Times encode, decode and verify of a certificate of 100 members, by the proved program and by plain Rust.
-# Run it from anywhere, after `rt run` in crates/bench_wire: bench/run.sh [TIMES].
+# Times the work of crates/bench_wire, bench_fetch and bench_round, by the proved program and by plain Rust.
+# Run it from anywhere, after `rt run` in the program's crate: bench/run.sh wire|fetch|round [TIMES].
 set -euo pipefail
 cd "$(dirname "$0")"
-times=${1:-200000}
-proved=../crates/bench_wire/out/bench_wire
-export CARGO_TARGET_DIR=${CARGO_TARGET_DIR:-/tmp/bench_wire_target}
-(cd rust && cargo build --release --offline --quiet && cp "$CARGO_TARGET_DIR/release/bench_wire" "$CARGO_TARGET_DIR/plain")
-(cd rust && cargo build --release --offline --quiet --features soft && cp "$CARGO_TARGET_DIR/release/bench_wire" "$CARGO_TARGET_DIR/soft")
+what=${1:?wire, fetch or round}
+proved=../crates/bench_$what/out/bench_$what
+export CARGO_TARGET_DIR=${CARGO_TARGET_DIR:-/tmp/bench_target}
+built=$CARGO_TARGET_DIR/release/bench_$what
+(cd rust && cargo build --release --offline --quiet && cp "$built" "$CARGO_TARGET_DIR/plain")
+(cd rust && cargo build --release --offline --quiet --features soft && cp "$built" "$CARGO_TARGET_DIR/soft")
 
-# How often a program does the work in a second of processor time: that of so many turns, less that of none,
-# the least of five runs each.
+# How often a program does the work in a second of user time: that of so many turns, less that of none,
+# the least of five runs each. The words are the program's, without the number of turns.
 rate() {
     python3 - "$@" <<'P'
 import os, subprocess, sys
-program, work, times = sys.argv[1:]
+times, *words = sys.argv[1:]
 def run(n):
-    child = subprocess.Popen([program, work, str(n)], stdout=subprocess.DEVNULL)
+    child = subprocess.Popen([*words, str(n)], stdout=subprocess.DEVNULL)
     _, status, usage = os.wait4(child.pid, 0)
     assert status == 0
-    return usage.ru_utime + usage.ru_stime
+    return usage.ru_utime
 best = min(run(times) for _ in range(5)) - min(run(0) for _ in range(5))
 print(f"{int(times) / best:.0f}")
 P
 }
 
-printf '%-8s %12s %12s %18s\n' 'a second' 'proved' 'plain Rust' 'plain Rust, soft'
-for work in encode decode verify; do
-    turns=$times
-    [ "$work" = verify ] && turns=$((times / 20))
-    printf '%-8s %12s %12s %18s\n' "$work" "$(rate "$proved" $work $turns)" \
-        "$(rate "$CARGO_TARGET_DIR/plain" $work $turns)" "$(rate "$CARGO_TARGET_DIR/soft" $work $turns)"
-done
+# A line of the table: the work's words, and its rate by each program.
+line() {
+    local turns=$1
+    shift
+    printf '%-14s %12s %12s %18s\n' "$*" "$(rate "$turns" "$proved" "$@")" \
+        "$(rate "$turns" "$CARGO_TARGET_DIR/plain" "$@")" "$(rate "$turns" "$CARGO_TARGET_DIR/soft" "$@")"
+}
+
+printf '%-14s %12s %12s %18s\n' 'a second' 'proved' 'plain Rust' 'plain Rust, soft'
+case $what in
+wire)
+    times=${2:-200000}
+    line "$times" encode
+    line "$times" decode
+    line $((times / 20)) verify
+    ;;
+fetch)
+    times=${2:-1000000}
+    for views in 1000 10000; do
+        for work in fetch answer serve expire; do
+            line "$times" $work $views
+        done
+        line $((times / views)) sweep $views
+    done
+    ;;
+round)
+    times=${2:-4000}
+    for members in 100 256; do
+        line $((times * 10)) take $members
+        line "$times" make $members
+    done
+    ;;
+esac

@@ -1,5 +1,5 @@
 //! The fetcher.
-ghost use Rattle.std.specs.Prelude.{◌≡◌, ◌<◌, ◌≤◌, ◌+◌, ◌^◌, ◌++◌, ◌∷◌, ◌%◌, [], map, IfOk, OnOk, OnErr, None, Some, length, not};
+ghost use Rattle.std.specs.Prelude.{◌≡◌, ◌&&◌, nat_lt, ◌<◌, ◌≤◌, ◌+◌, ◌^◌, ◌++◌, ◌∷◌, ◌%◌, [], map, IfOk, OnOk, OnErr, None, Some, length, not};
 ghost use Rattle.std.specs.Option.{option_map, is_some};
 ghost use Rattle.std.specs.List.{All};
 ghost use Rattle.simplex_values.specs.declared.ask.Outcome.{Outcome};
@@ -22,6 +22,9 @@ use simplex_types::{
 use std::alloc::{AllocError, Global};
 use std::collections::{BTreeMap, BTreeSet};
 use std::marker::Model;
+
+/// The number from which a call draws none.
+const ROOM: u64 = 1 << 62;
 
 /// What a member asks its peers for, and what they ask it for.
 ///
@@ -61,6 +64,13 @@ impl Fetcher {
             serving: BTreeMap::new(alloc),
             next_serve: 0,
         }
+    }
+
+    /// Whether numbers are left for each call.
+    pub fn has_room(&self) -> bool
+        ensures { result ≡ (nat_lt self.now.next_id (2 ^ 62) && nat_lt self.now.next_serve (2 ^ 62)) }
+    {
+        self.next_id < ROOM && self.next_serve < ROOM
     }
 
     #[tactic(auto, unfolding(crate::specs::Fetcher::peer_of))]

@@ -53,7 +53,7 @@ fn finalize(view: u64) -> Vote {
 
 // Whether an update makes a vote needless: it is not above the finalized view, or not a finalize and below current.
 fn is_needless(vote: Mail, current: u64, below: u64) -> bool {
-    vote.view + below <= current || vote.kind != Kind::Finalize && vote.view < current
+    vote.view <= current.saturating_sub(below) || vote.kind != Kind::Finalize && vote.view < current
 }
 
 impl Sample for Mail {

@@ -118,6 +118,10 @@ fn each_pair_to_a_resolver_is_filtered(rt: HostRuntime) -> Result<(), Fail> {
     Ok(())
 }
 
+fn produced(id: u64) -> HandlerMessage {
+    HandlerMessage::Produce { id, view: View(id) }
+}
+
 /// A message to the handler.
 #[derive(Clone, Copy)]
 struct Work {
@@ -130,11 +134,9 @@ impl Sample for Work {
 
     fn message(&self, alloc: Global) -> HandlerMessage {
         if self.is_response {
-            return delivered(alloc, self.id);
-        }
-        HandlerMessage::Produce {
-            id: self.id,
-            view: View(self.id),
+            delivered(alloc, self.id)
+        } else {
+            produced(self.id)
         }
     }
 
