@@ -1,0 +1,14 @@
+pub mod Rising
+pub mod Arriving
+pub mod Folding
+pub mod Before
+pub mod Cases
+pub mod Reading
+pub mod Taking
+pub mod Running
+pub mod Answered
+pub mod Restoring
+pub mod Places
+pub mod Posts
+pub mod Sources
+pub mod Lives

@@ -1,0 +1,10 @@
+use Rattle.std.proofs.Common.{rules, arith, not, ◌==◌}
+use Rattle.std.proofs.lemmas.Fn.{filter_same}
+use Rattle.std.proofs.lemmas.Grind.{common_steps}
+use Rattle.simplex_voter.specs.declared.request.OpenRequest.{OpenRequest}
+use Rattle.simplex_voter.proofs.acting.keep_others.Goals as goal
+
+pub returns : goal.returns
+returns c =
+    let same = filter_same _ (λ (r : OpenRequest). not (r.number == c.args.number)) _ (λ x b f' t. search rules) _ _ c.retain.ensures.filtered in
+    grind (arith, common_steps, same)

@@ -1,0 +1,6 @@
+use Rattle.simplex_voter.specs.Actor.{StandsFor}
+use Rattle.simplex_voter.proofs.actor.Actor.current_view.Goals as goal
+
+pub returns : goal.returns
+unfolding StandsFor
+returns g c = λ made past s. c.current_view.ensures made.rules _ _ s.planner

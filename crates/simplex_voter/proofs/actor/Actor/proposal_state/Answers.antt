@@ -1,0 +1,6 @@
+use Rattle.simplex_voter.specs.Actor.{StandsFor}
+use Rattle.simplex_voter.proofs.actor.Actor.proposal_state.Goals as goal
+
+pub returns : goal.returns
+unfolding StandsFor
+returns g c = λ made past s. c.proposal_state.ensures made.rules _ _ s.planner

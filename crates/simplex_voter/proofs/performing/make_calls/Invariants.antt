@@ -1,0 +1,8 @@
+use Rattle.std.proofs.Common.{◌≡◌, Some}
+use Rattle.simplex_journal.specs.Order.{Order}
+use Rattle.simplex_voter.proofs.Running.{Running}
+use Rattle.simplex_voter.proofs.performing.make_calls.Given as goal
+
+abbrev pub invariant-loop-place : goal.invariant-loop-place
+invariant-loop-place g l = (order : Order) → g.J.Journal.order l.fn.journal ≡ Some order
+    → Running order l.calls l.place (g.J.Journal.sections l.fn.journal) (g.J.Journal.sections l.journal) (g.J.Journal.order l.journal)

@@ -1,0 +1,13 @@
+use Rattle.std.proofs.Common.{◌≡◌, List, ℕ, fold, drop}
+use Rattle.simplex_rules.specs.Known.{Made}
+use Rattle.simplex_rules.specs.Pending.{open_certify}
+use Rattle.simplex_values.specs.declared.answer.Answer.{Answer}
+use Rattle.simplex_steps.specs.Desk.{Doing}
+use Rattle.simplex_voter.specs.Stands.{Stands, on_desk}
+use Rattle.simplex_voter.proofs.Folding.{Folded}
+use Rattle.simplex_voter.proofs.planner.Planner.ask_each.Given as goal
+
+abbrev pub invariant-loop-proposal : goal.invariant-loop-proposal
+invariant-loop-proposal g l =
+    (made : Made) (answers : List (ℕ × Answer)) (doing : Doing) → Stands g.S.Scheme.attests g.L.Elector.elects l.fn.self made answers doing
+    → Folded open_certify (Stands g.S.Scheme.attests g.L.Elector.elects l.self made answers) doing l.proposals (drop l.proposal-index l.proposals)

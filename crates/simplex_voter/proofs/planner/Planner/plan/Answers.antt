@@ -1,0 +1,25 @@
+use Rattle.std.proofs.Common.{ap, sym, ◌∙◌, refl, Some, None, Option, ℕ}
+use Rattle.std.specs.Option.{option_map}
+use Rattle.simplex_rules.specs.Views.{current_of}
+use Rattle.simplex_steps.specs.Desk.{Doing, begun}
+use Rattle.simplex_steps.specs.Voter.{acted, act_on_verify, act_on_proposal, act_on_certify, propose, stepped, finished}
+use Rattle.simplex_values.specs.declared.answer.Answer.{Answer}
+use Rattle.simplex_rules.specs.Pending.{Opened}
+use Rattle.simplex_voter.specs.Arrivals.{opened_of, pending_of, least_of}
+use Rattle.simplex_voter.specs.Stands.{doing_of, Acted}
+use Rattle.simplex_voter.proofs.Reading.{known-is}
+use Rattle.simplex_voter.proofs.Taking.{nothing-acted, acted-so, verify-none, verify-unanswered, verify-answered, verify-touches, answer-kept, proposal-none, proposal-some, certify-acts, taken_of, planned-none, planned-some, finished-from}
+use Rattle.simplex_voter.proofs.planner.Planner.plan.Goals as goal
+
+pub returns-in-None : goal.returns-in-None
+unfolding stepped
+returns-in-None g c = λ made answers desk s.
+    planned-none (finished made c.args.now (current_of made desk.known)) _ (rw c.in-None.is at (c.in_ok-found.ensures made answers desk s))
+
+pub returns-in_ok-finish-in-Some : goal.returns-in_ok-finish-in-Some
+unfolding stepped
+returns-in_ok-finish-in-Some g c = λ made answers desk s.
+    planned-some (finished made c.args.now (current_of made desk.known)) _ c.in-Some.touched (rw c.in-Some.is at (c.in_ok-found.ensures made answers desk s))
+    (λ doing stands.
+    rw (finished-from made c.args.now c.current_view-before.result (current_of made desk.known) doing c.in-Some.touched
+    (c.current_view-before.ensures made s.calls s.state ∙ ap (current_of made) (sym (known-is s)))) at (c.in_ok-finish-in-Some.ensures made answers doing stands))

@@ -1,0 +1,12 @@
+use Rattle.std.proofs.Common.{◌≡◌, List, ℕ, drop}
+use Rattle.simplex_rules.specs.Known.{Made}
+use Rattle.simplex_values.specs.declared.answer.Answer.{Answer}
+use Rattle.simplex_steps.specs.Desk.{Doing}
+use Rattle.simplex_voter.specs.Stands.{Stands, IsWhole}
+use Rattle.simplex_voter.proofs.Restoring.{Replaying}
+use Rattle.simplex_voter.proofs.planner.Planner.replay_all.Given as goal
+
+abbrev pub invariant-loop-artifact : goal.invariant-loop-artifact
+invariant-loop-artifact g l =
+    (made : Made) (answers : List (ℕ × Answer)) (doing : Doing) → Stands g.S.Scheme.attests g.L.Elector.elects l.fn.self made answers doing → IsWhole doing.desk.known
+    → Replaying (Stands g.S.Scheme.attests g.L.Elector.elects l.self made answers) made l.now l.floor doing l.records (drop l.artifact-index l.records)

@@ -1,0 +1,13 @@
+use Rattle.std.proofs.Common.{◌≡◌, List, ℕ, fold, drop}
+use Rattle.simplex_rules.specs.Known.{Made}
+use Rattle.simplex_rules.specs.Pending.{seek_parent}
+use Rattle.simplex_values.specs.declared.answer.Answer.{Answer}
+use Rattle.simplex_steps.specs.Desk.{Doing}
+use Rattle.simplex_voter.specs.Stands.{Stands, on_desk}
+use Rattle.simplex_voter.proofs.Folding.{Folded}
+use Rattle.simplex_voter.proofs.planner.Planner.seek_parents.Given as goal
+
+abbrev pub invariant-loop-fetch : goal.invariant-loop-fetch
+invariant-loop-fetch g l =
+    (made : Made) (answers : List (ℕ × Answer)) (doing : Doing) → Stands g.S.Scheme.attests g.L.Elector.elects l.fn.self made answers doing
+    → Folded seek_parent (Stands g.S.Scheme.attests g.L.Elector.elects l.self made answers) doing l.fetches (drop l.fetch-index l.fetches)

@@ -1,0 +1,104 @@
+-- For which history a voter stands.
+use Rattle.std.specs.Prelude.{◌≡◌, ℕ, List, [], ◌∷◌, Option, Some, None}
+use Rattle.std.specs.Option.{option_map, option_and_then}
+use Rattle.simplex_values.specs.declared.proposal.Subject.{Subject}
+use Rattle.simplex_values.specs.declared.answer.Answer.{Answer}
+use Rattle.simplex_values.specs.declared.round.Round.{Round}
+use Rattle.simplex_values.specs.declared.terms.Terms.{Terms}
+use Rattle.simplex_wire.specs.declared.attestation.Attestation.{Attestation}
+use Rattle.simplex_types.specs.declared.floor.Floor.{Floor}
+use Rattle.simplex_types.specs.declared.floor.Floor.TheVariants as floors
+use Rattle.simplex_types.specs.declared.activity.Activity.TheVariants as activities
+use Rattle.simplex_rules.specs.Pending.{Pending, Opened}
+use Rattle.simplex_journal.specs.Journal.{Section}
+use Rattle.simplex_journal.specs.Order.{Order, no_order}
+use Rattle.simplex_state.specs.Stands.{made_of}
+use Rattle.simplex_state.specs.declared.config.StateConfig.{StateConfig}
+use Rattle.simplex_messages.specs.declared.call.Call.{Call}
+use Rattle.simplex_messages.specs.declared.call.Call.TheVariants as calls
+use Rattle.simplex_messages.specs.declared.step.Outcome.{Outcome}
+use Rattle.simplex_messages.specs.declared.step.StepOut.{StepOut}
+use Rattle.simplex_messages.specs.declared.voter.VoterInput.{VoterInput}
+use Rattle.simplex_messages.specs.declared.voter.VoterInput.TheVariants as inputs
+use Rattle.simplex_steps.specs.Desk.{begun}
+use Rattle.simplex_steps.specs.Performed.{Performed}
+use Rattle.simplex_steps.specs.Voter.{Standing, answer_to, first_answered}
+use Rattle.simplex_steps.specs.VoterLife.{VoterMade, Given, Place, place_of}
+use Rattle.simplex_voter.specs.Arrivals.{with_number}
+use Rattle.simplex_voter.specs.Stands.{Stands}
+use Rattle.simplex_voter.specs.declared.config.Config.{Config}
+use Rattle.simplex_voter.specs.declared.actor.Actor.{Actor}
+
+-- the answer that a step with this source would take, and its request
+unfoldable pub next_answer : Standing → VoterInput → Option (ℕ × Answer)
+next_answer s inputs.Propose = option_and_then (λ (p : Pending). option_map (with_number p.number) (answer_to s.answers p.number)) s.desk.proposal
+next_answer s inputs.Verify = option_and_then (λ (v : Opened). option_map (with_number v.number) (answer_to s.answers v.number)) s.desk.verify
+next_answer s inputs.Certify = option_map (λ (taken : Opened × Answer). with_number taken.0.number taken.1) (first_answered s.desk.certify s.answers)
+next_answer s _ = None
+
+-- the calls of a start before it reads the journal
+abbrev pub floor_calls : Floor → List Call
+floor_calls (floors.Genesis payload) = []
+floor_calls (floors.Finalized f) = calls.Report (activities.Finalization f) ∷ []
+
+module _ {S L : Type 0} where
+  -- what the voter's state is made with
+  abbrev pub state_config : Config S L → StateConfig S L
+  state_config config =
+      record {
+        scheme = config.scheme;
+        elector = config.elector;
+        epoch = config.epoch;
+        view_retention = config.view_retention;
+        leader_timeout = config.leader_timeout;
+        certification_timeout = config.certification_timeout;
+        timeout_retry = config.timeout_retry;
+        skip_budget = config.skip_budget;
+        handoff = config.handoff;
+        genesis = config.genesis;
+      }
+
+  -- what a configuration says of the voter, by what its scheme signs, whose it is, whom its elector elects, how it cuts
+  -- terms, and what the journal holds
+  unfoldable pub voter_made : (S → Subject → Option Attestation) → (S → Option ℕ) → (L → Round → ℕ) → (L → Terms) → Config S L → ℕ → List Section → VoterMade
+  voter_made attests member elects cuts config start sections =
+      record { rules = made_of attests member elects cuts (state_config config) start; floor = config.floor; sections = sections }
+
+module _ {S L J : Type 0} where
+  -- the voter is where the history says: it stands on its floor, works on what is known and open, and its journal holds
+  -- what is kept
+  pub record Stays (attests : S → Subject → Option Attestation) (elects : L → Round → ℕ) (sections : J → List Section) (order : J → Option Order) (actor : Actor S L J) (made : VoterMade) (place : Place) : Type 0 where
+    pub floor : actor.floor ≡ made.floor
+    pub planner : Stands attests elects actor.planner made.rules place.standing.answers (begun place.standing.desk)
+    pub sections_are : sections actor.journal ≡ place.sections
+    pub order_is : order actor.journal ≡ Some no_order
+
+  -- the voter stands for what it was given, the newest first
+  unfoldable pub StandsFor : (S → Subject → Option Attestation) → (L → Round → ℕ) → (J → List Section) → (J → Option Order) → Actor S L J → VoterMade → List Given → Type 0
+  StandsFor attests elects sections order actor made past = Stays attests elects sections order actor made (place_of made past)
+
+  -- whatever history the old voter stands for, the new one stands for it with this behind
+  abbrev pub Takes : (S → Subject → Option Attestation) → (L → Round → ℕ) → (J → List Section) → (J → Option Order) → Actor S L J → Actor S L J → Given → Type 0
+  Takes attests elects sections order old new given =
+      (made : VoterMade) (past : List Given) → StandsFor attests elects sections order old made past → StandsFor attests elects sections order new made (given ∷ past)
+
+  -- whatever history the voter stands for, the answer is the rule's at it
+  abbrev pub Answers : {R : Type 0} → (S → Subject → Option Attestation) → (L → Round → ℕ) → (J → List Section) → (J → Option Order) → Actor S L J → (VoterMade → List Given → R) → R → Type 0
+  Answers attests elects sections order actor rule answer =
+      (made : VoterMade) (past : List Given) → StandsFor attests elects sections order actor made past → answer ≡ rule made past
+
+  -- whatever history the voter stands for, the step gives what the rule says
+  abbrev pub Gives : (S → Subject → Option Attestation) → (L → Round → ℕ) → (J → List Section) → (J → Option Order) → Actor S L J → (VoterMade → List Given → Performed) → Outcome → StepOut → Type 0
+  Gives attests elects sections order actor rule outcome out =
+      (made : VoterMade) (past : List Given) → StandsFor attests elects sections order actor made past
+      → (outcome ≡ (rule made past).outcome) × (out ≡ (rule made past).out)
+
+  -- the same of a start, which comes first
+  abbrev pub Starts : (S → Subject → Option Attestation) → (L → Round → ℕ) → (J → List Section) → (J → Option Order) → Actor S L J → Actor S L J → Given → Type 0
+  Starts attests elects sections order old new given =
+      (made : VoterMade) → StandsFor attests elects sections order old made [] → StandsFor attests elects sections order new made (given ∷ [])
+
+  abbrev pub GivesFirst : (S → Subject → Option Attestation) → (L → Round → ℕ) → (J → List Section) → (J → Option Order) → Actor S L J → (VoterMade → List Given → Performed) → Outcome → StepOut → Type 0
+  GivesFirst attests elects sections order actor rule outcome out =
+      (made : VoterMade) → StandsFor attests elects sections order actor made []
+      → (outcome ≡ (rule made []).outcome) × (out ≡ (rule made []).out)

@@ -1,0 +1,4 @@
+pub mod Actor
+pub mod Arrivals
+pub mod Performing
+pub mod Stands
