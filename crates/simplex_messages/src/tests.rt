@@ -13,8 +13,6 @@ use std::fmt::Debug;
 use std::process::Abort;
 use std::test::Fail;
 
-mod pairs;
-
 fn round(view: u64) -> Round {
     Round {
         epoch: Epoch(0),
