@@ -1,9 +1,9 @@
 #!/bin/bash
-# Times the work of crates/bench_wire, bench_fetch and bench_round, by the proved program and by plain Rust.
-# Run it from anywhere, after `rt run` in the program's crate: bench/run.sh wire|fetch|round [TIMES].
+# Times the work of crates/bench_wire, bench_mailbox, bench_fetch and bench_round, by the proved program and by plain Rust.
+# Run it from anywhere, after `rt run` in the program's crate: bench/run.sh wire|mailbox|fetch|round [TIMES].
 set -euo pipefail
 cd "$(dirname "$0")"
-what=${1:?wire, fetch or round}
+what=${1:?wire, mailbox, fetch or round}
 proved=../crates/bench_$what/out/bench_$what
 export CARGO_TARGET_DIR=${CARGO_TARGET_DIR:-/tmp/bench_target}
 built=$CARGO_TARGET_DIR/release/bench_$what
@@ -41,6 +41,11 @@ wire)
     line "$times" encode
     line "$times" decode
     line $((times / 20)) verify
+    ;;
+mailbox)
+    times=${2:-100000}
+    line $((times * 100)) ready
+    line "$times" waiting
     ;;
 fetch)
     times=${2:-1000000}
