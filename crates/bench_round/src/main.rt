@@ -40,7 +40,7 @@ struct Votes {
     given_up: Vec<Vote>,
 }
 
-fn votes(alloc: Global, members: u32) -> Result<Votes>
+fn signed_votes(alloc: Global, members: u32) -> Result<Votes>
     requires { 0 < members }
 {
     let mut kept = Vec::new(alloc);
@@ -101,7 +101,7 @@ fn turn(alloc: Global, scheme: &Keyed, members: u32, votes: &Votes, makes: bool)
 fn turns(alloc: Global, members: u32, times: u32, makes: bool) -> Result<u64>
     requires { 0 < members }
 {
-    let votes = votes(alloc, members)?;
+    let votes = signed_votes(alloc, members)?;
     let scheme = Keyed::new(alloc, KEY_BASE, members, None)?;
     let mut certificates = 0u64;
     for _ in 0..times {
