@@ -25,6 +25,3 @@ mod votes;
 
 pub use config::StateConfig;
 pub use state::State;
-
-#[cfg(test)]
-mod tests;
