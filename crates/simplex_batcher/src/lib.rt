@@ -22,6 +22,3 @@ mod working;
 
 pub use actor::Actor;
 pub use config::Config;
-
-#[cfg(test)]
-mod tests;

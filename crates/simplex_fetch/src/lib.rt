@@ -18,6 +18,3 @@ pub use config::{Fetch, FetchConfig};
 pub use fetcher::Fetcher;
 pub use out::Out;
 pub use retire::Retire;
-
-#[cfg(test)]
-mod tests;

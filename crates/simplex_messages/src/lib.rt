@@ -26,6 +26,3 @@ pub use samples::{
 };
 pub use step::{Outcome, StepOut, Stop};
 pub use voter::VoterInput;
-
-#[cfg(test)]
-mod tests;

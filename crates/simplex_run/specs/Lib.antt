@@ -1,4 +1,5 @@
 pub mod Members
+pub mod Setups
 pub mod Life
 pub mod Requests
 pub mod Entries

@@ -7,6 +7,7 @@ use Rattle.simplex_values.specs.declared.policy.ForwardPolicy.{ForwardPolicy}
 use Rattle.simplex_values.specs.declared.policy.ForwardPolicy.TheVariants as forward
 use Rattle.simplex_transcript.specs.declared.event.Event.{Event}
 use Rattle.simplex_transcript.specs.declared.entry.Entry.{Entry}
+use Rattle.simplex_transcript.specs.declared.field.Field.{Field}
 use Rattle.simplex_transcript.specs.declared.field.Field.TheVariants as fields
 use Rattle.simplex_transcript.specs.declared.setup.Setup.{Setup}
 use Rattle.simplex_transcript.specs.declared.setup.MemberKind.{MemberKind}
@@ -15,10 +16,11 @@ use Rattle.simplex_transcript.specs.declared.refusal.RunError.{RunError}
 use Rattle.simplex_transcript.specs.declared.refusal.RunError.TheVariants as refusals
 use Rattle.simplex_transcript.specs.declared.refusal.Refusal.{Refusal}
 use Rattle.simplex_run.specs.Members.{members_of}
+use Rattle.simplex_run.specs.Setups.{first_bad}
 use Rattle.simplex_run.specs.Life.{Noted}
 use Rattle.simplex_run.specs.Entries.{entry_of}
 
--- ---- which setups are taken yet: one honest member with the values of the first example, and any keys
+-- ---- which setups are taken yet: one honest member with the values of the first example, any keys and any mailbox
 
 abbrev pub is_one_honest : List MemberKind → Bool
 is_one_honest (kinds.Honest ∷ []) = true
@@ -36,7 +38,7 @@ unfoldable pub is_taken : Setup → Bool
 is_taken setup =
     setup.epoch == 0 && is_one_honest setup.members && setup.term == 1 && setup.lookahead == 0
     && setup.leader_timeout == 1000 && setup.certification_timeout == 2000 && setup.retry == 500 && is_none setup.stall
-    && setup.retention == 10 && is_no_skip setup.skip && is_no_forward setup.forward && setup.mailbox == 16
+    && setup.retention == 10 && is_no_skip setup.skip && is_no_forward setup.forward
     && not setup.track && not setup.handoff && setup.fetch_timeout == 1000 && setup.fetch_retry == 100
     && length setup.scenario == 0
 
@@ -65,8 +67,13 @@ abbrev pub transcript_of : Result (List Noted) Refusal → Result (List Entry) R
 transcript_of (Ok noted) = Ok (reverse (map (λ n. n.entry) noted))
 transcript_of (Err refusal) = Err refusal
 
+-- an item of the setup that breaks its limit
+abbrev pub unless_bad : Option Field → Result (List Entry) Refusal → Result (List Entry) Refusal
+unless_bad (Some field) ran = Err (refused (refusals.BadSetup field) 0)
+unless_bad None ran = ran
+
 unfoldable pub Run : Setup → List Event → Result (List Entry) Refusal
 Run setup events =
     if not (is_taken setup) then Err (refused refusals.NotYet 0)
     else if not (are_few setup events) then Err (refused (refusals.BadSetup fields.Events) 0)
-    else transcript_of (run setup [] events)
+    else unless_bad (first_bad setup) (transcript_of (run setup [] events))

@@ -40,6 +40,10 @@ alone = setup_of (kinds.Honest ∷ [])
 abbrev pub crowd : Setup
 crowd = setup_of (kinds.Honest ∷ kinds.Honest ∷ [])
 
+-- a member whose mailboxes have room for nothing
+abbrev pub cramped : Setup
+cramped = record alone { mailbox = 0 }
+
 abbrev pub at : Node
 at = record { member = 0; half = 0 }
 

@@ -1,8 +1,8 @@
 //! Mailboxes that are full: what goes, and in which order.
 ghost use Rattle.std.specs.Prelude.{◌<◌};
 
-use crate::{batcher, resolver, voter};
 use simplex_mailbox::{Mailbox, Policy};
+use simplex_messages::{batcher, resolver, voter};
 use simplex_types::{
     Attestation, Certificate, Digest, Epoch, Feedback, Finalization, Finalize, Kind, Notarization,
     Nullification, Nullify, Participant, Proposal, Round, Sequence, Signatures, TimeoutReason,
@@ -12,6 +12,8 @@ use std::alloc::{AllocError, Global};
 use std::fmt::Debug;
 use std::process::Abort;
 use std::test::Fail;
+
+mod pairs;
 
 fn round(view: u64) -> Round {
     Round {

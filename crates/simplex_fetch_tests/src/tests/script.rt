@@ -2,7 +2,7 @@
 ghost use Rattle.std.specs.Prelude.{◌≡◌, ◌<◌, ◌^◌};
 ghost use Rattle.simplex_fetch.specs.Fetcher.{no_fetches, IsSoundConfig};
 
-use crate::{Fetch, FetchConfig, Fetcher, Out, Retire};
+use simplex_fetch::{Fetch, FetchConfig, Fetcher, Out, Retire};
 use simplex_types::{
     Ask, Bytes, Outcome, Participant, ResolverBody, ResolverMessage, Sequence, View,
 };

@@ -1,7 +1,7 @@
 //! One member of four: what its steps hand on, and what they call.
 ghost use Rattle.std.specs.Prelude.{◌<◌, ◌^◌};
 
-use crate::{Actor, Config};
+use simplex_batcher::{Actor, Config};
 use simplex_mailbox::Mailbox;
 use simplex_messages::{BatcherInput, Call, Handed, StepOut, batcher, voter};
 use simplex_types::{

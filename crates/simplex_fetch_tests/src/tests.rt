@@ -2,8 +2,8 @@
 
 mod script;
 
-use crate::Retire;
 use script::{Call, Heard, run};
+use simplex_fetch::Retire;
 use simplex_types::{Ask, Kind, Outcome, Resolution, View};
 use std::alloc::AllocError;
 

@@ -1,0 +1,5 @@
+//! Tests of the certificate fetcher.
+#![tactic(auto)]
+
+#[cfg(test)]
+mod tests;

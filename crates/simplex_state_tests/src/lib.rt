@@ -1,0 +1,5 @@
+//! Tests of what one member knows and votes.
+#![tactic(auto)]
+
+#[cfg(test)]
+mod tests;

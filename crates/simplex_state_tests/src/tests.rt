@@ -1,0 +1,283 @@
+//! Votes, deadlines, requests and certificates of a member, from call to call. Terms have five views.
+ghost use Rattle.std.specs.Prelude.{◌<◌, ◌≤◌, ◌^◌};
+
+use simplex_state::*;
+use simplex_rules::{ProposalRequest, Verify};
+use simplex_types::elector::Config;
+use simplex_types::{Keyed, RoundRobin, RoundRobinElector};
+use simplex_values::{
+    Context, Digest, Epoch, Kind, Parent, Participant, Proposal, Round, TermLength, Terms,
+    TimeoutReason, View, ViewDelta,
+};
+use simplex_wire::{CertificateKind, Finalization, Notarization, Nullification, Signatures};
+use std::alloc::{AllocError, Global};
+use std::test::Fail;
+
+type Member = State<Keyed, RoundRobinElector>;
+
+/// Member 0 of so many, which works so many views ahead.
+fn start(alloc: Global, members: u32, lookahead: u64) -> Result<Member, Fail>
+    requires some { 0 < members }
+    requires limit { lookahead ≤ 2 ^ 32 }
+{
+    let length = TermLength::new(5).ok_or("a term may have five views")?;
+    let terms = Terms {
+        length,
+        lookahead,
+        stall_timeout: Some(5000),
+    };
+    let config = StateConfig {
+        scheme: Keyed::new(alloc, 7, members, Some(Participant(0)))?,
+        elector: RoundRobin::new(terms).build(members),
+        epoch: Epoch(0),
+        view_retention: ViewDelta(10),
+        leader_timeout: 1000,
+        certification_timeout: 2000,
+        timeout_retry: 500,
+        skip_budget: 3,
+        handoff: true,
+        genesis: Digest([0; 32]),
+    };
+    Ok(State::new(alloc, config, 100)?)
+}
+
+fn round(view: u64) -> Round {
+    Round {
+        epoch: Epoch(0),
+        view: View(view),
+    }
+}
+
+fn block(view: u64, parent: u64) -> Proposal {
+    Proposal {
+        round: round(view),
+        parent: View(parent),
+        payload: Digest([9; 32]),
+    }
+}
+
+fn notarization(alloc: Global, view: u64, parent: u64) -> Notarization {
+    Notarization {
+        proposal: block(view, parent),
+        certificate: Signatures::new(Vec::new(alloc)),
+    }
+}
+
+fn nullification(alloc: Global, view: u64) -> Nullification {
+    Nullification {
+        round: round(view),
+        certificate: Signatures::new(Vec::new(alloc)),
+    }
+}
+
+fn finalization(alloc: Global, view: u64, parent: u64) -> Finalization {
+    Finalization {
+        proposal: block(view, parent),
+        certificate: Signatures::new(Vec::new(alloc)),
+    }
+}
+
+/// The view is notarized, and the application certifies it.
+fn certify(
+    alloc: Global,
+    member: &mut Member,
+    view: u64,
+    parent: u64,
+    now: u64,
+) -> Result<(), AllocError>
+    requires clock { now < 2 ^ 63 }
+{
+    let _added = member.add_notarization(notarization(alloc, view, parent), now)?;
+    let _judged = member.certified(View(view), true, now)?;
+    Ok(())
+}
+
+/// The kind and the view of the certificate that the member shows.
+fn best(member: &Member) -> Result<Option<(CertificateKind, View)>, AllocError> {
+    let Some(certificate) = member.get_best_certificate()? else {
+        return Ok(None);
+    };
+    Ok(Some((certificate.kind(), certificate.view())))
+}
+
+#[test]
+fn an_own_nullify_gates_the_rest_of_its_term(rt: HostRuntime) -> Result<(), Fail> {
+    let alloc = rt.alloc();
+    let mut member = start(alloc, 4, 10)?;
+    certify(alloc, &mut member, 1, 0, 110)?;
+    let nullify = member.construct_nullify(View(2), TimeoutReason::LeaderTimeout, 120)?;
+    assert!(rt; nullify.is_some());
+    for (view, parent) in [(2, 1), (3, 2), (5, 3), (6, 5)] {
+        certify(alloc, &mut member, view, parent, 130)?;
+    }
+    for (view, votes) in [(2, false), (3, false), (5, false), (1, true), (6, true)] {
+        let vote = member.construct_finalize(View(view))?;
+        assert_eq!(rt; vote.is_some(), votes, "at {view}");
+    }
+    Ok(())
+}
+
+#[test]
+fn views_open_and_are_admitted_at_the_edges_of_terms(rt: HostRuntime) -> Result<(), Fail> {
+    let alloc = rt.alloc();
+    let mut member = start(alloc, 4, 2)?;
+    for (view, admitted) in [
+        (0, true),
+        (3, true),
+        (4, false),
+        (5, false),
+        (6, true),
+        (7, false),
+    ] {
+        assert_eq!(rt;
+            member.admits_vote(View(view)),
+            admitted,
+            "at {view} from 1"
+        );
+    }
+    assert!(rt; !member.admits_vote(View(u64::MAX)));
+    let _added = member.add_finalization(finalization(alloc, 4, 0), 110)?;
+    for (view, admitted) in [(5, true), (6, true), (7, false), (11, false)] {
+        assert_eq!(rt;
+            member.admits_vote(View(view)),
+            admitted,
+            "at {view} from 5"
+        );
+    }
+    for (view, opened) in [
+        (0, 5),
+        (4, 6),
+        (5, 6),
+        (6, 11),
+        (10, 11),
+        (u64::MAX, u64::MAX),
+    ] {
+        member.add_nullification(nullification(alloc, view), 120)?;
+        assert_eq!(rt; member.current_view(), View(opened), "behind {view}");
+    }
+    assert!(rt; member.admits_vote(View(u64::MAX)));
+    Ok(())
+}
+
+#[test]
+fn deadlines(rt: HostRuntime) -> Result<(), Fail> {
+    let alloc = rt.alloc();
+    let mut member = start(alloc, 4, 2)?;
+    assert_eq!(rt; member.next_timeout(), (1100, TimeoutReason::LeaderTimeout));
+    assert!(rt; member.set_proposal(View(1), &block(1, 0))?);
+    assert_eq!(rt;
+        member.next_timeout(),
+        (2100, TimeoutReason::CertificationTimeout)
+    );
+    let nullify = member.construct_nullify(View(1), TimeoutReason::CertificationTimeout, 2100)?;
+    assert!(rt; nullify.is_some());
+    assert_eq!(rt; member.next_timeout(), (2600, TimeoutReason::LeaderTimeout));
+    for (entered, deadline, reason) in [
+        (4000, 5000, TimeoutReason::LeaderTimeout),
+        (4100, 5100, TimeoutReason::LeaderTimeout),
+        (4200, 5100, TimeoutReason::StallTimeout),
+    ] {
+        let mut later = start(alloc, 4, 2)?;
+        certify(alloc, &mut later, 1, 0, entered)?;
+        assert_eq!(rt;
+            later.next_timeout(),
+            (deadline, reason),
+            "entered at {entered}"
+        );
+    }
+    Ok(())
+}
+
+#[test]
+fn a_proposal_is_handed_to_the_next_term(rt: HostRuntime) -> Result<(), Fail> {
+    let alloc = rt.alloc();
+    let mut member = start(alloc, 1, 2)?;
+    let _added = member.add_finalization(finalization(alloc, 4, 0), 110)?;
+    let request = member.try_propose()?.ok_or("the member leads view 5")?;
+    let context = *request.context();
+    assert!(rt; !request.is_handoff());
+    assert!(rt; member.proposed(&context, Digest([5; 32]))?);
+    assert!(rt; member.construct_notarize(View(5))?.is_some());
+    let handoff = member.try_propose()?.ok_or("the member leads view 6")?;
+    let prepared = *handoff.context();
+    assert!(rt; handoff.is_handoff());
+    assert_eq!(rt;
+        (prepared.round.view, prepared.parent.view),
+        (View(6), View(5))
+    );
+    assert_eq!(rt; member.try_propose()?, None);
+    assert!(rt; !member.supersede_proposal_request(&prepared));
+    assert!(rt; !member.pending_handoff_abandonment(&prepared));
+    member.release_proposal_request(View(6));
+    assert_eq!(rt;
+        member.try_propose()?,
+        Some(ProposalRequest::Prepare(prepared))
+    );
+    let nullify = member.construct_nullify(View(5), TimeoutReason::LeaderTimeout, 120)?;
+    assert!(rt; nullify.is_some());
+    assert!(rt; member.pending_handoff_abandonment(&prepared));
+    assert!(rt; !member.supersede_proposal_request(&prepared));
+    member.add_nullification(nullification(alloc, 5), 130)?;
+    assert!(rt; member.supersede_proposal_request(&prepared));
+    member.release_proposal_request(View(6));
+    let request = member.try_propose()?.ok_or("the member leads view 6")?;
+    assert!(rt; !request.is_handoff());
+    assert_eq!(rt; request.context().parent.view, View(4));
+    Ok(())
+}
+
+#[test]
+fn the_best_certificate_opens_the_current_view(rt: HostRuntime) -> Result<(), Fail> {
+    let alloc = rt.alloc();
+    let mut member = start(alloc, 4, 2)?;
+    assert_eq!(rt; best(&member)?, None);
+    certify(alloc, &mut member, 1, 0, 110)?;
+    assert_eq!(rt;
+        best(&member)?,
+        Some((CertificateKind::Notarization, View(1)))
+    );
+    member.add_nullification(nullification(alloc, 2), 120)?;
+    assert_eq!(rt;
+        best(&member)?,
+        Some((CertificateKind::Nullification, View(2)))
+    );
+    member.add_nullification(nullification(alloc, 4), 130)?;
+    assert_eq!(rt;
+        best(&member)?,
+        Some((CertificateKind::Nullification, View(4)))
+    );
+    let _added = member.add_finalization(finalization(alloc, 7, 1), 140)?;
+    assert_eq!(rt;
+        best(&member)?,
+        Some((CertificateKind::Finalization, View(7)))
+    );
+    Ok(())
+}
+
+#[test]
+fn what_is_missing_is_asked_for_once(rt: HostRuntime) -> Result<(), Fail> {
+    let alloc = rt.alloc();
+    let mut member = start(alloc, 4, 2)?;
+    assert_eq!(rt; member.try_verify()?, Verify::Wait);
+    assert!(rt; member.set_proposal(View(2), &block(2, 1))?);
+    let resolve = Verify::Resolve {
+        proposal: View(2),
+        view: View(1),
+        kind: Kind::Notarization,
+        target: Participant(1),
+    };
+    assert_eq!(rt; member.try_verify()?, resolve);
+    assert_eq!(rt; member.try_verify()?, Verify::Wait);
+    certify(alloc, &mut member, 1, 0, 110)?;
+    let context = Context {
+        round: round(2),
+        leader: Participant(1),
+        parent: Parent {
+            view: View(1),
+            payload: Digest([9; 32]),
+        },
+    };
+    assert_eq!(rt; member.try_verify()?, Verify::Ready(context, block(2, 1)));
+    assert_eq!(rt; member.try_verify()?, Verify::Wait);
+    Ok(())
+}
