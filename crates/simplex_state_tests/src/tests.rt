@@ -105,7 +105,9 @@ fn an_own_nullify_gates_the_rest_of_its_term(rt: HostRuntime) -> Result<(), Fail
     let alloc = rt.alloc();
     let mut member = start(alloc, 4, 10)?;
     certify(alloc, &mut member, 1, 0, 110)?;
-    let nullify = member.construct_nullify(View(2), TimeoutReason::LeaderTimeout, 120)?;
+    let view = member.current_view();
+    assert_eq!(rt; view, View(2));
+    let nullify = member.construct_nullify(view, TimeoutReason::LeaderTimeout, 120)?;
     assert!(rt; nullify.is_some());
     for (view, parent) in [(2, 1), (3, 2), (5, 3), (6, 5)] {
         certify(alloc, &mut member, view, parent, 130)?;
@@ -169,7 +171,9 @@ fn deadlines(rt: HostRuntime) -> Result<(), Fail> {
         member.next_timeout(),
         (2100, TimeoutReason::CertificationTimeout)
     );
-    let nullify = member.construct_nullify(View(1), TimeoutReason::CertificationTimeout, 2100)?;
+    let view = member.current_view();
+    assert_eq!(rt; view, View(1));
+    let nullify = member.construct_nullify(view, TimeoutReason::CertificationTimeout, 2100)?;
     assert!(rt; nullify.is_some());
     assert_eq!(rt; member.next_timeout(), (2600, TimeoutReason::LeaderTimeout));
     for (entered, deadline, reason) in [
@@ -213,7 +217,9 @@ fn a_proposal_is_handed_to_the_next_term(rt: HostRuntime) -> Result<(), Fail> {
         member.try_propose()?,
         Some(ProposalRequest::Prepare(prepared))
     );
-    let nullify = member.construct_nullify(View(5), TimeoutReason::LeaderTimeout, 120)?;
+    let view = member.current_view();
+    assert_eq!(rt; view, View(5));
+    let nullify = member.construct_nullify(view, TimeoutReason::LeaderTimeout, 120)?;
     assert!(rt; nullify.is_some());
     assert!(rt; member.pending_handoff_abandonment(&prepared));
     assert!(rt; !member.supersede_proposal_request(&prepared));
