@@ -1,0 +1,5 @@
+pub mod Lists
+pub mod KeptPackets
+pub mod Asked
+pub mod Told
+pub mod Books

@@ -1,0 +1,5 @@
+pub mod Packets
+pub mod Requests
+pub mod Reported
+pub mod Events
+pub mod Stands
