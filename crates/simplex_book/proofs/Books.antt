@@ -25,6 +25,7 @@ use Rattle.simplex_book.proofs.KeptPackets.{packets-push}
 use Rattle.simplex_book.proofs.Asked.{desks-pass, desk-read}
 use Rattle.simplex_book.proofs.Told.{told-entry}
 
+-- the desk of a member that is read from all desks
 pub desk-at : (desks : List Requests) (before : List Noted) (at : ℕ) (desk : Requests) → DesksStand desks before → at < length desks → desk ≡ get_or desks at desk
     → RequestsStand desk before (node_of at)
 desk-at desks before at desk stand lt is = desk-read desks before at desk stand (slice_get-get_or desks at desk lt ∙ ap (λ d. Some d) (sym is))
@@ -35,6 +36,7 @@ pub desk-of : (book : Book) (before : List Noted) (at : ℕ) (desk : Requests) �
 unfolding members_in
 desk-of book before at desk stand lt is = desk-at book.desks.items before at desk stand.desks lt is
 
+-- the test that a member is itself
 pub same-member : (member : ℕ) → (member == member) ≡ true
 same-member member = grind (arith, common_steps)
 
@@ -53,6 +55,7 @@ book-entered old new before noted entry member sent same pushed sends from desks
       reported = told-entry old.reported new.reported before noted stand.reported (rw same tells);
     }
 
+-- an entry in which nothing happens is taken in
 pub book-passed : (old new : Book) (before : List Noted) (noted : Noted) (event : ℕ) (who : Option Node)
     → new.packets.items ≡ old.packets.items ++ [] ∷ [] → new.desks.items ≡ old.desks.items → new.reported ≡ old.reported
     → noted.entry ≡ blank_entry event who → is_start noted.event ≡ false → BookStands old before → BookStands new (noted ∷ before)

@@ -47,7 +47,8 @@ others-but from n nodes same is =
 
 pub packets-from : (setup : Setup) (member : ℕ) (made : List Call) → AreFrom member (packets_of setup (node_of member) made)
 packets-from setup member [] = refl
-packets-from setup member (calls.Send channel to bytes ∷ made) = let first : Packet = record { from = node_of member; channel = channel; to = nodes_for setup (node_of member) to; bytes = bytes } in
+packets-from setup member (calls.Send channel to bytes ∷ made) =
+    let first : Packet = record { from = node_of member; channel = channel; to = nodes_for setup (node_of member) to; bytes = bytes } in
     ap (λ rest. first ∷ rest) (packets-from setup member made)
 packets-from setup member (calls.Append section artifact ∷ made) = packets-from setup member made
 packets-from setup member (calls.Sync section ∷ made) = packets-from setup member made
@@ -91,6 +92,7 @@ alike true false x y z w e f g = absurd (cc)
 alike false true x y z w e f g = absurd (cc)
 alike false false x y z w e f g = g
 
+-- the packets of one event more are found by its number
 pub packets-push : (events : List (List Sent)) (member : ℕ) (before : List Noted) (noted : Noted)
     → length events ≡ length before → AreFrom member noted.entry.packets → ((at : Ref) → packet_in events at ≡ packet_at before at)
     → (at : Ref) → packet_in (events ++ map (sent_as member) noted.entry.packets ∷ []) at ≡ packet_at (noted ∷ before) at

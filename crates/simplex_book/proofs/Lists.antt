@@ -4,6 +4,7 @@ use Rattle.std.specs.Prelude.{◌==◌, Some}
 use Rattle.std.specs.List.{slice_get, range_with_len}
 use Rattle.std.proofs.lemmas.Grind.{common_steps}
 
+-- the item that was set
 pub slice_get-set : {A : Type 0} (xs : List A) (at k : ℕ) (x y : A) → slice_get (set xs at x) k ≡ Some y → at ≡ k → y ≡ x
 slice_get-set [] at k x y is e = cc
 slice_get-set (z ∷ xs) zero zero x y is e = cc
@@ -11,6 +12,7 @@ slice_get-set (z ∷ xs) zero (suc k) x y is e = absurd (omega arith)
 slice_get-set (z ∷ xs) (suc at) zero x y is e = absurd (omega arith)
 slice_get-set (z ∷ xs) (suc at) (suc k) x y is e = slice_get-set xs at k x y is (omega arith)
 
+-- and every other one
 pub slice_get-set_other : {A : Type 0} (xs : List A) (at k : ℕ) (x : A) → at ≢ k → slice_get (set xs at x) k ≡ slice_get xs k
 slice_get-set_other [] at k x e = refl
 slice_get-set_other (z ∷ xs) zero zero x e = absurd (e refl)
@@ -18,12 +20,14 @@ slice_get-set_other (z ∷ xs) zero (suc k) x e = refl
 slice_get-set_other (z ∷ xs) (suc at) zero x e = refl
 slice_get-set_other (z ∷ xs) (suc at) (suc k) x e = slice_get-set_other xs at k x (λ same. e (ap suc same))
 
+-- an item more
 pub slice_get-push : {A : Type 0} (xs : List A) (x : A) (k : ℕ) → slice_get (xs ++ x ∷ []) k ≡ (if length xs == k then Some x else slice_get xs k)
 slice_get-push [] x zero = refl
 slice_get-push [] x (suc k) = grind (arith, common_steps)
 slice_get-push (y ∷ xs) x zero = grind (arith, common_steps)
 slice_get-push (y ∷ xs) x (suc k) = grind (arith, common_steps, slice_get-push xs x k)
 
+-- the first of two lists
 pub slice_get-front : {A : Type 0} (xs ys : List A) (k : ℕ) → k < length xs → slice_get (xs ++ ys) k ≡ slice_get xs k
 slice_get-front [] ys k lt = absurd (omega (arith, lt))
 slice_get-front (x ∷ xs) ys zero lt = refl
@@ -32,6 +36,7 @@ slice_get-front (x ∷ xs) ys (suc k) lt = slice_get-front xs ys k (omega (arith
 minus_none : (k : ℕ) → k - 0 ≡ k
 minus_none k = omega arith
 
+-- and the second
 pub slice_get-past_front : {A : Type 0} (xs ys : List A) (k : ℕ) → length xs ≤ k → slice_get (xs ++ ys) k ≡ slice_get ys (k - length xs)
 slice_get-past_front [] ys k le = rw (minus_none k) refl
 slice_get-past_front (x ∷ xs) ys zero le = absurd (omega (arith, le))

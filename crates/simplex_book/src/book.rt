@@ -19,6 +19,9 @@ use simplex_types::{Finalization, Participant, Sequence};
 use std::alloc::{AllocError, Global};
 
 /// The packets of each event, the requests of each member's node, and the finalizations that were reported.
+///
+/// Nothing is looked up by going over the entries. Where a call wants memory, nothing is told of what the book keeps
+/// after it.
 #[derive(Drop)]
 pub struct Book {
     packets: Vec<Sequence<Sent>>,
@@ -48,7 +51,8 @@ impl Book {
 
     /// The packet at this place, where it may be delivered to the member's node.
     pub fn packet_for(&self, member: Participant, at: Ref) -> Option<&Sent>
-        ensures { Answers self.now (λ before. requests.packet_for before (entries.node_of member) at) (option_map (λ sent. as_packet sent.now) result) }
+        ensures { Answers self.now (λ before. requests.packet_for before (entries.node_of member) at)
+            (option_map (λ sent. as_packet sent.now) result) }
     {
         packet_for(&self.packets, node_of(member), at)
     }
@@ -81,7 +85,7 @@ impl Book {
         }
     }
 
-    /// The entry of what a member's engine did, which is taken in.
+    /// The entry of what a member's engine did at an event of its node, which starts it or not. The entry is taken in.
     pub fn enter(
         &mut self,
         alloc: Global,
@@ -121,7 +125,7 @@ impl Book {
         Ok(entry)
     }
 
-    /// The entry of an event that did nothing, which is taken in.
+    /// The entry of an event at which no engine did anything, and that is no start. The entry is taken in.
     pub fn pass(&mut self, alloc: Global, who: Option<Node>) -> Result<Entry, AllocError>
         ensures count { members_in self.new ≡ members_in self.old }
         ensures entry { IfOk result (λ entry. Answers self.old (λ before. entries.blank_entry (length before + 1) who) entry) }
@@ -142,7 +146,8 @@ impl Book {
     ) -> Result<(), AllocError>
         requires { member < members_in self.old }
         ensures count { members_in self.new ≡ members_in self.old }
-        ensures stands { OnOk result (AreFrom member entry.now.packets → TakesIn self.old self.new member starts entry.now) }
+        ensures stands { OnOk result (AreFrom member entry.now.packets
+            → TakesIn self.old self.new member starts entry.now) }
     {
         let event = self.next();
         let sent = sent_of(alloc, member, entry.packets.as_slice())?;

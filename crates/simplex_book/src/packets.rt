@@ -15,7 +15,7 @@ use simplex_types::{Bytes, Channel, Keep, Participant, Recipients, Sequence};
 use std::alloc::{AllocError, Global};
 
 /// What is kept of a packet.
-#[derive(Drop)]
+#[derive(Debug, PartialEq, Eq, Drop)]
 pub struct Sent {
     /// The member whose node sent it.
     pub from: Participant,
@@ -77,7 +77,8 @@ pub(crate) fn sent_of(
 
 /// The packet at this place, where it may be delivered to the node.
 pub(crate) fn packet_for(events: &[Sequence<Sent>], node: Node, at: Ref) -> Option<&Sent>
-    ensures { option_map (λ sent. as_packet sent.now) result ≡ option_and_then (if_for node) (packet_in events.now at) }
+    ensures { option_map (λ sent. as_packet sent.now) result
+        ≡ option_and_then (if_for node) (packet_in events.now at) }
 {
     let sent = sent_at(events, at)?;
     if is_for(node, sent.to.as_slice()) {
@@ -87,6 +88,7 @@ pub(crate) fn packet_for(events: &[Sequence<Sent>], node: Node, at: Ref) -> Opti
     }
 }
 
+// What is kept of the packet at this place.
 fn sent_at(events: &[Sequence<Sent>], at: Ref) -> Option<&Sent>
     ensures { option_map (λ sent. sent.now) result ≡ sent_in events.now at }
 {
@@ -95,12 +97,14 @@ fn sent_at(events: &[Sequence<Sent>], at: Ref) -> Option<&Sent>
     sent.as_slice().get(at.place as usize)
 }
 
+// Whether it may be delivered to the node.
 fn is_for(node: Node, to: &[Node]) -> bool
     ensures { result ≡ list_any (is_same_node node) to.now }
 {
     to.iter().any(|other| *other == node)
 }
 
+// The packet of a send.
 fn packet_of(
     alloc: Global,
     setup: &Setup,
@@ -124,6 +128,7 @@ fn packet_of(
     }
 }
 
+// The nodes that a send goes to.
 fn nodes_for(
     alloc: Global,
     setup: &Setup,
@@ -141,7 +146,8 @@ fn nodes_for(
 
 // The nodes of all members but this one.
 fn others(alloc: Global, count: u64, from: u64) -> Result<Sequence<Node>, AllocError>
-    ensures { IfOk result (λ nodes. nodes ≡ map entries.node_of (filter (λ m. not (m == from)) (range_with_len 0 count))) }
+    ensures { IfOk result (λ nodes. nodes
+        ≡ map entries.node_of (filter (λ m. not (m == from)) (range_with_len 0 count))) }
 {
     let mut nodes = Sequence::new(alloc);
     for member in 0..count {
@@ -152,6 +158,7 @@ fn others(alloc: Global, count: u64, from: u64) -> Result<Sequence<Node>, AllocE
     Ok(nodes)
 }
 
+// The nodes of these members.
 fn nodes_of(alloc: Global, members: &[Participant]) -> Result<Sequence<Node>, AllocError>
     ensures { IfOk result (λ nodes. nodes ≡ map entries.node_of members.now) }
 {

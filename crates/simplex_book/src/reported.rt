@@ -43,7 +43,8 @@ impl Reported {
 
     /// Takes in what the calls report.
     pub(crate) fn add(&mut self, alloc: Global, calls: &[Call]) -> Result<(), AllocError>
-        ensures { OnOk result ((f : Finalization) → reporting.has_reported self.new f ≡ (list_any (reports f) calls.now || reporting.has_reported self.old f)) }
+        ensures { OnOk result ((f : Finalization) → reporting.has_reported self.new f
+            ≡ (list_any (reports f) calls.now || reporting.has_reported self.old f)) }
     {
         for call in calls {
             self.add_call(alloc, call)?;
@@ -52,7 +53,8 @@ impl Reported {
     }
 
     fn add_call(&mut self, alloc: Global, call: &Call) -> Result<(), AllocError>
-        ensures { OnOk result ((f : Finalization) → reporting.has_reported self.new f ≡ (reports f call.now || reporting.has_reported self.old f)) }
+        ensures { OnOk result ((f : Finalization) → reporting.has_reported self.new f
+            ≡ (reports f call.now || reporting.has_reported self.old f)) }
     {
         match call {
             Call::Report(Activity::Finalization(finalization)) => {
@@ -68,7 +70,8 @@ impl Reported {
         alloc: Global,
         finalization: &Finalization,
     ) -> Result<(), AllocError>
-        ensures { OnOk result ((f : Finalization) → reporting.has_reported self.new f ≡ (reporting.is_same f finalization.now || reporting.has_reported self.old f)) }
+        ensures { OnOk result ((f : Finalization) → reporting.has_reported self.new f
+            ≡ (reporting.is_same f finalization.now || reporting.has_reported self.old f)) }
     {
         if self.contains(finalization) {
             return Ok(());
@@ -79,6 +82,7 @@ impl Reported {
     }
 }
 
+// Whether it is among these.
 fn holds(finalizations: &[Finalization], finalization: &Finalization) -> bool
     ensures { result ≡ list_any (reporting.is_same finalization.now) finalizations.now }
 {

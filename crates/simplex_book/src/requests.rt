@@ -79,7 +79,8 @@ impl Requests {
 
     // A start forgets the requests before it.
     fn restart(&mut self, alloc: Global, starts: bool)
-        ensures { (before : List Noted) (node : Node) → RequestsStand self.old before node → RequestsRest self.new starts before node }
+        ensures { (before : List Noted) (node : Node) → RequestsStand self.old before node
+            → RequestsRest self.new starts before node }
     {
         if starts {
             *self = Requests::new(alloc);
@@ -113,8 +114,10 @@ fn push_places(places: &mut Vec<Ref>, event: u64, count: u64) -> Result<(), Allo
     Ok(())
 }
 
+// The event gave these numbers.
 fn put_span(spans: &mut BTreeMap<u64, Span>, event: u64, span: Span) -> Result<(), AllocError>
-    ensures { OnOk result ((q : ℕ) → tree.get nat_cmp spans.new q ≡ (if event == q then Some span else tree.get nat_cmp spans.old q)) }
+    ensures { OnOk result ((q : ℕ) → tree.get nat_cmp spans.new q
+        ≡ (if event == q then Some span else tree.get nat_cmp spans.old q)) }
 {
     spans.insert(event, span)?;
     Ok(())
