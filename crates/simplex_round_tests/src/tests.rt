@@ -12,28 +12,42 @@ use std::alloc::{AllocError, Global};
 use std::process::Abort;
 use std::test::Fail;
 
-/// What a round of `n` members makes of these notarizes. They come in another order: first that at place `first`, and
-/// then each `step` behind the one before it. The leader is member 0.
-fn notarized(
-    alloc: Global,
-    n: u32,
-    votes: &[Vote],
-    first: u32,
-    step: u32,
-) -> Result<Option<Batch>, AllocError>
+/// The order in which votes come.
+#[derive(Clone, Copy, Debug)]
+enum Order {
+    /// By their members.
+    Rising,
+    Falling,
+    /// First those of members with odd numbers.
+    OddFirst,
+}
+
+fn is_odd(vote: &Vote) -> bool {
+    vote.signer().0 % 2 == 1
+}
+
+fn in_order(alloc: Global, votes: &[Vote], order: Order) -> Result<Vec<Vote>, AllocError> {
+    match order {
+        Order::Rising => votes.to_vec(alloc),
+        Order::Falling => votes.iter().rev().copied().collect(alloc),
+        Order::OddFirst => {
+            let odd = votes.iter().filter(|vote| is_odd(vote));
+            let even = votes.iter().filter(|vote| !is_odd(vote));
+            odd.chain(even).copied().collect(alloc)
+        }
+    }
+}
+
+/// What a round of `n` members makes of these notarizes, as they come. The leader is member 0.
+fn notarized(alloc: Global, n: u32, votes: &[Vote]) -> Result<Option<Batch>, AllocError>
     requires some { 0 < n }
     requires few { n < 2 ^ 8 }
-    requires first { first < n }
-    requires step { step < n }
 {
     let mut round = Round::new(alloc, view_one(), n, quorum(n), true)?;
     let mut out = RoundOut::new(alloc);
     round.set_leader(Participant(0));
-    for place in 0..n {
-        let at = (first + place * step) % n;
-        if let Some(vote) = votes.get(at as usize) {
-            let _accepted = round.add_network(vote.signer(), *vote, &mut out)?;
-        }
+    for vote in votes {
+        let _accepted = round.add_network(vote.signer(), *vote, &mut out)?;
     }
     let scheme = Keyed::new(alloc, 7, n, None)?;
     round.try_construct(alloc, &scheme)
@@ -82,8 +96,8 @@ fn assert_one_certificate(
 {
     let [forged, _, _] = signed(alloc, 8, n, wrong)?;
     let votes = with_wrong(alloc, votes, forged.ok_or("it signs")?)?;
-    for (first, step) in [(0, 1), (n - 1, n - 1), (2, 3)] {
-        let batch = notarized(alloc, n, &votes, first, step)?;
+    for order in [Order::Rising, Order::Falling, Order::OddFirst] {
+        let batch = notarized(alloc, n, &in_order(alloc, &votes, order)?)?;
         let batch = batch.ok_or("a quorum is valid")?;
         assert_eq!(rt; batch.processed, u64::from(n));
         assert_eq!(rt; batch.invalid.as_slice(), [Participant(wrong)].as_slice());
@@ -92,14 +106,13 @@ fn assert_one_certificate(
         assert_eq!(rt;
             signers(alloc, &certificate)?,
             others(alloc, n, wrong)?,
-            "{first} {step}"
+            "{order:?}"
         );
     }
     Ok(())
 }
 
-/// Steps of 1, of one back and of 3, which reach each of 4, 7 and 100 members. Whose signature is invalid: each of few
-/// members, and the first, a middle and the last of many.
+/// Whose signature is invalid: each of few members, and the first, a middle and the last of many.
 #[test]
 fn votes_in_any_order_give_one_certificate(rt: HostRuntime) -> Result<(), Fail> {
     let alloc = rt.alloc();
@@ -238,7 +251,7 @@ fn a_skipped_round_makes_nothing(rt: HostRuntime) -> Result<(), Fail> {
 fn a_certificate_replaces_the_proposal(rt: HostRuntime) -> Result<(), Fail> {
     let alloc = rt.alloc();
     let votes = notarizes(alloc, 4)?;
-    let batch = notarized(alloc, 4, &votes, 0, 1)?;
+    let batch = notarized(alloc, 4, &votes)?;
     let batch = batch.ok_or("a quorum is valid")?;
     let certificate = batch.certificate.ok_or("a quorum is valid")?;
     let mut round = Round::new(alloc, view_one(), 4, 3, true)?;

@@ -1,8 +1,8 @@
 //! Votes, deadlines, requests and certificates of a member, from call to call. Terms have five views.
 ghost use Rattle.std.specs.Prelude.{◌<◌, ◌≤◌, ◌^◌};
 
-use simplex_state::*;
 use simplex_rules::{ProposalRequest, Verify};
+use simplex_state::*;
 use simplex_types::elector::Config;
 use simplex_types::{Keyed, RoundRobin, RoundRobinElector};
 use simplex_values::{
@@ -192,31 +192,48 @@ fn deadlines(rt: HostRuntime) -> Result<(), Fail> {
     Ok(())
 }
 
+/// What the member is to propose: whether it is a handoff, the view, and the parent's view.
+fn asked(member: &mut Member) -> Result<Option<(bool, Context)>, AllocError> {
+    let Some(request) = member.try_propose()? else {
+        return Ok(None);
+    };
+    Ok(Some((request.is_handoff(), *request.context())))
+}
+
+/// Member 0 alone, which proposed in the last view of a term and is to prepare for the next.
+fn handing_on(alloc: Global) -> Result<(Member, Context), Fail> {
+    let mut member = start(alloc, 1, 2)?;
+    let _added = member.add_finalization(finalization(alloc, 4, 0), 110)?;
+    let (_, context) = asked(&mut member)?.ok_or("the member leads view 5")?;
+    let _proposed = member.proposed(&context, Digest([5; 32]))?;
+    let _notarize = member.construct_notarize(View(5))?;
+    let (is_handoff, prepared) = asked(&mut member)?.ok_or("the member leads view 6")?;
+    if !is_handoff {
+        return Err("the parent is not certified yet".into());
+    }
+    Ok((member, prepared))
+}
+
 #[test]
 fn a_proposal_is_handed_to_the_next_term(rt: HostRuntime) -> Result<(), Fail> {
     let alloc = rt.alloc();
-    let mut member = start(alloc, 1, 2)?;
-    let _added = member.add_finalization(finalization(alloc, 4, 0), 110)?;
-    let request = member.try_propose()?.ok_or("the member leads view 5")?;
-    let context = *request.context();
-    assert!(rt; !request.is_handoff());
-    assert!(rt; member.proposed(&context, Digest([5; 32]))?);
-    assert!(rt; member.construct_notarize(View(5))?.is_some());
-    let handoff = member.try_propose()?.ok_or("the member leads view 6")?;
-    let prepared = *handoff.context();
-    assert!(rt; handoff.is_handoff());
-    assert_eq!(rt;
-        (prepared.round.view, prepared.parent.view),
-        (View(6), View(5))
-    );
-    assert_eq!(rt; member.try_propose()?, None);
+    let (mut member, prepared) = handing_on(alloc)?;
+    assert_eq!(rt; prepared.round.view, View(6));
+    assert_eq!(rt; prepared.parent.view, View(5));
+    let again = asked(&mut member)?;
+    assert_eq!(rt; again, None);
     assert!(rt; !member.supersede_proposal_request(&prepared));
     assert!(rt; !member.pending_handoff_abandonment(&prepared));
     member.release_proposal_request(View(6));
-    assert_eq!(rt;
-        member.try_propose()?,
-        Some(ProposalRequest::Prepare(prepared))
-    );
+    let released = asked(&mut member)?;
+    assert_eq!(rt; released, Some((true, prepared)));
+    Ok(())
+}
+
+#[test]
+fn a_handoff_is_given_up_with_its_parent(rt: HostRuntime) -> Result<(), Fail> {
+    let alloc = rt.alloc();
+    let (mut member, prepared) = handing_on(alloc)?;
     let view = member.current_view();
     assert_eq!(rt; view, View(5));
     let nullify = member.construct_nullify(view, TimeoutReason::LeaderTimeout, 120)?;
@@ -226,9 +243,9 @@ fn a_proposal_is_handed_to_the_next_term(rt: HostRuntime) -> Result<(), Fail> {
     member.add_nullification(nullification(alloc, 5), 130)?;
     assert!(rt; member.supersede_proposal_request(&prepared));
     member.release_proposal_request(View(6));
-    let request = member.try_propose()?.ok_or("the member leads view 6")?;
-    assert!(rt; !request.is_handoff());
-    assert_eq!(rt; request.context().parent.view, View(4));
+    let (is_handoff, context) = asked(&mut member)?.ok_or("the member leads view 6")?;
+    assert!(rt; !is_handoff);
+    assert_eq!(rt; context.parent.view, View(4));
     Ok(())
 }
 
