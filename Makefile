@@ -1,7 +1,7 @@
-# `make example` runs the worked example of the README; `make test` is the whole gate.
+# `make example` runs the program on the worked example of the README; `make test` is the whole gate.
 .PHONY: example test
 example:
-	cd crates/bench_wire && rt run
+	cd crates/simplex && rt run -- run < stdin
 
 test:
 	.ci/run

@@ -1,0 +1,9 @@
+pub mod VoterMail
+pub mod BatcherMail
+pub mod Places
+pub mod Holding
+pub mod More
+pub mod Polls
+pub mod Stages
+pub mod Limits
+pub mod Making

@@ -1,0 +1,26 @@
+use Rattle.std.proofs.Common.{refl, ap, [], ◌∷◌}
+use Rattle.simplex_steps.specs.VoterLife.{Started, start_given}
+use Rattle.simplex_steps.specs.Engine.{begun}
+use Rattle.simplex_engine.specs.declared.boxes.Boxes.{Boxes}
+use Rattle.simplex_engine.specs.Stands.{CrewStands}
+use Rattle.simplex_engine.proofs.VoterMail.{start-quiet}
+use Rattle.simplex_engine.proofs.More.{more-begun}
+use Rattle.simplex_engine.proofs.crew.Crew.start.Goals as goal
+
+pub returns-clause-stands : goal.returns-clause-stands
+unfolding CrewStands begun
+returns-clause-stands g c = λ made h.
+    let now = c.args.now in
+    let stop = c.args.stop.now in
+    rw (more-begun made now stop (start_given (made.voter now) [] now stop) (start-quiet _ _ _ _))
+    (rw (← (c.in_ok-outcome.ensures.gives _ h.voter).1) (record {
+      voter = record { given = Started now stop ∷ []; stands = c.in_ok-outcome.ensures.stands _ h.voter; place = refl };
+      batcher = h.batcher;
+      to_batcher = rw (ap (λ (boxes : Boxes). boxes.batcher) h.boxes) at (c.posted_are_enqueued.ensures _ _ _ c.in_ok-outcome.ensures.batcher);
+      to_voter = ap (λ (boxes : Boxes). boxes.voter) h.boxes;
+      to_resolver = rw (ap (λ (boxes : Boxes). boxes.resolver) h.boxes) at (c.posted_are_enqueued-2.ensures _ _ _ c.in_ok-outcome.ensures.resolver);
+    }))
+
+pub returns-clause-gives : goal.returns-clause-gives
+unfolding begun
+returns-clause-gives g c = λ made h. c.in_ok-outcome.ensures.gives _ h.voter

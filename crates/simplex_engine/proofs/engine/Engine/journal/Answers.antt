@@ -1,0 +1,11 @@
+use Rattle.simplex_engine.proofs.Stages.{waiting-sections, running-sections, stopped-sections}
+use Rattle.simplex_engine.proofs.engine.Engine.journal.Goals as goal
+
+pub returns-in-Waiting : goal.returns-in-Waiting
+returns-in-Waiting g c = waiting-sections c.args.self.now _ c.in-Waiting.is
+
+pub returns-in-Running : goal.returns-in-Running
+returns-in-Running g c = running-sections c.args.self.now _ _ c.in-Running.is c.journal.ensures
+
+pub returns-in-Stopped : goal.returns-in-Stopped
+returns-in-Stopped g c = stopped-sections c.args.self.now _ _ c.in-Stopped.is c.journal-in-Stopped.ensures

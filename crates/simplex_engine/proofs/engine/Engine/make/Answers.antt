@@ -1,0 +1,21 @@
+use Rattle.std.proofs.Common.{refl}
+use Rattle.simplex_engine.specs.Stands.{StandsFor}
+use Rattle.simplex_engine.proofs.Limits.{keeps-limits, keeps-configured}
+use Rattle.simplex_engine.proofs.Making.{made-waits}
+use Rattle.simplex_engine.proofs.engine.Engine.make.Goals as goal
+
+pub new-requires : goal.new-requires
+new-requires g c = (keeps-limits c.args.config c.requires.good).some_mailbox
+
+pub invariant_of-unstarted : goal.invariant_of-unstarted
+invariant_of-unstarted g c = record {
+  limits =
+      rw c.into_voter.ensures
+      (keeps-configured _ _ _ c.args.config c.requires.good c.requires.built c.requires.lookahead c.requires.stall);
+  order = c.requires.order;
+}
+
+pub returns-clause-stands : goal.returns-clause-stands
+unfolding StandsFor
+returns-clause-stands g c =
+    (refl, made-waits _ c.args.config c.in_ok-for_batcher.for_batcher c.into_voter.ensures c.in_ok-for_batcher.ensures c.in_ok-batcher.ensures c.in_ok-boxes.ensures)

@@ -1,0 +1,6 @@
+pub mod Config
+pub mod Laws
+pub mod Made
+pub mod Parts
+pub mod Polled
+pub mod Stands

@@ -1,0 +1,82 @@
+-- The parts of an engine: what each actor was made with and was given, and what the mailboxes hold.
+use Rattle.std.specs.Prelude.{ℕ, List, [], ◌∷◌}
+use Rattle.std.specs.List.{filter_map}
+use Rattle.simplex_values.specs.declared.answer.Answer.{Answer}
+use Rattle.simplex_mailbox.specs.Mail.{Mail, no_mail, all_enqueued, after_recv}
+use Rattle.simplex_messages.specs.declared.batcher.Message as batcher_message
+use Rattle.simplex_messages.specs.declared.voter.Message as voter_message
+use Rattle.simplex_messages.specs.declared.resolver.MailboxMessage.{MailboxMessage}
+use Rattle.simplex_messages.specs.declared.step.Outcome.{Outcome}
+use Rattle.simplex_messages.specs.declared.step.StepOut.{StepOut}
+use Rattle.simplex_messages.specs.Policies.{batcher_handled, voter_handled, resolver_handled}
+use Rattle.simplex_steps.specs.Performed.{Performed}
+use Rattle.simplex_steps.specs.Batcher.{Made, Timed}
+use Rattle.simplex_steps.specs.VoterLife.{VoterMade, Given, Answered}
+use Rattle.simplex_steps.specs.Engine.{EngineMade, Did, for_batcher, for_voter, for_resolver, none_skipped, voter_in, voter_past, batcher_past, batcher_mail, voter_mail, resolver_mail}
+
+pub record Parts : Type 0 where
+  pub voter : VoterMade
+  pub given : List Given
+  pub batcher : Made
+  pub timed : List Timed
+  pub to_batcher : Mail batcher_message.Message
+  pub to_voter : Mail voter_message.Message
+  pub to_resolver : Mail MailboxMessage
+
+-- those that a history makes
+unfoldable pub parts_of : EngineMade → List Did → Parts
+parts_of made past =
+    record {
+      voter = voter_in made past;
+      given = voter_past past;
+      batcher = made.batcher;
+      timed = batcher_past past;
+      to_batcher = batcher_mail made past;
+      to_voter = voter_mail made past;
+      to_resolver = resolver_mail made past;
+    }
+
+-- those of an engine whose voter was just made, at this clock
+abbrev pub first_parts : EngineMade → ℕ → Parts
+first_parts made start =
+    record {
+      voter = made.voter start;
+      given = [];
+      batcher = made.batcher;
+      timed = [];
+      to_batcher = no_mail made.capacity;
+      to_voter = no_mail made.capacity;
+      to_resolver = no_mail made.capacity;
+    }
+
+-- once the voter was given this, and handed on what it did
+abbrev pub after_voter : Given → StepOut → Parts → Parts
+after_voter given out parts =
+    record parts {
+      given = given ∷ parts.given;
+      to_batcher = all_enqueued batcher_handled parts.to_batcher (filter_map for_batcher out.handed);
+      to_resolver = all_enqueued resolver_handled parts.to_resolver (filter_map for_resolver out.handed);
+    }
+
+-- once the voter took an answer
+abbrev pub after_answer : ℕ → Answer → Parts → Parts
+after_answer number answer parts = record parts { given = Answered number answer ∷ parts.given }
+
+-- once the batcher was given this, and handed on what it did
+abbrev pub after_batcher : Timed → StepOut → Parts → Parts
+after_batcher timed out parts =
+    record parts {
+      timed = timed ∷ parts.timed;
+      to_voter = all_enqueued voter_handled parts.to_voter (filter_map for_voter out.handed);
+    }
+
+-- once the front of a mailbox was taken
+abbrev pub after_batcher_mail : Parts → Parts
+after_batcher_mail parts = record parts { to_batcher = after_recv none_skipped parts.to_batcher }
+
+abbrev pub after_voter_mail : Parts → Parts
+after_voter_mail parts = record parts { to_voter = after_recv none_skipped parts.to_voter }
+
+-- how a step ended, and what it gave
+abbrev pub ended : Performed → Outcome × StepOut
+ended performed = (performed.outcome, performed.out)

@@ -1,0 +1,201 @@
+//! The engine.
+#![tactic(auto, unfolding(crate::specs::Stands::StandsFor))]
+
+ghost use Rattle.std.specs.Prelude.{◌≡◌, ◌<◌, ◌≤◌, ◌^◌, List, [], true, false, Some, None, OnOk, IfOk, IfErr, IfSome};
+ghost use Rattle.simplex_rules.specs.Views.{current_of};
+ghost use Rattle.simplex_journal.specs.Order.{no_order};
+ghost use Rattle.simplex_messages.specs.Step.{no_out};
+ghost use Rattle.simplex_steps.specs.VoterLife.{place_of};
+ghost use Rattle.simplex_steps.specs.Engine.{EngineMade, Did, begun, runs, sections_of, voter_in, voter_past};
+ghost use Rattle.simplex_engine.specs.Config.{engine_made, first_bad, Refused};
+ghost use Rattle.simplex_engine.specs.Polled.{polled, refusal_of, is_memory};
+ghost use Rattle.simplex_engine.specs.Stands.{StandsFor, Takes, Stays, Gives, Answers, Starts, GivesFirst, FailsAfter, has_failed};
+
+use crate::boxes::Boxes;
+use crate::config::EngineConfig;
+use crate::crew::Crew;
+use crate::error::{NewError, PollError};
+use crate::input::{Input, Polled};
+use crate::stage::{Stage, crew_of, stage_after, stage_with};
+use crate::unstarted::Unstarted;
+use simplex_journal::Journal;
+use simplex_messages::{Outcome, StepOut, Stop};
+use simplex_types::elector::Elector;
+use simplex_types::{Keep, Scheme, View};
+use std::alloc::{AllocError, Global};
+use std::mem;
+
+/// The actors of a member, and the mail between them.
+#[derive(Drop)]
+pub struct Engine<S: Scheme, L: Elector, J: Journal> {
+    alloc: Global,
+    stage: Stage<S, L, J>,
+}
+
+impl<S: Scheme + Keep + Drop, L: Elector + Drop, J: Journal + Drop> Engine<S, L, J> {
+    /// An engine that was not started, over what the journal holds.
+    pub fn new(
+        alloc: Global,
+        config: EngineConfig<S, L>,
+        journal: J,
+    ) -> Result<Engine<S, L, J>, NewError>
+        requires built { L.built_for config.elector ≡ S.members config.scheme }
+        requires lookahead { (L.cuts config.elector).lookahead ≤ 2 ^ 32 }
+        requires stall { IfSome (L.cuts config.elector).stall_timeout (λ stall. (config.certification_timeout < stall) × (stall ≤ 2 ^ 62)) }
+        requires order { J.order journal ≡ Some no_order }
+        ensures stands { IfOk result (λ engine. StandsFor engine (engine_made S.attests S.verifies S.recovers S.members S.member L.elects L.cuts config (J.sections journal)) []) }
+        ensures alive { IfOk result (λ engine. has_failed engine ≡ false) }
+        ensures allowed { IfOk result (λ _. first_bad config ≡ None) }
+        ensures refused { IfErr result (λ error. Refused error (first_bad config)) }
+    {
+        match config.first_bad() {
+            Some(field) => Err(NewError::BadConfig(field)),
+            None => Ok(Engine::make(alloc, config, journal)?),
+        }
+    }
+
+    /// An engine of a configuration that keeps the limits.
+    fn make(
+        alloc: Global,
+        config: EngineConfig<S, L>,
+        journal: J,
+    ) -> Result<Engine<S, L, J>, AllocError>
+        requires good { first_bad config ≡ None }
+        requires built { L.built_for config.elector ≡ S.members config.scheme }
+        requires lookahead { (L.cuts config.elector).lookahead ≤ 2 ^ 32 }
+        requires stall { IfSome (L.cuts config.elector).stall_timeout (λ stall. (config.certification_timeout < stall) × (stall ≤ 2 ^ 62)) }
+        requires order { J.order journal ≡ Some no_order }
+        ensures stands { IfOk result (λ engine. StandsFor engine (engine_made S.attests S.verifies S.recovers S.members S.member L.elects L.cuts config (J.sections journal)) []) }
+        ensures alive { IfOk result (λ engine. has_failed engine ≡ false) }
+    {
+        let boxes = Boxes::new(alloc, config.mailbox)?;
+        let for_batcher = config.for_batcher(alloc)?;
+        let batcher = simplex_batcher::Actor::new(alloc, for_batcher)?;
+        let unstarted = Unstarted {
+            config: config.into_voter(),
+            journal,
+            batcher,
+            boxes,
+        };
+        Ok(Engine {
+            alloc,
+            stage: Stage::Waiting(unstarted),
+        })
+    }
+}
+
+impl<S: Scheme + Drop, L: Elector + Drop, J: Journal + Drop> Engine<S, L, J> {
+    /// Starts the engine at this clock. It is started once: an engine that was is refused as stopped.
+    pub fn start(&mut self, now: u64, stop: &Stop, out: &mut StepOut) -> Result<Outcome, PollError>
+        requires clock { now < 2 ^ 63 }
+        requires empty { out.old ≡ no_out }
+        ensures stands { IfOk result (λ _. Starts self.old self.new (λ made. begun made now stop.now)) }
+        ensures gives { IfOk result (λ outcome. GivesFirst self.old (λ made. begun made now stop.now) outcome out.new) }
+        ensures refused { IfErr result (λ error. (made : EngineMade) → StandsFor self.old made [] → is_memory error ≡ true) }
+        ensures stays { IfErr result (λ error. is_memory error ≡ false → Stays self.old self.new) }
+        ensures failed { IfErr result (FailsAfter self.old self.new) }
+        ensures sound { OnOk result (has_failed self.old ≡ false) }
+        ensures alive { OnOk result (has_failed self.new ≡ false) }
+    {
+        match mem::replace(&mut self.stage, Stage::Failed) {
+            Stage::Waiting(unstarted) => {
+                let mut crew = crew_of(unstarted, self.alloc, now)?;
+                let outcome = crew.start(now, stop, out)?;
+                self.stage = stage_after(crew, outcome);
+                Ok(outcome)
+            }
+            Stage::Running(crew) => {
+                self.stage = Stage::Running(crew);
+                Err(PollError::Stopped)
+            }
+            Stage::Stopped(crew) => {
+                self.stage = Stage::Stopped(crew);
+                Err(PollError::Stopped)
+            }
+            Stage::Failed => Err(PollError::Failed),
+        }
+    }
+
+    /// Gives the engine an input. What it did stands in `out`. An order to stop is one for a step.
+    pub fn poll(
+        &mut self,
+        input: Input,
+        now: u64,
+        stop: &Stop,
+        out: &mut StepOut,
+    ) -> Result<Polled, PollError>
+        requires clock { now < 2 ^ 63 }
+        requires empty { out.old ≡ no_out }
+        ensures stands { IfOk result (λ _. Takes self.old self.new (λ made past. polled made past input now stop.now)) }
+        ensures gives { IfOk result (λ given. Gives self.old (λ made past. polled made past input now stop.now) given.outcome given.taken out.new) }
+        ensures accepted { IfOk result (λ _. Answers self.old (λ made past. refusal_of made past input) None) }
+        ensures refused { IfErr result (λ error. is_memory error ≡ false → Answers self.old (λ made past. refusal_of made past input) (Some error)) }
+        ensures stays { IfErr result (λ error. is_memory error ≡ false → Stays self.old self.new) }
+        ensures failed { IfErr result (FailsAfter self.old self.new) }
+        ensures sound { OnOk result (has_failed self.old ≡ false) }
+        ensures alive { OnOk result (has_failed self.new ≡ false) }
+    {
+        match mem::replace(&mut self.stage, Stage::Failed) {
+            Stage::Running(mut crew) => {
+                let result = crew.poll(input, now, stop, out);
+                self.stage = stage_with(crew, &result);
+                result
+            }
+            Stage::Waiting(unstarted) => {
+                self.stage = Stage::Waiting(unstarted);
+                Err(PollError::Stopped)
+            }
+            Stage::Stopped(crew) => {
+                self.stage = Stage::Stopped(crew);
+                Err(PollError::Stopped)
+            }
+            Stage::Failed => Err(PollError::Failed),
+        }
+    }
+
+    /// Whether there was no memory for an earlier call. Such an engine refuses all, and has no journal.
+    pub fn has_failed(&self) -> bool
+        ensures { result ≡ has_failed self.now }
+    {
+        matches!(self.stage, Stage::Failed)
+    }
+
+    /// The journal.
+    pub fn journal(&self) -> &J
+        requires { has_failed self.now ≡ false }
+        ensures { Answers self.now (λ made past. sections_of made past) (J.sections result.now) }
+    {
+        match &self.stage {
+            Stage::Waiting(unstarted) => &unstarted.journal,
+            Stage::Running(crew) => crew.journal(),
+            Stage::Stopped(crew) => crew.journal(),
+            Stage::Failed => unreachable!(),
+        }
+    }
+
+    /// The journal, by itself.
+    pub fn into_journal(self) -> J
+        requires { has_failed self ≡ false }
+        ensures { Answers self (λ made past. sections_of made past) (J.sections result) }
+    {
+        let Engine { stage, .. } = self;
+        match stage {
+            Stage::Waiting(Unstarted { journal, .. }) => journal,
+            Stage::Running(crew) => crew.into_journal(),
+            Stage::Stopped(crew) => crew.into_journal(),
+            Stage::Failed => unreachable!(),
+        }
+    }
+
+    /// The view that the voter is in, while the engine runs.
+    pub fn current_view(&self) -> View
+        ensures { (made : EngineMade) (past : List Did) → StandsFor self.now made past → runs past ≡ true → result ≡ current_of (voter_in made past).rules (place_of (voter_in made past) (voter_past past)).standing.desk.known }
+    {
+        match &self.stage {
+            Stage::Running(crew) => crew.current_view(),
+            Stage::Stopped(crew) => crew.current_view(),
+            Stage::Waiting(_) => View(1),
+            Stage::Failed => View(1),
+        }
+    }
+}

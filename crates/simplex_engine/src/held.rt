@@ -1,0 +1,69 @@
+//! Messages that are held back until a step is known to be whole.
+#![tactic(auto, unfolding(simplex_mailbox::specs::Mail::all_enqueued))]
+
+ghost use Rattle.std.specs.Prelude.{◌≡◌, [], ◌∷◌, ◌++◌, OnOk};
+ghost use Rattle.simplex_mailbox.specs.Mail.{all_enqueued};
+
+use simplex_mailbox::{Mailbox, Policy, Post};
+use simplex_types::Feedback;
+use std::alloc::{AllocError, Global};
+use std::collections::VecDeque;
+use std::marker::Model;
+
+/// A post that keeps what is put, in order.
+#[derive(Drop)]
+pub(crate) struct Held<M> {
+    messages: VecDeque<M>,
+}
+
+impl<M> Model for Held<M> {
+    ghost use Rattle.std.specs.Prelude.{List};
+
+    ghost Value = { List M };
+
+    ghost view = { λ held. held.messages.items };
+}
+
+impl<M> Held<M> {
+    /// Nothing is held.
+    pub(crate) fn new(alloc: Global) -> Held<M>
+        ensures { result ≡ [] }
+    {
+        Held {
+            messages: VecDeque::new(alloc),
+        }
+    }
+}
+
+impl<M: Drop> Post<M> for Held<M> {
+    ghost puts = { λ before message answer after. after ≡ before ++ message ∷ [] };
+
+    fn enqueue(&mut self, message: M) -> Result<Feedback, AllocError> {
+        self.messages.push_back(message)?;
+        Ok(Feedback::Ok)
+    }
+}
+
+impl<M: Policy> Held<M> {
+    /// Puts all that is held into the mailbox.
+    pub(crate) fn put_into(self, mailbox: &mut Mailbox<M>) -> Result<(), AllocError>
+        ensures { OnOk result (mailbox.new ≡ all_enqueued M.handle mailbox.old self) }
+    {
+        let Held { messages } = self;
+        put_each(messages, mailbox)?;
+        Ok(())
+    }
+}
+
+/// Puts each message into the mailbox, in order.
+fn put_each<M: Policy>(
+    mut messages: VecDeque<M>,
+    mailbox: &mut Mailbox<M>,
+) -> Result<(), AllocError>
+    ensures { OnOk result (mailbox.new ≡ all_enqueued M.handle mailbox.old messages.items) }
+{
+    while let Some(message) = messages.pop_front() {
+        mailbox.enqueue(message)?;
+    }
+    Ok(())
+}

@@ -1,0 +1,80 @@
+//! How far an engine is.
+#![tactic(auto, unfolding(crate::specs::Stands::CrewStands, simplex_steps::specs::Engine::runs))]
+
+ghost use Rattle.std.specs.Prelude.{◌≡◌, ◌<◌, ◌^◌, ◌∷◌, List, IfOk};
+ghost use Rattle.simplex_steps.specs.Engine.{EngineMade, Did};
+ghost use Rattle.simplex_engine.specs.Stands.{CrewStands, StageStands, Waits, Fresh, settled, settled_with};
+
+use crate::crew::Crew;
+use crate::error::PollError;
+use crate::input::Polled;
+use crate::unstarted::Unstarted;
+use simplex_journal::Journal;
+use simplex_messages::Outcome;
+use simplex_types::Scheme;
+use simplex_types::elector::Elector;
+use std::alloc::{AllocError, Global};
+
+/// How far an engine is.
+#[derive(Drop)]
+pub(crate) enum Stage<S: Scheme, L: Elector, J: Journal> {
+    /// It was not started.
+    Waiting(Unstarted<S, L, J>),
+    /// It takes inputs.
+    Running(Crew<S, L, J>),
+    /// A step was broken off.
+    Stopped(Crew<S, L, J>),
+    /// There was no memory for a call.
+    Failed,
+}
+
+/// The actors, just made: the voter is made at this clock.
+pub(crate) fn crew_of<S: Scheme + Drop, L: Elector + Drop, J: Journal + Drop>(
+    unstarted: Unstarted<S, L, J>,
+    alloc: Global,
+    now: u64,
+) -> Result<Crew<S, L, J>, AllocError>
+    requires clock { now < 2 ^ 63 }
+    ensures { IfOk result (λ crew. (made : EngineMade) → Waits unstarted made → Fresh crew made now) }
+{
+    let Unstarted {
+        config,
+        journal,
+        batcher,
+        boxes,
+    } = unstarted;
+    let voter = simplex_voter::Actor::new(alloc, config, journal, now)?;
+    Ok(Crew {
+        alloc,
+        voter,
+        batcher,
+        boxes,
+    })
+}
+
+/// The stage of an engine whose actors just ended a step so.
+pub(crate) fn stage_after<S: Scheme, L: Elector, J: Journal>(
+    crew: Crew<S, L, J>,
+    outcome: Outcome,
+) -> Stage<S, L, J>
+    ensures { result ≡ settled crew outcome }
+{
+    match outcome {
+        Outcome::Done | Outcome::Idle => Stage::Running(crew),
+        Outcome::Journal | Outcome::Cut => Stage::Stopped(crew),
+    }
+}
+
+/// The stage of an engine whose actors were just polled with this result.
+pub(crate) fn stage_with<S: Scheme + Drop, L: Elector + Drop, J: Journal + Drop>(
+    crew: Crew<S, L, J>,
+    given: &Result<Polled, PollError>,
+) -> Stage<S, L, J>
+    ensures { result ≡ settled_with crew given.now }
+{
+    match given {
+        Ok(polled) => stage_after(crew, polled.outcome),
+        Err(PollError::Memory) => Stage::Failed,
+        Err(PollError::Failed | PollError::Stopped | PollError::NotPending) => Stage::Running(crew),
+    }
+}

@@ -1,0 +1,10 @@
+pub mod Lists
+pub mod OneHost
+pub mod ManyHosts
+pub mod Named
+pub mod Polled
+pub mod Events
+pub mod Runs
+pub mod Good
+pub mod Refusals
+pub mod Networks

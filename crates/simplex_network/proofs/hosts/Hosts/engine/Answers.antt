@@ -1,0 +1,6 @@
+use Rattle.simplex_network.proofs.ManyHosts.{hosts-at}
+use Rattle.simplex_network.proofs.hosts.Hosts.engine.Goals as goal
+
+pub returns : goal.returns
+returns c =
+    λ lives stand. c.engine.ensures _ (hosts-at _ lives _ _ stand c.requires (rw c.place_of-at.ensures at c.index.ensures))

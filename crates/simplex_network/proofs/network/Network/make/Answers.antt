@@ -1,0 +1,25 @@
+use Rattle.std.proofs.Common.{refl}
+use Rattle.simplex_run.specs.Entries.{entry_of}
+use Rattle.simplex_network.proofs.network.Network.make.Goals as goal
+
+pub returns-in-Start-clause-stands : goal.returns-in-Start-clause-stands
+returns-in-Start-clause-stands c = rw c.in-Start.is c.start.ensures.stands
+
+pub returns-in-Tick-clause-stands : goal.returns-in-Tick-clause-stands
+returns-in-Tick-clause-stands c = rw c.in-Tick.is c.tick.ensures.stands
+
+pub returns-in-Deliver-clause-stands : goal.returns-in-Deliver-clause-stands
+returns-in-Deliver-clause-stands c = rw c.in-Deliver.is c.deliver.ensures.stands
+
+pub returns-in-Step-clause-stands : goal.returns-in-Step-clause-stands
+returns-in-Step-clause-stands c = rw c.in-Step.is c.step.ensures.stands
+
+pub returns-in-Answer-clause-stands : goal.returns-in-Answer-clause-stands
+returns-in-Answer-clause-stands c = rw c.in-Answer.is c.answer.ensures.stands
+
+pub returns-in-Crash-clause-stands : goal.returns-in-Crash-clause-stands
+returns-in-Crash-clause-stands c = rw c.in-Crash.is c.crash.ensures.stands
+
+pub returns-in-Later-clause-reason : goal.returns-in-Later-clause-reason
+unfolding entry_of
+returns-in-Later-clause-reason c = λ whole setup before s. rw c.in-Later.is refl

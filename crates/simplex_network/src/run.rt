@@ -1,0 +1,74 @@
+//! A whole run.
+ghost use Rattle.std.specs.Prelude.{◌≡◌, ◌++◌, ◌∷◌, [], Ok, Err, OnOk, IfOk, IfErr, true, false};
+ghost use Rattle.simplex_run.specs.Run as runs;
+ghost use Rattle.simplex_run.specs.Setups as setups;
+ghost use Rattle.simplex_network.specs.Answer.{is_memory};
+ghost use Rattle.simplex_network.specs.Stands.{MadeBy};
+
+use crate::network::Network;
+use crate::setups::{are_few, is_taken};
+use simplex_transcript::{Entry, Event, Field, Refusal, RunError, Setup};
+use simplex_types::Sequence;
+use std::alloc::Global;
+
+/// The entries of a run, one for each event, and the network on which it was made.
+#[derive(Drop)]
+pub struct Transcript {
+    pub entries: Sequence<Entry>,
+    pub network: Network,
+}
+
+/// Runs the events, or tells the first refusal. Want of memory is a refusal of its own.
+#[tactic(auto, unfolding(simplex_run::specs::Run::Run))]
+pub fn run_network(alloc: Global, setup: &Setup, events: &[Event]) -> Result<Transcript, Refusal>
+    ensures done { IfOk result (λ transcript. runs.Run setup.now events.now ≡ Ok transcript.entries) }
+    ensures network { IfOk result (λ transcript. MadeBy transcript.network setup.now (runs.run setup.now [] events.now)) }
+    ensures refused { IfErr result (λ refusal. is_memory refusal.error ≡ false → runs.Run setup.now events.now ≡ Err refusal) }
+{
+    if !is_taken(setup) {
+        return Err(refused(RunError::NotYet, 0));
+    }
+    if !are_few(setup, events) {
+        return Err(refused(RunError::BadSetup(Field::Events), 0));
+    }
+    run_all(alloc, setup, events)
+}
+
+// Runs the events of a setup that is taken.
+fn run_all(alloc: Global, setup: &Setup, events: &[Event]) -> Result<Transcript, Refusal>
+    requires { runs.is_taken setup.now ≡ true }
+    ensures done { IfOk result (λ transcript. runs.unless_bad (setups.first_bad setup.now) (runs.transcript_of (runs.run setup.now [] events.now)) ≡ Ok transcript.entries) }
+    ensures network { IfOk result (λ transcript. MadeBy transcript.network setup.now (runs.run setup.now [] events.now)) }
+    ensures refused { IfErr result (λ refusal. is_memory refusal.error ≡ false → runs.unless_bad (setups.first_bad setup.now) (runs.transcript_of (runs.run setup.now [] events.now)) ≡ Err refusal) }
+{
+    let mut network = match Network::new(alloc, setup) {
+        Ok(network) => network,
+        Err(error) => return Err(refused(error, 0)),
+    };
+    let mut entries = Sequence::new(alloc);
+    let mut number = 0;
+    for event in events {
+        number += 1;
+        match network.apply(event) {
+            Ok(entry) => push(&mut entries, entry, number)?,
+            Err(error) => return Err(refused(error, number)),
+        }
+    }
+    Ok(Transcript { entries, network })
+}
+
+fn push(entries: &mut Sequence<Entry>, entry: Entry, number: u64) -> Result<(), Refusal>
+    ensures ok { OnOk result (entries.new ≡ entries.old ++ entry ∷ []) }
+    ensures err { IfErr result (λ refusal. is_memory refusal.error ≡ true) }
+{
+    match entries.push(entry) {
+        Ok(()) => Ok(()),
+        Err(_) => Err(refused(RunError::Memory, number)),
+    }
+}
+
+fn refused(error: RunError, event: u64) -> Refusal
+    ensures { result ≡ runs.refused error event }
+{
+    Refusal { error, event }
+}

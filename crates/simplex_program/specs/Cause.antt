@@ -1,0 +1,68 @@
+-- Which ending the program comes to, and why.
+use Rattle.std.specs.Prelude.{◌≡◌, ◌≤◌, ◌⊎◌, ℕ, nat_lt, if◌then◌else◌, List, [], ◌∷◌, map, length, codes, Option, Result, Ok, Err, String, string_bytes}
+use Rattle.std.specs.declared.alloc.Global.{Global}
+use Rattle.simplex_transcript.specs.declared.event.Event.{Event}
+use Rattle.simplex_transcript.specs.declared.entry.Entry.{Entry}
+use Rattle.simplex_transcript.specs.declared.refusal.Refusal.{Refusal}
+use Rattle.simplex_form.specs.declared.input.Input.{Input}
+use Rattle.simplex_form.specs.Input.{input_of}
+use Rattle.simplex_io.specs.Io.{TakesAll, TakesOver, TakesWithin, Rose}
+use Rattle.simplex_run.specs.Run.{Run}
+use Rattle.simplex_program.specs.declared.front.TheConstants.{LIMIT}
+use Rattle.simplex_program.specs.Exit.{Ending, Ran, Refused, BadWords, BadInput, TooLong, ReadFault, WriteFault, Memory}
+
+-- the one word `run`
+abbrev pub IsRun : List (String Global) → Type 0
+IsRun words = map string_bytes words ≡ codes "run" ∷ []
+
+-- a run is whole, or refused at an event
+abbrev pub ending_of_run : Result (List Entry) Refusal → Ending
+ending_of_run (Ok entries) = Ran entries
+ending_of_run (Err refusal) = Refused refusal.error refusal.event
+
+-- what is of the form is run
+abbrev pub ending_of_input : Result Input ℕ → Ending
+ending_of_input (Ok input) = ending_of_run (Run input.setup input.events)
+ending_of_input (Err place) = BadInput place
+
+-- the ending that an input leads to
+abbrev pub ending_of : List ℕ → Ending
+ending_of bytes = ending_of_input (input_of bytes)
+
+-- the same for a source with these bytes
+abbrev pub ending_for : List ℕ → Ending
+ending_for bytes = if nat_lt LIMIT (length bytes) then TooLong else ending_of bytes
+
+-- the events of an input, and none where it is not of the form
+abbrev pub events_in : Result Input ℕ → List Event
+events_in (Ok input) = input.events
+events_in (Err place) = []
+
+-- the events that the bytes say
+abbrev pub events_of : List ℕ → List Event
+events_of bytes = events_in (input_of bytes)
+
+-- the whole source was read: it says these events, and leads to this ending
+abbrev pub LeadsTo : Option (List ℕ) → Option (List ℕ) → List Event → Ending → Type 0
+LeadsTo old new events ending =
+    (bytes : List ℕ) × TakesAll old bytes new × (length bytes ≤ LIMIT) × (events_of bytes ≡ events) × (ending_of bytes ≡ ending)
+
+-- Why an ending is chosen, before its text is written: by the words, by what is left of the source before and after,
+-- and by its count of faults before and after.
+abbrev pub Cause : List (String Global) → Option (List ℕ) → Option (List ℕ) → ℕ → ℕ → List Event → Ending → Type 0
+Cause words old new before now events (Ran entries) = IsRun words × LeadsTo old new events (Ran entries)
+Cause words old new before now events (Refused error event) = IsRun words × LeadsTo old new events (Refused error event)
+Cause words old new before now events (BadInput place) = IsRun words × LeadsTo old new events (BadInput place)
+Cause words old new before now events BadWords = (¬ IsRun words) × (new ≡ old)
+Cause words old new before now events TooLong = IsRun words × TakesOver LIMIT old new
+Cause words old new before now events ReadFault = IsRun words × Rose before now × TakesWithin LIMIT old new
+Cause words old new before now events WriteFault = ⊥
+Cause words old new before now events Memory = IsRun words
+
+-- writing the text or memory failed
+abbrev pub IsCut : Ending → Type 0
+IsCut ending = (ending ≡ WriteFault) ⊎ (ending ≡ Memory)
+
+-- reading, writing or memory failed
+abbrev pub IsFault : Ending → Type 0
+IsFault ending = (ending ≡ ReadFault) ⊎ (ending ≡ WriteFault) ⊎ (ending ≡ Memory)
