@@ -26,10 +26,19 @@ use std::alloc::{AllocError, Global};
 use std::mem;
 
 /// The actors of a member, and the mail between them.
-#[derive(Drop)]
 pub struct Engine<S: Scheme, L: Elector, J: Journal> {
     alloc: Global,
     stage: Stage<S, L, J>,
+}
+
+// By hand, so that who holds an engine at given types lets it go by one call.
+impl<S: Scheme + Drop, L: Elector + Drop, J: Journal + Drop> Drop for Engine<S, L, J> {
+    fn drop(self) {
+        let Engine {
+            alloc: _alloc,
+            stage: _stage,
+        } = self;
+    }
 }
 
 impl<S: Scheme + Keep + Drop, L: Elector + Drop, J: Journal + Drop> Engine<S, L, J> {
@@ -174,12 +183,11 @@ impl<S: Scheme + Drop, L: Elector + Drop, J: Journal + Drop> Engine<S, L, J> {
     }
 
     /// The journal, by itself.
-    pub fn into_journal(self) -> J
+    pub fn into_journal(mut self) -> J
         requires { has_failed self ≡ false }
         ensures { Answers self (λ made past. sections_of made past) (J.sections result) }
     {
-        let Engine { stage, .. } = self;
-        match stage {
+        match mem::replace(&mut self.stage, Stage::Failed) {
             Stage::Waiting(Unstarted { journal, .. }) => journal,
             Stage::Running(crew) => crew.into_journal(),
             Stage::Stopped(crew) => crew.into_journal(),
