@@ -1,0 +1,11 @@
+mod Acting
+mod Facts
+mod Journals
+mod Living
+mod Pruning
+mod Publishing
+mod Remembering
+mod Simulating
+mod Stepping
+mod Stopping
+mod Voting

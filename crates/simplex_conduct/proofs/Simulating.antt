@@ -1,0 +1,327 @@
+-- How each call of a step is lived: it is legal, and the member then remembers what the voter knows.
+use Rattle.std.proofs.Common.{◌≡◌, ℕ, zero, suc, ◌+◌, ◌-◌, ◌<◌, ◌≤◌, ◌==◌, ◌≢◌, Bool, true, false, nat_lt, nat_le, List, [], ◌∷◌, ◌++◌, map, Option, Some, None, refl, sym, ap, ◌∙◌, subst, inl, inr, ◌⊎◌, arith, append-nil, append_assoc, if◌then◌else◌, eqb-true}
+use Rattle.std.proofs.lemmas.Bool.{cases_eq, cases_lt, eqb-false}
+use Rattle.std.proofs.lemmas.Bool.Decides.{nat_tests}
+use Rattle.std.proofs.lemmas.Grind.{common_steps}
+use Rattle.std.proofs.lemmas.List.{map-append}
+use Rattle.simplex_values.specs.declared.plan.Channel.TheVariants as channels
+use Rattle.simplex_values.specs.declared.plan.Recipients.TheVariants as recipients
+use Rattle.simplex_values.specs.declared.proposal.Subject.{Subject}
+use Rattle.simplex_values.specs.declared.proposal.Subject.TheVariants as subjects
+use Rattle.simplex_wire.specs.declared.vote.Vote.{Vote}
+use Rattle.simplex_wire.specs.declared.artifact.Artifact.{Artifact}
+use Rattle.simplex_wire.specs.declared.artifact.Artifact.TheVariants as artifacts
+use Rattle.simplex_wire.specs.Fields.{artifact_round, vote_subject}
+use Rattle.simplex_wire.specs.Message as format
+use Rattle.simplex_messages.specs.declared.call.Call.{Call}
+use Rattle.simplex_messages.specs.declared.call.Call.TheVariants as calls
+use Rattle.simplex_rules.specs.Known.{Made, Fact}
+use Rattle.simplex_rules.specs.Views as rules
+use Rattle.simplex_agreement.specs.World.{Sent}
+use Rattle.simplex_lives.specs.Artifacts as member
+use Rattle.simplex_lives.specs.Journal as kept
+use Rattle.simplex_lives.specs.Journal.{Section}
+use Rattle.simplex_lives.specs.Member as life
+use Rattle.simplex_lives.specs.Member.{Member, happens, run, IsLegal, May}
+use Rattle.simplex_lives.specs.Votes.{MayVote}
+use Rattle.simplex_lives.proofs.CallFacts.{run-append, IsLegal-append}
+use Rattle.simplex_lives.proofs.JournalFacts.{prune_waiting}
+use Rattle.simplex_conduct.specs.Life.{memory_of, remembered, IsInOrder}
+use Rattle.simplex_conduct.proofs.Facts.{SameMemory}
+use Rattle.simplex_conduct.proofs.Journals.{memory_view}
+use Rattle.simplex_conduct.proofs.Living.{noting, doing_of, doings, doings-append, behind, behind-append, IsFit, AreFit, AreFit-append, subjects_of, SendsNext, Sends, Sends-append}
+
+-- ---- what is pending
+
+none_left : {X : Type 0} (xs ys : List X) → xs ++ ys ≡ [] → (xs ≡ []) × (ys ≡ [])
+none_left [] ys e = (refl, e)
+none_left (x ∷ xs) ys e = cc
+
+-- nothing is pending but in the section of this view
+abbrev pub Only : ℕ → List Section → Type 0
+Only view [] = Unit {0}
+Only view (s ∷ rest) = (s.view ≢ view → s.pending ≡ []) × Only view rest
+
+pub only_from : (view : ℕ) (j : List Section) → kept.waiting j ≡ [] → Only view j
+only_from view [] e = tt
+only_from view (s ∷ rest) e = let p = none_left s.pending (kept.waiting rest) e in (λ other. p.0, only_from view rest p.1)
+
+only_append_at : (view : ℕ) (a : member.Artifact) (s : Section) (rest : List Section) (b c : Bool) → (s.view == view) ≡ b → Only view (s ∷ rest)
+    → Only view (kept.append_to view a rest)
+    → Only view (if b then record s { pending = s.pending ++ a ∷ [] } ∷ rest else (if c then kept.opened view a ∷ s ∷ rest else s ∷ kept.append_to view a rest))
+only_append_at view a s rest true c e o ih = (λ other. absurd (other (eqb-true s.view view e)), o.1)
+only_append_at view a s rest false true e o ih = (λ other. absurd (other refl), o)
+only_append_at view a s rest false false e o ih = (o.0, ih)
+
+only_append_to : (view : ℕ) (a : member.Artifact) (j : List Section) → Only view j → Only view (kept.append_to view a j)
+only_append_to view a [] o = (λ other. absurd (other refl), tt)
+only_append_to view a (s ∷ rest) o = only_append_at view a s rest (s.view == view) (nat_lt view s.view) refl o (only_append_to view a rest o.1)
+
+pub only_append : (view : ℕ) (a : member.Artifact) (j : List Section) → member.artifact_view a ≡ view → Only view j → Only view (kept.append a j)
+only_append view a j e o = subst (λ v. Only view (kept.append_to v a j)) (sym e) (only_append_to view a j o)
+
+sync_pending : (s : Section) (b : Bool) (view : ℕ) → (s.view == view) ≡ b → (s.view ≢ view → s.pending ≡ []) → (if b then kept.synced_section s else s).pending ≡ []
+sync_pending s true view e o = refl
+sync_pending s false view e o = o (eqb-false s.view view e)
+
+pub only_sync : (view : ℕ) (j : List Section) → Only view j → kept.waiting (kept.sync view j) ≡ []
+only_sync view [] o = refl
+only_sync view (s ∷ rest) o = ap (λ xs. xs ++ kept.waiting (kept.sync view rest)) (sync_pending s (s.view == view) view refl o.0) ∙ only_sync view rest o.1
+
+-- ---- one step's calls so far, what is known, and the votes that wait to be sent
+
+pub record Sim (made : Made) (m : Member) (cs : List Call) (facts : List Fact) (queue : List Subject) : Type 0 where
+  pub legal : IsLegal made.term_length m (doings cs)
+  pub up : (behind m cs).up ≡ true
+  pub memory : (behind m cs).known ≡ remembered facts
+  pub order : IsInOrder made facts
+  pub box : subjects_of (behind m cs).outbox ≡ queue
+  pub fit : AreFit made cs
+  pub sends : Sends m cs
+
+pub behind-push : (m : Member) (cs : List Call) (c : Call) → behind m (cs ++ c ∷ []) ≡ run (behind m cs) (doing_of c)
+behind-push m cs c = behind-append m cs (c ∷ []) ∙ ap (run (behind m cs)) (append-nil (doing_of c))
+
+sim_more : (made : Made) (m : Member) (cs : List Call) (facts later : List Fact) (queue left : List Subject) → Sim made m cs facts queue → (c : Call)
+    → IsLegal made.term_length (behind m cs) (doing_of c) → (run (behind m cs) (doing_of c)).up ≡ true
+    → (run (behind m cs) (doing_of c)).known ≡ remembered later → IsInOrder made later
+    → subjects_of (run (behind m cs) (doing_of c)).outbox ≡ left → IsFit made c → SendsNext (behind m cs) c
+    → Sim made m (cs ++ c ∷ []) later left
+sim_more made m cs facts later queue left sim c legal up memory order box fit sends =
+    let push = behind-push m cs c in
+    record {
+      legal = subst (IsLegal made.term_length m) (sym (doings-append cs (c ∷ [])))
+        (IsLegal-append made.term_length m (doings cs) (doing_of c ++ []) sim.legal (subst (IsLegal made.term_length (behind m cs)) (sym (append-nil (doing_of c))) legal));
+      up = ap (λ (n : Member). n.up) push ∙ up;
+      memory = ap (λ (n : Member). n.known) push ∙ memory;
+      order = order;
+      box = ap (λ (n : Member). subjects_of n.outbox) push ∙ box;
+      fit = AreFit-append made cs (c ∷ []) sim.fit (fit, tt);
+      sends = Sends-append m cs (c ∷ []) sim.sends (sends, tt);
+    }
+
+pub sim_known : (made : Made) (m : Member) (cs : List Call) (facts later : List Fact) (queue : List Subject) → SameMemory made facts later
+    → Sim made m cs facts queue → Sim made m cs later queue
+sim_known made m cs facts later queue same sim =
+    record { legal = sim.legal; up = sim.up; memory = sim.memory ∙ sym same.memory; order = same.order sim.order; box = sim.box; fit = sim.fit; sends = sim.sends }
+
+-- calls that neither the journal nor the vote channel sees
+abbrev pub IsPlain : Call → Type 0
+IsPlain (calls.Report activity) = Unit {0}
+IsPlain (calls.Relay payload plan) = Unit {0}
+IsPlain (calls.Block who) = Unit {0}
+IsPlain (calls.Send channels.Certificate to bytes) = Unit {0}
+IsPlain _ = ⊥
+
+pub plain_behind : (m : Member) (cs : List Call) (c : Call) → IsPlain c → behind m (cs ++ c ∷ []) ≡ behind m cs
+plain_behind m cs (calls.Report activity) p = behind-push m cs (calls.Report activity)
+plain_behind m cs (calls.Relay payload plan) p = behind-push m cs (calls.Relay payload plan)
+plain_behind m cs (calls.Block who) p = behind-push m cs (calls.Block who)
+plain_behind m cs (calls.Send channels.Certificate to bytes) p = behind-push m cs (calls.Send channels.Certificate to bytes)
+plain_behind m cs (calls.Send channels.Vote to bytes) p = absurd p
+plain_behind m cs (calls.Send channels.Resolver to bytes) p = absurd p
+plain_behind m cs (calls.Append n a) p = absurd p
+plain_behind m cs (calls.Sync n) p = absurd p
+plain_behind m cs (calls.Prune n) p = absurd p
+
+pub sim_plain : (made : Made) (m : Member) (cs : List Call) (facts : List Fact) (queue : List Subject) (c : Call) → IsPlain c
+    → Sim made m cs facts queue → Sim made m (cs ++ c ∷ []) facts queue
+sim_plain made m cs facts queue (calls.Report activity) p sim =
+    sim_more made m cs facts facts queue queue sim (calls.Report activity) tt sim.up sim.memory sim.order sim.box tt tt
+sim_plain made m cs facts queue (calls.Relay payload plan) p sim =
+    sim_more made m cs facts facts queue queue sim (calls.Relay payload plan) tt sim.up sim.memory sim.order sim.box tt tt
+sim_plain made m cs facts queue (calls.Block who) p sim =
+    sim_more made m cs facts facts queue queue sim (calls.Block who) tt sim.up sim.memory sim.order sim.box tt tt
+sim_plain made m cs facts queue (calls.Send channels.Certificate to bytes) p sim =
+    sim_more made m cs facts facts queue queue sim (calls.Send channels.Certificate to bytes) tt sim.up sim.memory sim.order sim.box tt tt
+sim_plain made m cs facts queue (calls.Send channels.Vote to bytes) p sim = absurd p
+sim_plain made m cs facts queue (calls.Send channels.Resolver to bytes) p sim = absurd p
+sim_plain made m cs facts queue (calls.Append n a) p sim = absurd p
+sim_plain made m cs facts queue (calls.Sync n) p sim = absurd p
+sim_plain made m cs facts queue (calls.Prune n) p sim = absurd p
+
+-- ---- a record is appended
+
+-- a vote where the rule gives it, a verdict where it is taken, a certificate always
+abbrev pub MayNote : Made → List Fact → Artifact → Type 0
+MayNote made facts (artifacts.Notarize v) = MayVote made.term_length (remembered facts) (subjects.Notarize v.proposal)
+MayNote made facts (artifacts.Nullify v) = MayVote made.term_length (remembered facts) (subjects.Nullify v.round)
+MayNote made facts (artifacts.Finalize v) = MayVote made.term_length (remembered facts) (subjects.Finalize v.proposal)
+MayNote made facts (artifacts.Certification round good) = member.is_taken (remembered facts) (member.Judged round.view good) ≡ true
+MayNote made facts _ = Unit {0}
+
+-- the vote that waits then
+abbrev pub queued : Artifact → List Subject
+queued (artifacts.Notarize v) = subjects.Notarize v.proposal ∷ []
+queued (artifacts.Nullify v) = subjects.Nullify v.round ∷ []
+queued (artifacts.Finalize v) = subjects.Finalize v.proposal ∷ []
+queued _ = []
+
+note_may : (made : Made) (facts : List Fact) (n : Member) (a : Artifact) → n.up ≡ true → n.known ≡ remembered facts → MayNote made facts a → May made.term_length n (noting a)
+note_may made facts n (artifacts.Notarize v) up e may = (up, subst (λ known. MayVote made.term_length known (subjects.Notarize v.proposal)) (sym e) may)
+note_may made facts n (artifacts.Nullify v) up e may = (up, subst (λ known. MayVote made.term_length known (subjects.Nullify v.round)) (sym e) may)
+note_may made facts n (artifacts.Finalize v) up e may = (up, subst (λ known. MayVote made.term_length known (subjects.Finalize v.proposal)) (sym e) may)
+note_may made facts n (artifacts.Certification r good) up e may = (up, ap (λ known. member.is_taken known (member.Judged r.view good)) e ∙ may)
+note_may made facts n (artifacts.Notarization c) up e may = up
+note_may made facts n (artifacts.Nullification c) up e may = up
+note_may made facts n (artifacts.Finalization c) up e may = up
+
+note_up : (n : Member) (a : Artifact) → (happens n (noting a)).up ≡ n.up
+note_up n (artifacts.Notarize v) = refl
+note_up n (artifacts.Nullify v) = refl
+note_up n (artifacts.Finalize v) = refl
+note_up n (artifacts.Certification r good) = refl
+note_up n (artifacts.Notarization c) = refl
+note_up n (artifacts.Nullification c) = refl
+note_up n (artifacts.Finalization c) = refl
+
+note_known : (n : Member) (a : Artifact) → (happens n (noting a)).known ≡ n.known ++ memory_of a ∷ []
+note_known n (artifacts.Notarize v) = refl
+note_known n (artifacts.Nullify v) = refl
+note_known n (artifacts.Finalize v) = refl
+note_known n (artifacts.Certification r good) = refl
+note_known n (artifacts.Notarization c) = refl
+note_known n (artifacts.Nullification c) = refl
+note_known n (artifacts.Finalization c) = refl
+
+note_box : (n : Member) (a : Artifact) → subjects_of (happens n (noting a)).outbox ≡ subjects_of n.outbox ++ queued a
+note_box n (artifacts.Notarize v) = map-append _ n.outbox _
+note_box n (artifacts.Nullify v) = map-append _ n.outbox _
+note_box n (artifacts.Finalize v) = map-append _ n.outbox _
+note_box n (artifacts.Certification r good) = sym (append-nil (subjects_of n.outbox))
+note_box n (artifacts.Notarization c) = sym (append-nil (subjects_of n.outbox))
+note_box n (artifacts.Nullification c) = sym (append-nil (subjects_of n.outbox))
+note_box n (artifacts.Finalization c) = sym (append-nil (subjects_of n.outbox))
+
+note_journal : (n : Member) (a : Artifact) → (happens n (noting a)).journal ≡ kept.append (memory_of a) n.journal
+note_journal n (artifacts.Notarize v) = refl
+note_journal n (artifacts.Nullify v) = refl
+note_journal n (artifacts.Finalize v) = refl
+note_journal n (artifacts.Certification r good) = refl
+note_journal n (artifacts.Notarization c) = refl
+note_journal n (artifacts.Nullification c) = refl
+note_journal n (artifacts.Finalization c) = refl
+
+-- the record that goes with one more thing known
+pub sim_note : (made : Made) (m : Member) (cs : List Call) (facts later : List Fact) (queue : List Subject) (n : ℕ) (a : Artifact) → Sim made m cs facts queue
+    → MayNote made facts a → remembered later ≡ remembered facts ++ memory_of a ∷ [] → IsInOrder made later → IsFit made (calls.Append n a)
+    → Sim made m (cs ++ calls.Append n a ∷ []) later (queue ++ queued a)
+sim_note made m cs facts later queue n a sim may more order fit =
+    let now = behind m cs in
+    sim_more made m cs facts later queue (queue ++ queued a) sim (calls.Append n a)
+      (note_may made facts now a sim.up sim.memory may, tt)
+      (note_up now a ∙ sim.up)
+      (note_known now a ∙ ap (λ xs. xs ++ memory_of a ∷ []) sim.memory ∙ sym more)
+      order
+      (note_box now a ∙ ap (λ xs. xs ++ queued a) sim.box)
+      fit tt
+
+-- ---- the step writes to one section, and then syncs it
+
+pub record Writes (made : Made) (m : Member) (view : ℕ) (cs : List Call) (wrote : Bool) (facts : List Fact) (queue : List Subject) : Type 0 where
+  pub sim : Sim made m cs facts queue
+  pub only : Only view (behind m cs).journal
+  pub unwritten : wrote ≡ false → kept.waiting (behind m cs).journal ≡ []
+
+pub record Stores (made : Made) (m : Member) (cs : List Call) (facts : List Fact) (queue : List Subject) : Type 0 where
+  pub sim : Sim made m cs facts queue
+  pub stored : kept.waiting (behind m cs).journal ≡ []
+
+pub writes_known : (made : Made) (m : Member) (view : ℕ) (cs : List Call) (wrote : Bool) (facts later : List Fact) (queue : List Subject) → SameMemory made facts later
+    → Writes made m view cs wrote facts queue → Writes made m view cs wrote later queue
+writes_known made m view cs wrote facts later queue same w =
+    record { sim = sim_known made m cs facts later queue same w.sim; only = w.only; unwritten = w.unwritten }
+
+pub writes_plain : (made : Made) (m : Member) (view : ℕ) (cs : List Call) (wrote : Bool) (facts : List Fact) (queue : List Subject) (c : Call) → IsPlain c
+    → Writes made m view cs wrote facts queue → Writes made m view (cs ++ c ∷ []) wrote facts queue
+writes_plain made m view cs wrote facts queue c p w =
+    let same = plain_behind m cs c p in
+    record {
+      sim = sim_plain made m cs facts queue c p w.sim;
+      only = subst (λ (n : Member). Only view n.journal) (sym same) w.only;
+      unwritten = λ e. ap (λ (n : Member). kept.waiting n.journal) same ∙ w.unwritten e;
+    }
+
+fit_view : (made : Made) (n : ℕ) (a : Artifact) → IsFit made (calls.Append n a) → (artifact_round a).view ≡ n
+fit_view made n (artifacts.Nullify v) h = h.0
+fit_view made n (artifacts.Notarize v) h = h
+fit_view made n (artifacts.Finalize v) h = h
+fit_view made n (artifacts.Notarization v) h = h
+fit_view made n (artifacts.Nullification v) h = h
+fit_view made n (artifacts.Finalization v) h = h
+fit_view made n (artifacts.Certification r good) h = h
+
+pub writes_note : (made : Made) (m : Member) (view : ℕ) (cs : List Call) (wrote : Bool) (facts later : List Fact) (queue : List Subject) (n : ℕ) (a : Artifact)
+    → Writes made m view cs wrote facts queue → n ≡ view
+    → MayNote made facts a → remembered later ≡ remembered facts ++ memory_of a ∷ [] → IsInOrder made later → IsFit made (calls.Append n a)
+    → Writes made m view (cs ++ calls.Append n a ∷ []) true later (queue ++ queued a)
+writes_note made m view cs wrote facts later queue n a w here may more order fit =
+    record {
+      sim = sim_note made m cs facts later queue n a w.sim may more order fit;
+      only = subst (Only view) (sym (ap (λ (x : Member). x.journal) (behind-push m cs (calls.Append n a)) ∙ note_journal (behind m cs) a))
+        (only_append view (memory_of a) (behind m cs).journal (memory_view a ∙ fit_view made n a fit ∙ here) w.only);
+      unwritten = λ e. cc;
+    }
+
+pub stores_known : (made : Made) (m : Member) (cs : List Call) (facts later : List Fact) (queue : List Subject) → SameMemory made facts later
+    → Stores made m cs facts queue → Stores made m cs later queue
+stores_known made m cs facts later queue same s = record { sim = sim_known made m cs facts later queue same s.sim; stored = s.stored }
+
+pub stores_plain : (made : Made) (m : Member) (cs : List Call) (facts : List Fact) (queue : List Subject) (c : Call) → IsPlain c
+    → Stores made m cs facts queue → Stores made m (cs ++ c ∷ []) facts queue
+stores_plain made m cs facts queue c p s =
+    record { sim = sim_plain made m cs facts queue c p s.sim; stored = ap (λ (n : Member). kept.waiting n.journal) (plain_behind m cs c p) ∙ s.stored }
+
+pub writes_sync : (made : Made) (m : Member) (view : ℕ) (cs : List Call) (wrote : Bool) (facts : List Fact) (queue : List Subject)
+    → Writes made m view cs wrote facts queue → Stores made m (cs ++ calls.Sync view ∷ []) facts queue
+writes_sync made m view cs wrote facts queue w =
+    let sim = w.sim in
+    record {
+      sim = sim_more made m cs facts facts queue queue sim (calls.Sync view) (sim.up, tt) sim.up sim.memory sim.order sim.box tt tt;
+      stored = ap (λ (n : Member). kept.waiting n.journal) (behind-push m cs (calls.Sync view)) ∙ only_sync view (behind m cs).journal w.only;
+    }
+
+-- ---- a vote goes out
+
+sent_box : (n : Member) (box : List Sent) (s : Subject) (rest : List Subject) → subjects_of box ≡ s ∷ rest → subjects_of (life.published n box).outbox ≡ rest
+sent_box n [] s rest e = cc
+sent_box n (x ∷ box) s rest e = cc
+
+sent_up : (n : Member) (box : List Sent) → (life.published n box).up ≡ n.up
+sent_up n [] = refl
+sent_up n (x ∷ box) = refl
+
+sent_known : (n : Member) (box : List Sent) → (life.published n box).known ≡ n.known
+sent_known n [] = refl
+sent_known n (x ∷ box) = refl
+
+sent_journal : (n : Member) (box : List Sent) → (life.published n box).journal ≡ n.journal
+sent_journal n [] = refl
+sent_journal n (x ∷ box) = refl
+
+pub stores_send : (made : Made) (m : Member) (cs : List Call) (facts : List Fact) (queue : List Subject) (v : Vote)
+    → Stores made m cs facts (vote_subject v ∷ queue) → Stores made m (cs ++ calls.Send channels.Vote recipients.All (format.vote.spelling v) ∷ []) facts queue
+stores_send made m cs facts queue v s =
+    let sim = s.sim in
+    let now = behind m cs in
+    let c = calls.Send channels.Vote recipients.All (format.vote.spelling v) in
+    record {
+      sim = sim_more made m cs facts facts (vote_subject v ∷ queue) queue sim c
+        ((sim.up, s.stored), tt) (sent_up now now.outbox ∙ sim.up) (sent_known now now.outbox ∙ sim.memory) sim.order
+        (sent_box now now.outbox (vote_subject v) queue sim.box) tt (v, queue, refl, sim.box);
+      stored = ap (λ (n : Member). kept.waiting n.journal) (behind-push m cs c) ∙ ap kept.waiting (sent_journal now now.outbox) ∙ s.stored;
+    }
+
+-- ---- a prune
+
+pub stores_prune : (made : Made) (m : Member) (cs : List Call) (facts : List Fact) (queue : List Subject) (least : ℕ)
+    → least ≤ member.last_finalized (remembered facts)
+    → Stores made m cs facts queue → Stores made m (cs ++ calls.Prune least ∷ []) facts queue
+stores_prune made m cs facts queue least low s =
+    let sim = s.sim in
+    let now = behind m cs in
+    record {
+      sim = sim_more made m cs facts facts queue queue sim (calls.Prune least)
+        ((sim.up, s.stored, subst (λ known. least ≤ member.last_finalized known) (sym sim.memory) low), tt) sim.up sim.memory sim.order sim.box tt tt;
+      stored = ap (λ (n : Member). kept.waiting n.journal) (behind-push m cs (calls.Prune least)) ∙ prune_waiting least now.journal s.stored;
+    }
