@@ -162,20 +162,20 @@ some_notarization : (o : Option Notarization) → is_some o ≡ true → (n : No
 some_notarization (Some n) e = (n, refl)
 some_notarization None e = cc
 
-taken_has : (known : List Fact) (view : ℕ) → takes_verdict known view ≡ true → is_some (notarization_of known view) ≡ true
+pub taken_has : (known : List Fact) (view : ℕ) → takes_verdict known view ≡ true → is_some (notarization_of known view) ≡ true
 unfolding takes_verdict
 taken_has known view e = grind (arith, common_steps, e)
 
-judged_taken : (made : Made) (known : List Fact) (view : ℕ) (good : Bool) (now : ℕ) → takes_verdict known view ≡ true
+pub judged_taken : (made : Made) (known : List Fact) (view : ℕ) (good : Bool) (now : ℕ) → takes_verdict known view ≡ true
     → judged made known view good now ≡ (if good then [] else triggered made known view FailedCertification now) ++ Judged view good now ∷ []
 unfolding judged
 judged_taken made known view good now e = ap (λ t. if t then (if good then [] else triggered made known view FailedCertification now) ++ Judged view good now ∷ [] else []) e
 
-judged_left : (made : Made) (known : List Fact) (view : ℕ) (good : Bool) (now : ℕ) → takes_verdict known view ≡ false → judged made known view good now ≡ []
+pub judged_left : (made : Made) (known : List Fact) (view : ℕ) (good : Bool) (now : ℕ) → takes_verdict known view ≡ false → judged made known view good now ≡ []
 unfolding judged
 judged_left made known view good now e = ap (λ t. if t then (if good then [] else triggered made known view FailedCertification now) ++ Judged view good now ∷ [] else []) e
 
-failing_quiet : (made : Made) (known : List Fact) (view : ℕ) (good : Bool) (now : ℕ) → Quiet (if good then [] else triggered made known view FailedCertification now)
+pub failing_quiet : (made : Made) (known : List Fact) (view : ℕ) (good : Bool) (now : ℕ) → Quiet (if good then [] else triggered made known view FailedCertification now)
 failing_quiet made known view true now = tt
 failing_quiet made known view false now = Quiet-triggered made known view FailedCertification now
 

@@ -1,11 +1,14 @@
 mod Acting
+mod Beginning
 mod Facts
 mod Journals
 mod Living
 mod Pruning
 mod Publishing
 mod Remembering
+mod Replaying
 mod Simulating
+mod Starting
 mod Stepping
 mod Stopping
 mod Voting

@@ -15,7 +15,8 @@ use Rattle.simplex_messages.specs.declared.call.Call.TheVariants as calls
 use Rattle.simplex_messages.specs.declared.step.Stop.{Stop}
 use Rattle.simplex_messages.specs.declared.step.Stop.TheVariants as stops
 use Rattle.simplex_messages.specs.declared.step.Outcome.TheVariants as outcomes
-use Rattle.simplex_rules.specs.Known.{Made, Fact}
+use Rattle.simplex_rules.specs.Known.{Fact}
+use Rattle.simplex_rules.specs.Known as rules
 use Rattle.simplex_steps.specs.Desk.{Doing}
 use Rattle.simplex_steps.specs.Performed.{is_of_journal, journal_place, stop_place, after_calls, stop_outcome, kept_by, after_failing, failing_at, Performed, whole, broken, performed}
 use Rattle.simplex_agreement.specs.World.{Sent}
@@ -31,7 +32,7 @@ use Rattle.simplex_conduct.proofs.Living.{doings, doings-append, behind, AreFit-
 use Rattle.simplex_conduct.proofs.Simulating.{Sim, Stores}
 
 -- the journal at which a step begins
-pub record Ready (made : Made) (js : List Section) (m : Member) : Type 0 where
+pub record Ready (made : rules.Made) (js : List Section) (m : Member) : Type 0 where
   pub journal : m.journal ≡ journal_of js
   pub rising : IsRising js
   pub own : AreOwn made js
@@ -42,37 +43,47 @@ nothing_left (x ∷ box) e = cc
 
 -- ---- made whole
 
-pub lived_whole : (made : Made) (m : Member) (first : List life.Call) (d : Doing) (js : List Section)
-    → IsLegal made.term_length m first → life.brought first ≡ [] → (run m first).sent ≡ m.sent → Ready made js (run m first)
-    → Stores made (run m first) d.calls d.desk.known [] → IsLived made d.desk.known (whole d js) m
-lived_whole made m first d js legal none quiet ready s =
+-- all that a member lives in a step that was made whole, behind these first calls
+pub record MadeWhole (made : rules.Made) (m : Member) (first : List life.Call) (cs : List Call) (facts : List Fact) (js : List Section) : Type 0 where
+  pub calls : List life.Call
+  pub sent : List Sent
+  pub legal : IsLegal made.term_length m calls
+  pub brought : life.brought calls ≡ life.brought first ++ taken cs
+  pub sends : (run m calls).sent ≡ m.sent ++ sent
+  pub votes : AreSent cs (subjects_of sent)
+  pub left : IsRunning made facts js (run m calls)
+
+pub made_whole : (made : rules.Made) (m : Member) (first : List life.Call) (cs : List Call) (facts : List Fact) (js : List Section)
+    → IsLegal made.term_length m first → (run m first).sent ≡ m.sent → Ready made js (run m first)
+    → Stores made (run m first) cs facts [] → MadeWhole made m first cs facts (after_calls cs js)
+made_whole made m first cs facts js legal quiet ready s =
     let base = run m first in
     let sim = s.sim in
-    let o = out_of base d.calls sim.sends in
-    let joined = run-append m first (doings d.calls) in
+    let o = out_of base cs sim.sends in
+    let joined = run-append m first (doings cs) in
     record {
-      calls = first ++ doings d.calls;
+      calls = first ++ doings cs;
       sent = o.sent;
-      legal = IsLegal-append made.term_length m first (doings d.calls) legal sim.legal;
-      brought = brought-append first (doings d.calls) ∙ ap (λ xs. xs ++ life.brought (doings d.calls)) none ∙ brought_is d.calls;
+      legal = IsLegal-append made.term_length m first (doings cs) legal sim.legal;
+      brought = brought-append first (doings cs) ∙ ap (λ xs. life.brought first ++ xs) (brought_is cs);
       sends = ap (λ (n : Member). n.sent) joined ∙ o.sends ∙ ap (λ xs. xs ++ o.sent) quiet;
       votes = o.votes;
-      left = subst (IsRunning made d.desk.known (after_calls d.calls js)) (sym joined) (record {
+      left = subst (IsRunning made facts (after_calls cs js)) (sym joined) (record {
         up = sim.up;
-        journal = journals_after made d.calls js base sim.fit ready.rising ready.journal;
+        journal = journals_after made cs js base sim.fit ready.rising ready.journal;
         memory = sim.memory;
-        outbox = nothing_left (behind base d.calls).outbox sim.box;
+        outbox = nothing_left (behind base cs).outbox sim.box;
         stored = s.stored;
-        rising = rising_afters d.calls js ready.rising;
+        rising = rising_afters cs js ready.rising;
         order = sim.order;
-        own = own_afters made d.calls js sim.fit ready.own;
+        own = own_afters made cs js sim.fit ready.own;
       });
     }
 
 -- ---- ended by a stop
 
 -- what the failing call leaves: all, or a prune in part
-pub record Failing (made : Made) (n : Member) (js : List Section) : Type 0 where
+pub record Failing (made : rules.Made) (n : Member) (js : List Section) : Type 0 where
   pub calls : List life.Call
   pub legal : IsLegal made.term_length n calls
   pub brought : life.brought calls ≡ []
@@ -95,7 +106,7 @@ failing_here (stops.Fail call keep) (calls.Block who) rest js = inl refl
 failing_here (stops.Cut call keep) c rest js = inl refl
 failing_here stops.None c rest js = inl refl
 
-failing_later : (stop : Stop) (c : Call) (rest : List Call) (place : ℕ) (js : List Section) → failing_at stop (c ∷ rest) (suc place) js ≡ failing_at stop rest place js
+pub failing_later : (stop : Stop) (c : Call) (rest : List Call) (place : ℕ) (js : List Section) → failing_at stop (c ∷ rest) (suc place) js ≡ failing_at stop rest place js
 failing_later stop c rest place js = grind (arith, nat_tests, common_steps)
 
 failing_is : (stop : Stop) (cs : List Call) (place : ℕ) (js : List Section)
@@ -117,13 +128,13 @@ IsLegal-rest length m [] ys h = h
 IsLegal-rest length m (x ∷ xs) ys h = IsLegal-rest length (happens m x) xs ys h.1
 
 -- a prune that is legal
-may_prune : (made : Made) (n : Member) (cs : List Call) (place least : ℕ) → IsLegal made.term_length n (doings cs) → IsPruneAt cs place least
+may_prune : (made : rules.Made) (n : Member) (cs : List Call) (place least : ℕ) → IsLegal made.term_length n (doings cs) → IsPruneAt cs place least
     → May made.term_length (behind n (take place cs)) (life.Prune least)
 may_prune made n cs place least legal at =
     (IsLegal-rest made.term_length n (doings (take place cs)) (life.Prune least ∷ doings at.0)
       (subst (IsLegal made.term_length n) (ap doings at.1 ∙ doings-append (take place cs) (calls.Prune least ∷ at.0)) legal)).0
 
-failing_of : (made : Made) (n : Member) (stop : Stop) (cs : List Call) (place : ℕ) (js : List Section) → IsLegal made.term_length n (doings cs)
+failing_of : (made : rules.Made) (n : Member) (stop : Stop) (cs : List Call) (place : ℕ) (js : List Section) → IsLegal made.term_length n (doings cs)
     → Ready made js (behind n (take place cs)) → Failing made (behind n (take place cs)) (failing_at stop cs place js)
 failing_of made n stop cs place js legal ready =
     elim (failing_is stop cs place js) [
@@ -147,7 +158,7 @@ failing_of made n stop cs place js legal ready =
         }
 
 -- a crash leaves the member stopped
-stopped : (made : Made) (keep : ℕ) (n : Member) (js : List Section) → Ready made js n → IsStopped made (crashed keep js) (happens n (life.Crash (λ view. keep)))
+pub stopped : (made : rules.Made) (keep : ℕ) (n : Member) (js : List Section) → Ready made js n → IsStopped made (crashed keep js) (happens n (life.Crash (λ view. keep)))
 stopped made keep n js ready =
     record {
       up = refl;
@@ -160,21 +171,21 @@ stopped made keep n js ready =
 crash_quiet : (xs : List life.Call) (keep : ℕ → ℕ) → life.brought xs ≡ [] → life.brought (xs ++ life.Crash keep ∷ []) ≡ []
 crash_quiet xs keep e = brought-append xs (life.Crash keep ∷ []) ∙ append-nil (life.brought xs) ∙ e
 
--- all that a member lives in a step that a stop ended at this place
-pub record Ended (made : Made) (m : Member) (cs : List Call) (js : List Section) : Type 0 where
+-- all that a member lives in a step that a stop ended, behind these first calls
+pub record Ended (made : rules.Made) (m : Member) (first : List life.Call) (cs : List Call) (js : List Section) : Type 0 where
   pub calls : List life.Call
   pub sent : List Sent
   pub legal : IsLegal made.term_length m calls
-  pub brought : life.brought calls ≡ taken cs
+  pub brought : life.brought calls ≡ life.brought first ++ taken cs
   pub sends : (run m calls).sent ≡ m.sent ++ sent
   pub votes : AreSent cs (subjects_of sent)
   pub left : IsStopped made js (run m calls)
 
-pub ended_at : (made : Made) (m : Member) (first : List life.Call) (stop : Stop) (keep : ℕ) (cs : List Call) (place : ℕ) (facts : List Fact) (js : List Section)
-    → IsLegal made.term_length m first → life.brought first ≡ [] → (run m first).sent ≡ m.sent → Ready made js (run m first)
+pub ended_at : (made : rules.Made) (m : Member) (first : List life.Call) (stop : Stop) (keep : ℕ) (cs : List Call) (place : ℕ) (facts : List Fact) (js : List Section)
+    → IsLegal made.term_length m first → (run m first).sent ≡ m.sent → Ready made js (run m first)
     → Sim made (run m first) cs facts []
-    → Ended made m (take place cs) (crashed keep (failing_at stop cs place (after_calls (take place cs) js)))
-ended_at made m first stop keep cs place facts js legal none quiet ready sim =
+    → Ended made m first (take place cs) (crashed keep (failing_at stop cs place (after_calls (take place cs) js)))
+ended_at made m first stop keep cs place facts js legal quiet ready sim =
     let base = run m first in
     let front = take place cs in
     let fit = AreFit-take made place cs sim.fit in
@@ -196,32 +207,36 @@ ended_at made m first stop keep cs place facts js legal none quiet ready sim =
       legal = IsLegal-append made.term_length m first all legal
         (IsLegal-append made.term_length base (doings front) last (legal_take made.term_length base place cs sim.legal)
           (IsLegal-append made.term_length (behind base front) failing.calls (life.Crash (λ view. keep) ∷ []) failing.legal (tt, tt)));
-      brought = brought-append first all ∙ ap (λ xs. xs ++ life.brought all) none ∙ brought-append (doings front) last
-        ∙ ap (λ xs. life.brought (doings front) ++ xs) (crash_quiet failing.calls (λ view. keep) failing.brought) ∙ append-nil (life.brought (doings front)) ∙ brought_is front;
+      brought = brought-append first all ∙ ap (λ xs. life.brought first ++ xs) (brought-append (doings front) last
+        ∙ ap (λ xs. life.brought (doings front) ++ xs) (crash_quiet failing.calls (λ view. keep) failing.brought) ∙ append-nil (life.brought (doings front)) ∙ brought_is front);
       sends = ap (λ (n : Member). n.sent) whole_run ∙ failing.sent ∙ o.sends ∙ ap (λ xs. xs ++ o.sent) quiet;
       votes = o.votes;
       left = subst (IsStopped made (crashed keep (failing_at stop cs place js'))) (sym whole_run)
         (stopped made keep (run (behind base front) failing.calls) (failing_at stop cs place js') failing.ready);
     }
 
-pub lived_broken : (made : Made) (m : Member) (first : List life.Call) (stop : Stop) (d : Doing) (js : List Section) (place : ℕ)
+broken_by : (made : rules.Made) (m : Member) (first : List life.Call) (stop : Stop) (d : Doing) (js : List Section) (place : ℕ)
     → IsLegal made.term_length m first → life.brought first ≡ [] → (run m first).sent ≡ m.sent → Ready made js (run m first)
     → Sim made (run m first) d.calls d.desk.known [] → stop_place stop d.calls ≡ Some place → IsLived made d.desk.known (broken stop d js place) m
 unfolding stop_place
-lived_broken made m first stops.None d js place legal none quiet ready sim e = cc
-lived_broken made m first (stops.Cut call keep) d js place legal none quiet ready sim e =
-    let x = ended_at made m first (stops.Cut call keep) keep d.calls place d.desk.known js legal none quiet ready sim in
-    record { calls = x.calls; sent = x.sent; legal = x.legal; brought = x.brought; sends = x.sends; votes = x.votes; left = x.left }
-lived_broken made m first (stops.Fail call keep) d js place legal none quiet ready sim e =
-    let x = ended_at made m first (stops.Fail call keep) keep d.calls place d.desk.known js legal none quiet ready sim in
-    record { calls = x.calls; sent = x.sent; legal = x.legal; brought = x.brought; sends = x.sends; votes = x.votes; left = x.left }
+broken_by made m first stops.None d js place legal none quiet ready sim e = cc
+broken_by made m first (stops.Cut call keep) d js place legal none quiet ready sim e =
+    let x = ended_at made m first (stops.Cut call keep) keep d.calls place d.desk.known js legal quiet ready sim in
+    record { calls = x.calls; sent = x.sent; legal = x.legal; brought = x.brought ∙ ap (λ xs. xs ++ taken (take place d.calls)) none; sends = x.sends; votes = x.votes; left = x.left }
+broken_by made m first (stops.Fail call keep) d js place legal none quiet ready sim e =
+    let x = ended_at made m first (stops.Fail call keep) keep d.calls place d.desk.known js legal quiet ready sim in
+    record { calls = x.calls; sent = x.sent; legal = x.legal; brought = x.brought ∙ ap (λ xs. xs ++ taken (take place d.calls)) none; sends = x.sends; votes = x.votes; left = x.left }
 
-pub lived : (made : Made) (m : Member) (first : List life.Call) (stop : Stop) (d : Doing) (js : List Section)
+pub lived : (made : rules.Made) (m : Member) (first : List life.Call) (stop : Stop) (d : Doing) (js : List Section)
     → IsLegal made.term_length m first → life.brought first ≡ [] → (run m first).sent ≡ m.sent → Ready made js (run m first)
     → Stores made (run m first) d.calls d.desk.known [] → IsLived made d.desk.known (performed stop d js) m
 unfolding performed
 lived made m first stop d js legal none quiet ready s = at (stop_place stop d.calls) refl
   where
+    whole_of : IsLived made d.desk.known (whole d js) m
+    whole_of =
+        let x = made_whole made m first d.calls d.desk.known js legal quiet ready s in
+        record { calls = x.calls; sent = x.sent; legal = x.legal; brought = x.brought ∙ ap (λ xs. xs ++ taken d.calls) none; sends = x.sends; votes = x.votes; left = x.left }
     at : (o : Option ℕ) → stop_place stop d.calls ≡ o → IsLived made d.desk.known (option_map_or (broken stop d js) o (whole d js)) m
-    at None e = lived_whole made m first d js legal none quiet ready s
-    at (Some place) e = lived_broken made m first stop d js place legal none quiet ready s.sim e
+    at None e = whole_of
+    at (Some place) e = broken_by made m first stop d js place legal none quiet ready s.sim e

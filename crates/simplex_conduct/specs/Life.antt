@@ -1,5 +1,5 @@
 -- What a voter does, read as the life of a member.
-use Rattle.std.specs.Prelude.{ℕ, ◌≡◌, ◌<◌, ◌++◌, Bool, true, false, is_some, List, [], ◌∷◌, map, Contains, option_to_list, Option, Some, None}
+use Rattle.std.specs.Prelude.{ℕ, ◌≡◌, ◌++◌, ◌<◌, ◌⊎◌, Bool, true, false, is_some, List, [], ◌∷◌, map, Contains, option_to_list, Option, Some, None}
 use Rattle.simplex_values.specs.declared.plan.Channel.TheVariants as channels
 use Rattle.simplex_values.specs.declared.proposal.Subject.{Subject}
 use Rattle.simplex_values.specs.declared.proposal.Subject.TheVariants as subjects
@@ -13,7 +13,9 @@ use Rattle.simplex_wire.specs.declared.vote.Vote.{Vote}
 use Rattle.simplex_wire.specs.declared.vote.Vote.TheVariants as votes
 use Rattle.simplex_wire.specs.Fields.{certificate_subject, certificate_signatures, vote_subject}
 use Rattle.simplex_wire.specs.Message as format
-use Rattle.simplex_rules.specs.Known.{Made, Fact, Added, Judged, Voted, notarization_of}
+use Rattle.simplex_types.specs.declared.floor.Floor.{Floor}
+use Rattle.simplex_types.specs.declared.floor.Floor.TheVariants as floors
+use Rattle.simplex_rules.specs.Known.{Made, Fact, Added, Judged, Voted, view_of, notarization_of}
 use Rattle.simplex_journal.specs.Journal.{Section, replayed}
 use Rattle.simplex_journal.specs.Contents.{IsRising}
 use Rattle.simplex_messages.specs.declared.call.Call.{Call}
@@ -123,4 +125,24 @@ pub record IsLived (made : Made) (known : List Fact) (p : Performed) (m : Member
   pub brought : life.brought calls ≡ taken p.out.calls
   pub sends : (life.run m calls).sent ≡ m.sent ++ sent
   pub votes : AreSent p.out.calls (map (λ (s : Sent). s.subject) sent)
+  pub left : IsLeft made known p.outcome p.sections (life.run m calls)
+
+-- the certificate that a floor is
+abbrev pub floor_statement : Floor → List agreement.Certificate
+floor_statement (floors.Genesis payload) = []
+floor_statement (floors.Finalized f) = statement_of (certificates.Finalization f) ∷ []
+
+-- a floor is genesis, or the finalization of a view above it
+abbrev pub IsFloor : Floor → Type 0
+IsFloor (floors.Genesis payload) = Unit {0}
+IsFloor (floors.Finalized f) = 0 < view_of f.proposal
+
+-- What a voter did in a start is lived by the member: it makes legal calls, which bring nothing but the floor, send
+-- nothing, and leave the member where the voter is
+pub record IsBegun (made : Made) (floor : Floor) (known : List Fact) (p : Performed) (m : Member) : Type 0 where
+  pub calls : List life.Call
+  pub legal : life.IsLegal made.term_length m calls
+  pub brought : (life.brought calls ≡ []) ⊎ (life.brought calls ≡ floor_statement floor)
+  pub sends : (life.run m calls).sent ≡ m.sent
+  pub votes : AreSent p.out.calls []
   pub left : IsLeft made known p.outcome p.sections (life.run m calls)
