@@ -43,7 +43,7 @@ use Rattle.simplex_conduct.proofs.Stopping.{Ready, MadeWhole, Ended, made_whole,
 
 -- ---- the start of the first iteration
 
-iteration_calls : (made : Made) (now : ℕ) (d : Doing) → (begin_iteration made now d).calls ≡ d.calls ++ tail_of (prune_answer made (iterated made now d.desk).known)
+pub iteration_calls : (made : Made) (now : ℕ) (d : Doing) → (begin_iteration made now d).calls ≡ d.calls ++ tail_of (prune_answer made (iterated made now d.desk).known)
 unfolding begin_iteration prune
 iteration_calls made now d = at (prune_answer made (iterated made now d.desk).known)
   where
@@ -51,7 +51,7 @@ iteration_calls made now d = at (prune_answer made (iterated made now d.desk).kn
     at None = sym (append-nil d.calls)
     at (Some least) = refl
 
-iteration_known : (made : Made) (now : ℕ) (d : Doing)
+pub iteration_known : (made : Made) (now : ℕ) (d : Doing)
     → (begin_iteration made now d).desk.known ≡ facts_of made (iterated made now d.desk).known state.Prune ++ (iterated made now d.desk).known
 unfolding begin_iteration prune
 iteration_known made now d = at (prune_answer made (iterated made now d.desk).known)
@@ -61,11 +61,11 @@ iteration_known made now d = at (prune_answer made (iterated made now d.desk).kn
     at None = refl
     at (Some least) = refl
 
-tail_voteless : (o : Option ℕ) → Voteless (tail_of o)
+pub tail_voteless : (o : Option ℕ) → Voteless (tail_of o)
 tail_voteless None = tt
 tail_voteless (Some least) = (tt, tt)
 
-tail_takeless : (o : Option ℕ) → Takeless (tail_of o)
+pub tail_takeless : (o : Option ℕ) → Takeless (tail_of o)
 tail_takeless None = tt
 tail_takeless (Some least) = (tt, tt)
 
@@ -112,10 +112,10 @@ floor_order made now (floors.Finalized f) =
 abbrev pub known_then : Made → ℕ → Floor → List Section → List Fact
 known_then made now floor js = (replay_all made now (floor_view floor) (stand_on made now floor (begun blank_desk)) (replayed js)).desk.known
 
-kept_then : (made : Made) (js : List Section) (m : Member) → IsStopped made js m → kept.kept m.journal ≡ map memory_of (replayed js)
+pub kept_then : (made : Made) (js : List Section) (m : Member) → IsStopped made js m → kept.kept m.journal ≡ map memory_of (replayed js)
 kept_then made js m s = ap kept.kept s.journal ∙ kept_is js (ap kept.waiting (sym s.journal) ∙ s.stored)
 
-based : (made : Made) (now : ℕ) (floor : Floor) (js : List Section) (m : Member) → IsStopped made js m → Based made m (first_of_start floor) floor (known_then made now floor js)
+pub based : (made : Made) (now : ℕ) (floor : Floor) (js : List Section) (m : Member) → IsStopped made js m → Based made m (first_of_start floor) floor (known_then made now floor js)
 unfolding floor_known
 based made now (floors.Genesis payload) js m s =
     let r = all_replayed made now 0 (stand_on made now (floors.Genesis payload) (begun blank_desk)) (replayed js) s.own in
@@ -157,7 +157,7 @@ begun_at made m first floor facts b stored =
     }
 
 -- the member where such a start was made whole, and where a stop ended it
-quiet_whole : (made : Made) (m : Member) (first : List life.Call) (floor : Floor) (d : Doing) (js : List Section)
+pub quiet_whole : (made : Made) (m : Member) (first : List life.Call) (floor : Floor) (d : Doing) (js : List Section)
     → IsLegal made.term_length m first → life.brought first ≡ floor_statement floor → (run m first).sent ≡ m.sent → Ready made js (run m first)
     → Voteless d.calls → Takeless d.calls → Storing made (run m first) d [] → IsBegun made floor d.desk.known (whole d js) m
 quiet_whole made m first floor d js legal brought quiet ready voteless takeless s =
@@ -172,7 +172,7 @@ quiet_whole made m first floor d js legal brought quiet ready voteless takeless 
     }
 
 -- all but where the member is then
-record Cut (made : Made) (m : Member) (floor : Floor) (cs : List Call) (js : List Section) : Type 0 where
+pub record Cut (made : Made) (m : Member) (floor : Floor) (cs : List Call) (js : List Section) : Type 0 where
   pub calls : List life.Call
   pub legal : IsLegal made.term_length m calls
   pub brought : (life.brought calls ≡ []) ⊎ (life.brought calls ≡ floor_statement floor)
@@ -180,7 +180,7 @@ record Cut (made : Made) (m : Member) (floor : Floor) (cs : List Call) (js : Lis
   pub votes : AreSent cs []
   pub left : IsStopped made js (run m calls)
 
-quiet_cut : (made : Made) (m : Member) (first : List life.Call) (floor : Floor) (stop : Stop) (keep : ℕ) (cs : List Call) (place : ℕ) (facts : List Fact) (js : List Section)
+pub quiet_cut : (made : Made) (m : Member) (first : List life.Call) (floor : Floor) (stop : Stop) (keep : ℕ) (cs : List Call) (place : ℕ) (facts : List Fact) (js : List Section)
     → IsLegal made.term_length m first → life.brought first ≡ floor_statement floor → (run m first).sent ≡ m.sent → Ready made js (run m first)
     → Voteless cs → Takeless cs → Sim made (run m first) cs facts []
     → Cut made m floor (take place cs) (crashed keep (failing_at stop cs place (after_calls (take place cs) js)))
@@ -206,7 +206,7 @@ broken_of made m floor (stops.Cut call keep) d js place e x =
 broken_of made m floor (stops.Fail call keep) d js place e x =
     let c = x keep in record { calls = c.calls; legal = c.legal; brought = c.brought; sends = c.sends; votes = c.votes; left = c.left }
 
-performed_of : (made : Made) (m : Member) (floor : Floor) (stop : Stop) (d : Doing) (js : List Section)
+pub performed_of : (made : Made) (m : Member) (floor : Floor) (stop : Stop) (d : Doing) (js : List Section)
     → IsBegun made floor d.desk.known (whole d js) m
     → ((keep place : ℕ) → Cut made m floor (take place d.calls) (crashed keep (failing_at stop d.calls place (after_calls (take place d.calls) js))))
     → IsBegun made floor d.desk.known (performed stop d js) m

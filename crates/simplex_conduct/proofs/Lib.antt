@@ -1,6 +1,7 @@
 mod Acting
 mod Beginning
 mod Facts
+mod Floors
 mod Journals
 mod Living
 mod Pruning

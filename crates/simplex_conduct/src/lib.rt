@@ -3,4 +3,4 @@
 
 mod life;
 
-pub use life::steps_are_lived;
+pub use life::{crashes_are_lived, starts_are_lived, steps_are_lived};

@@ -1,5 +1,4 @@
 use Rattle.simplex_conduct.proofs.Stepping.{step_lived}
-use Rattle.simplex_conduct.proofs.Beginning.{quiet_start}
 use Rattle.simplex_conduct.proofs.life.steps_are_lived.Goals as goal
 
 pub returns : goal.returns
