@@ -1,5 +1,5 @@
 -- What a step does with what it takes, before its end.
-use Rattle.std.proofs.Common.{◌≡◌, ℕ, ◌+◌, ◌<◌, ◌≤◌, ◌==◌, ◌&&◌, not, Bool, true, false, List, [], ◌∷◌, ◌++◌, Contains, Option, Some, None, find, refl, sym, ap, ◌∙◌, subst, arith, append-nil, append_assoc, eqb-true, if◌then◌else◌}
+use Rattle.std.proofs.Common.{◌≡◌, ℕ, ◌+◌, ◌<◌, ◌≤◌, ◌==◌, ◌&&◌, not, Bool, true, false, List, [], ◌∷◌, ◌++◌, Contains, Option, Some, None, find, refl, sym, ap, ◌∙◌, subst, inl, inr, arith, append-nil, append_assoc, eqb-true, if◌then◌else◌}
 use Rattle.std.specs.Option.{is_some, is_none, option_map, option_map_or, option_and_then}
 use Rattle.std.proofs.lemmas.Grind.{common_steps}
 use Rattle.simplex_values.specs.declared.answer.Answer.{Answer}
@@ -12,6 +12,7 @@ use Rattle.simplex_values.specs.declared.round.Round.{Round}
 use Rattle.simplex_values.specs.declared.timeout.TimeoutReason.TheVariants.{LeaderTimeout, MissingProposal, IgnoredProposal, InvalidProposal, FailedCertification}
 use Rattle.simplex_values.specs.Terms.{greatest_view}
 use Rattle.simplex_wire.specs.declared.vote.Nullify.{Nullify}
+use Rattle.simplex_wire.specs.declared.vote.Vote.{Vote}
 use Rattle.simplex_wire.specs.declared.vote.Vote.TheVariants as votes
 use Rattle.simplex_wire.specs.declared.certificate.Certificate.{Certificate}
 use Rattle.simplex_wire.specs.declared.certificate.Certificate.TheVariants as certificates
@@ -51,8 +52,8 @@ use Rattle.simplex_conduct.proofs.Remembering.{in_memory, one_passes}
 use Rattle.simplex_conduct.proofs.Voting.{may_nullify, taken_is, notarization_view_of}
 use Rattle.simplex_conduct.proofs.Facts.{SameMemory, told_quiet, IsQuiet, Quiet, Quiet-triggered, quiet_memory, quiet_order, one_more}
 use Rattle.simplex_conduct.proofs.Living.{behind, doings, subjects_of}
-use Rattle.simplex_conduct.proofs.Simulating.{Sim, Writes, Stores, IsPlain, only_from, writes_known, writes_plain, writes_note}
-use Rattle.simplex_conduct.proofs.Publishing.{Writing, Storing, nullify_subject, remembered_push}
+use Rattle.simplex_conduct.proofs.Simulating.{Sim, Writes, Stores, IsPlain, nothing_first, only_from, writes_known, writes_plain, writes_note}
+use Rattle.simplex_conduct.proofs.Publishing.{Writing, Storing, nullify_waiting, remembered_push}
 
 -- ---- a step that wrote nothing yet
 
@@ -67,15 +68,17 @@ Begun made m d = Fresh made m d.calls d.wrote d.desk.known d.nullify
 -- what a step comes to: it touches a view, to whose section alone it wrote, or it ends, and all is stored
 abbrev pub Touched : Made → Member → Doing × Option ℕ → Type 0
 Touched made m (d, None) = Storing made m d []
-Touched made m (d, Some view) = Writing made m view d (nullify_subject d.nullify)
+Touched made m (d, Some view) = Writing made m view d (nullify_waiting d.nullify)
 
 pub begin : (made : Made) (desk : Desk) (sections : List Section) (m : Member) → IsRunning made desk.known sections m → Begun made m (begun desk)
 begin made desk sections m r =
     record {
       writes = λ view. record {
-        sim = record { legal = tt; up = r.up; memory = r.memory; order = r.order; box = ap subjects_of r.outbox; fit = tt; sends = tt };
+        sim = record { legal = tt; up = r.up; memory = r.memory; order = r.order; box = ap subjects_of r.outbox; fit = tt; sends = tt; first = nothing_first m };
         only = only_from view m.journal r.stored;
         unwritten = λ e. r.stored;
+        noted = tt;
+        earlier = λ e. tt;
       };
       unwritten = refl;
       none = refl;
@@ -94,10 +97,10 @@ begun_make made m d c p b =
     record { writes = λ view. writes_plain made m view d.calls d.wrote d.desk.known [] c p (b.writes view); unwritten = b.unwritten; none = b.none }
 
 untouched : (made : Made) (m : Member) (d : Doing) → Begun made m d → Storing made m d []
-untouched made m d b = let w = b.writes 0 in record { sim = w.sim; stored = w.unwritten b.unwritten }
+untouched made m d b = let w = b.writes 0 in record { sim = w.sim; stored = w.unwritten b.unwritten; kept = tt }
 
-touched_at : (made : Made) (m : Member) (d : Doing) (view : ℕ) → Begun made m d → Writing made m view d (nullify_subject d.nullify)
-touched_at made m d view b = subst (λ o. Writing made m view d (nullify_subject o)) (sym b.none) (b.writes view)
+touched_at : (made : Made) (m : Member) (d : Doing) (view : ℕ) → Begun made m d → Writing made m view d (nullify_waiting d.nullify)
+touched_at made m d view b = subst (λ o. Writing made m view d (nullify_waiting o)) (sym b.none) (b.writes view)
 
 touched_by : (made : Made) (m : Member) (d : Doing) (o : Option ℕ) → Begun made m d → Touched made m (d, o)
 touched_by made m d None b = untouched made m d b
@@ -207,7 +210,7 @@ certify_taken made m now number view good d n b e known_n =
       ap remembered same ∙ quiet_memory extra (fact ∷ known) quiet ∙ remembered_push fact known ∙ ap (λ v. remembered known ++ member.Judged v good ∷ []) (sym here) in
     let order : IsInOrder made later =
       subst (IsInOrder made) (sym same) (quiet_order made extra (fact ∷ known) quiet (one_more made known fact (taken_has known view e) (b.writes view).sim.order)) in
-    subst (λ o. Writes made m view (d.calls ++ calls.Append (view_of n.proposal) (artifacts.Certification n.proposal.round good) ∷ []) true later (nullify_subject o)) (sym b.none)
+    subst (λ o. Writes made m view (d.calls ++ calls.Append (view_of n.proposal) (artifacts.Certification n.proposal.round good) ∷ []) true later (nullify_waiting o)) (sym b.none)
       (writes_note made m view d.calls d.wrote known later [] (view_of n.proposal) (artifacts.Certification n.proposal.round good) (b.writes view) here
         (taken_is known (view_of n.proposal) good ∙ ap (takes_verdict known) here ∙ e) memory order refl)
 
@@ -269,7 +272,7 @@ writes_certificate made m view cs wrote facts later (certificates.Nullification 
 writes_certificate made m view cs wrote facts later (certificates.Finalization n) w here more order =
     writes_note made m view cs wrote facts later [] _ (artifacts.Finalization n) w here tt more order refl
 
-blocked : (made : Made) (m : Member) (view : ℕ) (d : Doing) (o : Option ℕ) (queue : List Subject) → Writing made m view d queue → Writing made m view (block_for o d) queue
+blocked : (made : Made) (m : Member) (view : ℕ) (d : Doing) (o : Option ℕ) (queue : List Vote) → Writing made m view d queue → Writing made m view (block_for o d) queue
 blocked made m view d None queue w = w
 blocked made m view d (Some leader) queue w = writes_plain made m view d.calls d.wrote d.desk.known queue (calls.Block leader) tt w
 
@@ -308,7 +311,7 @@ certificate_touches made m now c d b = at (admits_certificate made d.desk.known 
           writes_certificate made m view d.calls d.wrote known told.desk.known c (b.writes view) refl
             (ap remembered same ∙ remembered_push (Added c now) known)
             (subst (IsInOrder made) (sym same) (one_more made known (Added c now) tt (b.writes view).sim.order)) in
-        subst (λ o. Writing made m view (block_for (replay_answer made known (record_of c)) noted) (nullify_subject o))
+        subst (λ o. Writing made m view (block_for (replay_answer made known (record_of c)) noted) (nullify_waiting o))
           (sym (block_keeps (replay_answer made known (record_of c)) noted ∙ b.none))
           (blocked made m view noted (replay_answer made known (record_of c)) [] written)
 
@@ -394,13 +397,15 @@ repeat_touches made m now desk sections n low r e f =
       brought = refl;
       sent = refl;
       journal = refl;
-      touched = subst (λ facts. Writes made again view [] false (facts ++ known) (subjects.Nullify n.round ∷ [])) (sym same)
-        (writes_known made again view [] false known (Published view now ∷ known) (subjects.Nullify n.round ∷ [])
+      touched = subst (λ facts. Writes made again view [] false (facts ++ known) (votes.Nullify n ∷ [])) (sym same)
+        (writes_known made again view [] false known (Published view now ∷ known) (votes.Nullify n ∷ [])
           (record { memory = quiet_memory (Published view now ∷ []) known (refl, tt); order = quiet_order made (Published view now ∷ []) known (refl, tt) })
           (record {
-            sim = record { legal = tt; up = r.up; memory = r.memory; order = r.order; box = ap (λ box. subjects_of (box ++ record { subject = subjects.Nullify n.round; known = member.certificates m.known } ∷ [])) r.outbox; fit = tt; sends = tt };
+            sim = record { legal = tt; up = r.up; memory = r.memory; order = r.order; box = ap (λ box. subjects_of (box ++ record { subject = subjects.Nullify n.round; known = member.certificates m.known } ∷ [])) r.outbox; fit = tt; sends = tt; first = nothing_first again };
             only = only_from view m.journal r.stored;
             unwritten = λ h. r.stored;
+            noted = (inl was, tt);
+            earlier = λ h. (inr was, tt);
           }));
     }
 

@@ -35,7 +35,7 @@ use Rattle.simplex_conduct.specs.Life.{statement_of, memory_of, remembered, jour
 use Rattle.simplex_conduct.proofs.Facts.{one_more, quiet_memory, quiet_order}
 use Rattle.simplex_conduct.proofs.Journals.{append_is}
 use Rattle.simplex_conduct.proofs.Living.{own_afters, subjects_of}
-use Rattle.simplex_conduct.proofs.Simulating.{Sim, Stores, Writes, writes_sync, only_append, only_from}
+use Rattle.simplex_conduct.proofs.Simulating.{Sim, Stores, Writes, nothing_first, writes_sync, only_append, only_from}
 use Rattle.simplex_conduct.proofs.Publishing.{Storing, iteration_begins}
 use Rattle.simplex_conduct.proofs.Replaying.{kept_is, final_among, AllPlain, all_plain, all_replayed}
 use Rattle.simplex_conduct.proofs.Starting.{Voteless, Voteless-append, Voteless-take, plain_voteless, Takeless, Takeless-append, Takeless-take, plain_takeless, none_sent, none_taken, sent_nothing, sim_plains, plain_after, after_append, split_at, IsBehind, tail_of}
@@ -152,8 +152,9 @@ begun_at : (made : Made) (m : Member) (first : List life.Call) (floor : Floor) (
     → kept.waiting (run m first).journal ≡ [] → Stores made (run m first) [] facts []
 begun_at made m first floor facts b stored =
     record {
-      sim = record { legal = tt; up = b.up; memory = b.memory; order = b.order; box = ap subjects_of b.outbox; fit = tt; sends = tt };
+      sim = record { legal = tt; up = b.up; memory = b.memory; order = b.order; box = ap subjects_of b.outbox; fit = tt; sends = tt; first = nothing_first (run m first) };
       stored = stored;
+      kept = tt;
     }
 
 -- the member where such a start was made whole, and where a stop ended it

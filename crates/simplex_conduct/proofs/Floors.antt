@@ -32,7 +32,7 @@ use Rattle.simplex_lives.specs.Member.{Member, happens, run, IsLegal}
 use Rattle.simplex_conduct.specs.Life.{statement_of, memory_of, remembered, journal_of, taken, AreSent, AreOwn, IsInOrder, IsRunning, IsStopped, floor_statement, IsFloor, IsBegun}
 use Rattle.simplex_conduct.proofs.Journals.{append_is}
 use Rattle.simplex_conduct.proofs.Living.{own_afters, subjects_of}
-use Rattle.simplex_conduct.proofs.Simulating.{Sim, Stores, Writes, Only, writes_sync, only_append, only_from}
+use Rattle.simplex_conduct.proofs.Simulating.{Sim, Stores, Writes, nothing_first, Only, writes_sync, only_append, only_from}
 use Rattle.simplex_conduct.proofs.Publishing.{Storing, iteration_begins}
 use Rattle.simplex_conduct.proofs.Replaying.{final_among, AllPlain, AllPlain-append, all_plain}
 use Rattle.simplex_conduct.proofs.Starting.{Voteless, Voteless-append, Voteless-take, plain_voteless, Takeless, none_sent, plain_after, after_append, split_at, IsBefore, IsBehind, tail_of}
@@ -108,9 +108,11 @@ floor_synced : (made : Made) (m : Member) (f : Finalization) (first : List life.
 floor_synced made m f first facts js s b e =
     writes_sync made (run m first) (view_of f.proposal) [] true facts []
       (record {
-        sim = record { legal = tt; up = b.up; memory = b.memory; order = b.order; box = ap subjects_of b.outbox; fit = tt; sends = tt };
+        sim = record { legal = tt; up = b.up; memory = b.memory; order = b.order; box = ap subjects_of b.outbox; fit = tt; sends = tt; first = nothing_first (run m first) };
         only = subst (Only (view_of f.proposal)) (sym e) (only_append (view_of f.proposal) (member.Proved (statement_of (certificates.Finalization f))) m.journal refl (only_from (view_of f.proposal) m.journal s.stored));
         unwritten = λ h. cc;
+        noted = tt;
+        earlier = λ h. tt;
       })
 
 pub keeping_start : (made : Made) (now : ℕ) (m : Member) (first : List life.Call) (f : Finalization) (stop : Stop) (d : Doing) (more : Doing → Doing) (js : List Section)

@@ -9,6 +9,7 @@ use Rattle.simplex_values.specs.declared.plan.Recipients.TheVariants as recipien
 use Rattle.simplex_wire.specs.declared.vote.Notarize.{Notarize}
 use Rattle.simplex_wire.specs.declared.vote.Nullify.{Nullify}
 use Rattle.simplex_wire.specs.declared.vote.Finalize.{Finalize}
+use Rattle.simplex_wire.specs.declared.vote.Vote.{Vote}
 use Rattle.simplex_wire.specs.declared.vote.Vote.TheVariants as votes
 use Rattle.simplex_wire.specs.declared.certificate.Certificate.{Certificate}
 use Rattle.simplex_wire.specs.declared.certificate.Certificate.TheVariants as certificates
@@ -45,10 +46,10 @@ use Rattle.simplex_conduct.proofs.Facts.{SameMemory, same_memory, same_then, tol
 use Rattle.simplex_conduct.proofs.Simulating.{Writes, Stores, IsPlain, writes_known, writes_plain, writes_note, writes_sync, stores_known, stores_plain, stores_send, stores_prune}
 
 -- what a step has done so far is lived by the member; it writes to this view's section, or all is stored
-abbrev pub Writing : Made → Member → ℕ → Doing → List Subject → Type 0
+abbrev pub Writing : Made → Member → ℕ → Doing → List Vote → Type 0
 Writing made m view d queue = Writes made m view d.calls d.wrote d.desk.known queue
 
-abbrev pub Storing : Made → Member → Doing → List Subject → Type 0
+abbrev pub Storing : Made → Member → Doing → List Vote → Type 0
 Storing made m d queue = Stores made m d.calls d.desk.known queue
 
 -- one more fact is remembered behind the others
@@ -58,22 +59,22 @@ remembered_push fact known = refl
 
 -- ---- votes
 
-abbrev pub notarize_subject : Option Notarize → List Subject
-notarize_subject None = []
-notarize_subject (Some n) = subjects.Notarize n.proposal ∷ []
+abbrev pub notarize_waiting : Option Notarize → List Vote
+notarize_waiting None = []
+notarize_waiting (Some n) = votes.Notarize n ∷ []
 
-abbrev pub finalize_subject : Option Finalize → List Subject
-finalize_subject None = []
-finalize_subject (Some f) = subjects.Finalize f.proposal ∷ []
+abbrev pub finalize_waiting : Option Finalize → List Vote
+finalize_waiting None = []
+finalize_waiting (Some f) = votes.Finalize f ∷ []
 
-pub writing_notarize : (made : Made) (m : Member) (view : ℕ) (d : Doing) (queue : List Subject) → Writing made m view d queue
-    → Writing made m view (vote_notarize made view d) (queue ++ notarize_subject (notarize_at made d.desk.known view))
+pub writing_notarize : (made : Made) (m : Member) (view : ℕ) (d : Doing) (queue : List Vote) → Writing made m view d queue
+    → Writing made m view (vote_notarize made view d) (queue ++ notarize_waiting (notarize_at made d.desk.known view))
 unfolding vote_notarize facts_of
 writing_notarize made m view d queue w = at (notarize_at made d.desk.known view) refl
   where
     at : (o : Option Notarize) → notarize_at made d.desk.known view ≡ o
         → (let told = record d { desk = record d.desk { known = state.fact_of (λ v. Voted (votes.Notarize v)) o ++ d.desk.known } } in
-          Writing made m view (option_map_or (λ n. append (artifacts.Notarize n) told) o told) (queue ++ notarize_subject o))
+          Writing made m view (option_map_or (λ n. append (artifacts.Notarize n) told) o told) (queue ++ notarize_waiting o))
     at None e = subst (Writes made m view d.calls d.wrote d.desk.known) (sym (append-nil queue)) w
     at (Some n) e =
         let parts = notarize_parts made d.desk.known view n e in
@@ -84,14 +85,14 @@ writing_notarize made m view d queue w = at (notarize_at made d.desk.known view)
           (one_more made d.desk.known (Voted (votes.Notarize n)) tt w.sim.order)
           refl
 
-pub writing_finalize : (made : Made) (m : Member) (view : ℕ) (d : Doing) (queue : List Subject) → Writing made m view d queue
-    → Writing made m view (vote_finalize made view d) (queue ++ finalize_subject (finalize_at made d.desk.known view))
+pub writing_finalize : (made : Made) (m : Member) (view : ℕ) (d : Doing) (queue : List Vote) → Writing made m view d queue
+    → Writing made m view (vote_finalize made view d) (queue ++ finalize_waiting (finalize_at made d.desk.known view))
 unfolding vote_finalize facts_of
 writing_finalize made m view d queue w = at (finalize_at made d.desk.known view) refl
   where
     at : (o : Option Finalize) → finalize_at made d.desk.known view ≡ o
         → (let told = record d { desk = record d.desk { known = state.fact_of (λ v. Voted (votes.Finalize v)) o ++ d.desk.known } } in
-          Writing made m view (option_map_or (λ n. append (artifacts.Finalize n) told) o told) (queue ++ finalize_subject o))
+          Writing made m view (option_map_or (λ n. append (artifacts.Finalize n) told) o told) (queue ++ finalize_waiting o))
     at None e = subst (Writes made m view d.calls d.wrote d.desk.known) (sym (append-nil queue)) w
     at (Some f) e =
         let parts = finalize_parts made d.desk.known view f e in
@@ -120,7 +121,7 @@ finalize_keeps made view d = at (finalize_at made d.desk.known view)
 
 -- ---- the requests, and the sync
 
-writing_requests : (made : Made) (m : Member) (now view : ℕ) (d : Doing) (queue : List Subject) → Writing made m view d queue
+writing_requests : (made : Made) (m : Member) (now view : ℕ) (d : Doing) (queue : List Vote) → Writing made m view d queue
     → Writing made m view (open_requests made now d) queue
 unfolding open_requests
 writing_requests made m now view d queue w =
@@ -130,12 +131,12 @@ requests_keep : (made : Made) (now : ℕ) (d : Doing) → (open_requests made no
 unfolding open_requests
 requests_keep made now d = refl
 
-synced : (made : Made) (m : Member) (view : ℕ) (d : Doing) (queue : List Subject) → Writing made m view d queue → Storing made m (sync view d) queue
+synced : (made : Made) (m : Member) (view : ℕ) (d : Doing) (queue : List Vote) → Writing made m view d queue → Storing made m (sync view d) queue
 synced made m view d queue w = at d.wrote refl
   where
     at : (b : Bool) → d.wrote ≡ b → Storing made m (if b then make (calls.Sync view) d else d) queue
     at true e = writes_sync made m view d.calls d.wrote d.desk.known queue w
-    at false e = record { sim = w.sim; stored = w.unwritten e }
+    at false e = record { sim = w.sim; stored = w.unwritten e; kept = w.earlier e }
 
 sync_keeps : (view : ℕ) (d : Doing) → (sync view d).nullify ≡ d.nullify
 sync_keeps view d = at d.wrote
@@ -146,7 +147,7 @@ sync_keeps view d = at d.wrote
 
 -- ---- what is published
 
-verdict_out : (made : Made) (m : Member) (d : Doing) (queue : List Subject) → Storing made m d queue → Storing made m (publish_verdict d) queue
+verdict_out : (made : Made) (m : Member) (d : Doing) (queue : List Vote) → Storing made m d queue → Storing made m (publish_verdict d) queue
 unfolding publish_verdict
 verdict_out made m d queue s = at d.verdict
   where
@@ -175,44 +176,44 @@ verdict_keeps d = at d.verdict
     at (Some v) = one v.0 v.1 v.1
 
 -- the nullify that waits to be published
-abbrev pub nullify_subject : Option (Nullify × Option Certificate) → List Subject
-nullify_subject None = []
-nullify_subject (Some n) = subjects.Nullify n.0.round ∷ []
+abbrev pub nullify_waiting : Option (Nullify × Option Certificate) → List Vote
+nullify_waiting None = []
+nullify_waiting (Some n) = votes.Nullify n.0 ∷ []
 
-certificate_out : (made : Made) (m : Member) (d : Doing) (queue : List Subject) (o : Option Certificate) → Storing made m d queue → Storing made m (with_certificate o d) queue
+certificate_out : (made : Made) (m : Member) (d : Doing) (queue : List Vote) (o : Option Certificate) → Storing made m d queue → Storing made m (with_certificate o d) queue
 certificate_out made m d queue None s = s
 certificate_out made m d queue (Some c) s =
     stores_plain made m d.calls d.desk.known queue (calls.Send channels.Certificate recipients.All (format.certificate.spelling c)) tt s
 
-nullify_out : (made : Made) (m : Member) (d : Doing) (queue : List Subject) → Storing made m d (nullify_subject d.nullify ++ queue) → Storing made m (publish_nullify d) queue
+nullify_out : (made : Made) (m : Member) (d : Doing) (queue : List Vote) → Storing made m d (nullify_waiting d.nullify ++ queue) → Storing made m (publish_nullify d) queue
 unfolding publish_nullify
 nullify_out made m d queue s = at d.nullify s
   where
-    at : (o : Option (Nullify × Option Certificate)) → Storing made m d (nullify_subject o ++ queue)
+    at : (o : Option (Nullify × Option Certificate)) → Storing made m d (nullify_waiting o ++ queue)
         → Storing made m (option_map_or (λ n. with_certificate n.1 (send_vote (votes.Nullify n.0) d)) o d) queue
     at None h = h
     at (Some n) h = certificate_out made m (send_vote (votes.Nullify n.0) d) queue n.1 (stores_send made m d.calls d.desk.known queue (votes.Nullify n.0) h)
 
-notarize_out : (made : Made) (m : Member) (d : Doing) (queue : List Subject) (o : Option Notarize) → Storing made m d (notarize_subject o ++ queue)
+notarize_out : (made : Made) (m : Member) (d : Doing) (queue : List Vote) (o : Option Notarize) → Storing made m d (notarize_waiting o ++ queue)
     → Storing made m (option_map_or (λ n. send_vote (votes.Notarize n) d) o d) queue
 notarize_out made m d queue None s = s
 notarize_out made m d queue (Some n) s = stores_send made m d.calls d.desk.known queue (votes.Notarize n) s
 
-finalize_out : (made : Made) (m : Member) (d : Doing) (queue : List Subject) (o : Option Finalize) → Storing made m d (finalize_subject o ++ queue)
+finalize_out : (made : Made) (m : Member) (d : Doing) (queue : List Vote) (o : Option Finalize) → Storing made m d (finalize_waiting o ++ queue)
     → Storing made m (option_map_or (λ n. send_vote (votes.Finalize n) d) o d) queue
 finalize_out made m d queue None s = s
 finalize_out made m d queue (Some n) s = stores_send made m d.calls d.desk.known queue (votes.Finalize n) s
 
 -- a certificate is sent and reported
-both_out : (made : Made) (m : Member) (d : Doing) (queue : List Subject) (c : Certificate) (a : Activity) → Storing made m d queue → Storing made m (report a (send_certificate c d)) queue
+both_out : (made : Made) (m : Member) (d : Doing) (queue : List Vote) (c : Certificate) (a : Activity) → Storing made m d queue → Storing made m (report a (send_certificate c d)) queue
 both_out made m d queue c a s =
     stores_plain made m (send_certificate c d).calls d.desk.known queue (calls.Report a) tt
       (stores_plain made m d.calls d.desk.known queue (calls.Send channels.Certificate recipients.All (format.certificate.spelling c)) tt s)
 
-told_out : (made : Made) (m : Member) (d : Doing) (queue : List Subject) (call : state.Call) → IsQuiet call → Storing made m d queue → Storing made m (tell made call d) queue
+told_out : (made : Made) (m : Member) (d : Doing) (queue : List Vote) (call : state.Call) → IsQuiet call → Storing made m d queue → Storing made m (tell made call d) queue
 told_out made m d queue call q s = stores_known made m d.calls d.desk.known (facts_of made d.desk.known call ++ d.desk.known) queue (told_quiet made d.desk.known call q) s
 
-notarization_out : (made : Made) (m : Member) (view : ℕ) (d : Doing) (queue : List Subject) → Storing made m d queue → Storing made m (publish_notarization made view d) queue
+notarization_out : (made : Made) (m : Member) (view : ℕ) (d : Doing) (queue : List Vote) → Storing made m d queue → Storing made m (publish_notarization made view d) queue
 unfolding publish_notarization
 notarization_out made m view d queue s = at (unsent_notarization d.desk.known view)
   where
@@ -220,7 +221,7 @@ notarization_out made m view d queue s = at (unsent_notarization d.desk.known vi
     at None = told_out made m d queue (state.BroadcastNotarization view) tt s
     at (Some n) = both_out made m (tell made (state.BroadcastNotarization view) d) queue _ _ (told_out made m d queue (state.BroadcastNotarization view) tt s)
 
-nullification_out : (made : Made) (m : Member) (view : ℕ) (d : Doing) (queue : List Subject) → Storing made m d queue → Storing made m (publish_nullification made view d) queue
+nullification_out : (made : Made) (m : Member) (view : ℕ) (d : Doing) (queue : List Vote) → Storing made m d queue → Storing made m (publish_nullification made view d) queue
 unfolding publish_nullification
 nullification_out made m view d queue s = at (unsent_nullification d.desk.known view)
   where
@@ -228,7 +229,7 @@ nullification_out made m view d queue s = at (unsent_nullification d.desk.known 
     at None = told_out made m d queue (state.BroadcastNullification view) tt s
     at (Some n) = both_out made m (tell made (state.BroadcastNullification view) d) queue _ _ (told_out made m d queue (state.BroadcastNullification view) tt s)
 
-finalization_out : (made : Made) (m : Member) (view : ℕ) (d : Doing) (queue : List Subject) → Storing made m d queue → Storing made m (publish_finalization made view d) queue
+finalization_out : (made : Made) (m : Member) (view : ℕ) (d : Doing) (queue : List Vote) → Storing made m d queue → Storing made m (publish_finalization made view d) queue
 unfolding publish_finalization
 finalization_out made m view d queue s = at (unsent_finalization d.desk.known view)
   where
@@ -236,7 +237,7 @@ finalization_out made m view d queue s = at (unsent_finalization d.desk.known vi
     at None = told_out made m d queue (state.BroadcastFinalization view) tt s
     at (Some n) = both_out made m (tell made (state.BroadcastFinalization view) d) queue _ _ (told_out made m d queue (state.BroadcastFinalization view) tt s)
 
-update_out : (made : Made) (m : Member) (before : ℕ) (d : Doing) (queue : List Subject) → Storing made m d queue → Storing made m (update_batcher made before d) queue
+update_out : (made : Made) (m : Member) (before : ℕ) (d : Doing) (queue : List Vote) → Storing made m d queue → Storing made m (update_batcher made before d) queue
 unfolding update_batcher
 update_out made m before d queue s = at (nat_lt before (current_of made d.desk.known))
   where
@@ -246,7 +247,7 @@ update_out made m before d queue s = at (nat_lt before (current_of made d.desk.k
 
 -- ---- the end of a step
 
-pub step_ends : (made : Made) (m : Member) (now before view : ℕ) (d : Doing) → Writing made m view d (nullify_subject d.nullify)
+pub step_ends : (made : Made) (m : Member) (now before view : ℕ) (d : Doing) → Writing made m view d (nullify_waiting d.nullify)
     → Storing made m (end_of_step made now before view d) []
 unfolding end_of_step
 step_ends made m now before view d w =
@@ -256,20 +257,20 @@ step_ends made m now before view d w =
     let finalized = vote_finalize made view voted in
     let asked = open_requests made now finalized in
     let opened = sync view asked in
-    let first = nullify_subject d.nullify in
-    let all : List Subject = first ++ (notarize_subject notarize ++ finalize_subject finalize) in
+    let first = nullify_waiting d.nullify in
+    let all : List Vote = first ++ (notarize_waiting notarize ++ finalize_waiting finalize) in
     let stored : Storing made m opened all =
       synced made m view asked all
         (writing_requests made m now view finalized all
-          (subst (Writing made m view finalized) (append_assoc first (notarize_subject notarize) (finalize_subject finalize))
-            (writing_finalize made m view voted (first ++ notarize_subject notarize) (writing_notarize made m view d first w)))) in
+          (subst (Writing made m view finalized) (append_assoc first (notarize_waiting notarize) (finalize_waiting finalize))
+            (writing_finalize made m view voted (first ++ notarize_waiting notarize) (writing_notarize made m view d first w)))) in
     let kept : opened.nullify ≡ d.nullify =
       sync_keeps view asked ∙ requests_keep made now finalized ∙ finalize_keeps made view voted ∙ notarize_keeps made view d in
     let judged = publish_verdict opened in
     let kept' : judged.nullify ≡ d.nullify = verdict_keeps opened ∙ kept in
-    let nullified : Storing made m (publish_nullify judged) (notarize_subject notarize ++ finalize_subject finalize) =
-      nullify_out made m judged (notarize_subject notarize ++ finalize_subject finalize)
-        (subst (λ o. Storing made m judged (nullify_subject o ++ (notarize_subject notarize ++ finalize_subject finalize))) (sym kept')
+    let nullified : Storing made m (publish_nullify judged) (notarize_waiting notarize ++ finalize_waiting finalize) =
+      nullify_out made m judged (notarize_waiting notarize ++ finalize_waiting finalize)
+        (subst (λ o. Storing made m judged (nullify_waiting o ++ (notarize_waiting notarize ++ finalize_waiting finalize))) (sym kept')
           (verdict_out made m opened all stored)) in
     let out1 = publish_nullify judged in
     let out2 = option_map_or (λ n. send_vote (votes.Notarize n) out1) notarize out1 in
@@ -277,7 +278,7 @@ step_ends made m now before view d w =
     let out4 = publish_nullification made view out3 in
     let out5 = option_map_or (λ f. send_vote (votes.Finalize f) out4) finalize out4 in
     let out6 = publish_finalization made view out5 in
-    let left = finalize_subject finalize in
+    let left = finalize_waiting finalize in
     let given_up : Storing made m out4 left =
       nullification_out made m view out3 left (notarization_out made m view out2 left (notarize_out made m out1 left notarize nullified)) in
     update_out made m before out6 []

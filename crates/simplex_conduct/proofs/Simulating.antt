@@ -1,14 +1,16 @@
 -- How each call of a step is lived: it is legal, and the member then remembers what the voter knows.
-use Rattle.std.proofs.Common.{◌≡◌, ℕ, zero, suc, ◌+◌, ◌-◌, ◌<◌, ◌≤◌, ◌==◌, ◌≢◌, Bool, true, false, nat_lt, nat_le, List, [], ◌∷◌, ◌++◌, map, Option, Some, None, refl, sym, ap, ◌∙◌, subst, inl, inr, ◌⊎◌, arith, append-nil, append_assoc, if◌then◌else◌, eqb-true}
+use Rattle.std.proofs.Common.{◌≡◌, ℕ, zero, suc, ◌+◌, ◌-◌, ◌<◌, ◌≤◌, ◌==◌, ◌≢◌, Bool, true, false, nat_lt, nat_le, List, [], ◌∷◌, ◌++◌, map, Contains, Option, Some, None, refl, sym, ap, ◌∙◌, subst, inl, inr, ◌⊎◌, arith, append-nil, append_assoc, if◌then◌else◌, eqb-true}
 use Rattle.std.proofs.lemmas.Bool.{cases_eq, cases_lt, eqb-false}
 use Rattle.std.proofs.lemmas.Bool.Decides.{nat_tests}
 use Rattle.std.proofs.lemmas.Grind.{common_steps}
 use Rattle.std.proofs.lemmas.List.{map-append}
 use Rattle.simplex_values.specs.declared.plan.Channel.TheVariants as channels
+use Rattle.simplex_values.specs.declared.plan.Recipients.{Recipients}
 use Rattle.simplex_values.specs.declared.plan.Recipients.TheVariants as recipients
 use Rattle.simplex_values.specs.declared.proposal.Subject.{Subject}
 use Rattle.simplex_values.specs.declared.proposal.Subject.TheVariants as subjects
 use Rattle.simplex_wire.specs.declared.vote.Vote.{Vote}
+use Rattle.simplex_wire.specs.declared.vote.Vote.TheVariants as votes
 use Rattle.simplex_wire.specs.declared.artifact.Artifact.{Artifact}
 use Rattle.simplex_wire.specs.declared.artifact.Artifact.TheVariants as artifacts
 use Rattle.simplex_wire.specs.Fields.{artifact_round, vote_subject}
@@ -27,6 +29,7 @@ use Rattle.simplex_lives.specs.Votes.{MayVote}
 use Rattle.simplex_lives.proofs.CallFacts.{run-append, IsLegal-append}
 use Rattle.simplex_lives.proofs.JournalFacts.{prune_waiting}
 use Rattle.simplex_conduct.specs.Life.{memory_of, remembered, IsInOrder}
+use Rattle.simplex_conduct.specs.Storing.{record_of_vote, IsStored, AreStoredFirst}
 use Rattle.simplex_conduct.proofs.Facts.{SameMemory}
 use Rattle.simplex_conduct.proofs.Journals.{memory_view}
 use Rattle.simplex_conduct.proofs.Living.{noting, doing_of, doings, doings-append, behind, behind-append, IsFit, AreFit, AreFit-append, subjects_of, SendsNext, Sends, Sends-append}
@@ -68,26 +71,138 @@ pub only_sync : (view : ℕ) (j : List Section) → Only view j → kept.waiting
 only_sync view [] o = refl
 only_sync view (s ∷ rest) o = ap (λ xs. xs ++ kept.waiting (kept.sync view rest)) (sync_pending s (s.view == view) view refl o.0) ∙ only_sync view rest o.1
 
+-- ---- what is stored
+
+-- a vote that was made before the step
+abbrev pub IsEarlier : Member → Vote → Type 0
+IsEarlier m v = Contains m.known (member.Own (vote_subject v))
+
+-- the vote's record is appended among these calls
+pub record IsAppended (v : Vote) (cs : List Call) : Type 0 where
+  pub before : List Call
+  pub behind : List Call
+  pub place : cs ≡ before ++ (calls.Append (artifact_round (record_of_vote v)).view (record_of_vote v) ∷ behind)
+
+-- it is so in this view's section, or the vote was made before
+abbrev pub IsNoted : Member → ℕ → List Call → Vote → Type 0
+IsNoted m view cs v = IsEarlier m v ⊎ (IsAppended v cs × ((artifact_round (record_of_vote v)).view ≡ view))
+
+abbrev pub IsKept : Member → List Call → Vote → Type 0
+IsKept m cs v = IsStored (record_of_vote v) cs ⊎ IsEarlier m v
+
+abbrev pub AllNoted : Member → ℕ → List Call → List Vote → Type 0
+AllNoted m view cs [] = Unit {0}
+AllNoted m view cs (v ∷ rest) = IsNoted m view cs v × AllNoted m view cs rest
+
+abbrev pub AllKept : Member → List Call → List Vote → Type 0
+AllKept m cs [] = Unit {0}
+AllKept m cs (v ∷ rest) = IsKept m cs v × AllKept m cs rest
+
+appended_more : (v : Vote) (cs : List Call) (c : Call) → IsAppended v cs → IsAppended v (cs ++ c ∷ [])
+appended_more v cs c a =
+    record {
+      before = a.before;
+      behind = a.behind ++ c ∷ [];
+      place = ap (λ xs. xs ++ c ∷ []) a.place ∙ append_assoc a.before (calls.Append (artifact_round (record_of_vote v)).view (record_of_vote v) ∷ a.behind) (c ∷ []);
+    }
+
+stored_more : (a : Artifact) (cs : List Call) (c : Call) → IsStored a cs → IsStored a (cs ++ c ∷ [])
+stored_more a cs c s =
+    let view = (artifact_round a).view in
+    record {
+      before = s.before;
+      between = s.between;
+      behind = s.behind ++ c ∷ [];
+      place = ap (λ xs. xs ++ c ∷ []) s.place
+        ∙ append_assoc s.before (calls.Append view a ∷ (s.between ++ (calls.Sync view ∷ s.behind))) (c ∷ [])
+        ∙ ap (λ xs. s.before ++ (calls.Append view a ∷ xs)) (append_assoc s.between (calls.Sync view ∷ s.behind) (c ∷ []));
+    }
+
+synced_now : (v : Vote) (view : ℕ) (cs : List Call) → IsAppended v cs → (artifact_round (record_of_vote v)).view ≡ view → IsStored (record_of_vote v) (cs ++ calls.Sync view ∷ [])
+synced_now v view cs a e =
+    record {
+      before = a.before;
+      between = a.behind;
+      behind = [];
+      place = ap (λ xs. xs ++ calls.Sync view ∷ []) a.place
+        ∙ append_assoc a.before (calls.Append (artifact_round (record_of_vote v)).view (record_of_vote v) ∷ a.behind) (calls.Sync view ∷ [])
+        ∙ ap (λ n. a.before ++ (calls.Append (artifact_round (record_of_vote v)).view (record_of_vote v) ∷ (a.behind ++ calls.Sync n ∷ []))) (sym e);
+    }
+
+noted_more : (m : Member) (view : ℕ) (cs : List Call) (c : Call) (queue : List Vote) → AllNoted m view cs queue → AllNoted m view (cs ++ c ∷ []) queue
+noted_more m view cs c [] h = tt
+noted_more m view cs c (v ∷ rest) h =
+    (elim h.0 [ inl early ↦ inl early | inr a ↦ inr (appended_more v cs c a.0, a.1) ], noted_more m view cs c rest h.1)
+
+AllNoted-append : (m : Member) (view : ℕ) (cs : List Call) (xs ys : List Vote) → AllNoted m view cs xs → AllNoted m view cs ys → AllNoted m view cs (xs ++ ys)
+AllNoted-append m view cs [] ys h k = k
+AllNoted-append m view cs (x ∷ xs) ys h k = (h.0, AllNoted-append m view cs xs ys h.1 k)
+
+kept_more : (m : Member) (cs : List Call) (c : Call) (queue : List Vote) → AllKept m cs queue → AllKept m (cs ++ c ∷ []) queue
+kept_more m cs c [] h = tt
+kept_more m cs c (v ∷ rest) h =
+    (elim h.0 [ inl s ↦ inl (stored_more (record_of_vote v) cs c s) | inr early ↦ inr early ], kept_more m cs c rest h.1)
+
+all_synced : (m : Member) (view : ℕ) (cs : List Call) (queue : List Vote) → AllNoted m view cs queue → AllKept m (cs ++ calls.Sync view ∷ []) queue
+all_synced m view cs [] h = tt
+all_synced m view cs (v ∷ rest) h =
+    (elim h.0 [ inl early ↦ inr early | inr a ↦ inl (synced_now v view cs a.0 a.1) ], all_synced m view cs rest h.1)
+
+-- one more call: where it goes out on the vote channel, it is a vote that is kept
+abbrev pub MaySend : Member → List Call → Call → Type 0
+MaySend m cs (calls.Send channels.Vote to bytes) = (v : Vote) × (bytes ≡ format.vote.spelling v) × IsKept m cs v
+MaySend m cs _ = Unit {0}
+
+push_cases : (cs before : List Call) (c x : Call) (behind : List Call) → cs ++ c ∷ [] ≡ before ++ (x ∷ behind)
+    → ((before ≡ cs) × (c ≡ x)) ⊎ ((rest : List Call) × (cs ≡ before ++ (x ∷ rest)))
+push_cases [] [] c x behind e = inl (refl, cc)
+push_cases [] (b ∷ []) c x behind e = cc
+push_cases [] (b ∷ d ∷ before) c x behind e = cc
+push_cases (y ∷ cs) [] c x behind e = inr (cs, ap (λ z. z ∷ cs) (let same : y ≡ x = cc in same))
+push_cases (y ∷ cs) (b ∷ before) c x behind e =
+    let head : y ≡ b = cc in
+    let tail : cs ++ c ∷ [] ≡ before ++ (x ∷ behind) = cc in
+    elim (push_cases cs before c x behind tail) [
+      | inl p ↦ inl (cc (p.0, head), p.1)
+      | inr p ↦ inr (p.0, cc (head, p.1))
+    ]
+
+may_send : (m : Member) (cs : List Call) (c : Call) (to : Recipients) (bytes : List ℕ) → c ≡ calls.Send channels.Vote to bytes → MaySend m cs c
+    → (v : Vote) × (bytes ≡ format.vote.spelling v) × IsKept m cs v
+may_send m cs c to bytes e may = subst (MaySend m cs) e may
+
+first_push : (m : Member) (cs : List Call) (c : Call) → AreStoredFirst (IsEarlier m) cs → MaySend m cs c → AreStoredFirst (IsEarlier m) (cs ++ c ∷ [])
+first_push m cs c stored may before behind to bytes e =
+    elim (push_cases cs before c (calls.Send channels.Vote to bytes) behind e) [
+      | inl p ↦ (let s = may_send m cs c to bytes p.1 may in (s.0, s.1, subst (λ xs. IsKept m xs s.0) (sym p.0) s.2))
+      | inr p ↦ stored before p.0 to bytes p.1
+    ]
+
+pub nothing_first : (m : Member) → AreStoredFirst (IsEarlier m) []
+nothing_first m [] behind to bytes e = cc
+nothing_first m (b ∷ before) behind to bytes e = cc
+
 -- ---- one step's calls so far, what is known, and the votes that wait to be sent
 
-pub record Sim (made : Made) (m : Member) (cs : List Call) (facts : List Fact) (queue : List Subject) : Type 0 where
+pub record Sim (made : Made) (m : Member) (cs : List Call) (facts : List Fact) (queue : List Vote) : Type 0 where
   pub legal : IsLegal made.term_length m (doings cs)
   pub up : (behind m cs).up ≡ true
   pub memory : (behind m cs).known ≡ remembered facts
   pub order : IsInOrder made facts
-  pub box : subjects_of (behind m cs).outbox ≡ queue
+  pub box : subjects_of (behind m cs).outbox ≡ map vote_subject queue
   pub fit : AreFit made cs
   pub sends : Sends m cs
+  pub first : AreStoredFirst (IsEarlier m) cs
 
 pub behind-push : (m : Member) (cs : List Call) (c : Call) → behind m (cs ++ c ∷ []) ≡ run (behind m cs) (doing_of c)
 behind-push m cs c = behind-append m cs (c ∷ []) ∙ ap (run (behind m cs)) (append-nil (doing_of c))
 
-sim_more : (made : Made) (m : Member) (cs : List Call) (facts later : List Fact) (queue left : List Subject) → Sim made m cs facts queue → (c : Call)
+sim_more : (made : Made) (m : Member) (cs : List Call) (facts later : List Fact) (queue left : List Vote) → Sim made m cs facts queue → (c : Call)
     → IsLegal made.term_length (behind m cs) (doing_of c) → (run (behind m cs) (doing_of c)).up ≡ true
     → (run (behind m cs) (doing_of c)).known ≡ remembered later → IsInOrder made later
-    → subjects_of (run (behind m cs) (doing_of c)).outbox ≡ left → IsFit made c → SendsNext (behind m cs) c
+    → subjects_of (run (behind m cs) (doing_of c)).outbox ≡ map vote_subject left → IsFit made c → SendsNext (behind m cs) c → MaySend m cs c
     → Sim made m (cs ++ c ∷ []) later left
-sim_more made m cs facts later queue left sim c legal up memory order box fit sends =
+sim_more made m cs facts later queue left sim c legal up memory order box fit sends may =
     let push = behind-push m cs c in
     record {
       legal = subst (IsLegal made.term_length m) (sym (doings-append cs (c ∷ [])))
@@ -98,12 +213,13 @@ sim_more made m cs facts later queue left sim c legal up memory order box fit se
       box = ap (λ (n : Member). subjects_of n.outbox) push ∙ box;
       fit = AreFit-append made cs (c ∷ []) sim.fit (fit, tt);
       sends = Sends-append m cs (c ∷ []) sim.sends (sends, tt);
+      first = first_push m cs c sim.first may;
     }
 
-pub sim_known : (made : Made) (m : Member) (cs : List Call) (facts later : List Fact) (queue : List Subject) → SameMemory made facts later
+pub sim_known : (made : Made) (m : Member) (cs : List Call) (facts later : List Fact) (queue : List Vote) → SameMemory made facts later
     → Sim made m cs facts queue → Sim made m cs later queue
 sim_known made m cs facts later queue same sim =
-    record { legal = sim.legal; up = sim.up; memory = sim.memory ∙ sym same.memory; order = same.order sim.order; box = sim.box; fit = sim.fit; sends = sim.sends }
+    record { legal = sim.legal; up = sim.up; memory = sim.memory ∙ sym same.memory; order = same.order sim.order; box = sim.box; fit = sim.fit; sends = sim.sends; first = sim.first }
 
 -- calls that neither the journal nor the vote channel sees
 abbrev pub IsPlain : Call → Type 0
@@ -124,16 +240,16 @@ plain_behind m cs (calls.Append n a) p = absurd p
 plain_behind m cs (calls.Sync n) p = absurd p
 plain_behind m cs (calls.Prune n) p = absurd p
 
-pub sim_plain : (made : Made) (m : Member) (cs : List Call) (facts : List Fact) (queue : List Subject) (c : Call) → IsPlain c
+pub sim_plain : (made : Made) (m : Member) (cs : List Call) (facts : List Fact) (queue : List Vote) (c : Call) → IsPlain c
     → Sim made m cs facts queue → Sim made m (cs ++ c ∷ []) facts queue
 sim_plain made m cs facts queue (calls.Report activity) p sim =
-    sim_more made m cs facts facts queue queue sim (calls.Report activity) tt sim.up sim.memory sim.order sim.box tt tt
+    sim_more made m cs facts facts queue queue sim (calls.Report activity) tt sim.up sim.memory sim.order sim.box tt tt tt
 sim_plain made m cs facts queue (calls.Relay payload plan) p sim =
-    sim_more made m cs facts facts queue queue sim (calls.Relay payload plan) tt sim.up sim.memory sim.order sim.box tt tt
+    sim_more made m cs facts facts queue queue sim (calls.Relay payload plan) tt sim.up sim.memory sim.order sim.box tt tt tt
 sim_plain made m cs facts queue (calls.Block who) p sim =
-    sim_more made m cs facts facts queue queue sim (calls.Block who) tt sim.up sim.memory sim.order sim.box tt tt
+    sim_more made m cs facts facts queue queue sim (calls.Block who) tt sim.up sim.memory sim.order sim.box tt tt tt
 sim_plain made m cs facts queue (calls.Send channels.Certificate to bytes) p sim =
-    sim_more made m cs facts facts queue queue sim (calls.Send channels.Certificate to bytes) tt sim.up sim.memory sim.order sim.box tt tt
+    sim_more made m cs facts facts queue queue sim (calls.Send channels.Certificate to bytes) tt sim.up sim.memory sim.order sim.box tt tt tt
 sim_plain made m cs facts queue (calls.Send channels.Vote to bytes) p sim = absurd p
 sim_plain made m cs facts queue (calls.Send channels.Resolver to bytes) p sim = absurd p
 sim_plain made m cs facts queue (calls.Append n a) p sim = absurd p
@@ -151,10 +267,10 @@ MayNote made facts (artifacts.Certification round good) = member.is_taken (remem
 MayNote made facts _ = Unit {0}
 
 -- the vote that waits then
-abbrev pub queued : Artifact → List Subject
-queued (artifacts.Notarize v) = subjects.Notarize v.proposal ∷ []
-queued (artifacts.Nullify v) = subjects.Nullify v.round ∷ []
-queued (artifacts.Finalize v) = subjects.Finalize v.proposal ∷ []
+abbrev pub queued : Artifact → List Vote
+queued (artifacts.Notarize v) = votes.Notarize v ∷ []
+queued (artifacts.Nullify v) = votes.Nullify v ∷ []
+queued (artifacts.Finalize v) = votes.Finalize v ∷ []
 queued _ = []
 
 note_may : (made : Made) (facts : List Fact) (n : Member) (a : Artifact) → n.up ≡ true → n.known ≡ remembered facts → MayNote made facts a → May made.term_length n (noting a)
@@ -184,7 +300,7 @@ note_known n (artifacts.Notarization c) = refl
 note_known n (artifacts.Nullification c) = refl
 note_known n (artifacts.Finalization c) = refl
 
-note_box : (n : Member) (a : Artifact) → subjects_of (happens n (noting a)).outbox ≡ subjects_of n.outbox ++ queued a
+note_box : (n : Member) (a : Artifact) → subjects_of (happens n (noting a)).outbox ≡ subjects_of n.outbox ++ map vote_subject (queued a)
 note_box n (artifacts.Notarize v) = map-append _ n.outbox _
 note_box n (artifacts.Nullify v) = map-append _ n.outbox _
 note_box n (artifacts.Finalize v) = map-append _ n.outbox _
@@ -203,7 +319,7 @@ note_journal n (artifacts.Nullification c) = refl
 note_journal n (artifacts.Finalization c) = refl
 
 -- the record that goes with one more thing known
-pub sim_note : (made : Made) (m : Member) (cs : List Call) (facts later : List Fact) (queue : List Subject) (n : ℕ) (a : Artifact) → Sim made m cs facts queue
+pub sim_note : (made : Made) (m : Member) (cs : List Call) (facts later : List Fact) (queue : List Vote) (n : ℕ) (a : Artifact) → Sim made m cs facts queue
     → MayNote made facts a → remembered later ≡ remembered facts ++ memory_of a ∷ [] → IsInOrder made later → IsFit made (calls.Append n a)
     → Sim made m (cs ++ calls.Append n a ∷ []) later (queue ++ queued a)
 sim_note made m cs facts later queue n a sim may more order fit =
@@ -213,26 +329,29 @@ sim_note made m cs facts later queue n a sim may more order fit =
       (note_up now a ∙ sim.up)
       (note_known now a ∙ ap (λ xs. xs ++ memory_of a ∷ []) sim.memory ∙ sym more)
       order
-      (note_box now a ∙ ap (λ xs. xs ++ queued a) sim.box)
-      fit tt
+      (note_box now a ∙ ap (λ xs. xs ++ map vote_subject (queued a)) sim.box ∙ sym (map-append vote_subject queue (queued a)))
+      fit tt tt
 
 -- ---- the step writes to one section, and then syncs it
 
-pub record Writes (made : Made) (m : Member) (view : ℕ) (cs : List Call) (wrote : Bool) (facts : List Fact) (queue : List Subject) : Type 0 where
+pub record Writes (made : Made) (m : Member) (view : ℕ) (cs : List Call) (wrote : Bool) (facts : List Fact) (queue : List Vote) : Type 0 where
   pub sim : Sim made m cs facts queue
   pub only : Only view (behind m cs).journal
   pub unwritten : wrote ≡ false → kept.waiting (behind m cs).journal ≡ []
+  pub noted : AllNoted m view cs queue
+  pub earlier : wrote ≡ false → AllKept m cs queue
 
-pub record Stores (made : Made) (m : Member) (cs : List Call) (facts : List Fact) (queue : List Subject) : Type 0 where
+pub record Stores (made : Made) (m : Member) (cs : List Call) (facts : List Fact) (queue : List Vote) : Type 0 where
   pub sim : Sim made m cs facts queue
   pub stored : kept.waiting (behind m cs).journal ≡ []
+  pub kept : AllKept m cs queue
 
-pub writes_known : (made : Made) (m : Member) (view : ℕ) (cs : List Call) (wrote : Bool) (facts later : List Fact) (queue : List Subject) → SameMemory made facts later
+pub writes_known : (made : Made) (m : Member) (view : ℕ) (cs : List Call) (wrote : Bool) (facts later : List Fact) (queue : List Vote) → SameMemory made facts later
     → Writes made m view cs wrote facts queue → Writes made m view cs wrote later queue
 writes_known made m view cs wrote facts later queue same w =
-    record { sim = sim_known made m cs facts later queue same w.sim; only = w.only; unwritten = w.unwritten }
+    record { sim = sim_known made m cs facts later queue same w.sim; only = w.only; unwritten = w.unwritten; noted = w.noted; earlier = w.earlier }
 
-pub writes_plain : (made : Made) (m : Member) (view : ℕ) (cs : List Call) (wrote : Bool) (facts : List Fact) (queue : List Subject) (c : Call) → IsPlain c
+pub writes_plain : (made : Made) (m : Member) (view : ℕ) (cs : List Call) (wrote : Bool) (facts : List Fact) (queue : List Vote) (c : Call) → IsPlain c
     → Writes made m view cs wrote facts queue → Writes made m view (cs ++ c ∷ []) wrote facts queue
 writes_plain made m view cs wrote facts queue c p w =
     let same = plain_behind m cs c p in
@@ -240,6 +359,8 @@ writes_plain made m view cs wrote facts queue c p w =
       sim = sim_plain made m cs facts queue c p w.sim;
       only = subst (λ (n : Member). Only view n.journal) (sym same) w.only;
       unwritten = λ e. ap (λ (n : Member). kept.waiting n.journal) same ∙ w.unwritten e;
+      noted = noted_more m view cs c queue w.noted;
+      earlier = λ e. kept_more m cs c queue (w.earlier e);
     }
 
 fit_view : (made : Made) (n : ℕ) (a : Artifact) → IsFit made (calls.Append n a) → (artifact_round a).view ≡ n
@@ -251,7 +372,17 @@ fit_view made n (artifacts.Nullification v) h = h
 fit_view made n (artifacts.Finalization v) h = h
 fit_view made n (artifacts.Certification r good) h = h
 
-pub writes_note : (made : Made) (m : Member) (view : ℕ) (cs : List Call) (wrote : Bool) (facts later : List Fact) (queue : List Subject) (n : ℕ) (a : Artifact)
+-- the vote of the record that is appended now
+noted_now : (m : Member) (view : ℕ) (cs : List Call) (n : ℕ) (a : Artifact) → n ≡ view → (artifact_round a).view ≡ n → AllNoted m view (cs ++ calls.Append n a ∷ []) (queued a)
+noted_now m view cs n (artifacts.Notarize v) here fit = (inr (record { before = cs; behind = []; place = ap (λ k. cs ++ calls.Append k (artifacts.Notarize v) ∷ []) (sym fit) }, fit ∙ here), tt)
+noted_now m view cs n (artifacts.Nullify v) here fit = (inr (record { before = cs; behind = []; place = ap (λ k. cs ++ calls.Append k (artifacts.Nullify v) ∷ []) (sym fit) }, fit ∙ here), tt)
+noted_now m view cs n (artifacts.Finalize v) here fit = (inr (record { before = cs; behind = []; place = ap (λ k. cs ++ calls.Append k (artifacts.Finalize v) ∷ []) (sym fit) }, fit ∙ here), tt)
+noted_now m view cs n (artifacts.Notarization c) here fit = tt
+noted_now m view cs n (artifacts.Nullification c) here fit = tt
+noted_now m view cs n (artifacts.Finalization c) here fit = tt
+noted_now m view cs n (artifacts.Certification r good) here fit = tt
+
+pub writes_note : (made : Made) (m : Member) (view : ℕ) (cs : List Call) (wrote : Bool) (facts later : List Fact) (queue : List Vote) (n : ℕ) (a : Artifact)
     → Writes made m view cs wrote facts queue → n ≡ view
     → MayNote made facts a → remembered later ≡ remembered facts ++ memory_of a ∷ [] → IsInOrder made later → IsFit made (calls.Append n a)
     → Writes made m view (cs ++ calls.Append n a ∷ []) true later (queue ++ queued a)
@@ -261,24 +392,27 @@ writes_note made m view cs wrote facts later queue n a w here may more order fit
       only = subst (Only view) (sym (ap (λ (x : Member). x.journal) (behind-push m cs (calls.Append n a)) ∙ note_journal (behind m cs) a))
         (only_append view (memory_of a) (behind m cs).journal (memory_view a ∙ fit_view made n a fit ∙ here) w.only);
       unwritten = λ e. cc;
+      noted = AllNoted-append m view (cs ++ calls.Append n a ∷ []) queue (queued a) (noted_more m view cs (calls.Append n a) queue w.noted) (noted_now m view cs n a here (fit_view made n a fit));
+      earlier = λ e. cc;
     }
 
-pub stores_known : (made : Made) (m : Member) (cs : List Call) (facts later : List Fact) (queue : List Subject) → SameMemory made facts later
+pub stores_known : (made : Made) (m : Member) (cs : List Call) (facts later : List Fact) (queue : List Vote) → SameMemory made facts later
     → Stores made m cs facts queue → Stores made m cs later queue
-stores_known made m cs facts later queue same s = record { sim = sim_known made m cs facts later queue same s.sim; stored = s.stored }
+stores_known made m cs facts later queue same s = record { sim = sim_known made m cs facts later queue same s.sim; stored = s.stored; kept = s.kept }
 
-pub stores_plain : (made : Made) (m : Member) (cs : List Call) (facts : List Fact) (queue : List Subject) (c : Call) → IsPlain c
+pub stores_plain : (made : Made) (m : Member) (cs : List Call) (facts : List Fact) (queue : List Vote) (c : Call) → IsPlain c
     → Stores made m cs facts queue → Stores made m (cs ++ c ∷ []) facts queue
 stores_plain made m cs facts queue c p s =
-    record { sim = sim_plain made m cs facts queue c p s.sim; stored = ap (λ (n : Member). kept.waiting n.journal) (plain_behind m cs c p) ∙ s.stored }
+    record { sim = sim_plain made m cs facts queue c p s.sim; stored = ap (λ (n : Member). kept.waiting n.journal) (plain_behind m cs c p) ∙ s.stored; kept = kept_more m cs c queue s.kept }
 
-pub writes_sync : (made : Made) (m : Member) (view : ℕ) (cs : List Call) (wrote : Bool) (facts : List Fact) (queue : List Subject)
+pub writes_sync : (made : Made) (m : Member) (view : ℕ) (cs : List Call) (wrote : Bool) (facts : List Fact) (queue : List Vote)
     → Writes made m view cs wrote facts queue → Stores made m (cs ++ calls.Sync view ∷ []) facts queue
 writes_sync made m view cs wrote facts queue w =
     let sim = w.sim in
     record {
-      sim = sim_more made m cs facts facts queue queue sim (calls.Sync view) (sim.up, tt) sim.up sim.memory sim.order sim.box tt tt;
+      sim = sim_more made m cs facts facts queue queue sim (calls.Sync view) (sim.up, tt) sim.up sim.memory sim.order sim.box tt tt tt;
       stored = ap (λ (n : Member). kept.waiting n.journal) (behind-push m cs (calls.Sync view)) ∙ only_sync view (behind m cs).journal w.only;
+      kept = all_synced m view cs queue w.noted;
     }
 
 -- ---- a vote goes out
@@ -299,22 +433,23 @@ sent_journal : (n : Member) (box : List Sent) → (life.published n box).journal
 sent_journal n [] = refl
 sent_journal n (x ∷ box) = refl
 
-pub stores_send : (made : Made) (m : Member) (cs : List Call) (facts : List Fact) (queue : List Subject) (v : Vote)
-    → Stores made m cs facts (vote_subject v ∷ queue) → Stores made m (cs ++ calls.Send channels.Vote recipients.All (format.vote.spelling v) ∷ []) facts queue
+pub stores_send : (made : Made) (m : Member) (cs : List Call) (facts : List Fact) (queue : List Vote) (v : Vote)
+    → Stores made m cs facts (v ∷ queue) → Stores made m (cs ++ calls.Send channels.Vote recipients.All (format.vote.spelling v) ∷ []) facts queue
 stores_send made m cs facts queue v s =
     let sim = s.sim in
     let now = behind m cs in
     let c = calls.Send channels.Vote recipients.All (format.vote.spelling v) in
     record {
-      sim = sim_more made m cs facts facts (vote_subject v ∷ queue) queue sim c
+      sim = sim_more made m cs facts facts (v ∷ queue) queue sim c
         ((sim.up, s.stored), tt) (sent_up now now.outbox ∙ sim.up) (sent_known now now.outbox ∙ sim.memory) sim.order
-        (sent_box now now.outbox (vote_subject v) queue sim.box) tt (v, queue, refl, sim.box);
+        (sent_box now now.outbox (vote_subject v) (map vote_subject queue) sim.box) tt (v, map vote_subject queue, refl, sim.box) (v, refl, s.kept.0);
       stored = ap (λ (n : Member). kept.waiting n.journal) (behind-push m cs c) ∙ ap kept.waiting (sent_journal now now.outbox) ∙ s.stored;
+      kept = kept_more m cs c queue s.kept.1;
     }
 
 -- ---- a prune
 
-pub stores_prune : (made : Made) (m : Member) (cs : List Call) (facts : List Fact) (queue : List Subject) (least : ℕ)
+pub stores_prune : (made : Made) (m : Member) (cs : List Call) (facts : List Fact) (queue : List Vote) (least : ℕ)
     → least ≤ member.last_finalized (remembered facts)
     → Stores made m cs facts queue → Stores made m (cs ++ calls.Prune least ∷ []) facts queue
 stores_prune made m cs facts queue least low s =
@@ -322,6 +457,7 @@ stores_prune made m cs facts queue least low s =
     let now = behind m cs in
     record {
       sim = sim_more made m cs facts facts queue queue sim (calls.Prune least)
-        ((sim.up, s.stored, subst (λ known. least ≤ member.last_finalized known) (sym sim.memory) low), tt) sim.up sim.memory sim.order sim.box tt tt;
+        ((sim.up, s.stored, subst (λ known. least ≤ member.last_finalized known) (sym sim.memory) low), tt) sim.up sim.memory sim.order sim.box tt tt tt;
       stored = ap (λ (n : Member). kept.waiting n.journal) (behind-push m cs (calls.Prune least)) ∙ prune_waiting least now.journal s.stored;
+      kept = kept_more m cs (calls.Prune least) queue s.kept;
     }

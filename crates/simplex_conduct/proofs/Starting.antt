@@ -7,6 +7,7 @@ use Rattle.std.proofs.lemmas.Bool.Decides.{nat_tests}
 use Rattle.std.proofs.lemmas.Grind.{common_steps}
 use Rattle.simplex_values.specs.declared.plan.Channel.TheVariants as channels
 use Rattle.simplex_values.specs.declared.proposal.Subject.{Subject}
+use Rattle.simplex_wire.specs.declared.vote.Vote.{Vote}
 use Rattle.simplex_wire.specs.declared.artifact.Artifact.{Artifact}
 use Rattle.simplex_wire.specs.declared.artifact.Artifact.TheVariants as artifacts
 use Rattle.simplex_wire.specs.declared.certificate.Finalization.{Finalization}
@@ -148,7 +149,7 @@ none_taken (calls.Prune n ∷ xs) p = none_taken xs p.1
 
 -- ---- where a list of plain calls is stopped
 
-pub sim_plains : (made : Made) (m : Member) (cs ds : List Call) (facts : List Fact) (queue : List Subject) → AllPlain ds → Stores made m cs facts queue → Stores made m (cs ++ ds) facts queue
+pub sim_plains : (made : Made) (m : Member) (cs ds : List Call) (facts : List Fact) (queue : List Vote) → AllPlain ds → Stores made m cs facts queue → Stores made m (cs ++ ds) facts queue
 sim_plains made m cs [] facts queue p s = subst (λ xs. Stores made m xs facts queue) (sym (append-nil cs)) s
 sim_plains made m cs (d ∷ ds) facts queue p s =
     subst (λ xs. Stores made m xs facts queue) (append_assoc cs (d ∷ []) ds)

@@ -17,15 +17,16 @@ record_of_vote (votes.Notarize v) = artifacts.Notarize v
 record_of_vote (votes.Nullify v) = artifacts.Nullify v
 record_of_vote (votes.Finalize v) = artifacts.Finalize v
 
--- among the calls the record is appended to the section of its view, and behind that the section is synced
+-- among these calls the record is appended to the section of its view, and behind that the section is synced
 pub record IsStored (artifact : Artifact) (made : List Call) : Type 0 where
-  pub first : List Call
+  pub before : List Call
   pub between : List Call
-  pub last : List Call
-  pub place : made ≡ first ++ (calls.Append (artifact_round artifact).view artifact ∷ (between ++ (calls.Sync (artifact_round artifact).view ∷ last)))
+  pub behind : List Call
+  pub place : made ≡ before ++ (calls.Append (artifact_round artifact).view artifact ∷ (between ++ (calls.Sync (artifact_round artifact).view ∷ behind)))
 
--- each vote that goes out was appended and synced in the same calls before, but for a repeat of this vote
-abbrev pub IsStoredFirst : (Vote → Type 0) → List Call → Type 0
-IsStoredFirst Repeated made =
-    (v : Vote) (first last : List Call) (to : Recipients) → made ≡ first ++ (calls.Send channels.Vote to (format.vote.spelling v) ∷ last)
-    → IsStored (record_of_vote v) first ⊎ Repeated v
+-- Whatever goes out on the vote channel is a vote that was appended and synced before it among these calls, or one of
+-- those that were made in an earlier step
+abbrev pub AreStoredFirst : (Vote → Type 0) → List Call → Type 0
+AreStoredFirst Earlier made =
+    (before behind : List Call) (to : Recipients) (bytes : List ℕ) → made ≡ before ++ (calls.Send channels.Vote to bytes ∷ behind)
+    → (v : Vote) × (bytes ≡ format.vote.spelling v) × (IsStored (record_of_vote v) before ⊎ Earlier v)
