@@ -330,12 +330,13 @@ pub record Repeats (made : Made) (m : Member) (outcome : Doing × Option ℕ) : 
   pub first : List life.Call
   pub legal : IsLegal made.term_length m first
   pub brought : life.brought first ≡ []
+  pub known : (run m first).known ≡ m.known
   pub sent : (run m first).sent ≡ m.sent
   pub journal : (run m first).journal ≡ m.journal
   pub touched : Touched made (run m first) outcome
 
 pub plainly : (made : Made) (m : Member) (outcome : Doing × Option ℕ) → Touched made m outcome → Repeats made m outcome
-plainly made m outcome t = record { first = []; legal = tt; brought = refl; sent = refl; journal = refl; touched = t }
+plainly made m outcome t = record { first = []; legal = tt; brought = refl; known = refl; sent = refl; journal = refl; touched = t }
 
 nullify_round : (made : Made) (view : ℕ) (n : Nullify) → nullify_at made view ≡ Some n → n.round ≡ record { epoch = made.epoch; view = view }
 unfolding nullify_at signed_nullify
@@ -395,6 +396,7 @@ repeat_touches made m now desk sections n low r e f =
       first = life.Repeat n.round ∷ [];
       legal = ((r.up, may.1, was), tt);
       brought = refl;
+      known = refl;
       sent = refl;
       journal = refl;
       touched = subst (λ facts. Writes made again view [] false (facts ++ known) (votes.Nullify n ∷ [])) (sym same)

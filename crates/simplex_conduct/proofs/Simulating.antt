@@ -1,5 +1,5 @@
 -- How each call of a step is lived: it is legal, and the member then remembers what the voter knows.
-use Rattle.std.proofs.Common.{◌≡◌, ℕ, zero, suc, ◌+◌, ◌-◌, ◌<◌, ◌≤◌, ◌==◌, ◌≢◌, Bool, true, false, nat_lt, nat_le, List, [], ◌∷◌, ◌++◌, map, Contains, Option, Some, None, refl, sym, ap, ◌∙◌, subst, inl, inr, ◌⊎◌, arith, append-nil, append_assoc, if◌then◌else◌, eqb-true}
+use Rattle.std.proofs.Common.{◌≡◌, ℕ, zero, suc, ◌+◌, ◌-◌, ◌<◌, ◌≤◌, ◌==◌, ◌≢◌, Bool, true, false, nat_lt, nat_le, List, [], ◌∷◌, ◌++◌, map, take, drop, take-append-drop, Contains, Option, Some, None, refl, sym, ap, ◌∙◌, subst, inl, inr, ◌⊎◌, arith, append-nil, append_assoc, if◌then◌else◌, eqb-true}
 use Rattle.std.proofs.lemmas.Bool.{cases_eq, cases_lt, eqb-false}
 use Rattle.std.proofs.lemmas.Bool.Decides.{nat_tests}
 use Rattle.std.proofs.lemmas.Grind.{common_steps}
@@ -28,7 +28,7 @@ use Rattle.simplex_lives.specs.Member.{Member, happens, run, IsLegal, May}
 use Rattle.simplex_lives.specs.Votes.{MayVote}
 use Rattle.simplex_lives.proofs.CallFacts.{run-append, IsLegal-append}
 use Rattle.simplex_lives.proofs.JournalFacts.{prune_waiting}
-use Rattle.simplex_conduct.specs.Life.{memory_of, remembered, IsInOrder}
+use Rattle.simplex_conduct.specs.Life.{memory_of, remembered, IsInOrder, IsEarlier}
 use Rattle.simplex_conduct.specs.Storing.{record_of_vote, IsStored, AreStoredFirst}
 use Rattle.simplex_conduct.proofs.Facts.{SameMemory}
 use Rattle.simplex_conduct.proofs.Journals.{memory_view}
@@ -72,10 +72,6 @@ only_sync view [] o = refl
 only_sync view (s ∷ rest) o = ap (λ xs. xs ++ kept.waiting (kept.sync view rest)) (sync_pending s (s.view == view) view refl o.0) ∙ only_sync view rest o.1
 
 -- ---- what is stored
-
--- a vote that was made before the step
-abbrev pub IsEarlier : Member → Vote → Type 0
-IsEarlier m v = Contains m.known (member.Own (vote_subject v))
 
 -- the vote's record is appended among these calls
 pub record IsAppended (v : Vote) (cs : List Call) : Type 0 where
@@ -177,6 +173,13 @@ first_push m cs c stored may before behind to bytes e =
       | inl p ↦ (let s = may_send m cs c to bytes p.1 may in (s.0, s.1, subst (λ xs. IsKept m xs s.0) (sym p.0) s.2))
       | inr p ↦ stored before p.0 to bytes p.1
     ]
+
+in_all : (cs before : List Call) (x : Call) (behind : List Call) (k : ℕ) → take k cs ≡ before ++ (x ∷ behind) → cs ≡ before ++ (x ∷ (behind ++ drop k cs))
+in_all cs before x behind k e = sym (take-append-drop k cs) ∙ ap (λ xs. xs ++ drop k cs) e ∙ append_assoc before (x ∷ behind) (drop k cs)
+
+pub first_take : (Earlier : Vote → Type 0) (k : ℕ) (cs : List Call) → AreStoredFirst Earlier cs → AreStoredFirst Earlier (take k cs)
+first_take Earlier k cs stored before behind to bytes e =
+    stored before (behind ++ drop k cs) to bytes (in_all cs before (calls.Send channels.Vote to bytes) behind k e)
 
 pub nothing_first : (m : Member) → AreStoredFirst (IsEarlier m) []
 nothing_first m [] behind to bytes e = cc

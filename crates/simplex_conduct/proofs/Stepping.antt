@@ -87,7 +87,7 @@ step_lived made now input stop s sections d m low r e =
     one : (outcome : Doing × Option ℕ) → Repeats made m outcome → finished made now (current_of made s.desk.known) outcome ≡ d
         → IsLived made d.desk.known (performed stop d sections) m
     one outcome t same =
-        lived made m t.first stop d sections t.legal t.brought t.sent
+        lived made m t.first stop d sections t.legal t.brought t.known t.sent
           (record { journal = t.journal ∙ r.journal; rising = r.rising; own = r.own })
           (subst (λ x. Storing made (run m t.first) x []) same (finished_stores made (run m t.first) now (current_of made s.desk.known) outcome t.touched))
     at : (o : Option (Doing × Option ℕ)) → acted made now s input ≡ o → option_map (finished made now (current_of made s.desk.known)) o ≡ Some d

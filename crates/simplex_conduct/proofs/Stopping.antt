@@ -20,16 +20,19 @@ use Rattle.simplex_rules.specs.Known as rules
 use Rattle.simplex_steps.specs.Desk.{Doing}
 use Rattle.simplex_steps.specs.Performed.{is_of_journal, journal_place, stop_place, after_calls, stop_outcome, kept_by, after_failing, failing_at, Performed, whole, broken, performed}
 use Rattle.simplex_agreement.specs.World.{Sent}
+use Rattle.simplex_wire.specs.Fields.{vote_subject}
+use Rattle.simplex_lives.specs.Artifacts as member
 use Rattle.simplex_lives.specs.Journal as kept
 use Rattle.simplex_lives.specs.Member as life
 use Rattle.simplex_lives.specs.Member.{Member, happens, run, IsLegal, May}
 use Rattle.simplex_lives.proofs.CallFacts.{run-append, IsLegal-append, brought-append}
 use Rattle.simplex_lives.proofs.JournalFacts.{left_waiting}
-use Rattle.simplex_conduct.specs.Life.{journal_of, remembered, taken, AreSent, AreOwn, IsInOrder, IsRunning, IsStopped, IsLived}
+use Rattle.simplex_conduct.specs.Life.{journal_of, remembered, taken, AreSent, AreOwn, IsInOrder, IsRunning, IsStopped, IsEarlier, IsLived}
+use Rattle.simplex_conduct.specs.Storing.{AreStoredFirst}
 use Rattle.simplex_conduct.proofs.Journals.{crash_is}
 use Rattle.simplex_conduct.proofs.Pruning.{prunes_less, was_there}
 use Rattle.simplex_conduct.proofs.Living.{doings, doings-append, behind, AreFit-take, legal_take, journals_after, rising_afters, own_afters, brought_is, subjects_of, Sends-take, out_of}
-use Rattle.simplex_conduct.proofs.Simulating.{Sim, Stores}
+use Rattle.simplex_conduct.proofs.Simulating.{Sim, Stores, first_take}
 
 -- the journal at which a step begins
 pub record Ready (made : rules.Made) (js : List Section) (m : Member) : Type 0 where
@@ -215,28 +218,34 @@ ended_at made m first stop keep cs place facts js legal quiet ready sim =
         (stopped made keep (run (behind base front) failing.calls) (failing_at stop cs place js') failing.ready);
     }
 
+earlier_is : (m n : Member) (cs : List Call) → n.known ≡ m.known → AreStoredFirst (IsEarlier n) cs → AreStoredFirst (IsEarlier m) cs
+earlier_is m n cs e = subst (λ known. AreStoredFirst (λ v. Contains known (member.Own (vote_subject v))) cs) e
+
 broken_by : (made : rules.Made) (m : Member) (first : List life.Call) (stop : Stop) (d : Doing) (js : List Section) (place : ℕ)
-    → IsLegal made.term_length m first → life.brought first ≡ [] → (run m first).sent ≡ m.sent → Ready made js (run m first)
+    → IsLegal made.term_length m first → life.brought first ≡ [] → (run m first).known ≡ m.known → (run m first).sent ≡ m.sent → Ready made js (run m first)
     → Sim made (run m first) d.calls d.desk.known [] → stop_place stop d.calls ≡ Some place → IsLived made d.desk.known (broken stop d js place) m
 unfolding stop_place
-broken_by made m first stops.None d js place legal none quiet ready sim e = cc
-broken_by made m first (stops.Cut call keep) d js place legal none quiet ready sim e =
+broken_by made m first stops.None d js place legal none known quiet ready sim e = cc
+broken_by made m first (stops.Cut call keep) d js place legal none known quiet ready sim e =
     let x = ended_at made m first (stops.Cut call keep) keep d.calls place d.desk.known js legal quiet ready sim in
-    record { calls = x.calls; sent = x.sent; legal = x.legal; brought = x.brought ∙ ap (λ xs. xs ++ taken (take place d.calls)) none; sends = x.sends; votes = x.votes; left = x.left }
-broken_by made m first (stops.Fail call keep) d js place legal none quiet ready sim e =
+    record { calls = x.calls; sent = x.sent; legal = x.legal; brought = x.brought ∙ ap (λ xs. xs ++ taken (take place d.calls)) none; sends = x.sends; votes = x.votes;
+      first = first_take (IsEarlier m) place d.calls (earlier_is m (run m first) d.calls known sim.first); left = x.left }
+broken_by made m first (stops.Fail call keep) d js place legal none known quiet ready sim e =
     let x = ended_at made m first (stops.Fail call keep) keep d.calls place d.desk.known js legal quiet ready sim in
-    record { calls = x.calls; sent = x.sent; legal = x.legal; brought = x.brought ∙ ap (λ xs. xs ++ taken (take place d.calls)) none; sends = x.sends; votes = x.votes; left = x.left }
+    record { calls = x.calls; sent = x.sent; legal = x.legal; brought = x.brought ∙ ap (λ xs. xs ++ taken (take place d.calls)) none; sends = x.sends; votes = x.votes;
+      first = first_take (IsEarlier m) place d.calls (earlier_is m (run m first) d.calls known sim.first); left = x.left }
 
 pub lived : (made : rules.Made) (m : Member) (first : List life.Call) (stop : Stop) (d : Doing) (js : List Section)
-    → IsLegal made.term_length m first → life.brought first ≡ [] → (run m first).sent ≡ m.sent → Ready made js (run m first)
+    → IsLegal made.term_length m first → life.brought first ≡ [] → (run m first).known ≡ m.known → (run m first).sent ≡ m.sent → Ready made js (run m first)
     → Stores made (run m first) d.calls d.desk.known [] → IsLived made d.desk.known (performed stop d js) m
 unfolding performed
-lived made m first stop d js legal none quiet ready s = at (stop_place stop d.calls) refl
+lived made m first stop d js legal none known quiet ready s = at (stop_place stop d.calls) refl
   where
     whole_of : IsLived made d.desk.known (whole d js) m
     whole_of =
         let x = made_whole made m first d.calls d.desk.known js legal quiet ready s in
-        record { calls = x.calls; sent = x.sent; legal = x.legal; brought = x.brought ∙ ap (λ xs. xs ++ taken d.calls) none; sends = x.sends; votes = x.votes; left = x.left }
+        record { calls = x.calls; sent = x.sent; legal = x.legal; brought = x.brought ∙ ap (λ xs. xs ++ taken d.calls) none; sends = x.sends; votes = x.votes;
+          first = earlier_is m (run m first) d.calls known s.sim.first; left = x.left }
     at : (o : Option ℕ) → stop_place stop d.calls ≡ o → IsLived made d.desk.known (option_map_or (broken stop d js) o (whole d js)) m
     at None e = whole_of
-    at (Some place) e = broken_by made m first stop d js place legal none quiet ready s.sim e
+    at (Some place) e = broken_by made m first stop d js place legal none known quiet ready s.sim e

@@ -29,6 +29,7 @@ use Rattle.simplex_lives.specs.Artifacts as member
 use Rattle.simplex_lives.specs.Journal as kept
 use Rattle.simplex_lives.specs.Member as life
 use Rattle.simplex_lives.specs.Member.{Member}
+use Rattle.simplex_conduct.specs.Storing.{AreStoredFirst}
 
 -- a certificate: what was signed, and by whom
 abbrev pub statement_of : Certificate → agreement.Certificate
@@ -111,13 +112,17 @@ AreSent (calls.Send channels.Vote recipients bytes ∷ rest) subjects =
     (v : Vote) × (others : List Subject) × (bytes ≡ format.vote.spelling v) × (subjects ≡ vote_subject v ∷ others) × AreSent rest others
 AreSent (_ ∷ rest) subjects = AreSent rest subjects
 
+-- a vote that the member made before
+abbrev pub IsEarlier : Member → Vote → Type 0
+IsEarlier m v = Contains m.known (member.Own (vote_subject v))
+
 -- where the member is behind a step: it runs where the step was made whole, and does not where a stop ended it
 abbrev pub IsLeft : Made → List Fact → Outcome → List Section → Member → Type 0
 IsLeft made known outcomes.Done sections m = IsRunning made known sections m
 IsLeft made known _ sections m = IsStopped made sections m
 
 -- What a voter did in a step is lived by the member: it makes legal calls, which bring what the voter took, send
--- what the voter sent, and leave the member where the voter is
+-- what the voter sent, and leave the member where the voter is. Each vote that went out was stored before it
 pub record IsLived (made : Made) (known : List Fact) (p : Performed) (m : Member) : Type 0 where
   pub calls : List life.Call
   pub sent : List Sent
@@ -125,6 +130,7 @@ pub record IsLived (made : Made) (known : List Fact) (p : Performed) (m : Member
   pub brought : life.brought calls ≡ taken p.out.calls
   pub sends : (life.run m calls).sent ≡ m.sent ++ sent
   pub votes : AreSent p.out.calls (map (λ (s : Sent). s.subject) sent)
+  pub first : AreStoredFirst (IsEarlier m) p.out.calls
   pub left : IsLeft made known p.outcome p.sections (life.run m calls)
 
 -- the certificate that a floor is
