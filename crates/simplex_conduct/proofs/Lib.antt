@@ -1,15 +1,15 @@
-mod Acting
-mod Beginning
-mod Facts
-mod Floors
-mod Journals
-mod Living
-mod Pruning
-mod Publishing
-mod Remembering
-mod Replaying
-mod Simulating
-mod Starting
-mod Stepping
-mod Stopping
-mod Voting
+pub mod Acting
+pub mod Beginning
+pub mod Facts
+pub mod Floors
+pub mod Journals
+pub mod Living
+pub mod Pruning
+pub mod Publishing
+pub mod Remembering
+pub mod Replaying
+pub mod Simulating
+pub mod Starting
+pub mod Stepping
+pub mod Stopping
+pub mod Voting

@@ -1,0 +1,64 @@
+-- What a node did in a run, and the member whose life that is.
+use Rattle.std.specs.Prelude.{ℕ, ◌≡◌, ◌<◌, ◌++◌, ◌⊎◌, List, [], ◌∷◌, map, Contains, Result, Ok, Option, Some, None, if◌then◌else◌}
+use Rattle.simplex_values.specs.declared.proposal.Subject.{Subject}
+use Rattle.simplex_wire.specs.declared.certificate.Finalization.{Finalization}
+use Rattle.simplex_wire.specs.declared.certificate.Certificate.TheVariants as certificates
+use Rattle.simplex_transcript.specs.declared.event.Event.{Event}
+use Rattle.simplex_transcript.specs.declared.event.Event.TheVariants as events
+use Rattle.simplex_transcript.specs.declared.node.Node.{Node}
+use Rattle.simplex_transcript.specs.declared.setup.Setup.{Setup}
+use Rattle.simplex_messages.specs.declared.call.Call.{Call}
+use Rattle.simplex_steps.specs.VoterLife.{place_of}
+use Rattle.simplex_steps.specs.Engine.{voter_in, voter_past}
+use Rattle.simplex_rules.specs.Known.{view_of}
+use Rattle.simplex_run.specs.Life.{Noted, Life, Stopped, Running, is_of, life_in}
+use Rattle.simplex_run.specs.Members.{is_same_node, rules_of}
+use Rattle.simplex_run.specs.Entries.{entry_of}
+use Rattle.simplex_agreement.specs.World as agreement
+use Rattle.simplex_agreement.specs.World.{Sent}
+use Rattle.simplex_lives.specs.Member as life
+use Rattle.simplex_lives.specs.Member.{Member, newborn}
+use Rattle.simplex_conduct.specs.Life.{statement_of, taken, AreSent, IsRunning, IsStopped}
+
+-- entries of a run, the newest first: each is what its event makes of those before it
+unfoldable pub IsRun : Setup → List Noted → Type 0
+IsRun setup [] = Unit {0}
+IsRun setup (noted ∷ before) = (event : Event) × (entry_of setup before event ≡ Ok noted) × IsRun setup before
+
+-- no start is at the finalization of view 0
+abbrev pub IsStartAbove : Event → Type 0
+IsStartAbove (events.Start node (Some f) stop) = 0 < view_of f.proposal
+IsStartAbove _ = Unit {0}
+
+unfoldable pub AreFloors : List Noted → Type 0
+AreFloors [] = Unit {0}
+AreFloors (noted ∷ before) = IsStartAbove noted.event × AreFloors before
+
+-- all calls of a node, in order
+unfoldable pub calls_of : Node → List Noted → List Call
+calls_of node [] = []
+calls_of node (noted ∷ before) = if is_of node noted.event then calls_of node before ++ noted.entry.calls else calls_of node before
+
+-- the floors of its starts
+abbrev pub floor_in : Node → Event → List agreement.Certificate
+floor_in node (events.Start at (Some f) stop) = if is_same_node at node then statement_of (certificates.Finalization f) ∷ [] else []
+floor_in node _ = []
+
+unfoldable pub floors_of : Node → List Noted → List agreement.Certificate
+floors_of node [] = []
+floors_of node (noted ∷ before) = floors_of node before ++ floor_in node noted.event
+
+-- the member is where the life of its node is
+unfoldable pub IsAt : Setup → Node → Life → Member → Type 0
+IsAt setup node (Stopped sections) m = IsStopped (rules_of setup node.member 0) sections m
+IsAt setup node (Running made past) m =
+    IsRunning (voter_in made past).rules (place_of (voter_in made past) (voter_past past)).standing.desk.known (place_of (voter_in made past) (voter_past past)).sections m
+
+-- What the node did is the life of an honest member: its calls are legal, certificates come to it only as records that
+-- the node appended or as floors of its starts, it sent the votes that went out of the node, and it is where the node is
+pub record IsLivedBy (setup : Setup) (noted : List Noted) (node : Node) : Type 0 where
+  pub calls : List life.Call
+  pub legal : life.IsLegal setup.term newborn calls
+  pub brought : (c : agreement.Certificate) → Contains (life.brought calls) c → Contains (taken (calls_of node noted)) c ⊎ Contains (floors_of node noted) c
+  pub votes : AreSent (calls_of node noted) (map (λ (s : Sent). s.subject) (life.run newborn calls).sent)
+  pub at : IsAt setup node (life_in setup noted node) (life.run newborn calls)
