@@ -1,1 +1,3 @@
+mod Events
+mod Further
 mod Quiet

@@ -48,11 +48,12 @@ unfoldable pub floors_of : Node → List Noted → List agreement.Certificate
 floors_of node [] = []
 floors_of node (noted ∷ before) = floors_of node before ++ floor_in node noted.event
 
--- the member is where the life of its node is
+-- the member is where the life of its node is, whose engine keeps the setup's rules
 unfoldable pub IsAt : Setup → Node → Life → Member → Type 0
 IsAt setup node (Stopped sections) m = IsStopped (rules_of setup node.member 0) sections m
 IsAt setup node (Running made past) m =
-    IsRunning (voter_in made past).rules (place_of (voter_in made past) (voter_past past)).standing.desk.known (place_of (voter_in made past) (voter_past past)).sections m
+    ((start : ℕ) → (made.voter start).rules ≡ rules_of setup node.member start)
+    × IsRunning (voter_in made past).rules (place_of (voter_in made past) (voter_past past)).standing.desk.known (place_of (voter_in made past) (voter_past past)).sections m
 
 -- What the node did is the life of an honest member: its calls are legal, certificates come to it only as records that
 -- the node appended or as floors of its starts, it sent the votes that went out of the node, and it is where the node is

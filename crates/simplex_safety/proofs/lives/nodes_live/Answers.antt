@@ -1,2 +1,3 @@
-use Rattle.simplex_safety.proofs.Quiet.{batcher_plain}
+use Rattle.simplex_safety.proofs.Events.{start_sections}
+use Rattle.simplex_safety.proofs.Further.{go_further}
 use Rattle.simplex_safety.proofs.lives.nodes_live.Goals as goal

@@ -1,0 +1,472 @@
+-- What the member lives in each kind of event of its node.
+use Rattle.std.proofs.Common.{◌≡◌, ℕ, zero, suc, ◌+◌, ◌-◌, ◌*◌, ◌<◌, ◌≤◌, ◌==◌, ◌&&◌, nat_lt, nat_le, Bool, true, false, List, [], ◌∷◌, ◌++◌, length, map, take, Contains, Option, Some, None, refl, sym, ap, ◌∙◌, subst, inl, inr, ◌⊎◌, arith, append-nil, if◌then◌else◌}
+use Rattle.std.specs.Option.{option_map, option_map_or}
+use Rattle.std.specs.List.{filter_map}
+use Rattle.std.proofs.lemmas.Bool.Decides.{nat_tests}
+use Rattle.std.proofs.lemmas.Grind.{common_steps}
+use Rattle.simplex_values.specs.declared.answer.Answer.{Answer}
+use Rattle.simplex_values.specs.declared.plan.Channel.{Channel}
+use Rattle.simplex_values.specs.declared.plan.Channel.TheVariants as channels
+use Rattle.simplex_values.specs.Terms.{greatest_view}
+use Rattle.simplex_wire.specs.declared.certificate.Finalization.{Finalization}
+use Rattle.simplex_types.specs.declared.floor.Floor.{Floor}
+use Rattle.simplex_types.specs.declared.floor.Floor.TheVariants as floors
+use Rattle.simplex_rules.specs.Known.{Made, Fact, view_of}
+use Rattle.simplex_rules.specs.Views.{current_of}
+use Rattle.simplex_journal.specs.Journal.{Section, replayed, crashed}
+use Rattle.simplex_journal.specs.Contents as journal
+use Rattle.simplex_journal.proofs.Contents.{crashed-rested}
+use Rattle.simplex_messages.specs.declared.call.Call.{Call}
+use Rattle.simplex_messages.specs.declared.batcher.BatcherInput.{BatcherInput}
+use Rattle.simplex_messages.specs.declared.batcher.BatcherInput.TheVariants as batcher_inputs
+use Rattle.simplex_messages.specs.declared.voter.VoterInput.{VoterInput}
+use Rattle.simplex_messages.specs.declared.voter.VoterInput.TheVariants as voter_inputs
+use Rattle.simplex_messages.specs.declared.handed.Handed.TheVariants as handed
+use Rattle.simplex_messages.specs.declared.step.Outcome.{Outcome}
+use Rattle.simplex_messages.specs.declared.step.Outcome.TheVariants as outcomes
+use Rattle.simplex_messages.specs.declared.step.Stop.{Stop}
+use Rattle.simplex_messages.specs.declared.step.Stop.TheVariants as stops
+use Rattle.simplex_messages.specs.declared.step.StepOut.{StepOut}
+use Rattle.simplex_messages.specs.Step.{no_out}
+use Rattle.simplex_transcript.specs.declared.event.Event.{Event}
+use Rattle.simplex_transcript.specs.declared.event.Event.TheVariants as events
+use Rattle.simplex_transcript.specs.declared.event.StepSource.{StepSource}
+use Rattle.simplex_transcript.specs.declared.event.StepSource.TheVariants as sources
+use Rattle.simplex_transcript.specs.declared.node.Node.{Node}
+use Rattle.simplex_transcript.specs.declared.setup.Setup.{Setup}
+use Rattle.simplex_steps.specs.Desk.{Doing}
+use Rattle.simplex_steps.specs.Performed.{Performed, stop_place, stop_outcome, whole, broken, performed}
+use Rattle.simplex_steps.specs.Voter as voter
+use Rattle.simplex_steps.specs.VoterLife.{VoterMade, Given, Started, Stepped, Answered, Place, place_of, rest, unreadable, start_at, unread, start_performed, start_given, step_given, idle}
+use Rattle.simplex_steps.specs.Batcher as batcher
+use Rattle.simplex_steps.specs.Engine as engine
+use Rattle.simplex_steps.specs.Engine.{EngineMade, Taken, Began, Heard, Took, Replied, Did, voter_in, voter_past, given_to_voter, started_at, is_start, sections_of, runs, is_whole, by_voter, by_batcher, cut_short, did_of}
+use Rattle.simplex_run.specs.Life.{Noted, Life, Stopped, Running, going_on, went_on, sections_in, after}
+use Rattle.simplex_run.specs.Members.{floor_of, rules_of, engine_of}
+use Rattle.simplex_lives.specs.Journal as kept
+use Rattle.simplex_lives.specs.Member as life
+use Rattle.simplex_lives.specs.Member.{Member, happens, run, IsLegal}
+use Rattle.simplex_wire.specs.declared.certificate.Certificate.TheVariants as certificates
+use Rattle.simplex_agreement.specs.World as agreement
+use Rattle.simplex_agreement.proofs.ListFacts.{not_in_empty}
+use Rattle.simplex_conduct.specs.Life.{statement_of, memory_of, section_of, journal_of, floor_statement, AreSent, IsRunning, IsStopped, IsLived, IsBegun, IsLeft, IsFloor}
+use Rattle.simplex_conduct.specs.Life as conduct
+use Rattle.simplex_conduct.proofs.Stepping.{step_lived}
+use Rattle.simplex_conduct.proofs.Floors.{start_lived, crash_lived}
+use Rattle.simplex_conduct.proofs.Starting.{none_sent, plain_voteless, plain_takeless, none_taken}
+use Rattle.simplex_conduct.proofs.Replaying.{AllPlain}
+use Rattle.simplex_safety.specs.Histories.{IsAt, floor_in}
+use Rattle.simplex_safety.proofs.Quiet.{batcher_plain}
+use Rattle.simplex_safety.proofs.Further.{Further, subjects_of, same_self, stopped_any}
+
+-- ---- what an outcome is
+
+never_idle : (stop : Stop) (d : Doing) (js : List Section) → (performed stop d js).outcome ≡ outcomes.Idle → ⊥
+unfolding performed
+never_idle stop d js e = at (stop_place stop d.calls) e
+  where
+    ended : (s : Stop) → stop_outcome s ≡ outcomes.Idle → ⊥
+    ended stops.None h = cc
+    ended (stops.Cut call keep) h = cc
+    ended (stops.Fail call keep) h = cc
+    at : (o : Option ℕ) → (option_map_or (broken stop d js) o (whole d js)).outcome ≡ outcomes.Idle → ⊥
+    at None h = cc
+    at (Some place) h = ended stop h
+
+start_never_idle : (stop : Stop) (floor : Floor) (d : Doing) (js : List Section) → (start_performed stop floor d js).outcome ≡ outcomes.Idle → ⊥
+unfolding start_performed
+start_never_idle stops.None floor d js e = never_idle stops.None d js e
+start_never_idle (stops.Cut call keep) floor d js e = never_idle (stops.Cut call keep) d js e
+start_never_idle (stops.Fail call keep) floor d js e = at (call == 1) e
+  where
+    at : (b : Bool) → (if b then unread floor d keep js else performed (stops.Fail (call - 1) keep) d js).outcome ≡ outcomes.Idle → ⊥
+    at true h = cc
+    at false h = never_idle (stops.Fail (call - 1) keep) d js h
+
+start_reads : (stop : Stop) (floor : Floor) (d : Doing) (js : List Section) → (start_performed stop floor d js).outcome ≡ outcomes.Done → unreadable stop ≡ false
+unfolding start_performed
+start_reads stops.None floor d js e = refl
+start_reads (stops.Cut call keep) floor d js e = refl
+start_reads (stops.Fail call keep) floor d js e = at (call == 1) e
+  where
+    at : (b : Bool) → (if b then unread floor d keep js else performed (stops.Fail (call - 1) keep) d js).outcome ≡ outcomes.Done → b ≡ false
+    at true h = cc
+    at false h = refl
+
+-- ---- a start
+
+-- where an engine is that just started
+start_place : (made : VoterMade) (now : ℕ) (stop : Stop) → unreadable stop ≡ false
+    → (place_of made (Started now stop ∷ [])).standing.desk.known ≡ (start_at made now made.sections).desk.known
+unfolding place_of
+start_place made now stop e = ap (λ b. (if b then (place_of made []).standing else rest (start_at made now made.sections) []).desk.known) e
+
+pub start_sections : (made : VoterMade) (now : ℕ) (stop : Stop)
+    → (place_of made (Started now stop ∷ [])).sections ≡ (start_performed stop made.floor (start_at made now made.sections) made.sections).sections
+unfolding place_of
+start_sections made now stop = refl
+
+-- the engine of a start, and what it did
+abbrev engine_at : Setup → Node → Option Finalization → List Section → EngineMade
+engine_at setup node floor js = engine_of setup node.member (floor_of setup floor) js
+
+engine_rules : (setup : Setup) (node : Node) (floor : Option Finalization) (js : List Section) (start : ℕ) → ((engine_at setup node floor js).voter start).rules ≡ rules_of setup node.member start
+unfolding engine_of
+engine_rules setup node floor js start = refl
+
+-- what the start gives, by its rules
+abbrev given_start : Setup → Node → Option Finalization → List Section → ℕ → Stop → Performed
+given_start setup node floor js now stop =
+    start_performed stop (floor_of setup floor) (voter.started (rules_of setup node.member now) now (floor_of setup floor) (replayed js)) js
+
+begun_gives : (setup : Setup) (node : Node) (floor : Option Finalization) (js : List Section) (now : ℕ) (stop : Stop)
+    → engine.begun (engine_at setup node floor js) now stop ≡ by_voter Began now stop (given_start setup node floor js now stop)
+unfolding engine.begun engine_of start_given place_of
+begun_gives setup node floor js now stop = refl
+
+start_known : Setup → Node → Option Finalization → List Section → ℕ → List Fact
+start_known setup node floor js now = (voter.started (rules_of setup node.member now) now (floor_of setup floor) (replayed js)).desk.known
+
+-- where the node is behind a start that was made so
+start_leaves : (setup : Setup) (node : Node) (floor : Option Finalization) (js : List Section) (now : ℕ) (stop : Stop) (m : Member) (o : Outcome)
+    → (given_start setup node floor js now stop).outcome ≡ o
+    → IsLeft (rules_of setup node.member now) (start_known setup node floor js now) o (given_start setup node floor js now stop).sections m
+    → IsAt setup node (if is_whole o then Running (engine_at setup node floor js) (by_voter Began now stop (given_start setup node floor js now stop) ∷ [])
+        else Stopped (sections_of (engine_at setup node floor js) (by_voter Began now stop (given_start setup node floor js now stop) ∷ []))) m
+unfolding IsAt engine_of started_at voter_past start_known sections_of
+start_leaves setup node floor js now stop m outcomes.Done e l =
+    let made = (engine_at setup node floor js).voter now in
+    (engine_rules setup node floor js,
+      subst (λ known. IsRunning (rules_of setup node.member now) known (place_of made (Started now stop ∷ [])).sections m)
+        (sym (start_place made now stop (start_reads stop (floor_of setup floor) (start_at made now js) js e)))
+        (subst (λ sections. IsRunning (rules_of setup node.member now) (start_at made now js).desk.known sections m) (sym (start_sections made now stop)) l))
+start_leaves setup node floor js now stop m outcomes.Idle e l =
+    absurd (start_never_idle stop (floor_of setup floor) (voter.started (rules_of setup node.member now) now (floor_of setup floor) (replayed js)) js e)
+start_leaves setup node floor js now stop m outcomes.Cut e l =
+    let made = (engine_at setup node floor js).voter now in
+    stopped_any setup node.member now 0 _ m (subst (λ sections. IsStopped (rules_of setup node.member now) sections m) (sym (start_sections made now stop)) l)
+start_leaves setup node floor js now stop m outcomes.Journal e l =
+    let made = (engine_at setup node floor js).voter now in
+    stopped_any setup node.member now 0 _ m (subst (λ sections. IsStopped (rules_of setup node.member now) sections m) (sym (start_sections made now stop)) l)
+
+-- what the member lives in a start
+in_floor : (setup : Setup) (node : Node) (floor : Option Finalization) (stop : Stop) (c : agreement.Certificate)
+    → Contains (floor_statement (floor_of setup floor)) c → Contains (floor_in node (events.Start node floor stop)) c
+in_floor setup node None stop c k = absurd (not_in_empty c k)
+in_floor setup node (Some f) stop c k =
+    subst (λ b. Contains (if b then statement_of (certificates.Finalization f) ∷ [] else []) c) (sym (same_self node)) k
+
+pub start_further : (setup : Setup) (node : Node) (floor : Option Finalization) (stop : Stop) (js : List Section) (now : ℕ) (m : Member) (noted : Noted)
+    → IsFloor (floor_of setup floor) → IsAt setup node (Stopped js) m
+    → noted.entry.calls ≡ (engine.begun (engine_at setup node floor js) now stop).out.calls → noted.event ≡ events.Start node floor stop
+    → Further setup noted node (going_on (engine_at setup node floor js) (engine.begun (engine_at setup node floor js) now stop ∷ [])) m
+unfolding IsAt rules_of runs start_known
+start_further setup node floor stop js now m noted good s calls_is event_is =
+    let x = start_lived (rules_of setup node.member now) now (floor_of setup floor) stop js m good (stopped_any setup node.member 0 now js m s) in
+    let did = by_voter Began now stop (given_start setup node floor js now stop) in
+    let same = begun_gives setup node floor js now stop in
+    record {
+      calls = x.calls;
+      sent = [];
+      legal = x.legal;
+      brought = λ c k. inr (subst (λ e. Contains (floor_in node e) c) (sym event_is) (in_floor setup node floor stop c (elim x.brought [
+        | inl none ↦ absurd (not_in_empty c (subst (λ xs. Contains xs c) none k))
+        | inr one ↦ subst (λ xs. Contains xs c) one k
+      ])));
+      sends = x.sends ∙ sym (append-nil m.sent);
+      votes = subst (λ cs. AreSent cs []) (sym (calls_is ∙ ap (λ (d : Did). d.out.calls) same)) x.votes;
+      at = subst (λ d. IsAt setup node (going_on (engine_at setup node floor js) (d ∷ [])) (run m x.calls)) (sym same)
+        (start_leaves setup node floor js now stop (run m x.calls) (given_start setup node floor js now stop).outcome refl x.left);
+    }
+
+-- ---- events that the voter does not see
+
+pub place_same : (made : EngineMade) (did : Did) (past : List Did) → given_to_voter did ≡ None → is_start did.taken ≡ false
+    → (voter_in made (did ∷ past) ≡ voter_in made past) × (voter_past (did ∷ past) ≡ voter_past past)
+unfolding started_at voter_past
+place_same made did past e f =
+    (ap (λ b. made.voter (if b then did.now else started_at past)) f, filter_none did past e)
+  where
+    filter_none : (did : Did) (past : List Did) → given_to_voter did ≡ None → filter_map given_to_voter (did ∷ past) ≡ filter_map given_to_voter past
+    filter_none did past e = grind (arith, common_steps, e)
+
+quiet_at : (setup : Setup) (node : Node) (made : EngineMade) (did : Did) (past : List Did) (m : Member) → given_to_voter did ≡ None → is_start did.taken ≡ false
+    → IsAt setup node (Running made past) m → IsAt setup node (Running made (did ∷ past)) m
+unfolding IsAt
+quiet_at setup node made did past m e f a =
+    let p = place_same made did past e f in
+    (a.0, subst (λ v. IsRunning v.rules (place_of v (voter_past (did ∷ past))).standing.desk.known (place_of v (voter_past (did ∷ past))).sections m) (sym p.0)
+      (subst (λ given. IsRunning (voter_in made past).rules (place_of (voter_in made past) given).standing.desk.known (place_of (voter_in made past) given).sections m) (sym p.1) a.1))
+
+none_left : {X : Type 0} (xs ys : List X) → xs ++ ys ≡ [] → (xs ≡ []) × (ys ≡ [])
+none_left [] ys e = (refl, e)
+none_left (x ∷ xs) ys e = cc
+
+map_none : {A B : Type 0} (f : A → B) (xs : List A) → map f xs ≡ [] → xs ≡ []
+map_none f [] e = refl
+map_none f (x ∷ xs) e = cc
+
+at_rest : (js : List Section) → kept.waiting (journal_of js) ≡ [] → journal.waiting js ≡ []
+unfolding journal_of journal.waiting
+at_rest [] e = refl
+at_rest (s ∷ rest) e =
+    let p = none_left (map memory_of s.pending) (kept.waiting (map section_of rest)) e in
+    ap (λ xs. xs ++ journal.waiting rest) (map_none memory_of s.pending p.0) ∙ at_rest rest p.1
+
+-- a member that stops between two steps keeps its journal
+pub rest_stopped : (made : Made) (facts : List Fact) (js : List Section) (m : Member) → IsRunning made facts js m → IsStopped made js (happens m (life.Crash (λ view. 0)))
+rest_stopped made facts js m r =
+    subst (λ x. IsStopped made x (happens m (life.Crash (λ view. 0)))) (crashed-rested 0 js (at_rest js (ap kept.waiting (sym r.journal) ∙ r.stored)))
+      (crash_lived made 0 facts js m r)
+
+quiet_stopped : (setup : Setup) (node : Node) (made : EngineMade) (did : Did) (past : List Did) (m : Member) → given_to_voter did ≡ None → is_start did.taken ≡ false
+    → IsAt setup node (Running made past) m → IsAt setup node (Stopped (sections_of made (did ∷ past))) (happens m (life.Crash (λ view. 0)))
+unfolding IsAt sections_of
+quiet_stopped setup node made did past m e f a =
+    let p = place_same made did past e f in
+    let place = place_of (voter_in made past) (voter_past past) in
+    let stopped : IsStopped (rules_of setup node.member (started_at past)) place.sections (happens m (life.Crash (λ view. 0))) =
+      subst (λ r. IsStopped r place.sections (happens m (life.Crash (λ view. 0)))) (a.0 (started_at past)) (rest_stopped (voter_in made past).rules place.standing.desk.known place.sections m a.1) in
+    subst (λ v. IsStopped (rules_of setup node.member 0) (place_of v (voter_past (did ∷ past))).sections (happens m (life.Crash (λ view. 0)))) (sym p.0)
+      (subst (λ given. IsStopped (rules_of setup node.member 0) (place_of (voter_in made past) given).sections (happens m (life.Crash (λ view. 0)))) (sym p.1)
+        (stopped_any setup node.member (started_at past) 0 place.sections (happens m (life.Crash (λ view. 0))) stopped))
+
+-- the member does nothing, or stops
+quiet_on : (setup : Setup) (node : Node) (noted : Noted) (later : Life) (m : Member) → AllPlain noted.entry.calls → IsAt setup node later m → Further setup noted node later m
+quiet_on setup node noted later m plain a =
+    record {
+      calls = [];
+      sent = [];
+      legal = tt;
+      brought = λ c k. absurd (not_in_empty c k);
+      sends = sym (append-nil m.sent);
+      votes = none_sent noted.entry.calls (plain_voteless noted.entry.calls plain);
+      at = a;
+    }
+
+quiet_off : (setup : Setup) (node : Node) (noted : Noted) (later : Life) (m : Member) → AllPlain noted.entry.calls → IsAt setup node later (happens m (life.Crash (λ view. 0)))
+    → Further setup noted node later m
+quiet_off setup node noted later m plain a =
+    record {
+      calls = life.Crash (λ view. 0) ∷ [];
+      sent = [];
+      legal = (tt, tt);
+      brought = λ c k. absurd (not_in_empty c k);
+      sends = sym (append-nil m.sent);
+      votes = none_sent noted.entry.calls (plain_voteless noted.entry.calls plain);
+      at = a;
+    }
+
+plain_take : (n : ℕ) (xs : List Call) → AllPlain xs → AllPlain (take n xs)
+plain_take zero xs p = tt
+plain_take (suc n) [] p = tt
+plain_take (suc n) (x ∷ xs) p = (p.0, plain_take n xs p.1)
+
+-- where the engine is behind something that its voter does not see
+abbrev pub IsUnseen : Taken → Type 0
+IsUnseen taken = ((now : ℕ) (stop : Stop) (outcome : Outcome) (out : StepOut) → given_to_voter (did_of taken now stop outcome out) ≡ None) × (is_start taken ≡ false)
+
+unseen_further : (setup : Setup) (node : Node) (made : EngineMade) (past : List Did) (m : Member) (noted : Noted) (taken : Taken) (now : ℕ) (stop : Stop) (o : Outcome) (out : StepOut)
+    → IsUnseen taken → AllPlain out.calls → noted.entry.calls ≡ out.calls → IsAt setup node (Running made past) m
+    → Further setup noted node (going_on made (did_of taken now stop o out ∷ past)) m
+unfolding runs
+unseen_further setup node made past m noted taken now stop outcomes.Done out u plain same a =
+    quiet_on setup node noted _ m (subst AllPlain (sym same) plain) (quiet_at setup node made (did_of taken now stop outcomes.Done out) past m (u.0 now stop outcomes.Done out) u.1 a)
+unseen_further setup node made past m noted taken now stop outcomes.Idle out u plain same a =
+    quiet_on setup node noted _ m (subst AllPlain (sym same) plain) (quiet_at setup node made (did_of taken now stop outcomes.Idle out) past m (u.0 now stop outcomes.Idle out) u.1 a)
+unseen_further setup node made past m noted taken now stop outcomes.Journal out u plain same a =
+    quiet_off setup node noted _ m (subst AllPlain (sym same) plain) (quiet_stopped setup node made (did_of taken now stop outcomes.Journal out) past m (u.0 now stop outcomes.Journal out) u.1 a)
+unseen_further setup node made past m noted taken now stop outcomes.Cut out u plain same a =
+    quiet_off setup node noted _ m (subst AllPlain (sym same) plain) (quiet_stopped setup node made (did_of taken now stop outcomes.Cut out) past m (u.0 now stop outcomes.Cut out) u.1 a)
+
+-- what a batcher did
+cut_plain : (stop : Stop) (out : StepOut) → AllPlain out.calls → AllPlain (cut_short stop out).1.calls
+cut_plain stops.None out p = p
+cut_plain (stops.Fail call keep) out p = p
+cut_plain (stops.Cut call keep) out p = at (nat_lt 0 call && nat_le call (length out.calls))
+  where
+    pair : Bool → Outcome × StepOut
+    pair b = if b then (outcomes.Cut, record no_out { calls = take (call - 1) out.calls }) else (outcomes.Done, out)
+    at : (b : Bool) → AllPlain (pair b).1.calls
+    at true = plain_take (call - 1) out.calls p
+    at false = p
+
+pub batcher_further : (setup : Setup) (node : Node) (made : EngineMade) (past : List Did) (m : Member) (noted : Noted) (taken : Taken) (input : BatcherInput) (now : ℕ) (stop : Stop)
+    → IsUnseen taken → noted.entry.calls ≡ (by_batcher made past taken input now stop).out.calls → IsAt setup node (Running made past) m
+    → Further setup noted node (going_on made (by_batcher made past taken input now stop ∷ past)) m
+unfolding by_batcher
+batcher_further setup node made past m noted taken input now stop u same a =
+    let given : batcher.Timed = record { input = input; now = now } in
+    let out = batcher.step_out made.batcher (engine.batcher_past past) given in
+    let cut = cut_short stop out in
+    unseen_further setup node made past m noted taken now stop cut.0 cut.1 u (cut_plain stop out (batcher_plain made.batcher (engine.batcher_past past) given)) same a
+
+pub nothing_further : (setup : Setup) (node : Node) (made : EngineMade) (past : List Did) (m : Member) (noted : Noted) (taken : Taken) (now : ℕ) (stop : Stop) (o : Outcome)
+    → IsUnseen taken → noted.entry.calls ≡ [] → IsAt setup node (Running made past) m → Further setup noted node (going_on made (did_of taken now stop o no_out ∷ past)) m
+nothing_further setup node made past m noted taken now stop o u same a = unseen_further setup node made past m noted taken now stop o no_out u tt same a
+
+-- ---- a step of the voter
+
+-- where the node is behind a step that was made so
+step_leaves : (setup : Setup) (node : Node) (made : EngineMade) (past : List Did) (did : Did) (place : Place) (input : VoterInput) (now : ℕ) (stop : Stop) (d : Doing) (m : Member) (o : Outcome)
+    → ((start : ℕ) → (made.voter start).rules ≡ rules_of setup node.member start)
+    → place_of (voter_in made (did ∷ past)) (voter_past (did ∷ past)) ≡ place → voter_in made (did ∷ past) ≡ voter_in made past
+    → (performed stop d (place_of (voter_in made past) (voter_past past)).sections).outcome ≡ o
+    → place.standing.desk.known ≡ d.desk.known → place.sections ≡ (performed stop d (place_of (voter_in made past) (voter_past past)).sections).sections
+    → IsLeft (voter_in made past).rules d.desk.known o (performed stop d (place_of (voter_in made past) (voter_past past)).sections).sections m
+    → IsAt setup node (if is_whole o then Running made (did ∷ past) else Stopped (sections_of made (did ∷ past))) m
+unfolding IsAt sections_of
+step_leaves setup node made past did place input now stop d m outcomes.Done rules at same e known sections l =
+    (rules,
+      subst (λ (v : VoterMade). IsRunning v.rules (place_of (voter_in made (did ∷ past)) (voter_past (did ∷ past))).standing.desk.known (place_of (voter_in made (did ∷ past)) (voter_past (did ∷ past))).sections m) (sym same)
+        (subst (λ (p : Place). IsRunning (voter_in made past).rules p.standing.desk.known p.sections m) (sym at)
+          (subst (λ k. IsRunning (voter_in made past).rules k place.sections m) (sym known)
+            (subst (λ x. IsRunning (voter_in made past).rules d.desk.known x m) (sym sections) l))))
+step_leaves setup node made past did place input now stop d m outcomes.Idle rules at same e known sections l = absurd (never_idle stop d (place_of (voter_in made past) (voter_past past)).sections e)
+step_leaves setup node made past did place input now stop d m outcomes.Journal rules at same e known sections l =
+    let js = (performed stop d (place_of (voter_in made past) (voter_past past)).sections).sections in
+    subst (λ (p : Place). IsStopped (rules_of setup node.member 0) p.sections m) (sym at)
+      (subst (λ x. IsStopped (rules_of setup node.member 0) x m) (sym sections)
+        (stopped_any setup node.member (started_at past) 0 js m (subst (λ r. IsStopped r js m) (rules (started_at past)) l)))
+step_leaves setup node made past did place input now stop d m outcomes.Cut rules at same e known sections l =
+    let js = (performed stop d (place_of (voter_in made past) (voter_past past)).sections).sections in
+    subst (λ (p : Place). IsStopped (rules_of setup node.member 0) p.sections m) (sym at)
+      (subst (λ x. IsStopped (rules_of setup node.member 0) x m) (sym sections)
+        (stopped_any setup node.member (started_at past) 0 js m (subst (λ r. IsStopped r js m) (rules (started_at past)) l)))
+
+-- the voter was given this step
+abbrev pub IsStep : Taken → VoterInput → Type 0
+IsStep taken input = ((now : ℕ) (stop : Stop) (outcome : Outcome) (out : StepOut) → given_to_voter (did_of taken now stop outcome out) ≡ Some (Stepped input now stop)) × (is_start taken ≡ false)
+
+pub place_then : (made : EngineMade) (did : Did) (past : List Did) (given : Given) → given_to_voter did ≡ Some given → is_start did.taken ≡ false
+    → (voter_in made (did ∷ past) ≡ voter_in made past) × (voter_past (did ∷ past) ≡ given ∷ voter_past past)
+unfolding started_at voter_past
+place_then made did past given e f = (ap (λ b. made.voter (if b then did.now else started_at past)) f, filter_some did past given e)
+  where
+    filter_some : (did : Did) (past : List Did) (given : Given) → given_to_voter did ≡ Some given → filter_map given_to_voter (did ∷ past) ≡ given ∷ filter_map given_to_voter past
+    filter_some did past given e = grind (arith, common_steps, e)
+
+step_place : (made : VoterMade) (given : List Given) (input : VoterInput) (now : ℕ) (stop : Stop) (d : Doing) → voter.stepped made.rules now (place_of made given).standing input ≡ Some d
+    → place_of made (Stepped input now stop ∷ given) ≡ record { standing = rest d (place_of made given).standing.answers; sections = (performed stop d (place_of made given).sections).sections }
+unfolding place_of
+step_place made given input now stop d e =
+    ap (λ o. option_map_or (λ doing. record { standing = rest doing (place_of made given).standing.answers; sections = (performed stop doing (place_of made given).sections).sections }) o (place_of made given)) e
+
+idle_place : (made : VoterMade) (given : List Given) (input : VoterInput) (now : ℕ) (stop : Stop) → voter.stepped made.rules now (place_of made given).standing input ≡ None
+    → place_of made (Stepped input now stop ∷ given) ≡ place_of made given
+unfolding place_of
+idle_place made given input now stop e =
+    ap (λ o. option_map_or (λ doing. record { standing = rest doing (place_of made given).standing.answers; sections = (performed stop doing (place_of made given).sections).sections }) o (place_of made given)) e
+
+step_gives : (made : VoterMade) (given : List Given) (input : VoterInput) (now : ℕ) (stop : Stop) (o : Option Doing) → voter.stepped made.rules now (place_of made given).standing input ≡ o
+    → step_given made given input now stop ≡ option_map_or (λ doing. performed stop doing (place_of made given).sections) o (idle (place_of made given).sections)
+unfolding step_given
+step_gives made given input now stop o e = ap (λ o. option_map_or (λ doing. performed stop doing (place_of made given).sections) o (idle (place_of made given).sections)) e
+
+same_place : (setup : Setup) (node : Node) (made : EngineMade) (did : Did) (past : List Did) (m : Member) → voter_in made (did ∷ past) ≡ voter_in made past
+    → place_of (voter_in made (did ∷ past)) (voter_past (did ∷ past)) ≡ place_of (voter_in made past) (voter_past past)
+    → IsAt setup node (Running made past) m → IsAt setup node (Running made (did ∷ past)) m
+unfolding IsAt
+same_place setup node made did past m v p a =
+    (a.0, subst (λ (w : VoterMade). IsRunning w.rules (place_of (voter_in made (did ∷ past)) (voter_past (did ∷ past))).standing.desk.known (place_of (voter_in made (did ∷ past)) (voter_past (did ∷ past))).sections m) (sym v)
+      (subst (λ (q : Place). IsRunning (voter_in made past).rules q.standing.desk.known q.sections m) (sym p) a.1))
+
+voter_idles : (setup : Setup) (node : Node) (made : EngineMade) (past : List Did) (m : Member) (noted : Noted) (taken : Taken) (input : VoterInput) (now : ℕ) (stop : Stop)
+    → IsStep taken input → voter.stepped (voter_in made past).rules now (place_of (voter_in made past) (voter_past past)).standing input ≡ None → noted.entry.calls ≡ []
+    → IsAt setup node (Running made past) m → Further setup noted node (going_on made (did_of taken now stop outcomes.Idle no_out ∷ past)) m
+unfolding runs
+voter_idles setup node made past m noted taken input now stop step e same a =
+    let did = did_of taken now stop outcomes.Idle no_out in
+    let p = place_then made did past (Stepped input now stop) (step.0 now stop outcomes.Idle no_out) step.1 in
+    quiet_on setup node noted (Running made (did ∷ past)) m (subst AllPlain (sym same) tt)
+      (same_place setup node made did past m p.0
+        (ap (λ v. place_of v (voter_past (did ∷ past))) p.0 ∙ ap (place_of (voter_in made past)) p.1 ∙ idle_place (voter_in made past) (voter_past past) input now stop e) a)
+
+voter_steps : (setup : Setup) (node : Node) (made : EngineMade) (past : List Did) (m : Member) (noted : Noted) (taken : Taken) (input : VoterInput) (now : ℕ) (stop : Stop) (d : Doing)
+    → IsStep taken input → current_of (voter_in made past).rules (place_of (voter_in made past) (voter_past past)).standing.desk.known < greatest_view
+    → voter.stepped (voter_in made past).rules now (place_of (voter_in made past) (voter_past past)).standing input ≡ Some d
+    → noted.entry.calls ≡ (performed stop d (place_of (voter_in made past) (voter_past past)).sections).out.calls
+    → IsAt setup node (Running made past) m
+    → Further setup noted node (going_on made (by_voter taken now stop (performed stop d (place_of (voter_in made past) (voter_past past)).sections) ∷ past)) m
+unfolding IsAt runs rules_of
+voter_steps setup node made past m noted taken input now stop d step low e same a =
+    let v = voter_in made past in
+    let place = place_of v (voter_past past) in
+    let given = performed stop d place.sections in
+    let did = by_voter taken now stop given in
+    let p = place_then made did past (Stepped input now stop) (step.0 now stop given.outcome given.out) step.1 in
+    let x = step_lived v.rules now input stop place.standing place.sections d m low a.1 e in
+    let later : Place = record { standing = rest d place.standing.answers; sections = given.sections } in
+    record {
+      calls = x.calls;
+      sent = x.sent;
+      legal = subst (λ (r : Made). IsLegal r.term_length m x.calls) (a.0 (started_at past)) x.legal;
+      brought = λ c k. inl (subst (λ cs. Contains (conduct.taken cs) c) (sym same) (subst (λ xs. Contains xs c) x.brought k));
+      sends = x.sends;
+      votes = subst (λ cs. AreSent cs (subjects_of x.sent)) (sym same) x.votes;
+      at = step_leaves setup node made past did later input now stop d (run m x.calls) given.outcome a.0
+        (ap (λ w. place_of w (voter_past (did ∷ past))) p.0 ∙ ap (place_of v) p.1 ∙ step_place v (voter_past past) input now stop d e) p.0 refl refl refl x.left;
+    }
+
+pub voter_further : (setup : Setup) (node : Node) (made : EngineMade) (past : List Did) (m : Member) (noted : Noted) (taken : Taken) (input : VoterInput) (now : ℕ) (stop : Stop)
+    → IsStep taken input → current_of (voter_in made past).rules (place_of (voter_in made past) (voter_past past)).standing.desk.known < greatest_view
+    → noted.entry.calls ≡ (by_voter taken now stop (step_given (voter_in made past) (voter_past past) input now stop)).out.calls
+    → IsAt setup node (Running made past) m
+    → Further setup noted node (going_on made (by_voter taken now stop (step_given (voter_in made past) (voter_past past) input now stop) ∷ past)) m
+voter_further setup node made past m noted taken input now stop step low same a =
+    at (voter.stepped (voter_in made past).rules now (place_of (voter_in made past) (voter_past past)).standing input) refl
+  where
+    at : (o : Option Doing) → voter.stepped (voter_in made past).rules now (place_of (voter_in made past) (voter_past past)).standing input ≡ o
+        → Further setup noted node (going_on made (by_voter taken now stop (step_given (voter_in made past) (voter_past past) input now stop) ∷ past)) m
+    at None e =
+        let g = step_gives (voter_in made past) (voter_past past) input now stop None e in
+        subst (λ x. Further setup noted node (going_on made (by_voter taken now stop x ∷ past)) m) (sym g)
+          (voter_idles setup node made past m noted taken input now stop step e (same ∙ ap (λ (x : Performed). x.out.calls) g) a)
+    at (Some d) e =
+        let g = step_gives (voter_in made past) (voter_past past) input now stop (Some d) e in
+        subst (λ x. Further setup noted node (going_on made (by_voter taken now stop x ∷ past)) m) (sym g)
+          (voter_steps setup node made past m noted taken input now stop d step low e (same ∙ ap (λ (x : Performed). x.out.calls) g) a)
+
+-- ---- an answer
+
+answered_known : (number : ℕ) (answer : Answer) (s : voter.Standing) → (voter.answered number answer s).desk.known ≡ s.desk.known
+unfolding voter.answered
+answered_known number answer s = at (voter.takes_answer s number answer)
+  where
+    at : (b : Bool) → (if b
+        then record {
+          desk = record s.desk { proposal = option_map (voter.marked_answered number) s.desk.proposal };
+          answers = s.answers ++ (number, answer) ∷ [];
+        }
+        else s).desk.known ≡ s.desk.known
+    at true = refl
+    at false = refl
+
+answered_at : (setup : Setup) (node : Node) (made : EngineMade) (did : Did) (past : List Did) (number : ℕ) (answer : Answer) (m : Member) → given_to_voter did ≡ Some (Answered number answer)
+    → is_start did.taken ≡ false → IsAt setup node (Running made past) m → IsAt setup node (Running made (did ∷ past)) m
+unfolding IsAt place_of
+answered_at setup node made did past number answer m e f a =
+    let p = place_then made did past (Answered number answer) e f in
+    let place = place_of (voter_in made past) (voter_past past) in
+    (a.0, subst (λ v. IsRunning v.rules (place_of v (voter_past (did ∷ past))).standing.desk.known (place_of v (voter_past (did ∷ past))).sections m) (sym p.0)
+      (subst (λ given. IsRunning (voter_in made past).rules (place_of (voter_in made past) given).standing.desk.known (place_of (voter_in made past) given).sections m) (sym p.1)
+        (subst (λ k. IsRunning (voter_in made past).rules k place.sections m) (sym (answered_known number answer place.standing)) a.1)))
+
+pub answer_further : (setup : Setup) (node : Node) (made : EngineMade) (past : List Did) (m : Member) (noted : Noted) (number : ℕ) (answer : Answer) (now : ℕ)
+    → noted.entry.calls ≡ [] → IsAt setup node (Running made past) m → Further setup noted node (going_on made (engine.replied number answer now ∷ past)) m
+unfolding runs
+answer_further setup node made past m noted number answer now same a =
+    quiet_on setup node noted (Running made (engine.replied number answer now ∷ past)) m (subst AllPlain (sym same) tt)
+      (answered_at setup node made (engine.replied number answer now) past number answer m refl refl a)
+
+-- ---- a crash
+
+pub crash_further : (setup : Setup) (node : Node) (made : EngineMade) (past : List Did) (m : Member) (noted : Noted) → noted.entry.calls ≡ [] → IsAt setup node (Running made past) m
+    → Further setup noted node (Stopped (crashed 0 (sections_of made past))) m
+unfolding IsAt sections_of
+crash_further setup node made past m noted same a =
+    let place = place_of (voter_in made past) (voter_past past) in
+    let after = happens m (life.Crash (λ view. 0)) in
+    quiet_off setup node noted (Stopped (crashed 0 place.sections)) m (subst AllPlain (sym same) tt)
+      (stopped_any setup node.member (started_at past) 0 (crashed 0 place.sections) after
+        (subst (λ r. IsStopped r (crashed 0 place.sections) after) (a.0 (started_at past)) (crash_lived (voter_in made past).rules 0 place.standing.desk.known place.sections m a.1)))
