@@ -1,12 +1,11 @@
 -- What a step does with what it takes, before its end.
-use Rattle.std.proofs.Common.{◌≡◌, ℕ, ◌+◌, ◌<◌, ◌≤◌, ◌==◌, ◌&&◌, not, Bool, true, false, List, [], ◌∷◌, ◌++◌, Contains, Option, Some, None, find, refl, sym, ap, ◌∙◌, subst, inl, inr, arith, append-nil, append_assoc, eqb-true, if◌then◌else◌}
-use Rattle.std.specs.Option.{is_some, is_none, option_map, option_map_or, option_and_then}
+use Rattle.std.proofs.Common.{◌≡◌, ℕ, ◌<◌, not, Bool, true, false, List, [], ◌∷◌, ◌++◌, Contains, Option, Some, None, refl, sym, ap, ◌∙◌, subst, inl, inr, arith, append_assoc, eqb-true, if◌then◌else◌}
+use Rattle.std.specs.Option.{is_some, option_map_or}
 use Rattle.std.proofs.lemmas.Grind.{common_steps}
 use Rattle.simplex_values.specs.declared.answer.Answer.{Answer}
 use Rattle.simplex_values.specs.declared.answer.Answer.TheVariants as answers
 use Rattle.simplex_values.specs.declared.answer.Handoff.TheVariants as handoffs
 use Rattle.simplex_values.specs.declared.plan.Plan.TheVariants as plans
-use Rattle.simplex_values.specs.declared.proposal.Subject.{Subject}
 use Rattle.simplex_values.specs.declared.proposal.Subject.TheVariants as subjects
 use Rattle.simplex_values.specs.declared.round.Round.{Round}
 use Rattle.simplex_values.specs.declared.timeout.TimeoutReason.TheVariants.{LeaderTimeout, MissingProposal, IgnoredProposal, InvalidProposal, FailedCertification}
@@ -20,39 +19,35 @@ use Rattle.simplex_wire.specs.declared.certificate.Notarization.{Notarization}
 use Rattle.simplex_wire.specs.declared.artifact.Artifact.TheVariants as artifacts
 use Rattle.simplex_wire.specs.Fields.{artifact_round}
 use Rattle.simplex_rules.specs.declared.request.ProposalState.{ProposalState}
-use Rattle.simplex_rules.specs.declared.request.ProposalState.TheVariants.{Preparing, Proposing, Waiting, Held, Closed}
+use Rattle.simplex_rules.specs.declared.request.ProposalState.TheVariants.{Preparing, Waiting, Held, Closed}
 use Rattle.simplex_rules.specs.Known.{Made, Fact, Added, Judged, Voted, Published, view_of, notarization_of, is_nullify_in, has_nullified}
 use Rattle.simplex_rules.specs.Views.{current_of, admits_certificate}
-use Rattle.simplex_rules.specs.Slot.{records_proposal, records_answer}
+use Rattle.simplex_rules.specs.Slot.{records_answer}
 use Rattle.simplex_rules.specs.Ancestry.{is_certified}
 use Rattle.simplex_rules.specs.Votes.{nullify_at, signed_nullify}
-use Rattle.simplex_rules.specs.Deadline.{deadline_of, triggered}
+use Rattle.simplex_rules.specs.Deadline.{triggered}
 use Rattle.simplex_rules.specs.Best.{best_certificate}
 use Rattle.simplex_rules.specs.Calls as state
 use Rattle.simplex_rules.specs.Calls.{facts_of, adds_notarization, adds_nullification, adds_finalization, replay_answer, takes_verdict, certified_answer, judged, nullify_facts, only_if}
-use Rattle.simplex_rules.specs.Pending.{Desk, Pending, Opened, is_open, pending_view, pending_parent}
-use Rattle.simplex_rules.proofs.Soundness.{first_of-each}
+use Rattle.simplex_rules.specs.Pending.{Desk, Pending, Opened, pending_view, pending_parent}
 use Rattle.simplex_messages.specs.declared.call.Call.{Call}
 use Rattle.simplex_messages.specs.declared.call.Call.TheVariants as calls
 use Rattle.simplex_messages.specs.declared.handed.Handed.TheVariants as handed
 use Rattle.simplex_messages.specs.declared.resolver.MailboxMessage.TheVariants as resolver
 use Rattle.simplex_messages.specs.declared.voter.Message.{Message}
 use Rattle.simplex_messages.specs.declared.voter.Message.TheVariants as mail
-use Rattle.simplex_messages.specs.declared.voter.VoterInput.{VoterInput}
-use Rattle.simplex_messages.specs.declared.voter.VoterInput.TheVariants as inputs
 use Rattle.simplex_steps.specs.Desk.{Doing, begun, tell, make, hand, append}
-use Rattle.simplex_steps.specs.Voter.{Standing, answer_to, settle_proposal, proposal_stands, propose, stage, give_up, act_on_deadline, act_on_proposal, act_on_verify, settle_certify, take_verdict, act_on_certify, record_of, adds, adding, block_for, certificate_view, act_on_certificate, act_on_mail, take_proposal, with_answer, first_answered, acted}
+use Rattle.simplex_steps.specs.Voter.{settle_proposal, proposal_stands, propose, stage, give_up, act_on_deadline, act_on_proposal, act_on_verify, settle_certify, take_verdict, act_on_certify, record_of, adds, adding, block_for, certificate_view, act_on_certificate, act_on_mail}
 use Rattle.simplex_lives.specs.Artifacts as member
 use Rattle.simplex_lives.specs.Member as life
 use Rattle.simplex_lives.specs.Member.{Member, run, IsLegal}
-use Rattle.simplex_lives.specs.Journal as kept
 use Rattle.simplex_journal.specs.Journal.{Section}
-use Rattle.simplex_conduct.specs.Life.{statement_of, memory_of, noted, remembered, IsInOrder, IsRunning}
+use Rattle.simplex_conduct.specs.Life.{statement_of, memory_of, remembered, IsInOrder, IsRunning}
 use Rattle.simplex_conduct.proofs.Remembering.{in_memory, one_passes}
 use Rattle.simplex_conduct.proofs.Voting.{may_nullify, taken_is, notarization_view_of}
-use Rattle.simplex_conduct.proofs.Facts.{SameMemory, told_quiet, IsQuiet, Quiet, Quiet-triggered, quiet_memory, quiet_order, one_more}
-use Rattle.simplex_conduct.proofs.Living.{behind, doings, subjects_of}
-use Rattle.simplex_conduct.proofs.Simulating.{Sim, Writes, Stores, IsPlain, nothing_first, only_from, writes_known, writes_plain, writes_note}
+use Rattle.simplex_conduct.proofs.Facts.{told_quiet, IsQuiet, Quiet, Quiet-triggered, quiet_memory, quiet_order, one_more}
+use Rattle.simplex_conduct.proofs.Living.{subjects_of}
+use Rattle.simplex_conduct.proofs.Simulating.{Writes, Stores, IsPlain, nothing_first, only_from, writes_known, writes_plain, writes_note}
 use Rattle.simplex_conduct.proofs.Publishing.{Writing, Storing, nullify_waiting, remembered_push}
 
 -- ---- a step that wrote nothing yet
@@ -116,8 +111,8 @@ propose_touches made m p payload d b = at (records_answer made d.desk.known (pen
         Touched made m (if t then (make (calls.Relay payload (plans.Propose p.context.round)) told, Some (pending_view p)) else (told, None)))
     at true =
         touched_at made m (make (calls.Relay payload (plans.Propose p.context.round)) (settle_proposal (tell made (state.Proposed p.context payload) d))) (pending_view p)
-          (begun_make made m (settle_proposal (tell made (state.Proposed p.context payload) d)) (calls.Relay payload (plans.Propose p.context.round)) tt
-            (begun_tell made m d (state.Proposed p.context payload) tt b))
+        (begun_make made m (settle_proposal (tell made (state.Proposed p.context payload) d)) (calls.Relay payload (plans.Propose p.context.round)) tt
+        (begun_tell made m d (state.Proposed p.context payload) tt b))
     at false = untouched made m (settle_proposal (tell made (state.Proposed p.context payload) d)) (begun_tell made m d (state.Proposed p.context payload) tt b)
 
 stage_touches : (made : Made) (m : Member) (p : Pending) (payload : List ℕ) (d : Doing) → Begun made m d → Touched made m (stage made p payload d)
@@ -129,14 +124,14 @@ stage_touches made m p payload d b = at (is_certified d.desk.known (pending_pare
     at true = propose_touches made m p payload d b
     at false =
         untouched made m (proposal_stands p (Held payload) (make (calls.Relay payload (plans.Prepare p.context.round)) d))
-          (begun_make made m d (calls.Relay payload (plans.Prepare p.context.round)) tt b)
+        (begun_make made m d (calls.Relay payload (plans.Prepare p.context.round)) tt b)
 
 give_up_touches : (made : Made) (m : Member) (now : ℕ) (p : Pending) (at : ProposalState) (d : Doing) → Begun made m d → Touched made m (give_up made now p at d)
 unfolding give_up
 give_up_touches made m now p Preparing d b = untouched made m (proposal_stands p Closed d) b
 give_up_touches made m now p _ d b =
     untouched made m (settle_proposal (tell made (state.TriggerTimeout (pending_view p) MissingProposal now) d))
-      (begun_tell made m d (state.TriggerTimeout (pending_view p) MissingProposal now) tt b)
+    (begun_tell made m d (state.TriggerTimeout (pending_view p) MissingProposal now) tt b)
 
 pub proposal_touches : (made : Made) (m : Member) (now : ℕ) (p : Pending) (answer : Answer) (d : Doing) → Begun made m d → Touched made m (act_on_proposal made now p answer d)
 unfolding act_on_proposal
@@ -151,13 +146,13 @@ pub verify_touches : (made : Made) (m : Member) (now : ℕ) (v : Opened) (answer
 unfolding act_on_verify
 verify_touches made m now v (answers.Verdict true) d b =
     touched_at made m (tell made (state.Verified v.view) (record d { desk = record d.desk { verify = None } })) v.view
-      (begun_tell made m (record d { desk = record d.desk { verify = None } }) (state.Verified v.view) tt b)
+    (begun_tell made m (record d { desk = record d.desk { verify = None } }) (state.Verified v.view) tt b)
 verify_touches made m now v (answers.Verdict false) d b =
     touched_at made m (tell made (state.VerificationFailed v.view InvalidProposal now) (record d { desk = record d.desk { verify = None } })) v.view
-      (begun_tell made m (record d { desk = record d.desk { verify = None } }) (state.VerificationFailed v.view InvalidProposal now) tt b)
+    (begun_tell made m (record d { desk = record d.desk { verify = None } }) (state.VerificationFailed v.view InvalidProposal now) tt b)
 verify_touches made m now v _ d b =
     touched_at made m (tell made (state.VerificationFailed v.view IgnoredProposal now) (record d { desk = record d.desk { verify = None } })) v.view
-      (begun_tell made m (record d { desk = record d.desk { verify = None } }) (state.VerificationFailed v.view IgnoredProposal now) tt b)
+    (begun_tell made m (record d { desk = record d.desk { verify = None } }) (state.VerificationFailed v.view IgnoredProposal now) tt b)
 
 -- ---- a verdict
 
@@ -205,14 +200,14 @@ certify_taken made m now number view good d n b e known_n =
     let fact = Judged view good now in
     let later = facts_of made known (state.Certified view good now) ++ known in
     let same : later ≡ extra ++ (fact ∷ known) =
-      ap (λ xs. xs ++ known) (certified_facts made known view good now ∙ judged_taken made known view good now e) ∙ append_assoc extra (fact ∷ []) known in
+    ap (λ xs. xs ++ known) (certified_facts made known view good now ∙ judged_taken made known view good now e) ∙ append_assoc extra (fact ∷ []) known in
     let memory : remembered later ≡ remembered known ++ member.Judged (view_of n.proposal) good ∷ [] =
-      ap remembered same ∙ quiet_memory extra (fact ∷ known) quiet ∙ remembered_push fact known ∙ ap (λ v. remembered known ++ member.Judged v good ∷ []) (sym here) in
+    ap remembered same ∙ quiet_memory extra (fact ∷ known) quiet ∙ remembered_push fact known ∙ ap (λ v. remembered known ++ member.Judged v good ∷ []) (sym here) in
     let order : IsInOrder made later =
-      subst (IsInOrder made) (sym same) (quiet_order made extra (fact ∷ known) quiet (one_more made known fact (taken_has known view e) (b.writes view).sim.order)) in
+    subst (IsInOrder made) (sym same) (quiet_order made extra (fact ∷ known) quiet (one_more made known fact (taken_has known view e) (b.writes view).sim.order)) in
     subst (λ o. Writes made m view (d.calls ++ calls.Append (view_of n.proposal) (artifacts.Certification n.proposal.round good) ∷ []) true later (nullify_waiting o)) (sym b.none)
-      (writes_note made m view d.calls d.wrote known later [] (view_of n.proposal) (artifacts.Certification n.proposal.round good) (b.writes view) here
-        (taken_is known (view_of n.proposal) good ∙ ap (takes_verdict known) here ∙ e) memory order refl)
+    (writes_note made m view d.calls d.wrote known later [] (view_of n.proposal) (artifacts.Certification n.proposal.round good) (b.writes view) here
+    (taken_is known (view_of n.proposal) good ∙ ap (takes_verdict known) here ∙ e) memory order refl)
 
 pub certify_touches : (made : Made) (m : Member) (now : ℕ) (number view : ℕ) (good : Bool) (d : Doing) → Begun made m d
     → Touched made m (take_verdict made view good (certified_answer d.desk.known view) (tell made (state.Certified view good now) (settle_certify number d)))
@@ -223,13 +218,13 @@ certify_touches made m now number view good d b = at (takes_verdict d.desk.known
     at true e =
         let n = some_notarization (notarization_of d.desk.known view) (taken_has d.desk.known view e) in
         subst (λ o. Touched made m (take_verdict made view good o (tell made (state.Certified view good now) (settle_certify number d))))
-          (sym (answered_taken d.desk.known view e ∙ n.1))
-          (certify_taken made m now number view good d n.0 b e n.1)
+        (sym (answered_taken d.desk.known view e ∙ n.1))
+        (certify_taken made m now number view good d n.0 b e n.1)
     at false e =
         subst (λ o. Touched made m (take_verdict made view good o (tell made (state.Certified view good now) (settle_certify number d))))
-          (sym (answered_left d.desk.known view e))
-          (subst (λ facts. Stores made m d.calls (facts ++ d.desk.known) []) (sym (certified_facts made d.desk.known view good now ∙ judged_left made d.desk.known view good now e))
-            (untouched made m d b))
+        (sym (answered_left d.desk.known view e))
+        (subst (λ facts. Stores made m d.calls (facts ++ d.desk.known) []) (sym (certified_facts made d.desk.known view good now ∙ judged_left made d.desk.known view good now e))
+        (untouched made m d b))
 
 pub answer_certify_touches : (made : Made) (m : Member) (now : ℕ) (c : Opened) (answer : Answer) (d : Doing) → Begun made m d → Touched made m (act_on_certify made now c answer d)
 unfolding act_on_certify
@@ -287,18 +282,19 @@ certificate_touches made m now c d b = at (admits_certificate made d.desk.known 
     left : adds made d.desk.known c ≡ false → Begun made m (tell made (adding c now) d)
     left e =
         subst (λ facts. Fresh made m d.calls d.wrote (facts ++ d.desk.known) d.nullify)
-          (sym (adding_facts made d.desk.known c now ∙ ap (λ t. only_if t (Added c now)) e)) b
+        (sym (adding_facts made d.desk.known c now ∙ ap (λ t. only_if t (Added c now)) e)) b
+
     at : (admitted added : Bool) → admits_certificate made d.desk.known (certificate_view c) ≡ admitted → adds made d.desk.known c ≡ added
         → (let known = d.desk.known in let told = tell made (adding c now) d in
-          Touched made m (if not admitted then (told, None)
-          else if added
-          then (
-            hand (handed.Resolver (resolver.Updated c))
-                (block_for (replay_answer made known (record_of c))
-                (append (record_of c) (record told { added = d.added ++ c ∷ [] }))),
-            Some (certificate_view c),
-          )
-          else (told, Some (certificate_view c))))
+        Touched made m (if not admitted then (told, None)
+        else if added
+        then (
+          hand (handed.Resolver (resolver.Updated c))
+              (block_for (replay_answer made known (record_of c))
+              (append (record_of c) (record told { added = d.added ++ c ∷ [] }))),
+          Some (certificate_view c),
+        )
+        else (told, Some (certificate_view c))))
     at false added e f = untouched made m (tell made (adding c now) d) (left (adds_admits made d.desk.known c e))
     at true false e f = touched_at made m (tell made (adding c now) d) (certificate_view c) (left f)
     at true true e f =
@@ -308,12 +304,12 @@ certificate_touches made m now c d b = at (admits_certificate made d.desk.known 
         let noted = append (record_of c) (record told { added = d.added ++ c ∷ [] }) in
         let same : told.desk.known ≡ Added c now ∷ known = ap (λ facts. facts ++ known) (adding_facts made known c now ∙ ap (λ t. only_if t (Added c now)) f) in
         let written : Writing made m view noted [] =
-          writes_certificate made m view d.calls d.wrote known told.desk.known c (b.writes view) refl
-            (ap remembered same ∙ remembered_push (Added c now) known)
-            (subst (IsInOrder made) (sym same) (one_more made known (Added c now) tt (b.writes view).sim.order)) in
+        writes_certificate made m view d.calls d.wrote known told.desk.known c (b.writes view) refl
+        (ap remembered same ∙ remembered_push (Added c now) known)
+        (subst (IsInOrder made) (sym same) (one_more made known (Added c now) tt (b.writes view).sim.order)) in
         subst (λ o. Writing made m view (block_for (replay_answer made known (record_of c)) noted) (nullify_waiting o))
-          (sym (block_keeps (replay_answer made known (record_of c)) noted ∙ b.none))
-          (blocked made m view noted (replay_answer made known (record_of c)) [] written)
+        (sym (block_keeps (replay_answer made known (record_of c)) noted ∙ b.none))
+        (blocked made m view noted (replay_answer made known (record_of c)) [] written)
 
 pub mail_touches : (made : Made) (m : Member) (now : ℕ) (message : Message) (d : Doing) → Begun made m d → Touched made m (act_on_mail made now message d)
 unfolding act_on_mail
@@ -375,23 +371,22 @@ none_facts made known view now e = ap (λ o. option_map_or (nullify_facts known 
 -- the second time the nullify goes out with the best certificate, and nothing is appended
 repeat_touches : (made : Made) (m : Member) (now : ℕ) (desk : Desk) (sections : List Section) (n : Nullify) → current_of made desk.known < greatest_view
     → IsRunning made desk.known sections m → nullify_at made (current_of made desk.known) ≡ Some n → has_nullified desk.known (current_of made desk.known) ≡ true
-    → Repeats made m
-      (
-        record (tell made (state.ConstructNullify (current_of made desk.known) LeaderTimeout now) (begun desk)) { nullify = Some (n, best_certificate made desk.known) },
-        Some (current_of made desk.known),
-      )
+    → Repeats made m (
+      record (tell made (state.ConstructNullify (current_of made desk.known) LeaderTimeout now) (begun desk)) { nullify = Some (n, best_certificate made desk.known) },
+      Some (current_of made desk.known),
+    )
 repeat_touches made m now desk sections n low r e f =
     let known = desk.known in
     let view = current_of made known in
     let round = nullify_round made view n e in
     let again = run m (life.Repeat n.round ∷ []) in
     let same : facts_of made known (state.ConstructNullify view LeaderTimeout now) ≡ Published view now ∷ [] =
-      nullifying_facts made known view now n e ∙ ap (λ t. Published view now ∷ only_if (not t) (Voted (votes.Nullify n))) f in
+    nullifying_facts made known view now n e ∙ ap (λ t. Published view now ∷ only_if (not t) (Voted (votes.Nullify n))) f in
     let was : Contains m.known (member.Own (subjects.Nullify n.round)) =
-      subst (λ known. Contains known (member.Own (subjects.Nullify n.round))) (sym r.memory)
-        (subst (λ r. Contains (remembered known) (member.Own (subjects.Nullify r))) (sym round) (made_before made known view r.order f)) in
+    subst (λ known. Contains known (member.Own (subjects.Nullify n.round))) (sym r.memory)
+    (subst (λ r. Contains (remembered known) (member.Own (subjects.Nullify r))) (sym round) (made_before made known view r.order f)) in
     let may = subst (λ known. life.May made.term_length (record m { known = known }) (life.Vote (subjects.Nullify n.round))) (sym r.memory)
-      (r.up, may_nullify made known n.round (ap (λ (x : Round). x.view) round) low) in
+    (r.up, may_nullify made known n.round (ap (λ (x : Round). x.view) round) low) in
     record {
       first = life.Repeat n.round ∷ [];
       legal = ((r.up, may.1, was), tt);
@@ -400,7 +395,7 @@ repeat_touches made m now desk sections n low r e f =
       sent = refl;
       journal = refl;
       touched = subst (λ facts. Writes made again view [] false (facts ++ known) (votes.Nullify n ∷ [])) (sym same)
-        (writes_known made again view [] false known (Published view now ∷ known) (votes.Nullify n ∷ [])
+          (writes_known made again view [] false known (Published view now ∷ known) (votes.Nullify n ∷ [])
           (record { memory = quiet_memory (Published view now ∷ []) known (refl, tt); order = quiet_order made (Published view now ∷ []) known (refl, tt) })
           (record {
             sim = record { legal = tt; up = r.up; memory = r.memory; order = r.order; box = ap (λ box. subjects_of (box ++ record { subject = subjects.Nullify n.round; known = member.certificates m.known } ∷ [])) r.outbox; fit = tt; sends = tt; first = nothing_first again };
@@ -414,11 +409,10 @@ repeat_touches made m now desk sections n low r e f =
 -- the first time it is appended
 first_touches : (made : Made) (m : Member) (now : ℕ) (desk : Desk) (sections : List Section) (n : Nullify) → current_of made desk.known < greatest_view
     → IsRunning made desk.known sections m → nullify_at made (current_of made desk.known) ≡ Some n → has_nullified desk.known (current_of made desk.known) ≡ false
-    → Repeats made m
-      (
-        record (append (artifacts.Nullify n) (tell made (state.ConstructNullify (current_of made desk.known) LeaderTimeout now) (begun desk))) { nullify = Some (n, None) },
-        Some (current_of made desk.known),
-      )
+    → Repeats made m (
+      record (append (artifacts.Nullify n) (tell made (state.ConstructNullify (current_of made desk.known) LeaderTimeout now) (begun desk))) { nullify = Some (n, None) },
+      Some (current_of made desk.known),
+    )
 first_touches made m now desk sections n low r e f =
     let known = desk.known in
     let view = current_of made known in
@@ -428,14 +422,14 @@ first_touches made m now desk sections n low r e f =
     let voted = Voted (votes.Nullify n) in
     let later = facts_of made known (state.ConstructNullify view LeaderTimeout now) ++ known in
     let same : later ≡ Published view now ∷ voted ∷ known =
-      ap (λ facts. facts ++ known) (nullifying_facts made known view now n e ∙ ap (λ t. Published view now ∷ only_if (not t) voted) f) in
+    ap (λ facts. facts ++ known) (nullifying_facts made known view now n e ∙ ap (λ t. Published view now ∷ only_if (not t) voted) f) in
     let b = begin made desk sections m r in
     plainly made m _
-      (writes_note made m view [] false known later [] n.round.view (artifacts.Nullify n) (b.writes view) here
-        (may_nullify made known n.round here low)
-        (ap remembered same ∙ quiet_memory (Published view now ∷ []) (voted ∷ known) (refl, tt) ∙ remembered_push voted known)
-        (subst (IsInOrder made) (sym same) (quiet_order made (Published view now ∷ []) (voted ∷ known) (refl, tt) (one_more made known voted epoch r.order)))
-        (refl, epoch))
+    (writes_note made m view [] false known later [] n.round.view (artifacts.Nullify n) (b.writes view) here
+    (may_nullify made known n.round here low)
+    (ap remembered same ∙ quiet_memory (Published view now ∷ []) (voted ∷ known) (refl, tt) ∙ remembered_push voted known)
+    (subst (IsInOrder made) (sym same) (quiet_order made (Published view now ∷ []) (voted ∷ known) (refl, tt) (one_more made known voted epoch r.order)))
+    (refl, epoch))
 
 pub deadline_touches : (made : Made) (m : Member) (now : ℕ) (desk : Desk) (sections : List Section) → current_of made desk.known < greatest_view
     → IsRunning made desk.known sections m → Repeats made m (act_on_deadline made now (begun desk), Some (current_of made desk.known))
@@ -445,18 +439,21 @@ deadline_touches made m now desk sections low r = at (nullify_at made (current_o
     one : (n : Nullify) (t : Bool) → nullify_at made (current_of made desk.known) ≡ Some n → has_nullified desk.known (current_of made desk.known) ≡ t
         → Repeats made m (
           (if t
-          then record (tell made (state.ConstructNullify (current_of made desk.known) LeaderTimeout now) (begun desk)) { nullify = Some (n, best_certificate made desk.known) }
-          else record (append (artifacts.Nullify n) (tell made (state.ConstructNullify (current_of made desk.known) LeaderTimeout now) (begun desk))) { nullify = Some (n, None) }),
-          Some (current_of made desk.known))
+              then record (tell made (state.ConstructNullify (current_of made desk.known) LeaderTimeout now) (begun desk)) { nullify = Some (n, best_certificate made desk.known) }
+              else record (append (artifacts.Nullify n) (tell made (state.ConstructNullify (current_of made desk.known) LeaderTimeout now) (begun desk))) { nullify = Some (n, None) }),
+          Some (current_of made desk.known),
+        )
     one n true e f = repeat_touches made m now desk sections n low r e f
     one n false e f = first_touches made m now desk sections n low r e f
+
     at : (o : Option Nullify) → nullify_at made (current_of made desk.known) ≡ o
         → Repeats made m (
           option_map_or (λ n.
-          if has_nullified desk.known (current_of made desk.known)
-          then record (tell made (state.ConstructNullify (current_of made desk.known) LeaderTimeout now) (begun desk)) { nullify = Some (n, best_certificate made desk.known) }
-          else record (append (artifacts.Nullify n) (tell made (state.ConstructNullify (current_of made desk.known) LeaderTimeout now) (begun desk))) { nullify = Some (n, None) })
-          o (begun desk),
-          Some (current_of made desk.known))
+              if has_nullified desk.known (current_of made desk.known)
+              then record (tell made (state.ConstructNullify (current_of made desk.known) LeaderTimeout now) (begun desk)) { nullify = Some (n, best_certificate made desk.known) }
+              else record (append (artifacts.Nullify n) (tell made (state.ConstructNullify (current_of made desk.known) LeaderTimeout now) (begun desk))) { nullify = Some (n, None) })
+              o (begun desk),
+          Some (current_of made desk.known),
+        )
     at None e = plainly made m _ (touched_at made m (begun desk) (current_of made desk.known) (begin made desk sections m r))
     at (Some n) e = one n (has_nullified desk.known (current_of made desk.known)) e refl

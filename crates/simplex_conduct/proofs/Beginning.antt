@@ -1,12 +1,7 @@
 -- A start is lived, at genesis or at a floor, and wherever a stop ends it.
-use Rattle.std.proofs.Common.{◌≡◌, ℕ, zero, suc, ◌+◌, ◌-◌, ◌<◌, ◌≤◌, ◌==◌, ◌&&◌, Bool, true, false, nat_lt, nat_le, List, [], ◌∷◌, ◌++◌, map, take, filter, Contains, Option, Some, None, refl, sym, ap, ◌∙◌, subst, inl, inr, ◌⊎◌, arith, append-nil, append_assoc, if◌then◌else◌}
-use Rattle.std.specs.List.{list_any}
+use Rattle.std.proofs.Common.{◌≡◌, ℕ, true, nat_lt, List, [], ◌∷◌, ◌++◌, map, take, filter, Option, Some, None, refl, sym, ap, ◌∙◌, subst, inr, ◌⊎◌, arith, append-nil}
 use Rattle.std.specs.Option.{option_map_or}
-use Rattle.std.proofs.lemmas.Bool.Decides.{nat_tests}
-use Rattle.std.proofs.lemmas.Grind.{common_steps}
 use Rattle.simplex_wire.specs.declared.attestation.Attestation.{Attestation}
-use Rattle.simplex_wire.specs.declared.artifact.Artifact.{Artifact}
-use Rattle.simplex_wire.specs.declared.artifact.Artifact.TheVariants as artifacts
 use Rattle.simplex_wire.specs.declared.certificate.Finalization.{Finalization}
 use Rattle.simplex_wire.specs.declared.certificate.Certificate.TheVariants as certificates
 use Rattle.simplex_types.specs.declared.floor.Floor.{Floor}
@@ -15,31 +10,25 @@ use Rattle.simplex_rules.specs.Known.{Made, Fact, FloorAt, Added, view_of}
 use Rattle.simplex_rules.specs.Calls as state
 use Rattle.simplex_rules.specs.Calls.{facts_of, prune_answer}
 use Rattle.simplex_rules.specs.Pending.{iterated}
-use Rattle.simplex_journal.specs.Journal.{Section, replayed, appended, crashed}
-use Rattle.simplex_journal.proofs.Rising.{IsRising-appended}
+use Rattle.simplex_journal.specs.Journal.{Section, replayed, crashed}
 use Rattle.simplex_messages.specs.declared.call.Call.{Call}
-use Rattle.simplex_messages.specs.declared.call.Call.TheVariants as calls
-use Rattle.simplex_messages.specs.declared.handed.Handed.TheVariants as handed
-use Rattle.simplex_messages.specs.declared.resolver.MailboxMessage.TheVariants as resolver
 use Rattle.simplex_messages.specs.declared.step.Stop.{Stop}
 use Rattle.simplex_messages.specs.declared.step.Stop.TheVariants as stops
-use Rattle.simplex_steps.specs.Desk.{Doing, begun, tell, make, hand, append, seek}
-use Rattle.simplex_steps.specs.Performed.{stop_place, after_calls, failing_at, stop_outcome, kept_by, whole, broken, performed}
-use Rattle.simplex_steps.specs.Voter.{floor_view, stand_on, replay_all, is_final_from, keep_floor, update_message, prune_at, prune, begin_iteration, blank_desk, started}
-use Rattle.simplex_steps.specs.VoterLife.{unread, before_reading, start_performed}
+use Rattle.simplex_steps.specs.Desk.{Doing, begun, tell, seek}
+use Rattle.simplex_steps.specs.Performed.{stop_place, after_calls, failing_at, whole, broken, performed}
+use Rattle.simplex_steps.specs.Voter.{floor_view, stand_on, replay_all, prune_at, prune, begin_iteration, blank_desk}
 use Rattle.simplex_lives.specs.Artifacts as member
 use Rattle.simplex_lives.specs.Journal as kept
 use Rattle.simplex_lives.specs.Member as life
 use Rattle.simplex_lives.specs.Member.{Member, happens, run, IsLegal}
-use Rattle.simplex_conduct.specs.Life.{statement_of, memory_of, remembered, journal_of, taken, AreSent, AreOwn, IsInOrder, IsStopped, floor_statement, IsFloor, IsBegun}
-use Rattle.simplex_conduct.proofs.Facts.{one_more, quiet_memory, quiet_order}
-use Rattle.simplex_conduct.proofs.Journals.{append_is}
-use Rattle.simplex_conduct.proofs.Living.{own_afters, subjects_of}
-use Rattle.simplex_conduct.proofs.Simulating.{Sim, Stores, Writes, nothing_first, writes_sync, only_append, only_from}
+use Rattle.simplex_conduct.specs.Life.{statement_of, memory_of, remembered, AreSent, IsInOrder, IsStopped, floor_statement, IsBegun}
+use Rattle.simplex_conduct.proofs.Facts.{one_more}
+use Rattle.simplex_conduct.proofs.Living.{subjects_of}
+use Rattle.simplex_conduct.proofs.Simulating.{Sim, Stores, nothing_first}
 use Rattle.simplex_conduct.proofs.Publishing.{Storing, iteration_begins}
-use Rattle.simplex_conduct.proofs.Replaying.{kept_is, final_among, AllPlain, all_plain, all_replayed}
-use Rattle.simplex_conduct.proofs.Starting.{Voteless, Voteless-append, Voteless-take, plain_voteless, Takeless, Takeless-append, Takeless-take, plain_takeless, none_sent, none_taken, sent_nothing, sim_plains, plain_after, after_append, split_at, IsBehind, tail_of}
-use Rattle.simplex_conduct.proofs.Stopping.{Ready, MadeWhole, Ended, made_whole, ended_at, stopped}
+use Rattle.simplex_conduct.proofs.Replaying.{kept_is, AllPlain, all_replayed}
+use Rattle.simplex_conduct.proofs.Starting.{Voteless, Voteless-append, Voteless-take, plain_voteless, Takeless, Takeless-append, Takeless-take, plain_takeless, none_sent, none_taken, sent_nothing, sim_plains, tail_of}
+use Rattle.simplex_conduct.proofs.Stopping.{Ready, made_whole, ended_at}
 
 -- ---- the start of the first iteration
 
@@ -105,8 +94,8 @@ unfolding floor_known facts_of
 floor_order made now (floors.Genesis payload) = one_more made [] (FloorAt 0 payload) tt (nothing_known made)
 floor_order made now (floors.Finalized f) =
     one_more made (Added (certificates.Finalization f) now ∷ FloorAt (view_of f.proposal) f.proposal.payload ∷ []) _ tt
-      (one_more made (FloorAt (view_of f.proposal) f.proposal.payload ∷ []) (Added (certificates.Finalization f) now) tt
-        (one_more made [] (FloorAt (view_of f.proposal) f.proposal.payload) tt (nothing_known made)))
+    (one_more made (FloorAt (view_of f.proposal) f.proposal.payload ∷ []) (Added (certificates.Finalization f) now) tt
+    (one_more made [] (FloorAt (view_of f.proposal) f.proposal.payload) tt (nothing_known made)))
 
 -- what is known once the journal was replayed
 abbrev pub known_then : Made → ℕ → Floor → List Section → List Fact
@@ -125,8 +114,8 @@ based made now (floors.Genesis payload) js m s =
       brought = refl;
       up = refl;
       memory = ap (λ xs. member.replay [] (filter (λ a. nat_lt 0 (member.artifact_view a)) xs)) (kept_then made js m s)
-        ∙ ap (λ xs. member.replay xs (filter (λ a. nat_lt 0 (member.artifact_view a)) (map memory_of (replayed js)))) (sym (genesis_memory made now payload))
-        ∙ sym r.0;
+          ∙ ap (λ xs. member.replay xs (filter (λ a. nat_lt 0 (member.artifact_view a)) (map memory_of (replayed js)))) (sym (genesis_memory made now payload))
+          ∙ sym r.0;
       outbox = refl;
       order = r.1 (floor_order made now (floors.Genesis payload));
     }
@@ -140,8 +129,8 @@ based made now (floors.Finalized f) js m s =
       brought = refl;
       up = refl;
       memory = ap (λ xs. member.replay proved (filter (λ a. nat_lt view (member.artifact_view a)) xs)) (kept_then made js m s)
-        ∙ ap (λ xs. member.replay xs (filter (λ a. nat_lt view (member.artifact_view a)) (map memory_of (replayed js)))) (sym (floor_memory made now f))
-        ∙ sym r.0;
+          ∙ ap (λ xs. member.replay xs (filter (λ a. nat_lt view (member.artifact_view a)) (map memory_of (replayed js)))) (sym (floor_memory made now f))
+          ∙ sym r.0;
       outbox = refl;
       order = r.1 (floor_order made now (floors.Finalized f));
     }
@@ -232,5 +221,5 @@ quiet_start made now m first floor stop d js s b same plain =
     let voteless : Voteless all.calls = subst Voteless (sym (iteration_calls made now d)) (Voteless-append d.calls (tail_of o) (plain_voteless d.calls plain) (tail_voteless o)) in
     let takeless : Takeless all.calls = subst Takeless (sym (iteration_calls made now d)) (Takeless-append d.calls (tail_of o) (plain_takeless d.calls plain) (tail_takeless o)) in
     performed_of made m floor stop all js
-      (quiet_whole made m first floor all js b.legal b.brought b.sent ready voteless takeless stores)
-      (λ keep place. quiet_cut made m first floor stop keep all.calls place all.desk.known js b.legal b.brought b.sent ready voteless takeless stores.sim)
+    (quiet_whole made m first floor all js b.legal b.brought b.sent ready voteless takeless stores)
+    (λ keep place. quiet_cut made m first floor stop keep all.calls place all.desk.known js b.legal b.brought b.sent ready voteless takeless stores.sim)

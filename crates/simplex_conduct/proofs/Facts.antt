@@ -1,14 +1,12 @@
 -- What a call on the state adds to what is remembered.
-use Rattle.std.proofs.Common.{◌≡◌, ℕ, ◌==◌, ◌&&◌, ◌||◌, not, Bool, true, false, nat_lt, option_to_list, List, [], ◌∷◌, ◌++◌, map, filter, fold, Contains, Option, Some, None, refl, sym, ap, ◌∙◌, subst, inl, inr, ◌⊎◌, arith, append-nil, append_assoc, if◌then◌else◌}
-use Rattle.std.specs.Option.{is_some, is_none, option_or, option_map, option_map_or}
+use Rattle.std.proofs.Common.{◌≡◌, ℕ, ◌||◌, not, Bool, true, false, nat_lt, option_to_list, List, [], ◌∷◌, ◌++◌, map, fold, Option, Some, None, refl, sym, ap, ◌∙◌, subst, inl, inr, arith, append-nil, if◌then◌else◌}
+use Rattle.std.specs.Option.{is_some, is_none, option_or, option_map_or}
 use Rattle.std.proofs.lemmas.Grind.{common_steps}
 use Rattle.simplex_values.specs.declared.proposal.Proposal.{Proposal}
 use Rattle.simplex_values.specs.declared.timeout.TimeoutReason.{TimeoutReason}
-use Rattle.simplex_values.specs.declared.timeout.TimeoutReason.TheVariants.{FailedCertification, MissingProposal}
+use Rattle.simplex_values.specs.declared.timeout.TimeoutReason.TheVariants.{MissingProposal}
 use Rattle.simplex_wire.specs.declared.vote.Vote.TheVariants as votes
 use Rattle.simplex_wire.specs.declared.vote.Nullify.{Nullify}
-use Rattle.simplex_wire.specs.declared.certificate.Certificate.{Certificate}
-use Rattle.simplex_wire.specs.declared.certificate.Certificate.TheVariants as certificates
 use Rattle.simplex_wire.specs.declared.certificate.Notarization.{Notarization}
 use Rattle.simplex_rules.specs.declared.request.Verify.{Verify}
 use Rattle.simplex_rules.specs.declared.request.Verify.TheVariants.{Ready, Resolve, Wait}
@@ -16,14 +14,14 @@ use Rattle.simplex_rules.specs.declared.request.ProposalRequest.{ProposalRequest
 use Rattle.simplex_rules.specs.declared.request.ProposalRequest.TheVariants.{Prepare, Propose}
 use Rattle.simplex_rules.specs.declared.request.CertificateFetch.{CertificateFetch}
 use Rattle.simplex_rules.specs.Lists.{first_of}
-use Rattle.simplex_rules.specs.Known.{Made, Fact, FloorAt, Added, Taken, Answered, Approved, Judged, Voted, Published, Expired, Failed, Broadcast, ProposalAsked, ProposalFreed, VerifyAsked, CertifyAsked, MissingAsked, ParentAsked, Pruned, notarization_in, notarization_of}
+use Rattle.simplex_rules.specs.Known.{Made, Fact, Added, Judged, Voted, Expired, Failed, notarization_in, notarization_of}
 use Rattle.simplex_rules.specs.Deadline.{expires, fails, triggered}
-use Rattle.simplex_rules.specs.Requests.{proposal_request, verify_request, certify_requests, parent_fetches, verify_asked, is_superseded, is_abandoned}
-use Rattle.simplex_rules.specs.Calls.{Call, SetFloor, Replay, SetProposal, Proposed, Verified, VerificationFailed, Certified, AddNotarization, AddNullification, AddFinalization, TriggerTimeout, ConstructNotarize, ConstructNullify, ConstructFinalize, BroadcastNotarization, BroadcastNullification, BroadcastFinalization, TryPropose, TryVerify, CertifyCandidates, ReleaseProposalRequest, Prune, only_if, fact_of, facts_of, judged, takes_verdict, verify_facts, prune_answer}
-use Rattle.simplex_rules.specs.Pending.{Desk, Pending, Opened, told, is_open, is_waiting, is_closed, is_preparing, pending_view, pending_parent, drop_request, drop_number, drop_proposal, drop_verify, abandon_handoff, end_waiting, with_request, open_proposal, with_verify, open_verify, reconciled, drop_certify, open_certify, seek_parent, certifying, iterated}
+use Rattle.simplex_rules.specs.Requests.{proposal_request, verify_request, certify_requests, parent_fetches, is_superseded}
+use Rattle.simplex_rules.specs.Calls.{Call, SetFloor, Replay, SetProposal, Proposed, Verified, VerificationFailed, Certified, AddNotarization, AddNullification, AddFinalization, TriggerTimeout, ConstructNotarize, ConstructNullify, ConstructFinalize, BroadcastNotarization, BroadcastNullification, BroadcastFinalization, TryPropose, TryVerify, CertifyCandidates, ReleaseProposalRequest, Prune, only_if, fact_of, facts_of, verify_facts}
+use Rattle.simplex_rules.specs.Pending.{Desk, Pending, Opened, told, is_open, is_waiting, is_closed, pending_view, pending_parent, drop_request, drop_number, drop_proposal, drop_verify, abandon_handoff, end_waiting, with_request, open_proposal, with_verify, open_verify, reconciled, drop_certify, open_certify, seek_parent, certifying, iterated}
 use Rattle.simplex_rules.specs.Ancestry.{is_certified}
 use Rattle.simplex_rules.specs.Views.{current_of}
-use Rattle.simplex_agreement.proofs.ListFacts.{not_in_empty, Contains-here, Contains-there, Contains-cons_cases}
+use Rattle.simplex_agreement.proofs.ListFacts.{Contains-cons_cases}
 use Rattle.simplex_conduct.specs.Life.{noted, remembered, IsInOrder}
 
 -- ---- one more fact
@@ -186,6 +184,7 @@ drop_proposal_known made desk = at desk.proposal
     one : (p : Pending) (b : Bool) → (if b then record (drop_request desk p) { proposal = None } else desk).known ≡ desk.known
     one p true = drop_request_known desk p
     one p false = refl
+
     at : (o : Option Pending) → (option_map_or (λ p.
         if nat_lt (pending_view p) (current_of made desk.known) || is_superseded made desk.known (pending_parent p) (pending_view p)
         then record (drop_request desk p) { proposal = None } else desk) o desk).known ≡ desk.known
@@ -199,6 +198,7 @@ drop_verify_known made desk = at desk.verify
     one : (v : Opened) (b : Bool) → (if b then record (drop_number desk v.number) { verify = None } else desk).known ≡ desk.known
     one v true = refl
     one v false = refl
+
     at : (o : Option Opened) → (option_map_or (λ v.
         if nat_lt v.view (current_of made desk.known) then record (drop_number desk v.number) { verify = None } else desk) o desk).known ≡ desk.known
     at None = refl
@@ -220,6 +220,7 @@ end_waiting_same made now desk = at desk.proposal
     one p false true c = told_quiet made desk.known (ReleaseProposalRequest (pending_view p)) tt
     one p false false true = told_quiet made desk.known (TriggerTimeout (pending_view p) MissingProposal now) tt
     one p false false false = same_memory made desk.known
+
     at : (o : Option Pending) → SameMemory made desk.known (option_map_or (λ p.
         if not (is_certified desk.known (pending_parent p)) then desk
         else if is_waiting p.state then record (told made (ReleaseProposalRequest (pending_view p)) desk) { proposal = None }
@@ -264,8 +265,8 @@ reconciled_same made now desk =
     let second = end_waiting made now first in
     let third = open_proposal made second in
     same_then made desk.known second.known (open_verify made third).known
-      (subst (λ k. SameMemory made k second.known) known (end_waiting_same made now first))
-      (same_then made second.known third.known (open_verify made third).known (open_proposal_same made second) (open_verify_same made third))
+    (subst (λ k. SameMemory made k second.known) known (end_waiting_same made now first))
+    (same_then made second.known third.known (open_verify made third).known (open_proposal_same made second) (open_verify_same made third))
 
 certify_known : (xs : List Proposal) (desk : Desk) → (fold open_certify desk xs).known ≡ desk.known
 certify_known [] desk = refl
@@ -287,4 +288,4 @@ pub iterated_same : (made : Made) (now : ℕ) (desk : Desk) → SameMemory made 
 unfolding iterated
 iterated_same made now desk =
     same_then made desk.known (reconciled made now desk).known (certifying made (reconciled made now desk)).known
-      (reconciled_same made now desk) (certifying_same made (reconciled made now desk))
+    (reconciled_same made now desk) (certifying_same made (reconciled made now desk))

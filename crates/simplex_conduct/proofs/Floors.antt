@@ -1,8 +1,6 @@
 -- A start that keeps its floor in the journal; and every start.
-use Rattle.std.proofs.Common.{◌≡◌, ℕ, zero, suc, ◌+◌, ◌-◌, ◌<◌, ◌≤◌, ◌==◌, Bool, true, false, nat_lt, nat_le, List, [], ◌∷◌, ◌++◌, map, take, Contains, Option, Some, None, refl, sym, ap, ◌∙◌, subst, inl, inr, ◌⊎◌, arith, append-nil, append_assoc, if◌then◌else◌}
+use Rattle.std.proofs.Common.{◌≡◌, ℕ, ◌-◌, ◌<◌, ◌==◌, Bool, true, false, nat_le, List, [], ◌∷◌, ◌++◌, take, None, refl, sym, ap, ◌∙◌, subst, inl, inr, append_assoc, if◌then◌else◌}
 use Rattle.std.specs.List.{list_any}
-use Rattle.std.proofs.lemmas.Bool.Decides.{nat_tests}
-use Rattle.std.proofs.lemmas.Grind.{common_steps}
 use Rattle.simplex_wire.specs.declared.artifact.Artifact.{Artifact}
 use Rattle.simplex_wire.specs.declared.artifact.Artifact.TheVariants as artifacts
 use Rattle.simplex_wire.specs.declared.certificate.Finalization.{Finalization}
@@ -22,21 +20,21 @@ use Rattle.simplex_messages.specs.declared.resolver.MailboxMessage.TheVariants a
 use Rattle.simplex_messages.specs.declared.step.Stop.{Stop}
 use Rattle.simplex_messages.specs.declared.step.Stop.TheVariants as stops
 use Rattle.simplex_steps.specs.Desk.{Doing, begun, make, hand, append}
-use Rattle.simplex_steps.specs.Performed.{after_calls, failing_at, whole, performed}
+use Rattle.simplex_steps.specs.Performed.{after_calls, failing_at, performed}
 use Rattle.simplex_steps.specs.Voter.{floor_view, stand_on, replay_all, is_final_from, keep_floor, update_message, begin_iteration, blank_desk, started}
 use Rattle.simplex_steps.specs.VoterLife.{unread, before_reading, start_performed}
 use Rattle.simplex_lives.specs.Artifacts as member
 use Rattle.simplex_lives.specs.Journal as kept
 use Rattle.simplex_lives.specs.Member as life
 use Rattle.simplex_lives.specs.Member.{Member, happens, run, IsLegal}
-use Rattle.simplex_conduct.specs.Life.{statement_of, memory_of, remembered, journal_of, taken, AreSent, AreOwn, IsInOrder, IsRunning, IsStopped, floor_statement, IsFloor, IsBegun}
+use Rattle.simplex_conduct.specs.Life.{statement_of, IsRunning, IsStopped, IsFloor, IsBegun}
 use Rattle.simplex_conduct.proofs.Journals.{append_is}
 use Rattle.simplex_conduct.proofs.Living.{own_afters, subjects_of}
-use Rattle.simplex_conduct.proofs.Simulating.{Sim, Stores, Writes, nothing_first, Only, writes_sync, only_append, only_from}
+use Rattle.simplex_conduct.proofs.Simulating.{Stores, nothing_first, Only, writes_sync, only_append, only_from}
 use Rattle.simplex_conduct.proofs.Publishing.{Storing, iteration_begins}
-use Rattle.simplex_conduct.proofs.Replaying.{final_among, AllPlain, AllPlain-append, all_plain}
+use Rattle.simplex_conduct.proofs.Replaying.{final_among, AllPlain, all_plain}
 use Rattle.simplex_conduct.proofs.Starting.{Voteless, Voteless-append, Voteless-take, plain_voteless, Takeless, none_sent, plain_after, after_append, split_at, IsBefore, IsBehind, tail_of}
-use Rattle.simplex_conduct.proofs.Beginning.{iteration_calls, iteration_known, tail_voteless, tail_takeless, first_of_start, Based, based, known_then, kept_then, Cut, quiet_whole, quiet_cut, performed_of, quiet_start}
+use Rattle.simplex_conduct.proofs.Beginning.{iteration_calls, iteration_known, tail_voteless, tail_takeless, first_of_start, Based, based, kept_then, Cut, quiet_whole, quiet_cut, performed_of, quiet_start}
 use Rattle.simplex_conduct.proofs.Stopping.{Ready, stopped}
 
 -- ---- a start that appends its floor, behind plain calls
@@ -65,8 +63,8 @@ cut_before made m floor stop keep cs place js s before =
       sends = refl;
       votes = none_sent (take place cs) (plain_voteless (take place cs) before.0);
       left = subst (λ xs. IsStopped made (crashed keep xs) (happens m (life.Crash (λ view. keep))))
-        (sym (before.1 (after_calls (take place cs) js) ∙ plain_after (take place cs) js before.0))
-        (stopped made keep m js (record { journal = s.journal; rising = s.rising; own = s.own }));
+          (sym (before.1 (after_calls (take place cs) js) ∙ plain_after (take place cs) js before.0))
+          (stopped made keep m js (record { journal = s.journal; rising = s.rising; own = s.own }));
     }
 
 -- a stop behind it is one in what comes then
@@ -77,10 +75,10 @@ cut_behind : (made : Made) (m : Member) (floor : Floor) (stop : Stop) (keep : �
 cut_behind made m floor stop keep f plain rest place js p voteless b c =
     let front = take place (appending f plain rest) in
     let after : after_calls front js ≡ after_calls (take b.0 rest) (appended (view_of f.proposal) (artifacts.Finalization f) js) =
-      ap (λ xs. after_calls xs js) b.1 ∙ append_whole f plain (take b.0 rest) js p in
+    ap (λ xs. after_calls xs js) b.1 ∙ append_whole f plain (take b.0 rest) js p in
     let same : crashed keep (failing_at stop (appending f plain rest) place (after_calls front js))
-        ≡ crashed keep (failing_at stop rest b.0 (after_calls (take b.0 rest) (appended (view_of f.proposal) (artifacts.Finalization f) js))) =
-      ap (crashed keep) (b.2 (after_calls front js) ∙ ap (failing_at stop rest b.0) after) in
+    ≡ crashed keep (failing_at stop rest b.0 (after_calls (take b.0 rest) (appended (view_of f.proposal) (artifacts.Finalization f) js))) =
+    ap (crashed keep) (b.2 (after_calls front js) ∙ ap (failing_at stop rest b.0) after) in
     record {
       calls = c.calls;
       legal = c.legal;
@@ -107,20 +105,20 @@ floor_synced : (made : Made) (m : Member) (f : Finalization) (first : List life.
     → Stores made (run m first) (calls.Sync (view_of f.proposal) ∷ []) facts []
 floor_synced made m f first facts js s b e =
     writes_sync made (run m first) (view_of f.proposal) [] true facts []
-      (record {
-        sim = record { legal = tt; up = b.up; memory = b.memory; order = b.order; box = ap subjects_of b.outbox; fit = tt; sends = tt; first = nothing_first (run m first) };
-        only = subst (Only (view_of f.proposal)) (sym e) (only_append (view_of f.proposal) (member.Proved (statement_of (certificates.Finalization f))) m.journal refl (only_from (view_of f.proposal) m.journal s.stored));
-        unwritten = λ h. cc;
-        noted = tt;
-        earlier = λ h. tt;
-      })
+    (record {
+      sim = record { legal = tt; up = b.up; memory = b.memory; order = b.order; box = ap subjects_of b.outbox; fit = tt; sends = tt; first = nothing_first (run m first) };
+      only = subst (Only (view_of f.proposal)) (sym e) (only_append (view_of f.proposal) (member.Proved (statement_of (certificates.Finalization f))) m.journal refl (only_from (view_of f.proposal) m.journal s.stored));
+      unwritten = λ h. cc;
+      noted = tt;
+      earlier = λ h. tt;
+    })
 
 pub keeping_start : (made : Made) (now : ℕ) (m : Member) (first : List life.Call) (f : Finalization) (stop : Stop) (d : Doing) (more : Doing → Doing) (js : List Section)
     → IsStopped made js m → Based made m first (floors.Finalized f) d.desk.known
     → (run m first).journal ≡ kept.append (member.Proved (statement_of (certificates.Finalization f))) m.journal → AllPlain d.calls
     → ((x : Doing) → (more x).calls ≡ x.calls) → ((x : Doing) → (more x).desk ≡ x.desk)
     → (let kept = more (make (calls.Sync (view_of f.proposal)) (append (artifacts.Finalization f) d)) in
-      IsBegun made (floors.Finalized f) (begin_iteration made now kept).desk.known (performed stop (begin_iteration made now kept) js) m)
+    IsBegun made (floors.Finalized f) (begin_iteration made now kept).desk.known (performed stop (begin_iteration made now kept) js) m)
 keeping_start made now m first f stop d more js s b e plain same_calls same_desk =
     let view = view_of f.proposal in
     let base = run m first in
@@ -132,14 +130,14 @@ keeping_start made now m first f stop d more js s b e plain same_calls same_desk
     let o = prune_answer made (iterated made now d.desk).known in
     let rest_is : rest ≡ (calls.Sync view ∷ []) ++ tail_of o = iteration_calls made now short in
     let all_is : all.calls ≡ appending f d.calls rest =
-      iteration_calls made now kept
-      ∙ ap (λ desk. kept.calls ++ tail_of (prune_answer made (iterated made now desk).known)) (same_desk _)
-      ∙ ap (λ xs. xs ++ tail_of o) (same_calls _)
-      ∙ ap (λ xs. xs ++ tail_of o) (append_assoc d.calls (calls.Append view (artifacts.Finalization f) ∷ []) (calls.Sync view ∷ []))
-      ∙ append_assoc d.calls (calls.Append view (artifacts.Finalization f) ∷ calls.Sync view ∷ []) (tail_of o)
-      ∙ ap (λ xs. d.calls ++ (calls.Append view (artifacts.Finalization f) ∷ xs)) (sym rest_is) in
+    iteration_calls made now kept
+    ∙ ap (λ desk. kept.calls ++ tail_of (prune_answer made (iterated made now desk).known)) (same_desk _)
+    ∙ ap (λ xs. xs ++ tail_of o) (same_calls _)
+    ∙ ap (λ xs. xs ++ tail_of o) (append_assoc d.calls (calls.Append view (artifacts.Finalization f) ∷ []) (calls.Sync view ∷ []))
+    ∙ append_assoc d.calls (calls.Append view (artifacts.Finalization f) ∷ calls.Sync view ∷ []) (tail_of o)
+    ∙ ap (λ xs. d.calls ++ (calls.Append view (artifacts.Finalization f) ∷ xs)) (sym rest_is) in
     let known_is : all.desk.known ≡ later.desk.known =
-      iteration_known made now kept ∙ ap (λ desk. facts_of made (iterated made now desk).known state.Prune ++ (iterated made now desk).known) (same_desk _) ∙ sym (iteration_known made now short) in
+    iteration_known made now kept ∙ ap (λ desk. facts_of made (iterated made now desk).known state.Prune ++ (iterated made now desk).known) (same_desk _) ∙ sym (iteration_known made now short) in
     let ready = floor_ready made m f js base s e in
     let stores : Storing made base later [] = iteration_begins made base now short (floor_synced made m f first d.desk.known js s b e) in
     let voteless : Voteless rest = subst Voteless (sym rest_is) (tt, tail_voteless o) in
@@ -147,23 +145,23 @@ keeping_start made now m first f stop d more js s b e plain same_calls same_desk
     let shorter = quiet_whole made m first (floors.Finalized f) later (appended view (artifacts.Finalization f) js) b.legal b.brought b.sent ready voteless takeless stores in
     let front : after_calls all.calls js ≡ after_calls rest (appended view (artifacts.Finalization f) js) = ap (λ xs. after_calls xs js) all_is ∙ append_whole f d.calls rest js plain in
     performed_of made m (floors.Finalized f) stop all js
-      (record {
-        calls = shorter.calls;
-        legal = shorter.legal;
-        brought = shorter.brought;
-        sends = shorter.sends;
-        votes = none_sent all.calls (subst Voteless (sym all_is) (append_voteless f d.calls rest plain voteless));
-        left = subst (λ xs. IsRunning made all.desk.known xs (run m shorter.calls)) (sym front)
+    (record {
+      calls = shorter.calls;
+      legal = shorter.legal;
+      brought = shorter.brought;
+      sends = shorter.sends;
+      votes = none_sent all.calls (subst Voteless (sym all_is) (append_voteless f d.calls rest plain voteless));
+      left = subst (λ xs. IsRunning made all.desk.known xs (run m shorter.calls)) (sym front)
           (subst (λ known. IsRunning made known (after_calls rest (appended view (artifacts.Finalization f) js)) (run m shorter.calls)) (sym known_is) shorter.left);
-      })
-      (λ keep place.
-        subst (λ cs. Cut made m (floors.Finalized f) (take place cs) (crashed keep (failing_at stop cs place (after_calls (take place cs) js)))) (sym all_is)
-          (elim (split_at stop d.calls view (artifacts.Finalization f) rest place plain) [
-            | inl before ↦ cut_before made m (floors.Finalized f) stop keep (appending f d.calls rest) place js s before
-            | inr behind ↦ cut_behind made m (floors.Finalized f) stop keep f d.calls rest place js plain voteless behind
-              (quiet_cut made m first (floors.Finalized f) stop keep rest behind.0 later.desk.known (appended view (artifacts.Finalization f) js)
-                b.legal b.brought b.sent ready voteless takeless stores.sim)
-          ]))
+    })
+    (λ keep place.
+    subst (λ cs. Cut made m (floors.Finalized f) (take place cs) (crashed keep (failing_at stop cs place (after_calls (take place cs) js)))) (sym all_is)
+    (elim (split_at stop d.calls view (artifacts.Finalization f) rest place plain) [
+      | inl before ↦ cut_before made m (floors.Finalized f) stop keep (appending f d.calls rest) place js s before
+      | inr behind ↦ cut_behind made m (floors.Finalized f) stop keep f d.calls rest place js plain voteless behind
+          (quiet_cut made m first (floors.Finalized f) stop keep rest behind.0 later.desk.known (appended view (artifacts.Finalization f) js)
+          b.legal b.brought b.sent ready voteless takeless stores.sim)
+    ]))
 
 -- ---- every start
 
@@ -203,24 +201,24 @@ start_performed_is made now (floors.Genesis payload) stop js m good s =
     let floor = floors.Genesis payload in
     let d = updating made (before_keeping made now floor js) in
     quiet_start made now m (first_of_start floor) floor stop d js s (based made now floor js m s) (genesis_journal m)
-      (all_plain made now 0 (stand_on made now floor (begun blank_desk)) (replayed js) (stand_plain made now floor))
+    (all_plain made now 0 (stand_on made now floor (begun blank_desk)) (replayed js) (stand_plain made now floor))
 start_performed_is made now (floors.Finalized f) stop js m good s = at (list_any (is_final_from (view_of f.proposal)) (replayed js)) refl
   where
     at : (b : Bool) → list_any (is_final_from (view_of f.proposal)) (replayed js) ≡ b
         → (let d = before_keeping made now (floors.Finalized f) js in
-          let kept = if b then d else make (calls.Sync (view_of f.proposal)) (append (artifacts.Finalization f) d) in
-          IsBegun made (floors.Finalized f) (begin_iteration made now (updating made kept)).desk.known (performed stop (begin_iteration made now (updating made kept)) js) m)
+        let kept = if b then d else make (calls.Sync (view_of f.proposal)) (append (artifacts.Finalization f) d) in
+        IsBegun made (floors.Finalized f) (begin_iteration made now (updating made kept)).desk.known (performed stop (begin_iteration made now (updating made kept)) js) m)
     at true e =
         let floor = floors.Finalized f in
         quiet_start made now m (first_of_start floor) floor stop (updating made (before_keeping made now floor js)) js s (based made now floor js m s)
-          (floor_journal made f js m true s good e)
-          (all_plain made now (view_of f.proposal) (stand_on made now floor (begun blank_desk)) (replayed js) (stand_plain made now floor))
+        (floor_journal made f js m true s good e)
+        (all_plain made now (view_of f.proposal) (stand_on made now floor (begun blank_desk)) (replayed js) (stand_plain made now floor))
     at false e =
         let floor = floors.Finalized f in
         keeping_start made now m (first_of_start floor) f stop (before_keeping made now floor js) (updating made) js s (based made now floor js m s)
-          (floor_journal made f js m false s good e)
-          (all_plain made now (view_of f.proposal) (stand_on made now floor (begun blank_desk)) (replayed js) (stand_plain made now floor))
-          (λ x. refl) (λ x. refl)
+        (floor_journal made f js m false s good e)
+        (all_plain made now (view_of f.proposal) (stand_on made now floor (begun blank_desk)) (replayed js) (stand_plain made now floor))
+        (λ x. refl) (λ x. refl)
 
 -- a start whose reading fails
 unread_start : (made : Made) (floor : Floor) (d : Doing) (keep : ℕ) (js : List Section) (m : Member) → IsStopped made js m → Voteless (take (before_reading floor) d.calls)
@@ -252,7 +250,7 @@ keeping_voteless (floors.Finalized f) records d v = at (list_any (is_final_from 
     at true = v
     at false =
         Voteless-append (d.calls ++ calls.Append (view_of f.proposal) (artifacts.Finalization f) ∷ []) (calls.Sync (view_of f.proposal) ∷ [])
-          (Voteless-append d.calls (calls.Append (view_of f.proposal) (artifacts.Finalization f) ∷ []) v (tt, tt)) (tt, tt)
+        (Voteless-append d.calls (calls.Append (view_of f.proposal) (artifacts.Finalization f) ∷ []) v (tt, tt)) (tt, tt)
 
 start_voteless : (made : Made) (now : ℕ) (floor : Floor) (js : List Section) → Voteless (started made now floor (replayed js)).calls
 unfolding started
@@ -270,7 +268,7 @@ start_lived made now floor (stops.Fail call keep) js m good s = at (call == 1)
     at : (b : Bool) → IsBegun made floor (started made now floor (replayed js)).desk.known
         (if b then unread floor (started made now floor (replayed js)) keep js else performed (stops.Fail (call - 1) keep) (started made now floor (replayed js)) js) m
     at true = unread_start made floor (started made now floor (replayed js)) keep js m s
-      (Voteless-take (before_reading floor) (started made now floor (replayed js)).calls (start_voteless made now floor js))
+        (Voteless-take (before_reading floor) (started made now floor (replayed js)).calls (start_voteless made now floor js))
     at false = start_performed_is made now floor (stops.Fail (call - 1) keep) js m good s
 
 -- ---- a crash between two steps

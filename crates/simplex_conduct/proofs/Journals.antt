@@ -1,5 +1,5 @@
 -- What the calls of a journal are to the member's journal.
-use Rattle.std.proofs.Common.{◌≡◌, ℕ, suc, ◌+◌, ◌-◌, ◌<◌, ◌≤◌, ◌==◌, ◌&&◌, not, Bool, true, false, nat_lt, nat_le, if◌then◌else◌, max, List, [], ◌∷◌, ◌++◌, map, filter, take, Contains, refl, sym, ap, ◌∙◌, subst, inl, inr, ◌⊎◌, arith, eqb-true, eq-eqb, zero}
+use Rattle.std.proofs.Common.{◌≡◌, ℕ, suc, ◌<◌, List, [], ◌∷◌, map, take, refl, sym, ap, ◌∙◌, subst, inl, inr, arith, zero}
 use Rattle.std.specs.Ordering.{nat_cmp}
 use Rattle.std.specs.declared.cmp.Ordering.TheVariants.{Less}
 use Rattle.std.specs.List.{AllByRecursion}
@@ -11,9 +11,8 @@ use Rattle.std.proofs.lemmas.List.{map-append}
 use Rattle.simplex_wire.specs.declared.artifact.Artifact.{Artifact}
 use Rattle.simplex_wire.specs.declared.artifact.Artifact.TheVariants as artifacts
 use Rattle.simplex_wire.specs.Fields.{artifact_round}
-use Rattle.simplex_journal.specs.Journal.{Section, opened_section, appended_section, synced_section, crashed_section, appended, synced_at, pruned, pruned_first, crashed}
+use Rattle.simplex_journal.specs.Journal.{Section, opened_section, appended_section, synced_section, crashed_section, appended, synced_at, pruned, crashed}
 use Rattle.simplex_journal.specs.Contents.{numbers, IsRising}
-use Rattle.simplex_journal.proofs.Contents.{appended-here, appended-below, appended-past}
 use Rattle.simplex_lives.specs.Artifacts as member
 use Rattle.simplex_lives.specs.Journal as kept
 use Rattle.simplex_conduct.specs.Life.{memory_of, section_of, journal_of}

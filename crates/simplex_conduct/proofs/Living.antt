@@ -1,8 +1,5 @@
 -- A list of a voter's calls, lived by the member call by call.
-use Rattle.std.proofs.Common.{◌≡◌, ℕ, zero, suc, ◌+◌, ◌-◌, ◌<◌, ◌≤◌, ◌==◌, ◌≢◌, Bool, true, false, max, nat_lt, nat_le, List, [], ◌∷◌, ◌++◌, map, take, drop, filter, Contains, refl, sym, ap, ◌∙◌, subst, inl, inr, ◌⊎◌, arith, append-nil, append_assoc, take-append-drop, if◌then◌else◌}
-use Rattle.std.proofs.lemmas.Bool.{cases_eq, cases_lt, eqb-false}
-use Rattle.std.proofs.lemmas.Bool.Decides.{nat_tests}
-use Rattle.std.proofs.lemmas.Grind.{common_steps}
+use Rattle.std.proofs.Common.{◌≡◌, ℕ, zero, suc, List, [], ◌∷◌, ◌++◌, map, take, drop, Contains, refl, sym, ap, ◌∙◌, subst, inl, inr, append-nil, append_assoc, take-append-drop}
 use Rattle.std.proofs.lemmas.List.Elements.{Contains-append_left, Contains-append_right, Contains-append_cases}
 use Rattle.simplex_values.specs.declared.plan.Channel.TheVariants as channels
 use Rattle.simplex_values.specs.declared.proposal.Subject.{Subject}
@@ -14,24 +11,22 @@ use Rattle.simplex_wire.specs.declared.artifact.Artifact.TheVariants as artifact
 use Rattle.simplex_wire.specs.declared.certificate.Certificate.TheVariants as certificates
 use Rattle.simplex_wire.specs.Fields.{artifact_round, vote_subject}
 use Rattle.simplex_wire.specs.Message as format
-use Rattle.simplex_journal.specs.Journal.{Section, replayed, appended, synced_at, pruned, pruned_first, crashed}
-use Rattle.simplex_journal.specs.Contents.{numbers, IsRising}
+use Rattle.simplex_journal.specs.Journal.{Section}
+use Rattle.simplex_journal.specs.Contents.{IsRising}
 use Rattle.simplex_journal.proofs.Contents.{replayed-synced_at}
 use Rattle.simplex_journal.proofs.Records.{replayed-appended, Contains-pruned}
 use Rattle.simplex_journal.proofs.Rising.{numbers-synced_at, IsRising-appended, IsRising-pruned}
 use Rattle.simplex_messages.specs.declared.call.Call.{Call}
 use Rattle.simplex_messages.specs.declared.call.Call.TheVariants as calls
-use Rattle.simplex_rules.specs.Known.{Made, Fact}
+use Rattle.simplex_rules.specs.Known.{Made}
 use Rattle.simplex_steps.specs.Performed.{after_call, after_calls}
-use Rattle.simplex_agreement.specs.World as agreement
 use Rattle.simplex_agreement.specs.World.{Sent}
-use Rattle.simplex_lives.specs.Artifacts as member
 use Rattle.simplex_lives.specs.Journal as kept
 use Rattle.simplex_lives.specs.Member as life
 use Rattle.simplex_lives.specs.Member.{Member, happens, run, IsLegal, May}
-use Rattle.simplex_lives.proofs.CallFacts.{run-append, IsLegal-append, brought-append}
+use Rattle.simplex_lives.proofs.CallFacts.{run-append, brought-append}
 use Rattle.simplex_agreement.proofs.ListFacts.{Contains-cons_cases}
-use Rattle.simplex_conduct.specs.Life.{statement_of, memory_of, remembered, journal_of, certificate_in, taken, AreSent, AreOwn, IsInOrder}
+use Rattle.simplex_conduct.specs.Life.{statement_of, memory_of, journal_of, certificate_in, taken, AreSent, AreOwn}
 use Rattle.simplex_conduct.proofs.Journals.{append_is, sync_is, prune_is}
 
 -- ---- what the member does as the voter makes a call
@@ -81,7 +76,7 @@ IsLegal-rest length m (x ∷ xs) ys h = IsLegal-rest length (happens m x) xs ys 
 pub legal_take : (length : ℕ) (m : Member) (k : ℕ) (made : List Call) → IsLegal length m (doings made) → IsLegal length m (doings (take k made))
 legal_take length m k made h =
     IsLegal-front length m (doings (take k made)) (doings (drop k made))
-      (subst (IsLegal length m) (ap doings (sym (take-append-drop k made)) ∙ doings-append (take k made) (drop k made)) h)
+    (subst (IsLegal length m) (ap doings (sym (take-append-drop k made)) ∙ doings-append (take k made) (drop k made)) h)
 
 -- ---- the journal
 

@@ -1,5 +1,5 @@
 -- A prune that fails drops what a prune to a lower view drops.
-use Rattle.std.proofs.Common.{◌≡◌, ℕ, zero, suc, ◌+◌, ◌-◌, ◌<◌, ◌≤◌, ◌&&◌, Bool, true, false, max, nat_lt, nat_le, List, [], ◌∷◌, ◌++◌, Contains, refl, sym, ap, ◌∙◌, subst, inl, inr, ◌⊎◌, arith, if◌then◌else◌}
+use Rattle.std.proofs.Common.{◌≡◌, ℕ, ◌+◌, ◌-◌, ◌<◌, ◌≤◌, ◌&&◌, Bool, true, false, max, nat_lt, List, [], ◌∷◌, ◌++◌, Contains, refl, sym, ap, ◌∙◌, inl, inr, ◌⊎◌, arith, if◌then◌else◌}
 use Rattle.std.specs.List.{AllByRecursion}
 use Rattle.std.specs.List.Sorted.{IsStrictlySortedBy}
 use Rattle.std.specs.Ordering.{nat_cmp}
@@ -12,7 +12,7 @@ use Rattle.simplex_wire.specs.declared.artifact.Artifact.{Artifact}
 use Rattle.simplex_journal.specs.Journal.{Section, replayed, pruned_first}
 use Rattle.simplex_journal.specs.Contents.{numbers, IsRising}
 use Rattle.simplex_lives.specs.Journal as kept
-use Rattle.simplex_conduct.specs.Life.{section_of, journal_of}
+use Rattle.simplex_conduct.specs.Life.{journal_of}
 
 lower : (m n : ℕ) → nat_cmp m n ≡ Less → m < n
 lower m n e = grind (arith, nat_tests, e)

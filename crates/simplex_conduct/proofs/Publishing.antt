@@ -1,9 +1,6 @@
 -- The end of a step, and the start of the next iteration.
-use Rattle.std.proofs.Common.{◌≡◌, ℕ, ◌+◌, ◌-◌, ◌<◌, ◌≤◌, ◌==◌, Bool, true, false, nat_lt, List, [], ◌∷◌, ◌++◌, option_to_list, Option, Some, None, refl, sym, ap, ◌∙◌, subst, arith, append-nil, append_assoc, if◌then◌else◌}
-use Rattle.std.specs.Option.{is_some, option_map, option_map_or}
-use Rattle.std.proofs.lemmas.Grind.{common_steps}
-use Rattle.simplex_values.specs.declared.proposal.Subject.{Subject}
-use Rattle.simplex_values.specs.declared.proposal.Subject.TheVariants as subjects
+use Rattle.std.proofs.Common.{◌≡◌, ℕ, ◌-◌, ◌≤◌, Bool, true, false, nat_lt, List, [], ◌∷◌, ◌++◌, option_to_list, Option, Some, None, refl, sym, ◌∙◌, subst, arith, append-nil, append_assoc, if◌then◌else◌}
+use Rattle.std.specs.Option.{option_map_or}
 use Rattle.simplex_values.specs.declared.plan.Channel.TheVariants as channels
 use Rattle.simplex_values.specs.declared.plan.Recipients.TheVariants as recipients
 use Rattle.simplex_wire.specs.declared.vote.Notarize.{Notarize}
@@ -17,11 +14,9 @@ use Rattle.simplex_wire.specs.declared.certificate.Notarization.{Notarization}
 use Rattle.simplex_wire.specs.declared.certificate.Nullification.{Nullification}
 use Rattle.simplex_wire.specs.declared.certificate.Finalization.{Finalization}
 use Rattle.simplex_wire.specs.declared.artifact.Artifact.TheVariants as artifacts
-use Rattle.simplex_wire.specs.Fields.{vote_subject}
 use Rattle.simplex_wire.specs.Message as format
 use Rattle.simplex_types.specs.declared.activity.Activity.{Activity}
 use Rattle.simplex_types.specs.declared.activity.Activity.TheVariants as activities
-use Rattle.simplex_messages.specs.declared.call.Call.{Call}
 use Rattle.simplex_messages.specs.declared.call.Call.TheVariants as calls
 use Rattle.simplex_messages.specs.declared.handed.Handed.TheVariants as handed
 use Rattle.simplex_messages.specs.declared.resolver.MailboxMessage.TheVariants as resolver
@@ -39,11 +34,11 @@ use Rattle.simplex_steps.specs.Desk.{Doing, tell, make, hand, append, seek, send
 use Rattle.simplex_steps.specs.Voter.{vote_notarize, vote_finalize, open_requests, sync, publish_verdict, publish_nullify, publish_notarization, publish_nullification, publish_finalization, with_certificate, update_message, update_batcher, end_of_step, prune_at, prune, begin_iteration}
 use Rattle.simplex_lives.specs.Artifacts as member
 use Rattle.simplex_lives.specs.Member.{Member}
-use Rattle.simplex_conduct.specs.Life.{noted, remembered, IsInOrder}
+use Rattle.simplex_conduct.specs.Life.{noted, remembered}
 use Rattle.simplex_conduct.proofs.Remembering.{final_is}
 use Rattle.simplex_conduct.proofs.Voting.{may_notarize, may_finalize}
-use Rattle.simplex_conduct.proofs.Facts.{SameMemory, same_memory, same_then, told_quiet, IsQuiet, one_more, reconciled_same, iterated_same}
-use Rattle.simplex_conduct.proofs.Simulating.{Writes, Stores, IsPlain, writes_known, writes_plain, writes_note, writes_sync, stores_known, stores_plain, stores_send, stores_prune}
+use Rattle.simplex_conduct.proofs.Facts.{told_quiet, IsQuiet, one_more, reconciled_same, iterated_same}
+use Rattle.simplex_conduct.proofs.Simulating.{Writes, Stores, writes_known, writes_note, writes_sync, stores_known, stores_plain, stores_send, stores_prune}
 
 -- what a step has done so far is lived by the member; it writes to this view's section, or all is stored
 abbrev pub Writing : Made → Member → ℕ → Doing → List Vote → Type 0
@@ -74,16 +69,16 @@ writing_notarize made m view d queue w = at (notarize_at made d.desk.known view)
   where
     at : (o : Option Notarize) → notarize_at made d.desk.known view ≡ o
         → (let told = record d { desk = record d.desk { known = state.fact_of (λ v. Voted (votes.Notarize v)) o ++ d.desk.known } } in
-          Writing made m view (option_map_or (λ n. append (artifacts.Notarize n) told) o told) (queue ++ notarize_waiting o))
+        Writing made m view (option_map_or (λ n. append (artifacts.Notarize n) told) o told) (queue ++ notarize_waiting o))
     at None e = subst (Writes made m view d.calls d.wrote d.desk.known) (sym (append-nil queue)) w
     at (Some n) e =
         let parts = notarize_parts made d.desk.known view n e in
         writes_note made m view d.calls d.wrote d.desk.known (Voted (votes.Notarize n) ∷ d.desk.known) queue (view_of n.proposal) (artifacts.Notarize n) w
-          (slot_view d.desk.known view n.proposal parts.0)
-          (may_notarize made d.desk.known view n e)
-          (remembered_push (Voted (votes.Notarize n)) d.desk.known)
-          (one_more made d.desk.known (Voted (votes.Notarize n)) tt w.sim.order)
-          refl
+        (slot_view d.desk.known view n.proposal parts.0)
+        (may_notarize made d.desk.known view n e)
+        (remembered_push (Voted (votes.Notarize n)) d.desk.known)
+        (one_more made d.desk.known (Voted (votes.Notarize n)) tt w.sim.order)
+        refl
 
 pub writing_finalize : (made : Made) (m : Member) (view : ℕ) (d : Doing) (queue : List Vote) → Writing made m view d queue
     → Writing made m view (vote_finalize made view d) (queue ++ finalize_waiting (finalize_at made d.desk.known view))
@@ -92,16 +87,16 @@ writing_finalize made m view d queue w = at (finalize_at made d.desk.known view)
   where
     at : (o : Option Finalize) → finalize_at made d.desk.known view ≡ o
         → (let told = record d { desk = record d.desk { known = state.fact_of (λ v. Voted (votes.Finalize v)) o ++ d.desk.known } } in
-          Writing made m view (option_map_or (λ n. append (artifacts.Finalize n) told) o told) (queue ++ finalize_waiting o))
+        Writing made m view (option_map_or (λ n. append (artifacts.Finalize n) told) o told) (queue ++ finalize_waiting o))
     at None e = subst (Writes made m view d.calls d.wrote d.desk.known) (sym (append-nil queue)) w
     at (Some f) e =
         let parts = finalize_parts made d.desk.known view f e in
         writes_note made m view d.calls d.wrote d.desk.known (Voted (votes.Finalize f) ∷ d.desk.known) queue (view_of f.proposal) (artifacts.Finalize f) w
-          (slot_view d.desk.known view f.proposal parts.0)
-          (may_finalize made d.desk.known view f w.sim.order e)
-          (remembered_push (Voted (votes.Finalize f)) d.desk.known)
-          (one_more made d.desk.known (Voted (votes.Finalize f)) tt w.sim.order)
-          refl
+        (slot_view d.desk.known view f.proposal parts.0)
+        (may_finalize made d.desk.known view f w.sim.order e)
+        (remembered_push (Voted (votes.Finalize f)) d.desk.known)
+        (one_more made d.desk.known (Voted (votes.Finalize f)) tt w.sim.order)
+        refl
 
 notarize_keeps : (made : Made) (view : ℕ) (d : Doing) → (vote_notarize made view d).nullify ≡ d.nullify
 unfolding vote_notarize
@@ -155,6 +150,7 @@ verdict_out made m d queue s = at d.verdict
         Storing made m (if b then report (activities.Certification n) told else told) queue)
     one n good true = stores_plain made m d.calls d.desk.known queue (calls.Report (activities.Certification n)) tt s
     one n good false = s
+
     at : (o : Option (Notarization × Bool)) → Storing made m (option_map_or (λ v.
         let told = hand (handed.Resolver (resolver.Certified v.0 v.1)) d in
         if v.1 then report (activities.Certification v.0) told else told) o d) queue
@@ -169,6 +165,7 @@ verdict_keeps d = at d.verdict
         (if b then report (activities.Certification n) told else told).nullify ≡ d.nullify)
     one n good true = refl
     one n good false = refl
+
     at : (o : Option (Notarization × Bool)) → (option_map_or (λ v.
         let told = hand (handed.Resolver (resolver.Certified v.0 v.1)) d in
         if v.1 then report (activities.Certification v.0) told else told) o d).nullify ≡ d.nullify
@@ -208,7 +205,7 @@ finalize_out made m d queue (Some n) s = stores_send made m d.calls d.desk.known
 both_out : (made : Made) (m : Member) (d : Doing) (queue : List Vote) (c : Certificate) (a : Activity) → Storing made m d queue → Storing made m (report a (send_certificate c d)) queue
 both_out made m d queue c a s =
     stores_plain made m (send_certificate c d).calls d.desk.known queue (calls.Report a) tt
-      (stores_plain made m d.calls d.desk.known queue (calls.Send channels.Certificate recipients.All (format.certificate.spelling c)) tt s)
+    (stores_plain made m d.calls d.desk.known queue (calls.Send channels.Certificate recipients.All (format.certificate.spelling c)) tt s)
 
 told_out : (made : Made) (m : Member) (d : Doing) (queue : List Vote) (call : state.Call) → IsQuiet call → Storing made m d queue → Storing made m (tell made call d) queue
 told_out made m d queue call q s = stores_known made m d.calls d.desk.known (facts_of made d.desk.known call ++ d.desk.known) queue (told_quiet made d.desk.known call q) s
@@ -260,18 +257,18 @@ step_ends made m now before view d w =
     let first = nullify_waiting d.nullify in
     let all : List Vote = first ++ (notarize_waiting notarize ++ finalize_waiting finalize) in
     let stored : Storing made m opened all =
-      synced made m view asked all
-        (writing_requests made m now view finalized all
-          (subst (Writing made m view finalized) (append_assoc first (notarize_waiting notarize) (finalize_waiting finalize))
-            (writing_finalize made m view voted (first ++ notarize_waiting notarize) (writing_notarize made m view d first w)))) in
+    synced made m view asked all
+    (writing_requests made m now view finalized all
+    (subst (Writing made m view finalized) (append_assoc first (notarize_waiting notarize) (finalize_waiting finalize))
+    (writing_finalize made m view voted (first ++ notarize_waiting notarize) (writing_notarize made m view d first w)))) in
     let kept : opened.nullify ≡ d.nullify =
-      sync_keeps view asked ∙ requests_keep made now finalized ∙ finalize_keeps made view voted ∙ notarize_keeps made view d in
+    sync_keeps view asked ∙ requests_keep made now finalized ∙ finalize_keeps made view voted ∙ notarize_keeps made view d in
     let judged = publish_verdict opened in
     let kept' : judged.nullify ≡ d.nullify = verdict_keeps opened ∙ kept in
     let nullified : Storing made m (publish_nullify judged) (notarize_waiting notarize ++ finalize_waiting finalize) =
-      nullify_out made m judged (notarize_waiting notarize ++ finalize_waiting finalize)
-        (subst (λ o. Storing made m judged (nullify_waiting o ++ (notarize_waiting notarize ++ finalize_waiting finalize))) (sym kept')
-          (verdict_out made m opened all stored)) in
+    nullify_out made m judged (notarize_waiting notarize ++ finalize_waiting finalize)
+    (subst (λ o. Storing made m judged (nullify_waiting o ++ (notarize_waiting notarize ++ finalize_waiting finalize))) (sym kept')
+    (verdict_out made m opened all stored)) in
     let out1 = publish_nullify judged in
     let out2 = option_map_or (λ n. send_vote (votes.Notarize n) out1) notarize out1 in
     let out3 = publish_notarization made view out2 in
@@ -280,9 +277,9 @@ step_ends made m now before view d w =
     let out6 = publish_finalization made view out5 in
     let left = finalize_waiting finalize in
     let given_up : Storing made m out4 left =
-      nullification_out made m view out3 left (notarization_out made m view out2 left (notarize_out made m out1 left notarize nullified)) in
+    nullification_out made m view out3 left (notarization_out made m view out2 left (notarize_out made m out1 left notarize nullified)) in
     update_out made m before out6 []
-      (finalization_out made m view out5 [] (finalize_out made m out4 [] finalize (subst (Storing made m out4) (sym (append-nil left)) given_up)))
+    (finalization_out made m view out5 [] (finalize_out made m out4 [] finalize (subst (Storing made m out4) (sym (append-nil left)) given_up)))
 
 -- ---- the start of the next iteration
 
@@ -307,5 +304,5 @@ iteration_begins made m now d s =
     at b ready (Some least) e =
         let told = told_quiet made b.desk.known state.Prune tt in
         stores_prune made m b.calls (tell made state.Prune b).desk.known [] least
-          (subst (λ known. least ≤ member.last_finalized known) (sym told.memory) (pruned_low made b.desk.known least e))
-          (told_out made m b [] state.Prune tt ready)
+        (subst (λ known. least ≤ member.last_finalized known) (sym told.memory) (pruned_low made b.desk.known least e))
+        (told_out made m b [] state.Prune tt ready)

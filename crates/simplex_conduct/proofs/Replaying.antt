@@ -1,7 +1,6 @@
 -- What a start makes of the records of its journal.
-use Rattle.std.proofs.Common.{◌≡◌, ℕ, suc, ◌+◌, ◌<◌, ◌≤◌, ◌==◌, ◌&&◌, ◌||◌, not, Bool, true, false, max, nat_lt, nat_le, List, [], ◌∷◌, ◌++◌, map, filter, Contains, Option, Some, None, refl, sym, ap, ◌∙◌, subst, arith, append-nil, append_assoc, if◌then◌else◌}
+use Rattle.std.proofs.Common.{◌≡◌, ℕ, ◌<◌, ◌||◌, Bool, true, false, max, nat_lt, nat_le, List, [], ◌∷◌, ◌++◌, map, filter, Contains, Option, Some, None, refl, sym, ap, ◌∙◌, subst, arith, append-nil, append_assoc, if◌then◌else◌}
 use Rattle.std.specs.List.{list_any}
-use Rattle.std.proofs.lemmas.Bool.{cases_lt}
 use Rattle.std.proofs.lemmas.Bool.Decides.{nat_tests}
 use Rattle.std.proofs.lemmas.Grind.{common_steps}
 use Rattle.std.proofs.lemmas.List.{map-append}
@@ -16,7 +15,7 @@ use Rattle.simplex_wire.specs.declared.artifact.Artifact.TheVariants as artifact
 use Rattle.simplex_wire.specs.declared.certificate.CertificateKind.{CertificateKind}
 use Rattle.simplex_wire.specs.Fields.{artifact_round}
 use Rattle.simplex_types.specs.declared.activity.Activity.{Activity}
-use Rattle.simplex_rules.specs.Known.{Made, Fact, Added, Judged, Voted, Broadcast, view_of}
+use Rattle.simplex_rules.specs.Known.{Made, Fact, Added, Judged, Voted, Broadcast}
 use Rattle.simplex_rules.specs.Deadline.{triggered}
 use Rattle.simplex_rules.specs.Calls as state
 use Rattle.simplex_rules.specs.Calls.{facts_of, replay_facts, replay_answer, judged, takes_verdict, certified_answer}
@@ -25,10 +24,10 @@ use Rattle.simplex_messages.specs.declared.call.Call.{Call}
 use Rattle.simplex_messages.specs.declared.call.Call.TheVariants as calls
 use Rattle.simplex_steps.specs.Desk.{Doing, tell}
 use Rattle.simplex_steps.specs.Voter.{activity_of, certificate_in, report_if, updated_if, block_for, replay_verdict, replay_record, replay_all, is_final_from}
-use Rattle.simplex_agreement.proofs.ListFacts.{not_in_empty, Contains-here, Contains-there, Contains-cons_cases}
+use Rattle.simplex_agreement.proofs.ListFacts.{Contains-here, Contains-there}
 use Rattle.simplex_lives.specs.Artifacts as member
 use Rattle.simplex_lives.specs.Journal as kept
-use Rattle.simplex_conduct.specs.Life.{statement_of, memory_of, noted, remembered, section_of, journal_of, IsInOrder}
+use Rattle.simplex_conduct.specs.Life.{statement_of, memory_of, remembered, section_of, journal_of, IsInOrder}
 use Rattle.simplex_conduct.proofs.Voting.{taken_is}
 use Rattle.simplex_conduct.proofs.Facts.{one_more, quiet_memory, quiet_order}
 use Rattle.simplex_conduct.proofs.Acting.{judged_taken, judged_left, failing_quiet, taken_has}
@@ -92,7 +91,7 @@ certificate_replayed : (made : Made) (known : List Fact) (a : Artifact) (c : Cer
 certificate_replayed made known a c kind view now e =
     record {
       memory = quiet_memory (Broadcast kind view ∷ []) (Added c now ∷ known) (refl, tt) ∙ remembered_push (Added c now) known
-        ∙ ap (λ x. if member.is_taken (remembered known) x then remembered known ++ x ∷ [] else remembered known) (sym e);
+          ∙ ap (λ x. if member.is_taken (remembered known) x then remembered known ++ x ∷ [] else remembered known) (sym e);
       order = λ o. quiet_order made (Broadcast kind view ∷ []) (Added c now ∷ known) (refl, tt) (one_more made known (Added c now) tt o);
     }
 
@@ -103,8 +102,7 @@ verdict_replayed made known view good now true e =
     let extra = if good then [] else triggered made known view FailedCertification now in
     let quiet = failing_quiet made known view good now in
     let fact = Judged view good now in
-    let same : judged made known view good now ++ known ≡ extra ++ (fact ∷ known) = ap (λ xs. xs ++ known) (judged_taken made known view good now e) ∙ append_assoc extra (fact ∷ []) known in
-    (
+    let same : judged made known view good now ++ known ≡ extra ++ (fact ∷ known) = ap (λ xs. xs ++ known) (judged_taken made known view good now e) ∙ append_assoc extra (fact ∷ []) known in (
       ap remembered same ∙ quiet_memory extra (fact ∷ known) quiet ∙ remembered_push fact known,
       λ o. subst (IsInOrder made) (sym same) (quiet_order made extra (fact ∷ known) quiet (one_more made known fact (taken_has known view e) o)),
     )
@@ -218,7 +216,7 @@ all_plain made now floor d (a ∷ rest) p =
 
 replayed_or_not : (made : Made) (now : ℕ) (d : Doing) (a : Artifact) (b : Bool) → epoch_kept made a
     → (remembered (if b then replay_record made now d a else d).desk.known
-      ≡ (if b then (if member.is_taken (remembered d.desk.known) (memory_of a) then remembered d.desk.known ++ memory_of a ∷ [] else remembered d.desk.known) else remembered d.desk.known))
+    ≡ (if b then (if member.is_taken (remembered d.desk.known) (memory_of a) then remembered d.desk.known ++ memory_of a ∷ [] else remembered d.desk.known) else remembered d.desk.known))
     × (IsInOrder made d.desk.known → IsInOrder made (if b then replay_record made now d a else d).desk.known)
 replayed_or_not made now d a true own =
     let r = facts_replayed made d.desk.known a now own in
@@ -253,9 +251,8 @@ all_replayed made now floor d (a ∷ rest) own =
     let next = if b then replay_record made now d a else d in
     let one = replayed_or_not made now d a b (own_record made a (λ v e. own v (subst (λ x. Contains (a ∷ rest) x) e (Contains-here a rest)))) in
     let later = all_replayed made now floor next rest (λ v c. own v (Contains-there a rest (artifacts.Nullify v) c)) in
-    let rest' = filter (λ x. nat_lt floor (member.artifact_view x)) (map memory_of rest) in
-    (
+    let rest' = filter (λ x. nat_lt floor (member.artifact_view x)) (map memory_of rest) in (
       later.0 ∙ ap (λ known. member.replay known rest') one.0 ∙ replay_step (remembered d.desk.known) (memory_of a) rest' b
-        ∙ ap (λ v. member.replay (remembered d.desk.known) (if nat_lt floor v then memory_of a ∷ rest' else rest')) (sym (memory_view a)),
+          ∙ ap (λ v. member.replay (remembered d.desk.known) (if nat_lt floor v then memory_of a ∷ rest' else rest')) (sym (memory_view a)),
       λ o. later.1 (one.1 o),
     )

@@ -1,8 +1,6 @@
 -- How each call of a step is lived: it is legal, and the member then remembers what the voter knows.
-use Rattle.std.proofs.Common.{◌≡◌, ℕ, zero, suc, ◌+◌, ◌-◌, ◌<◌, ◌≤◌, ◌==◌, ◌≢◌, Bool, true, false, nat_lt, nat_le, List, [], ◌∷◌, ◌++◌, map, take, drop, take-append-drop, Contains, Option, Some, None, refl, sym, ap, ◌∙◌, subst, inl, inr, ◌⊎◌, arith, append-nil, append_assoc, if◌then◌else◌, eqb-true}
-use Rattle.std.proofs.lemmas.Bool.{cases_eq, cases_lt, eqb-false}
-use Rattle.std.proofs.lemmas.Bool.Decides.{nat_tests}
-use Rattle.std.proofs.lemmas.Grind.{common_steps}
+use Rattle.std.proofs.Common.{◌≡◌, ℕ, ◌≤◌, ◌==◌, ◌≢◌, Bool, true, false, nat_lt, List, [], ◌∷◌, ◌++◌, map, take, drop, take-append-drop, refl, sym, ap, ◌∙◌, subst, inl, inr, ◌⊎◌, append-nil, append_assoc, if◌then◌else◌, eqb-true}
+use Rattle.std.proofs.lemmas.Bool.{eqb-false}
 use Rattle.std.proofs.lemmas.List.{map-append}
 use Rattle.simplex_values.specs.declared.plan.Channel.TheVariants as channels
 use Rattle.simplex_values.specs.declared.plan.Recipients.{Recipients}
@@ -18,7 +16,6 @@ use Rattle.simplex_wire.specs.Message as format
 use Rattle.simplex_messages.specs.declared.call.Call.{Call}
 use Rattle.simplex_messages.specs.declared.call.Call.TheVariants as calls
 use Rattle.simplex_rules.specs.Known.{Made, Fact}
-use Rattle.simplex_rules.specs.Views as rules
 use Rattle.simplex_agreement.specs.World.{Sent}
 use Rattle.simplex_lives.specs.Artifacts as member
 use Rattle.simplex_lives.specs.Journal as kept
@@ -26,7 +23,7 @@ use Rattle.simplex_lives.specs.Journal.{Section}
 use Rattle.simplex_lives.specs.Member as life
 use Rattle.simplex_lives.specs.Member.{Member, happens, run, IsLegal, May}
 use Rattle.simplex_lives.specs.Votes.{MayVote}
-use Rattle.simplex_lives.proofs.CallFacts.{run-append, IsLegal-append}
+use Rattle.simplex_lives.proofs.CallFacts.{IsLegal-append}
 use Rattle.simplex_lives.proofs.JournalFacts.{prune_waiting}
 use Rattle.simplex_conduct.specs.Life.{memory_of, remembered, IsInOrder, IsEarlier}
 use Rattle.simplex_conduct.specs.Storing.{record_of_vote, IsStored, AreStoredFirst}
@@ -110,8 +107,8 @@ stored_more a cs c s =
       between = s.between;
       behind = s.behind ++ c ∷ [];
       place = ap (λ xs. xs ++ c ∷ []) s.place
-        ∙ append_assoc s.before (calls.Append view a ∷ (s.between ++ (calls.Sync view ∷ s.behind))) (c ∷ [])
-        ∙ ap (λ xs. s.before ++ (calls.Append view a ∷ xs)) (append_assoc s.between (calls.Sync view ∷ s.behind) (c ∷ []));
+          ∙ append_assoc s.before (calls.Append view a ∷ (s.between ++ (calls.Sync view ∷ s.behind))) (c ∷ [])
+          ∙ ap (λ xs. s.before ++ (calls.Append view a ∷ xs)) (append_assoc s.between (calls.Sync view ∷ s.behind) (c ∷ []));
     }
 
 synced_now : (v : Vote) (view : ℕ) (cs : List Call) → IsAppended v cs → (artifact_round (record_of_vote v)).view ≡ view → IsStored (record_of_vote v) (cs ++ calls.Sync view ∷ [])
@@ -121,8 +118,8 @@ synced_now v view cs a e =
       between = a.behind;
       behind = [];
       place = ap (λ xs. xs ++ calls.Sync view ∷ []) a.place
-        ∙ append_assoc a.before (calls.Append (artifact_round (record_of_vote v)).view (record_of_vote v) ∷ a.behind) (calls.Sync view ∷ [])
-        ∙ ap (λ n. a.before ++ (calls.Append (artifact_round (record_of_vote v)).view (record_of_vote v) ∷ (a.behind ++ calls.Sync n ∷ []))) (sym e);
+          ∙ append_assoc a.before (calls.Append (artifact_round (record_of_vote v)).view (record_of_vote v) ∷ a.behind) (calls.Sync view ∷ [])
+          ∙ ap (λ n. a.before ++ (calls.Append (artifact_round (record_of_vote v)).view (record_of_vote v) ∷ (a.behind ++ calls.Sync n ∷ []))) (sym e);
     }
 
 noted_more : (m : Member) (view : ℕ) (cs : List Call) (c : Call) (queue : List Vote) → AllNoted m view cs queue → AllNoted m view (cs ++ c ∷ []) queue
@@ -209,7 +206,7 @@ sim_more made m cs facts later queue left sim c legal up memory order box fit se
     let push = behind-push m cs c in
     record {
       legal = subst (IsLegal made.term_length m) (sym (doings-append cs (c ∷ [])))
-        (IsLegal-append made.term_length m (doings cs) (doing_of c ++ []) sim.legal (subst (IsLegal made.term_length (behind m cs)) (sym (append-nil (doing_of c))) legal));
+          (IsLegal-append made.term_length m (doings cs) (doing_of c ++ []) sim.legal (subst (IsLegal made.term_length (behind m cs)) (sym (append-nil (doing_of c))) legal));
       up = ap (λ (n : Member). n.up) push ∙ up;
       memory = ap (λ (n : Member). n.known) push ∙ memory;
       order = order;
@@ -328,12 +325,12 @@ pub sim_note : (made : Made) (m : Member) (cs : List Call) (facts later : List F
 sim_note made m cs facts later queue n a sim may more order fit =
     let now = behind m cs in
     sim_more made m cs facts later queue (queue ++ queued a) sim (calls.Append n a)
-      (note_may made facts now a sim.up sim.memory may, tt)
-      (note_up now a ∙ sim.up)
-      (note_known now a ∙ ap (λ xs. xs ++ memory_of a ∷ []) sim.memory ∙ sym more)
-      order
-      (note_box now a ∙ ap (λ xs. xs ++ map vote_subject (queued a)) sim.box ∙ sym (map-append vote_subject queue (queued a)))
-      fit tt tt
+    (note_may made facts now a sim.up sim.memory may, tt)
+    (note_up now a ∙ sim.up)
+    (note_known now a ∙ ap (λ xs. xs ++ memory_of a ∷ []) sim.memory ∙ sym more)
+    order
+    (note_box now a ∙ ap (λ xs. xs ++ map vote_subject (queued a)) sim.box ∙ sym (map-append vote_subject queue (queued a)))
+    fit tt tt
 
 -- ---- the step writes to one section, and then syncs it
 
@@ -393,7 +390,7 @@ writes_note made m view cs wrote facts later queue n a w here may more order fit
     record {
       sim = sim_note made m cs facts later queue n a w.sim may more order fit;
       only = subst (Only view) (sym (ap (λ (x : Member). x.journal) (behind-push m cs (calls.Append n a)) ∙ note_journal (behind m cs) a))
-        (only_append view (memory_of a) (behind m cs).journal (memory_view a ∙ fit_view made n a fit ∙ here) w.only);
+          (only_append view (memory_of a) (behind m cs).journal (memory_view a ∙ fit_view made n a fit ∙ here) w.only);
       unwritten = λ e. cc;
       noted = AllNoted-append m view (cs ++ calls.Append n a ∷ []) queue (queued a) (noted_more m view cs (calls.Append n a) queue w.noted) (noted_now m view cs n a here (fit_view made n a fit));
       earlier = λ e. cc;
@@ -444,8 +441,8 @@ stores_send made m cs facts queue v s =
     let c = calls.Send channels.Vote recipients.All (format.vote.spelling v) in
     record {
       sim = sim_more made m cs facts facts (v ∷ queue) queue sim c
-        ((sim.up, s.stored), tt) (sent_up now now.outbox ∙ sim.up) (sent_known now now.outbox ∙ sim.memory) sim.order
-        (sent_box now now.outbox (vote_subject v) (map vote_subject queue) sim.box) tt (v, map vote_subject queue, refl, sim.box) (v, refl, s.kept.0);
+          ((sim.up, s.stored), tt) (sent_up now now.outbox ∙ sim.up) (sent_known now now.outbox ∙ sim.memory) sim.order
+          (sent_box now now.outbox (vote_subject v) (map vote_subject queue) sim.box) tt (v, map vote_subject queue, refl, sim.box) (v, refl, s.kept.0);
       stored = ap (λ (n : Member). kept.waiting n.journal) (behind-push m cs c) ∙ ap kept.waiting (sent_journal now now.outbox) ∙ s.stored;
       kept = kept_more m cs c queue s.kept.1;
     }
@@ -460,7 +457,7 @@ stores_prune made m cs facts queue least low s =
     let now = behind m cs in
     record {
       sim = sim_more made m cs facts facts queue queue sim (calls.Prune least)
-        ((sim.up, s.stored, subst (λ known. least ≤ member.last_finalized known) (sym sim.memory) low), tt) sim.up sim.memory sim.order sim.box tt tt tt;
+          ((sim.up, s.stored, subst (λ known. least ≤ member.last_finalized known) (sym sim.memory) low), tt) sim.up sim.memory sim.order sim.box tt tt tt;
       stored = ap (λ (n : Member). kept.waiting n.journal) (behind-push m cs (calls.Prune least)) ∙ prune_waiting least now.journal s.stored;
       kept = kept_more m cs (calls.Prune least) queue s.kept;
     }

@@ -1,48 +1,23 @@
 -- A start, at genesis or at a floor, and wherever a stop ends it.
-use Rattle.std.proofs.Common.{◌≡◌, ℕ, zero, suc, ◌+◌, ◌-◌, ◌<◌, ◌≤◌, ◌==◌, ◌&&◌, Bool, true, false, nat_lt, nat_le, List, [], ◌∷◌, ◌++◌, map, take, drop, length, filter, Contains, Option, Some, None, refl, sym, ap, ◌∙◌, subst, inl, inr, ◌⊎◌, arith, append-nil, append_assoc, if◌then◌else◌}
-use Rattle.std.specs.List.{list_any}
-use Rattle.std.specs.Option.{option_map_or}
-use Rattle.std.proofs.lemmas.Bool.{cases_lt}
-use Rattle.std.proofs.lemmas.Bool.Decides.{nat_tests}
-use Rattle.std.proofs.lemmas.Grind.{common_steps}
+use Rattle.std.proofs.Common.{◌≡◌, ℕ, zero, suc, List, [], ◌∷◌, ◌++◌, take, Option, Some, None, refl, sym, ap, ◌∙◌, subst, inl, inr, ◌⊎◌, append-nil, append_assoc}
 use Rattle.simplex_values.specs.declared.plan.Channel.TheVariants as channels
 use Rattle.simplex_values.specs.declared.proposal.Subject.{Subject}
 use Rattle.simplex_wire.specs.declared.vote.Vote.{Vote}
 use Rattle.simplex_wire.specs.declared.artifact.Artifact.{Artifact}
-use Rattle.simplex_wire.specs.declared.artifact.Artifact.TheVariants as artifacts
-use Rattle.simplex_wire.specs.declared.certificate.Finalization.{Finalization}
-use Rattle.simplex_wire.specs.declared.certificate.Certificate.TheVariants as certificates
-use Rattle.simplex_types.specs.declared.activity.Activity.TheVariants as activities
-use Rattle.simplex_types.specs.declared.floor.Floor.{Floor}
-use Rattle.simplex_types.specs.declared.floor.Floor.TheVariants as floors
-use Rattle.simplex_rules.specs.Known.{Made, Fact, FloorAt, Added, Broadcast, view_of}
-use Rattle.simplex_rules.specs.Calls as state
-use Rattle.simplex_rules.specs.Calls.{facts_of}
-use Rattle.simplex_journal.specs.Journal.{Section, replayed, appended, crashed}
+use Rattle.simplex_rules.specs.Known.{Made, Fact}
+use Rattle.simplex_journal.specs.Journal.{Section}
 use Rattle.simplex_messages.specs.declared.call.Call.{Call}
 use Rattle.simplex_messages.specs.declared.call.Call.TheVariants as calls
-use Rattle.simplex_messages.specs.declared.handed.Handed.TheVariants as handed
-use Rattle.simplex_messages.specs.declared.resolver.MailboxMessage.TheVariants as resolver
 use Rattle.simplex_messages.specs.declared.step.Stop.{Stop}
 use Rattle.simplex_messages.specs.declared.step.Stop.TheVariants as stops
-use Rattle.simplex_steps.specs.Desk.{Doing, begun, tell, make, hand, append, report}
-use Rattle.simplex_steps.specs.Performed.{stop_place, after_call, after_calls, failing_at, after_failing, whole, broken, performed}
-use Rattle.simplex_steps.specs.Voter.{floor_view, stand_on, replay_all, is_final_from, keep_floor, sync, update_message, begin_iteration, blank_desk, started}
-use Rattle.simplex_steps.specs.VoterLife.{unread, start_performed}
+use Rattle.simplex_steps.specs.Performed.{after_call, after_calls, failing_at, after_failing}
 use Rattle.simplex_agreement.specs.World.{Sent}
-use Rattle.simplex_agreement.specs.World as agreement
-use Rattle.simplex_lives.specs.Artifacts as member
-use Rattle.simplex_lives.specs.Journal as kept
-use Rattle.simplex_lives.specs.Member as life
-use Rattle.simplex_lives.specs.Member.{Member, happens, run, IsLegal}
-use Rattle.simplex_conduct.specs.Life.{statement_of, memory_of, remembered, journal_of, taken, AreSent, AreOwn, IsInOrder, IsRunning, IsStopped, floor_statement, IsFloor, IsBegun}
-use Rattle.simplex_conduct.proofs.Facts.{one_more, quiet_memory, quiet_order}
-use Rattle.simplex_conduct.proofs.Journals.{append_is}
-use Rattle.simplex_conduct.proofs.Living.{behind, doings, subjects_of}
-use Rattle.simplex_conduct.proofs.Simulating.{Sim, Stores, Writes, Only, IsPlain, sim_plain, stores_plain, writes_sync, only_append, only_from}
-use Rattle.simplex_conduct.proofs.Publishing.{Storing, iteration_begins}
-use Rattle.simplex_conduct.proofs.Replaying.{kept_is, final_among, AllPlain, AllPlain-append, all_plain, all_replayed}
-use Rattle.simplex_conduct.proofs.Stopping.{Ready, MadeWhole, Ended, made_whole, ended_at, stopped, failing_later}
+use Rattle.simplex_lives.specs.Member.{Member}
+use Rattle.simplex_conduct.specs.Life.{taken, AreSent}
+use Rattle.simplex_conduct.proofs.Living.{subjects_of}
+use Rattle.simplex_conduct.proofs.Simulating.{Stores, IsPlain, stores_plain}
+use Rattle.simplex_conduct.proofs.Replaying.{AllPlain}
+use Rattle.simplex_conduct.proofs.Stopping.{failing_later}
 
 -- ---- nothing goes out on the vote channel
 
@@ -153,7 +128,7 @@ pub sim_plains : (made : Made) (m : Member) (cs ds : List Call) (facts : List Fa
 sim_plains made m cs [] facts queue p s = subst (λ xs. Stores made m xs facts queue) (sym (append-nil cs)) s
 sim_plains made m cs (d ∷ ds) facts queue p s =
     subst (λ xs. Stores made m xs facts queue) (append_assoc cs (d ∷ []) ds)
-      (sim_plains made m (cs ++ d ∷ []) ds facts queue p.1 (stores_plain made m cs facts queue d p.0 s))
+    (sim_plains made m (cs ++ d ∷ []) ds facts queue p.1 (stores_plain made m cs facts queue d p.0 s))
 
 pub plain_after : (xs : List Call) (js : List Section) → AllPlain xs → after_calls xs js ≡ js
 unfolding after_calls

@@ -1,6 +1,6 @@
 -- A step, whatever its source holds.
-use Rattle.std.proofs.Common.{◌≡◌, ℕ, ◌<◌, ◌==◌, Bool, true, false, nat_le, List, [], ◌∷◌, ◌++◌, Option, Some, None, find, refl, sym, ap, ◌∙◌, subst, arith, if◌then◌else◌}
-use Rattle.std.specs.Option.{option_map, option_map_or, option_and_then}
+use Rattle.std.proofs.Common.{◌≡◌, ℕ, ◌<◌, Bool, true, false, nat_le, List, [], Option, Some, None, refl, ◌∙◌, subst, if◌then◌else◌}
+use Rattle.std.specs.Option.{option_map, option_and_then}
 use Rattle.simplex_values.specs.declared.answer.Answer.{Answer}
 use Rattle.simplex_values.specs.Terms.{greatest_view}
 use Rattle.simplex_journal.specs.Journal.{Section}
@@ -13,14 +13,14 @@ use Rattle.simplex_rules.specs.Known.{Made}
 use Rattle.simplex_rules.specs.Views.{current_of}
 use Rattle.simplex_rules.specs.Ancestry.{is_certified}
 use Rattle.simplex_rules.specs.Deadline.{deadline_of}
-use Rattle.simplex_rules.specs.Pending.{Pending, Opened, is_open, pending_parent}
+use Rattle.simplex_rules.specs.Pending.{Pending, Opened, pending_parent}
 use Rattle.simplex_steps.specs.Desk.{Doing, begun}
-use Rattle.simplex_steps.specs.Voter.{Standing, answer_to, propose, act_on_mail, act_on_deadline, act_on_proposal, act_on_verify, act_on_certify, take_proposal, first_answered, acted, end_of_step, ended, finished, stepped}
+use Rattle.simplex_steps.specs.Voter.{Standing, answer_to, propose, act_on_deadline, act_on_proposal, act_on_verify, act_on_certify, take_proposal, first_answered, acted, end_of_step, finished, stepped}
 use Rattle.simplex_steps.specs.Performed.{performed}
 use Rattle.simplex_lives.specs.Member.{Member, run}
 use Rattle.simplex_conduct.specs.Life.{IsRunning, IsLived}
 use Rattle.simplex_conduct.proofs.Publishing.{Storing, step_ends, iteration_begins}
-use Rattle.simplex_conduct.proofs.Acting.{Begun, Touched, Repeats, begin, plainly, mail_touches, deadline_touches, propose_touches, proposal_touches, verify_touches, answer_certify_touches}
+use Rattle.simplex_conduct.proofs.Acting.{Touched, Repeats, begin, plainly, mail_touches, deadline_touches, propose_touches, proposal_touches, verify_touches, answer_certify_touches}
 use Rattle.simplex_conduct.proofs.Stopping.{lived}
 
 some_is : {A : Type 0} (a b : A) → Some a ≡ Some b → a ≡ b
@@ -44,10 +44,10 @@ taken_proposal made m now s sections p (Held payload) outcome r e = held (is_cer
     held false h = cc
 taken_proposal made m now s sections p Preparing outcome r e =
     gives (Repeats made m) (λ answer. act_on_proposal made now p answer (begun s.desk)) (answer_to s.answers p.number) outcome
-      (λ answer. plainly made m _ (proposal_touches made m now p answer (begun s.desk) (begin made s.desk sections m r))) e
+    (λ answer. plainly made m _ (proposal_touches made m now p answer (begun s.desk) (begin made s.desk sections m r))) e
 taken_proposal made m now s sections p Proposing outcome r e =
     gives (Repeats made m) (λ answer. act_on_proposal made now p answer (begun s.desk)) (answer_to s.answers p.number) outcome
-      (λ answer. plainly made m _ (proposal_touches made m now p answer (begun s.desk) (begin made s.desk sections m r))) e
+    (λ answer. plainly made m _ (proposal_touches made m now p answer (begun s.desk) (begin made s.desk sections m r))) e
 taken_proposal made m now s sections p Waiting outcome r e = cc
 taken_proposal made m now s sections p Closed outcome r e = cc
 
@@ -63,14 +63,14 @@ acted_repeats made m now s sections inputs.Timer outcome low r e = due (nat_le (
     due false h = cc
 acted_repeats made m now s sections inputs.Propose outcome low r e =
     gives_some (Repeats made m) (λ (p : Pending). take_proposal made now s p p.state) s.desk.proposal outcome
-      (λ p. taken_proposal made m now s sections p p.state outcome r) e
+    (λ p. taken_proposal made m now s sections p p.state outcome r) e
 acted_repeats made m now s sections inputs.Verify outcome low r e =
     gives_some (Repeats made m) (λ (v : Opened). option_map (λ answer. act_on_verify made now v answer (begun s.desk)) (answer_to s.answers v.number)) s.desk.verify outcome
-      (λ v. gives (Repeats made m) (λ answer. act_on_verify made now v answer (begun s.desk)) (answer_to s.answers v.number) outcome
-        (λ answer. plainly made m _ (verify_touches made m now v answer (begun s.desk) (begin made s.desk sections m r)))) e
+    (λ v. gives (Repeats made m) (λ answer. act_on_verify made now v answer (begun s.desk)) (answer_to s.answers v.number) outcome
+    (λ answer. plainly made m _ (verify_touches made m now v answer (begun s.desk) (begin made s.desk sections m r)))) e
 acted_repeats made m now s sections inputs.Certify outcome low r e =
     gives (Repeats made m) (λ (taken : Opened × Answer). act_on_certify made now taken.0 taken.1 (begun s.desk)) (first_answered s.desk.certify s.answers) outcome
-      (λ taken. plainly made m _ (answer_certify_touches made m now taken.0 taken.1 (begun s.desk) (begin made s.desk sections m r))) e
+    (λ taken. plainly made m _ (answer_certify_touches made m now taken.0 taken.1 (begun s.desk) (begin made s.desk sections m r))) e
 
 finished_stores : (made : Made) (n : Member) (now before : ℕ) (outcome : Doing × Option ℕ) → Touched made n outcome → Storing made n (finished made now before outcome) []
 unfolding finished
@@ -88,8 +88,9 @@ step_lived made now input stop s sections d m low r e =
         → IsLived made d.desk.known (performed stop d sections) m
     one outcome t same =
         lived made m t.first stop d sections t.legal t.brought t.known t.sent
-          (record { journal = t.journal ∙ r.journal; rising = r.rising; own = r.own })
-          (subst (λ x. Storing made (run m t.first) x []) same (finished_stores made (run m t.first) now (current_of made s.desk.known) outcome t.touched))
+        (record { journal = t.journal ∙ r.journal; rising = r.rising; own = r.own })
+        (subst (λ x. Storing made (run m t.first) x []) same (finished_stores made (run m t.first) now (current_of made s.desk.known) outcome t.touched))
+
     at : (o : Option (Doing × Option ℕ)) → acted made now s input ≡ o → option_map (finished made now (current_of made s.desk.known)) o ≡ Some d
         → IsLived made d.desk.known (performed stop d sections) m
     at None f h = cc

@@ -1,24 +1,21 @@
 -- A step that was made whole, and one that a stop ended.
-use Rattle.std.proofs.Common.{◌≡◌, ℕ, zero, suc, ◌+◌, ◌-◌, ◌<◌, ◌≤◌, ◌==◌, Bool, true, false, List, [], ◌∷◌, ◌++◌, map, take, drop, Contains, Option, Some, None, refl, sym, ap, ◌∙◌, subst, inl, inr, ◌⊎◌, arith, append-nil, append_assoc, if◌then◌else◌}
-use Rattle.std.specs.Option.{option_map, option_map_or}
+use Rattle.std.proofs.Common.{◌≡◌, ℕ, zero, suc, List, [], ◌∷◌, ◌++◌, take, Contains, Option, Some, None, refl, sym, ap, ◌∙◌, subst, inl, inr, ◌⊎◌, arith, append-nil}
+use Rattle.std.specs.Option.{option_map_or}
 use Rattle.std.proofs.lemmas.Bool.Decides.{nat_tests}
 use Rattle.std.proofs.lemmas.Grind.{common_steps}
-use Rattle.simplex_values.specs.declared.proposal.Subject.{Subject}
-use Rattle.simplex_wire.specs.declared.artifact.Artifact.{Artifact}
 use Rattle.simplex_wire.specs.declared.artifact.Artifact.TheVariants as artifacts
-use Rattle.simplex_journal.specs.Journal.{Section, replayed, pruned_first, crashed}
-use Rattle.simplex_journal.specs.Contents.{numbers, IsRising}
+use Rattle.simplex_journal.specs.Journal.{Section, pruned_first, crashed}
+use Rattle.simplex_journal.specs.Contents.{IsRising}
 use Rattle.simplex_journal.proofs.Records.{Contains-crashed}
 use Rattle.simplex_journal.proofs.Rising.{numbers-crashed, IsRising-pruned_first}
 use Rattle.simplex_messages.specs.declared.call.Call.{Call}
 use Rattle.simplex_messages.specs.declared.call.Call.TheVariants as calls
 use Rattle.simplex_messages.specs.declared.step.Stop.{Stop}
 use Rattle.simplex_messages.specs.declared.step.Stop.TheVariants as stops
-use Rattle.simplex_messages.specs.declared.step.Outcome.TheVariants as outcomes
 use Rattle.simplex_rules.specs.Known.{Fact}
 use Rattle.simplex_rules.specs.Known as rules
 use Rattle.simplex_steps.specs.Desk.{Doing}
-use Rattle.simplex_steps.specs.Performed.{is_of_journal, journal_place, stop_place, after_calls, stop_outcome, kept_by, after_failing, failing_at, Performed, whole, broken, performed}
+use Rattle.simplex_steps.specs.Performed.{stop_place, after_calls, after_failing, failing_at, whole, broken, performed}
 use Rattle.simplex_agreement.specs.World.{Sent}
 use Rattle.simplex_wire.specs.Fields.{vote_subject}
 use Rattle.simplex_lives.specs.Artifacts as member
@@ -27,7 +24,7 @@ use Rattle.simplex_lives.specs.Member as life
 use Rattle.simplex_lives.specs.Member.{Member, happens, run, IsLegal, May}
 use Rattle.simplex_lives.proofs.CallFacts.{run-append, IsLegal-append, brought-append}
 use Rattle.simplex_lives.proofs.JournalFacts.{left_waiting}
-use Rattle.simplex_conduct.specs.Life.{journal_of, remembered, taken, AreSent, AreOwn, IsInOrder, IsRunning, IsStopped, IsEarlier, IsLived}
+use Rattle.simplex_conduct.specs.Life.{journal_of, taken, AreSent, AreOwn, IsRunning, IsStopped, IsEarlier, IsLived}
 use Rattle.simplex_conduct.specs.Storing.{AreStoredFirst}
 use Rattle.simplex_conduct.proofs.Journals.{crash_is}
 use Rattle.simplex_conduct.proofs.Pruning.{prunes_less, was_there}
@@ -135,7 +132,7 @@ may_prune : (made : rules.Made) (n : Member) (cs : List Call) (place least : ℕ
     → May made.term_length (behind n (take place cs)) (life.Prune least)
 may_prune made n cs place least legal at =
     (IsLegal-rest made.term_length n (doings (take place cs)) (life.Prune least ∷ doings at.0)
-      (subst (IsLegal made.term_length n) (ap doings at.1 ∙ doings-append (take place cs) (calls.Prune least ∷ at.0)) legal)).0
+    (subst (IsLegal made.term_length n) (ap doings at.1 ∙ doings-append (take place cs) (calls.Prune least ∷ at.0)) legal)).0
 
 failing_of : (made : rules.Made) (n : Member) (stop : Stop) (cs : List Call) (place : ℕ) (js : List Section) → IsLegal made.term_length n (doings cs)
     → Ready made js (behind n (take place cs)) → Failing made (behind n (take place cs)) (failing_at stop cs place js)
@@ -203,19 +200,19 @@ ended_at made m first stop keep cs place facts js legal quiet ready sim =
     let last = failing.calls ++ life.Crash (λ view. keep) ∷ [] in
     let all = doings front ++ last in
     let whole_run : run m (first ++ all) ≡ happens (run (behind base front) failing.calls) (life.Crash (λ view. keep)) =
-      run-append m first all ∙ run-append base (doings front) last ∙ run-append (behind base front) failing.calls (life.Crash (λ view. keep) ∷ []) in
+    run-append m first all ∙ run-append base (doings front) last ∙ run-append (behind base front) failing.calls (life.Crash (λ view. keep) ∷ []) in
     record {
       calls = first ++ all;
       sent = o.sent;
       legal = IsLegal-append made.term_length m first all legal
-        (IsLegal-append made.term_length base (doings front) last (legal_take made.term_length base place cs sim.legal)
+          (IsLegal-append made.term_length base (doings front) last (legal_take made.term_length base place cs sim.legal)
           (IsLegal-append made.term_length (behind base front) failing.calls (life.Crash (λ view. keep) ∷ []) failing.legal (tt, tt)));
       brought = brought-append first all ∙ ap (λ xs. life.brought first ++ xs) (brought-append (doings front) last
-        ∙ ap (λ xs. life.brought (doings front) ++ xs) (crash_quiet failing.calls (λ view. keep) failing.brought) ∙ append-nil (life.brought (doings front)) ∙ brought_is front);
+          ∙ ap (λ xs. life.brought (doings front) ++ xs) (crash_quiet failing.calls (λ view. keep) failing.brought) ∙ append-nil (life.brought (doings front)) ∙ brought_is front);
       sends = ap (λ (n : Member). n.sent) whole_run ∙ failing.sent ∙ o.sends ∙ ap (λ xs. xs ++ o.sent) quiet;
       votes = o.votes;
       left = subst (IsStopped made (crashed keep (failing_at stop cs place js'))) (sym whole_run)
-        (stopped made keep (run (behind base front) failing.calls) (failing_at stop cs place js') failing.ready);
+          (stopped made keep (run (behind base front) failing.calls) (failing_at stop cs place js') failing.ready);
     }
 
 earlier_is : (m n : Member) (cs : List Call) → n.known ≡ m.known → AreStoredFirst (IsEarlier n) cs → AreStoredFirst (IsEarlier m) cs
@@ -228,12 +225,28 @@ unfolding stop_place
 broken_by made m first stops.None d js place legal none known quiet ready sim e = cc
 broken_by made m first (stops.Cut call keep) d js place legal none known quiet ready sim e =
     let x = ended_at made m first (stops.Cut call keep) keep d.calls place d.desk.known js legal quiet ready sim in
-    record { calls = x.calls; sent = x.sent; legal = x.legal; brought = x.brought ∙ ap (λ xs. xs ++ taken (take place d.calls)) none; sends = x.sends; votes = x.votes;
-      first = first_take (IsEarlier m) place d.calls (earlier_is m (run m first) d.calls known sim.first); left = x.left }
+    record {
+      calls = x.calls;
+      sent = x.sent;
+      legal = x.legal;
+      brought = x.brought ∙ ap (λ xs. xs ++ taken (take place d.calls)) none;
+      sends = x.sends;
+      votes = x.votes;
+      first = first_take (IsEarlier m) place d.calls (earlier_is m (run m first) d.calls known sim.first);
+      left = x.left;
+    }
 broken_by made m first (stops.Fail call keep) d js place legal none known quiet ready sim e =
     let x = ended_at made m first (stops.Fail call keep) keep d.calls place d.desk.known js legal quiet ready sim in
-    record { calls = x.calls; sent = x.sent; legal = x.legal; brought = x.brought ∙ ap (λ xs. xs ++ taken (take place d.calls)) none; sends = x.sends; votes = x.votes;
-      first = first_take (IsEarlier m) place d.calls (earlier_is m (run m first) d.calls known sim.first); left = x.left }
+    record {
+      calls = x.calls;
+      sent = x.sent;
+      legal = x.legal;
+      brought = x.brought ∙ ap (λ xs. xs ++ taken (take place d.calls)) none;
+      sends = x.sends;
+      votes = x.votes;
+      first = first_take (IsEarlier m) place d.calls (earlier_is m (run m first) d.calls known sim.first);
+      left = x.left;
+    }
 
 pub lived : (made : rules.Made) (m : Member) (first : List life.Call) (stop : Stop) (d : Doing) (js : List Section)
     → IsLegal made.term_length m first → life.brought first ≡ [] → (run m first).known ≡ m.known → (run m first).sent ≡ m.sent → Ready made js (run m first)
@@ -244,8 +257,17 @@ lived made m first stop d js legal none known quiet ready s = at (stop_place sto
     whole_of : IsLived made d.desk.known (whole d js) m
     whole_of =
         let x = made_whole made m first d.calls d.desk.known js legal quiet ready s in
-        record { calls = x.calls; sent = x.sent; legal = x.legal; brought = x.brought ∙ ap (λ xs. xs ++ taken d.calls) none; sends = x.sends; votes = x.votes;
-          first = earlier_is m (run m first) d.calls known s.sim.first; left = x.left }
+        record {
+          calls = x.calls;
+          sent = x.sent;
+          legal = x.legal;
+          brought = x.brought ∙ ap (λ xs. xs ++ taken d.calls) none;
+          sends = x.sends;
+          votes = x.votes;
+          first = earlier_is m (run m first) d.calls known s.sim.first;
+          left = x.left;
+        }
+
     at : (o : Option ℕ) → stop_place stop d.calls ≡ o → IsLived made d.desk.known (option_map_or (broken stop d js) o (whole d js)) m
     at None e = whole_of
     at (Some place) e = broken_by made m first stop d js place legal none known quiet ready s.sim e

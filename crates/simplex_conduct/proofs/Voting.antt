@@ -1,8 +1,7 @@
 -- When the rules give a vote, the member may make it.
-use Rattle.std.proofs.Common.{◌≡◌, ℕ, suc, ◌+◌, ◌-◌, ◌<◌, ◌≤◌, ◌==◌, ◌&&◌, ◌||◌, not, Bool, true, false, nat_lt, nat_le, max, min, option_to_list, unwrap_or, List, [], ◌∷◌, ◌++◌, Contains, Option, Some, None, refl, sym, ap, ◌∙◌, subst, inl, inr, ◌⊎◌, arith, eqb-true, eq-eqb, if◌then◌else◌}
+use Rattle.std.proofs.Common.{◌≡◌, ℕ, ◌<◌, ◌≤◌, ◌==◌, ◌&&◌, ◌||◌, not, Bool, true, false, nat_lt, max, option_to_list, unwrap_or, List, [], ◌∷◌, Contains, Option, Some, None, refl, sym, ap, ◌∙◌, subst, arith, eqb-true, eq-eqb, if◌then◌else◌}
 use Rattle.std.specs.List.{list_any}
-use Rattle.std.specs.Option.{is_some, is_none, option_or, option_map}
-use Rattle.std.proofs.lemmas.Bool.{cases_eq}
+use Rattle.std.specs.Option.{is_some, is_none, option_or}
 use Rattle.std.proofs.lemmas.Grind.{common_steps}
 use Rattle.std.proofs.lemmas.List.Folds.{list_any-append}
 use Rattle.simplex_values.specs.declared.proposal.Proposal.{Proposal}
@@ -15,22 +14,20 @@ use Rattle.simplex_wire.specs.declared.vote.Vote.TheVariants as votes
 use Rattle.simplex_wire.specs.declared.vote.Notarize.{Notarize}
 use Rattle.simplex_wire.specs.declared.vote.Nullify.{Nullify}
 use Rattle.simplex_wire.specs.declared.vote.Finalize.{Finalize}
-use Rattle.simplex_wire.specs.declared.certificate.Certificate.{Certificate}
 use Rattle.simplex_wire.specs.declared.certificate.Certificate.TheVariants as certificates
 use Rattle.simplex_wire.specs.declared.certificate.Notarization.{Notarization}
 use Rattle.simplex_wire.specs.declared.certificate.Nullification.{Nullification}
 use Rattle.simplex_wire.specs.Fields.{vote_subject}
 use Rattle.simplex_rules.specs.Lists.{first_of, greatest_of}
-use Rattle.simplex_rules.specs.Known.{Made, Fact, FloorAt, Added, Taken, Answered, Approved, Judged, Voted, Published, Expired, Failed, Broadcast, ProposalAsked, ProposalFreed, VerifyAsked, CertifyAsked, MissingAsked, ParentAsked, Pruned, view_of, notarization_in, notarization_of, verdict_in, verdict_of, notarize_in, own_notarize, is_nullify_in, has_nullified, is_finalize_in, has_finalized}
+use Rattle.simplex_rules.specs.Known.{Made, Fact, Added, Judged, Voted, view_of, notarization_in, notarization_of, verdict_in, verdict_of, notarize_in, own_notarize, is_finalize_in, has_finalized}
 use Rattle.simplex_rules.specs.Views as rules
 use Rattle.simplex_rules.specs.Views.{current_of, opened_view, finalized_view}
 use Rattle.simplex_rules.specs.Slot.{slot_of}
 use Rattle.simplex_rules.specs.Ancestry.{is_covered, is_covered_in, has_true_verdict, has_ancestry}
-use Rattle.simplex_rules.specs.Votes.{notarizes, notarize_at, finalizes, finalize_at, is_gated, is_gate_in}
+use Rattle.simplex_rules.specs.Votes.{notarizes, notarize_at, finalize_at, is_gated, is_gate_in}
 use Rattle.simplex_rules.specs.Calls.{takes_verdict}
 use Rattle.simplex_rules.proofs.Soundness.{notarize_parts, finalize_parts, notarizes_sound, finalizes_sound, slot_view}
 use Rattle.simplex_agreement.specs.World.{Knows, KnowsNullified}
-use Rattle.simplex_agreement.specs.World as agreement
 use Rattle.simplex_agreement.specs.Terms.{Covers}
 use Rattle.simplex_lives.specs.Artifacts as member
 use Rattle.simplex_lives.specs.Artifacts.{Artifact}
@@ -85,8 +82,7 @@ unfolding is_covered
 knows_nullified made known view e =
     let one = one_passes (is_covered_in made.term_length view) known e in
     let n = covering made.term_length view one.0 one.2 in
-    let c = statement_of (certificates.Nullification n.0) in
-    (
+    let c = statement_of (certificates.Nullification n.0) in (
       n.0.round,
       (c.signers, certificates_has (remembered known) c (in_memory known one.0 (member.Proved c) one.1 (ap noted n.2))),
       covers_is made.term_length n.0.round.view view n.3,
@@ -182,9 +178,9 @@ no_gate made known view none r above c m =
     let test = is_gate_in made.term_length (rules.last_finalized known) view in
     let gone : test one.0 ≡ false = none_passes test known one.0 none one.1 in
     let found : (nat_lt (rules.last_finalized known) r.view && covers made.term_length r.view view) ≡ true =
-      grind (arith, common_steps, above, covers_from made.term_length r.view view c) in
+    grind (arith, common_steps, above, covers_from made.term_length r.view view c) in
     let turned : test (Voted (votes.Nullify n.0)) ≡ true =
-      ap (λ (x : Round). nat_lt (rules.last_finalized known) x.view && covers made.term_length x.view view) n.2 ∙ found in
+    ap (λ (x : Round). nat_lt (rules.last_finalized known) x.view && covers made.term_length x.view view) n.2 ∙ found in
     cc (gone, ap test is, turned)
 
 -- ---- the votes
@@ -197,8 +193,7 @@ pub may_notarize : (made : Made) (known : List Fact) (view : ℕ) (n : Notarize)
     → MayVote made.term_length (remembered known) (subjects.Notarize n.proposal)
 may_notarize made known view n e =
     let parts = notarize_parts made known view n e in
-    let sound = notarizes_sound made known n.proposal parts.1 in
-    (
+    let sound = notarizes_sound made known n.proposal parts.1 in (
       above_final made known n.proposal parts.1,
       λ x low high. knows_nullified made known x (sound.covered x low high),
       λ q same. no_own_notarize known (view_of n.proposal) sound.free q same,
@@ -240,7 +235,7 @@ may_nullify made known r at low = (
       let one = from_memory known (member.Judged view true) judged in
       let j = judged_of one.0 view true one.2 in
       let opens : next_of view ≤ current_of made known =
-        subst (λ n. n ≤ current_of made known) (ap (opened_view made.term_length) j.1) (opened_by made known one.0 one.1) in
+      subst (λ n. n ≤ current_of made known) (ap (opened_view made.term_length) j.1) (opened_by made known one.0 one.1) in
       omega (arith, covered.1, at, verdict_opens view (current_of made known) opens low),
 )
 
@@ -270,8 +265,7 @@ may_finalize made known view f order e =
     let sound = finalizes_sound made known view parts.1 in
     let here = slot_view known view f.proposal parts.0 in
     let n = notarized_by made known view order sound.verdict in
-    let same = slot_is_notarized known view n.0 f.proposal n.1 parts.0 in
-    (
+    let same = slot_is_notarized known view n.0 f.proposal n.1 parts.0 in (
       omega (arith, here, final_is known, sound.above),
       subst (λ v. Contains (remembered known) (member.Judged v true)) (sym here) (verdict_is_known known view sound.verdict),
       subst (λ (p : Proposal). Knows (member.certificates (remembered known)) (subjects.Notarize p)) same (knows_notarized known view n.0 n.1),

@@ -1,5 +1,5 @@
 -- That a vote is stored before it is sent.
-use Rattle.std.specs.Prelude.{ℕ, ◌≡◌, ◌++◌, ◌⊎◌, List, [], ◌∷◌}
+use Rattle.std.specs.Prelude.{ℕ, ◌≡◌, ◌++◌, ◌⊎◌, List, ◌∷◌}
 use Rattle.simplex_values.specs.declared.plan.Channel.TheVariants as channels
 use Rattle.simplex_values.specs.declared.plan.Recipients.{Recipients}
 use Rattle.simplex_wire.specs.declared.artifact.Artifact.{Artifact}

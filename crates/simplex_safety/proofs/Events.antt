@@ -1,37 +1,27 @@
 -- What the member lives in each kind of event of its node.
-use Rattle.std.proofs.Common.{◌≡◌, ℕ, zero, suc, ◌+◌, ◌-◌, ◌*◌, ◌<◌, ◌≤◌, ◌==◌, ◌&&◌, nat_lt, nat_le, Bool, true, false, List, [], ◌∷◌, ◌++◌, length, map, take, Contains, Option, Some, None, refl, sym, ap, ◌∙◌, subst, inl, inr, ◌⊎◌, arith, append-nil, if◌then◌else◌}
+use Rattle.std.proofs.Common.{◌≡◌, ℕ, zero, suc, ◌-◌, ◌<◌, ◌==◌, ◌&&◌, nat_lt, nat_le, Bool, true, false, List, [], ◌∷◌, ◌++◌, length, map, take, Contains, Option, Some, None, refl, sym, ap, ◌∙◌, subst, inl, inr, arith, append-nil, if◌then◌else◌}
 use Rattle.std.specs.Option.{option_map, option_map_or}
 use Rattle.std.specs.List.{filter_map}
-use Rattle.std.proofs.lemmas.Bool.Decides.{nat_tests}
 use Rattle.std.proofs.lemmas.Grind.{common_steps}
 use Rattle.simplex_values.specs.declared.answer.Answer.{Answer}
-use Rattle.simplex_values.specs.declared.plan.Channel.{Channel}
-use Rattle.simplex_values.specs.declared.plan.Channel.TheVariants as channels
 use Rattle.simplex_values.specs.Terms.{greatest_view}
 use Rattle.simplex_wire.specs.declared.certificate.Finalization.{Finalization}
 use Rattle.simplex_types.specs.declared.floor.Floor.{Floor}
-use Rattle.simplex_types.specs.declared.floor.Floor.TheVariants as floors
-use Rattle.simplex_rules.specs.Known.{Made, Fact, view_of}
+use Rattle.simplex_rules.specs.Known.{Made, Fact}
 use Rattle.simplex_rules.specs.Views.{current_of}
 use Rattle.simplex_journal.specs.Journal.{Section, replayed, crashed}
 use Rattle.simplex_journal.specs.Contents as journal
 use Rattle.simplex_journal.proofs.Contents.{crashed-rested}
 use Rattle.simplex_messages.specs.declared.call.Call.{Call}
 use Rattle.simplex_messages.specs.declared.batcher.BatcherInput.{BatcherInput}
-use Rattle.simplex_messages.specs.declared.batcher.BatcherInput.TheVariants as batcher_inputs
 use Rattle.simplex_messages.specs.declared.voter.VoterInput.{VoterInput}
-use Rattle.simplex_messages.specs.declared.voter.VoterInput.TheVariants as voter_inputs
-use Rattle.simplex_messages.specs.declared.handed.Handed.TheVariants as handed
 use Rattle.simplex_messages.specs.declared.step.Outcome.{Outcome}
 use Rattle.simplex_messages.specs.declared.step.Outcome.TheVariants as outcomes
 use Rattle.simplex_messages.specs.declared.step.Stop.{Stop}
 use Rattle.simplex_messages.specs.declared.step.Stop.TheVariants as stops
 use Rattle.simplex_messages.specs.declared.step.StepOut.{StepOut}
 use Rattle.simplex_messages.specs.Step.{no_out}
-use Rattle.simplex_transcript.specs.declared.event.Event.{Event}
 use Rattle.simplex_transcript.specs.declared.event.Event.TheVariants as events
-use Rattle.simplex_transcript.specs.declared.event.StepSource.{StepSource}
-use Rattle.simplex_transcript.specs.declared.event.StepSource.TheVariants as sources
 use Rattle.simplex_transcript.specs.declared.node.Node.{Node}
 use Rattle.simplex_transcript.specs.declared.setup.Setup.{Setup}
 use Rattle.simplex_steps.specs.Desk.{Doing}
@@ -41,7 +31,7 @@ use Rattle.simplex_steps.specs.VoterLife.{VoterMade, Given, Started, Stepped, An
 use Rattle.simplex_steps.specs.Batcher as batcher
 use Rattle.simplex_steps.specs.Engine as engine
 use Rattle.simplex_steps.specs.Engine.{EngineMade, Taken, Began, Heard, Took, Replied, Did, voter_in, voter_past, given_to_voter, started_at, is_start, sections_of, runs, is_whole, by_voter, by_batcher, cut_short, did_of}
-use Rattle.simplex_run.specs.Life.{Noted, Life, Stopped, Running, going_on, went_on, sections_in, after}
+use Rattle.simplex_run.specs.Life.{Noted, Life, Stopped, Running, going_on}
 use Rattle.simplex_run.specs.Members.{floor_of, rules_of, engine_of}
 use Rattle.simplex_lives.specs.Journal as kept
 use Rattle.simplex_lives.specs.Member as life
@@ -53,7 +43,7 @@ use Rattle.simplex_conduct.specs.Life.{statement_of, memory_of, section_of, jour
 use Rattle.simplex_conduct.specs.Life as conduct
 use Rattle.simplex_conduct.proofs.Stepping.{step_lived}
 use Rattle.simplex_conduct.proofs.Floors.{start_lived, crash_lived}
-use Rattle.simplex_conduct.proofs.Starting.{none_sent, plain_voteless, plain_takeless, none_taken}
+use Rattle.simplex_conduct.proofs.Starting.{none_sent, plain_voteless}
 use Rattle.simplex_conduct.proofs.Replaying.{AllPlain}
 use Rattle.simplex_safety.specs.Histories.{IsAt, floor_in}
 use Rattle.simplex_safety.proofs.Quiet.{batcher_plain}
@@ -69,6 +59,7 @@ never_idle stop d js e = at (stop_place stop d.calls) e
     ended stops.None h = cc
     ended (stops.Cut call keep) h = cc
     ended (stops.Fail call keep) h = cc
+
     at : (o : Option ℕ) → (option_map_or (broken stop d js) o (whole d js)).outcome ≡ outcomes.Idle → ⊥
     at None h = cc
     at (Some place) h = ended stop h
@@ -132,14 +123,15 @@ start_leaves : (setup : Setup) (node : Node) (floor : Option Finalization) (js :
     → (given_start setup node floor js now stop).outcome ≡ o
     → IsLeft (rules_of setup node.member now) (start_known setup node floor js now) o (given_start setup node floor js now stop).sections m
     → IsAt setup node (if is_whole o then Running (engine_at setup node floor js) (by_voter Began now stop (given_start setup node floor js now stop) ∷ [])
-        else Stopped (sections_of (engine_at setup node floor js) (by_voter Began now stop (given_start setup node floor js now stop) ∷ []))) m
+    else Stopped (sections_of (engine_at setup node floor js) (by_voter Began now stop (given_start setup node floor js now stop) ∷ []))) m
 unfolding IsAt engine_of started_at voter_past start_known sections_of
 start_leaves setup node floor js now stop m outcomes.Done e l =
-    let made = (engine_at setup node floor js).voter now in
-    (engine_rules setup node floor js,
+    let made = (engine_at setup node floor js).voter now in (
+      engine_rules setup node floor js,
       subst (λ known. IsRunning (rules_of setup node.member now) known (place_of made (Started now stop ∷ [])).sections m)
-        (sym (start_place made now stop (start_reads stop (floor_of setup floor) (start_at made now js) js e)))
-        (subst (λ sections. IsRunning (rules_of setup node.member now) (start_at made now js).desk.known sections m) (sym (start_sections made now stop)) l))
+          (sym (start_place made now stop (start_reads stop (floor_of setup floor) (start_at made now js) js e)))
+          (subst (λ sections. IsRunning (rules_of setup node.member now) (start_at made now js).desk.known sections m) (sym (start_sections made now stop)) l),
+    )
 start_leaves setup node floor js now stop m outcomes.Idle e l =
     absurd (start_never_idle stop (floor_of setup floor) (voter.started (rules_of setup node.member now) now (floor_of setup floor) (replayed js)) js e)
 start_leaves setup node floor js now stop m outcomes.Cut e l =
@@ -176,7 +168,7 @@ start_further setup node floor stop js now m noted good s calls_is event_is =
       sends = x.sends ∙ sym (append-nil m.sent);
       votes = subst (λ cs. AreSent cs []) (sym (calls_is ∙ ap (λ (d : Did). d.out.calls) same)) x.votes;
       at = subst (λ d. IsAt setup node (going_on (engine_at setup node floor js) (d ∷ [])) (run m x.calls)) (sym same)
-        (start_leaves setup node floor js now stop (run m x.calls) (given_start setup node floor js now stop).outcome refl x.left);
+          (start_leaves setup node floor js now stop (run m x.calls) (given_start setup node floor js now stop).outcome refl x.left);
     }
 
 -- ---- events that the voter does not see
@@ -194,9 +186,11 @@ quiet_at : (setup : Setup) (node : Node) (made : EngineMade) (did : Did) (past :
     → IsAt setup node (Running made past) m → IsAt setup node (Running made (did ∷ past)) m
 unfolding IsAt
 quiet_at setup node made did past m e f a =
-    let p = place_same made did past e f in
-    (a.0, subst (λ v. IsRunning v.rules (place_of v (voter_past (did ∷ past))).standing.desk.known (place_of v (voter_past (did ∷ past))).sections m) (sym p.0)
-      (subst (λ given. IsRunning (voter_in made past).rules (place_of (voter_in made past) given).standing.desk.known (place_of (voter_in made past) given).sections m) (sym p.1) a.1))
+    let p = place_same made did past e f in (
+      a.0,
+      subst (λ v. IsRunning v.rules (place_of v (voter_past (did ∷ past))).standing.desk.known (place_of v (voter_past (did ∷ past))).sections m) (sym p.0)
+          (subst (λ given. IsRunning (voter_in made past).rules (place_of (voter_in made past) given).standing.desk.known (place_of (voter_in made past) given).sections m) (sym p.1) a.1),
+    )
 
 none_left : {X : Type 0} (xs ys : List X) → xs ++ ys ≡ [] → (xs ≡ []) × (ys ≡ [])
 none_left [] ys e = (refl, e)
@@ -217,7 +211,7 @@ at_rest (s ∷ rest) e =
 pub rest_stopped : (made : Made) (facts : List Fact) (js : List Section) (m : Member) → IsRunning made facts js m → IsStopped made js (happens m (life.Crash (λ view. 0)))
 rest_stopped made facts js m r =
     subst (λ x. IsStopped made x (happens m (life.Crash (λ view. 0)))) (crashed-rested 0 js (at_rest js (ap kept.waiting (sym r.journal) ∙ r.stored)))
-      (crash_lived made 0 facts js m r)
+    (crash_lived made 0 facts js m r)
 
 quiet_stopped : (setup : Setup) (node : Node) (made : EngineMade) (did : Did) (past : List Did) (m : Member) → given_to_voter did ≡ None → is_start did.taken ≡ false
     → IsAt setup node (Running made past) m → IsAt setup node (Stopped (sections_of made (did ∷ past))) (happens m (life.Crash (λ view. 0)))
@@ -226,10 +220,10 @@ quiet_stopped setup node made did past m e f a =
     let p = place_same made did past e f in
     let place = place_of (voter_in made past) (voter_past past) in
     let stopped : IsStopped (rules_of setup node.member (started_at past)) place.sections (happens m (life.Crash (λ view. 0))) =
-      subst (λ r. IsStopped r place.sections (happens m (life.Crash (λ view. 0)))) (a.0 (started_at past)) (rest_stopped (voter_in made past).rules place.standing.desk.known place.sections m a.1) in
+    subst (λ r. IsStopped r place.sections (happens m (life.Crash (λ view. 0)))) (a.0 (started_at past)) (rest_stopped (voter_in made past).rules place.standing.desk.known place.sections m a.1) in
     subst (λ v. IsStopped (rules_of setup node.member 0) (place_of v (voter_past (did ∷ past))).sections (happens m (life.Crash (λ view. 0)))) (sym p.0)
-      (subst (λ given. IsStopped (rules_of setup node.member 0) (place_of (voter_in made past) given).sections (happens m (life.Crash (λ view. 0)))) (sym p.1)
-        (stopped_any setup node.member (started_at past) 0 place.sections (happens m (life.Crash (λ view. 0))) stopped))
+    (subst (λ given. IsStopped (rules_of setup node.member 0) (place_of (voter_in made past) given).sections (happens m (life.Crash (λ view. 0)))) (sym p.1)
+    (stopped_any setup node.member (started_at past) 0 place.sections (happens m (life.Crash (λ view. 0))) stopped))
 
 -- the member does nothing, or stops
 quiet_on : (setup : Setup) (node : Node) (noted : Noted) (later : Life) (m : Member) → AllPlain noted.entry.calls → IsAt setup node later m → Further setup noted node later m
@@ -287,6 +281,7 @@ cut_plain (stops.Cut call keep) out p = at (nat_lt 0 call && nat_le call (length
   where
     pair : Bool → Outcome × StepOut
     pair b = if b then (outcomes.Cut, record no_out { calls = take (call - 1) out.calls }) else (outcomes.Done, out)
+
     at : (b : Bool) → AllPlain (pair b).1.calls
     at true = plain_take (call - 1) out.calls p
     at false = p
@@ -316,23 +311,24 @@ step_leaves : (setup : Setup) (node : Node) (made : EngineMade) (past : List Did
     → IsLeft (voter_in made past).rules d.desk.known o (performed stop d (place_of (voter_in made past) (voter_past past)).sections).sections m
     → IsAt setup node (if is_whole o then Running made (did ∷ past) else Stopped (sections_of made (did ∷ past))) m
 unfolding IsAt sections_of
-step_leaves setup node made past did place input now stop d m outcomes.Done rules at same e known sections l =
-    (rules,
-      subst (λ (v : VoterMade). IsRunning v.rules (place_of (voter_in made (did ∷ past)) (voter_past (did ∷ past))).standing.desk.known (place_of (voter_in made (did ∷ past)) (voter_past (did ∷ past))).sections m) (sym same)
-        (subst (λ (p : Place). IsRunning (voter_in made past).rules p.standing.desk.known p.sections m) (sym at)
-          (subst (λ k. IsRunning (voter_in made past).rules k place.sections m) (sym known)
-            (subst (λ x. IsRunning (voter_in made past).rules d.desk.known x m) (sym sections) l))))
+step_leaves setup node made past did place input now stop d m outcomes.Done rules at same e known sections l = (
+  rules,
+  subst (λ (v : VoterMade). IsRunning v.rules (place_of (voter_in made (did ∷ past)) (voter_past (did ∷ past))).standing.desk.known (place_of (voter_in made (did ∷ past)) (voter_past (did ∷ past))).sections m) (sym same)
+      (subst (λ (p : Place). IsRunning (voter_in made past).rules p.standing.desk.known p.sections m) (sym at)
+      (subst (λ k. IsRunning (voter_in made past).rules k place.sections m) (sym known)
+      (subst (λ x. IsRunning (voter_in made past).rules d.desk.known x m) (sym sections) l))),
+)
 step_leaves setup node made past did place input now stop d m outcomes.Idle rules at same e known sections l = absurd (never_idle stop d (place_of (voter_in made past) (voter_past past)).sections e)
 step_leaves setup node made past did place input now stop d m outcomes.Journal rules at same e known sections l =
     let js = (performed stop d (place_of (voter_in made past) (voter_past past)).sections).sections in
     subst (λ (p : Place). IsStopped (rules_of setup node.member 0) p.sections m) (sym at)
-      (subst (λ x. IsStopped (rules_of setup node.member 0) x m) (sym sections)
-        (stopped_any setup node.member (started_at past) 0 js m (subst (λ r. IsStopped r js m) (rules (started_at past)) l)))
+    (subst (λ x. IsStopped (rules_of setup node.member 0) x m) (sym sections)
+    (stopped_any setup node.member (started_at past) 0 js m (subst (λ r. IsStopped r js m) (rules (started_at past)) l)))
 step_leaves setup node made past did place input now stop d m outcomes.Cut rules at same e known sections l =
     let js = (performed stop d (place_of (voter_in made past) (voter_past past)).sections).sections in
     subst (λ (p : Place). IsStopped (rules_of setup node.member 0) p.sections m) (sym at)
-      (subst (λ x. IsStopped (rules_of setup node.member 0) x m) (sym sections)
-        (stopped_any setup node.member (started_at past) 0 js m (subst (λ r. IsStopped r js m) (rules (started_at past)) l)))
+    (subst (λ x. IsStopped (rules_of setup node.member 0) x m) (sym sections)
+    (stopped_any setup node.member (started_at past) 0 js m (subst (λ r. IsStopped r js m) (rules (started_at past)) l)))
 
 -- the voter was given this step
 abbrev pub IsStep : Taken → VoterInput → Type 0
@@ -367,9 +363,11 @@ same_place : (setup : Setup) (node : Node) (made : EngineMade) (did : Did) (past
     → place_of (voter_in made (did ∷ past)) (voter_past (did ∷ past)) ≡ place_of (voter_in made past) (voter_past past)
     → IsAt setup node (Running made past) m → IsAt setup node (Running made (did ∷ past)) m
 unfolding IsAt
-same_place setup node made did past m v p a =
-    (a.0, subst (λ (w : VoterMade). IsRunning w.rules (place_of (voter_in made (did ∷ past)) (voter_past (did ∷ past))).standing.desk.known (place_of (voter_in made (did ∷ past)) (voter_past (did ∷ past))).sections m) (sym v)
-      (subst (λ (q : Place). IsRunning (voter_in made past).rules q.standing.desk.known q.sections m) (sym p) a.1))
+same_place setup node made did past m v p a = (
+  a.0,
+  subst (λ (w : VoterMade). IsRunning w.rules (place_of (voter_in made (did ∷ past)) (voter_past (did ∷ past))).standing.desk.known (place_of (voter_in made (did ∷ past)) (voter_past (did ∷ past))).sections m) (sym v)
+      (subst (λ (q : Place). IsRunning (voter_in made past).rules q.standing.desk.known q.sections m) (sym p) a.1),
+)
 
 voter_idles : (setup : Setup) (node : Node) (made : EngineMade) (past : List Did) (m : Member) (noted : Noted) (taken : Taken) (input : VoterInput) (now : ℕ) (stop : Stop)
     → IsStep taken input → voter.stepped (voter_in made past).rules now (place_of (voter_in made past) (voter_past past)).standing input ≡ None → noted.entry.calls ≡ []
@@ -379,8 +377,8 @@ voter_idles setup node made past m noted taken input now stop step e same a =
     let did = did_of taken now stop outcomes.Idle no_out in
     let p = place_then made did past (Stepped input now stop) (step.0 now stop outcomes.Idle no_out) step.1 in
     quiet_on setup node noted (Running made (did ∷ past)) m (subst AllPlain (sym same) tt)
-      (same_place setup node made did past m p.0
-        (ap (λ v. place_of v (voter_past (did ∷ past))) p.0 ∙ ap (place_of (voter_in made past)) p.1 ∙ idle_place (voter_in made past) (voter_past past) input now stop e) a)
+    (same_place setup node made did past m p.0
+    (ap (λ v. place_of v (voter_past (did ∷ past))) p.0 ∙ ap (place_of (voter_in made past)) p.1 ∙ idle_place (voter_in made past) (voter_past past) input now stop e) a)
 
 voter_steps : (setup : Setup) (node : Node) (made : EngineMade) (past : List Did) (m : Member) (noted : Noted) (taken : Taken) (input : VoterInput) (now : ℕ) (stop : Stop) (d : Doing)
     → IsStep taken input → current_of (voter_in made past).rules (place_of (voter_in made past) (voter_past past)).standing.desk.known < greatest_view
@@ -405,7 +403,7 @@ voter_steps setup node made past m noted taken input now stop d step low e same 
       sends = x.sends;
       votes = subst (λ cs. AreSent cs (subjects_of x.sent)) (sym same) x.votes;
       at = step_leaves setup node made past did later input now stop d (run m x.calls) given.outcome a.0
-        (ap (λ w. place_of w (voter_past (did ∷ past))) p.0 ∙ ap (place_of v) p.1 ∙ step_place v (voter_past past) input now stop d e) p.0 refl refl refl x.left;
+          (ap (λ w. place_of w (voter_past (did ∷ past))) p.0 ∙ ap (place_of v) p.1 ∙ step_place v (voter_past past) input now stop d e) p.0 refl refl refl x.left;
     }
 
 pub voter_further : (setup : Setup) (node : Node) (made : EngineMade) (past : List Did) (m : Member) (noted : Noted) (taken : Taken) (input : VoterInput) (now : ℕ) (stop : Stop)
@@ -421,11 +419,11 @@ voter_further setup node made past m noted taken input now stop step low same a 
     at None e =
         let g = step_gives (voter_in made past) (voter_past past) input now stop None e in
         subst (λ x. Further setup noted node (going_on made (by_voter taken now stop x ∷ past)) m) (sym g)
-          (voter_idles setup node made past m noted taken input now stop step e (same ∙ ap (λ (x : Performed). x.out.calls) g) a)
+        (voter_idles setup node made past m noted taken input now stop step e (same ∙ ap (λ (x : Performed). x.out.calls) g) a)
     at (Some d) e =
         let g = step_gives (voter_in made past) (voter_past past) input now stop (Some d) e in
         subst (λ x. Further setup noted node (going_on made (by_voter taken now stop x ∷ past)) m) (sym g)
-          (voter_steps setup node made past m noted taken input now stop d step low e (same ∙ ap (λ (x : Performed). x.out.calls) g) a)
+        (voter_steps setup node made past m noted taken input now stop d step low e (same ∙ ap (λ (x : Performed). x.out.calls) g) a)
 
 -- ---- an answer
 
@@ -447,17 +445,19 @@ answered_at : (setup : Setup) (node : Node) (made : EngineMade) (did : Did) (pas
 unfolding IsAt place_of
 answered_at setup node made did past number answer m e f a =
     let p = place_then made did past (Answered number answer) e f in
-    let place = place_of (voter_in made past) (voter_past past) in
-    (a.0, subst (λ v. IsRunning v.rules (place_of v (voter_past (did ∷ past))).standing.desk.known (place_of v (voter_past (did ∷ past))).sections m) (sym p.0)
-      (subst (λ given. IsRunning (voter_in made past).rules (place_of (voter_in made past) given).standing.desk.known (place_of (voter_in made past) given).sections m) (sym p.1)
-        (subst (λ k. IsRunning (voter_in made past).rules k place.sections m) (sym (answered_known number answer place.standing)) a.1)))
+    let place = place_of (voter_in made past) (voter_past past) in (
+      a.0,
+      subst (λ v. IsRunning v.rules (place_of v (voter_past (did ∷ past))).standing.desk.known (place_of v (voter_past (did ∷ past))).sections m) (sym p.0)
+          (subst (λ given. IsRunning (voter_in made past).rules (place_of (voter_in made past) given).standing.desk.known (place_of (voter_in made past) given).sections m) (sym p.1)
+          (subst (λ k. IsRunning (voter_in made past).rules k place.sections m) (sym (answered_known number answer place.standing)) a.1)),
+    )
 
 pub answer_further : (setup : Setup) (node : Node) (made : EngineMade) (past : List Did) (m : Member) (noted : Noted) (number : ℕ) (answer : Answer) (now : ℕ)
     → noted.entry.calls ≡ [] → IsAt setup node (Running made past) m → Further setup noted node (going_on made (engine.replied number answer now ∷ past)) m
 unfolding runs
 answer_further setup node made past m noted number answer now same a =
     quiet_on setup node noted (Running made (engine.replied number answer now ∷ past)) m (subst AllPlain (sym same) tt)
-      (answered_at setup node made (engine.replied number answer now) past number answer m refl refl a)
+    (answered_at setup node made (engine.replied number answer now) past number answer m refl refl a)
 
 -- ---- a crash
 
@@ -468,5 +468,5 @@ crash_further setup node made past m noted same a =
     let place = place_of (voter_in made past) (voter_past past) in
     let after = happens m (life.Crash (λ view. 0)) in
     quiet_off setup node noted (Stopped (crashed 0 place.sections)) m (subst AllPlain (sym same) tt)
-      (stopped_any setup node.member (started_at past) 0 (crashed 0 place.sections) after
-        (subst (λ r. IsStopped r (crashed 0 place.sections) after) (a.0 (started_at past)) (crash_lived (voter_in made past).rules 0 place.standing.desk.known place.sections m a.1)))
+    (stopped_any setup node.member (started_at past) 0 (crashed 0 place.sections) after
+    (subst (λ r. IsStopped r (crashed 0 place.sections) after) (a.0 (started_at past)) (crash_lived (voter_in made past).rules 0 place.standing.desk.known place.sections m a.1)))

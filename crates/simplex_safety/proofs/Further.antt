@@ -1,19 +1,15 @@
 -- One more event of a node, and what its member lives in it.
-use Rattle.std.proofs.Common.{◌≡◌, ℕ, ◌+◌, ◌<◌, ◌==◌, ◌&&◌, Bool, true, false, List, [], ◌∷◌, ◌++◌, map, Contains, Option, Some, None, refl, sym, ap, ◌∙◌, subst, inl, inr, ◌⊎◌, arith, append-nil, append_assoc, eqb-true, eq-eqb, if◌then◌else◌}
+use Rattle.std.proofs.Common.{◌≡◌, ℕ, ◌==◌, ◌&&◌, Bool, true, false, List, [], ◌∷◌, ◌++◌, map, Contains, refl, sym, ap, ◌∙◌, subst, inl, inr, ◌⊎◌, arith, append_assoc, eqb-true, eq-eqb, if◌then◌else◌}
 use Rattle.std.proofs.lemmas.Grind.{common_steps}
 use Rattle.std.proofs.lemmas.List.{map-append}
 use Rattle.std.proofs.lemmas.List.Elements.{Contains-append_left, Contains-append_right, Contains-append_cases}
 use Rattle.simplex_values.specs.declared.plan.Channel.TheVariants as channels
 use Rattle.simplex_values.specs.declared.proposal.Subject.{Subject}
-use Rattle.simplex_wire.specs.declared.artifact.Artifact.{Artifact}
-use Rattle.simplex_wire.specs.Fields.{vote_subject}
-use Rattle.simplex_transcript.specs.declared.event.Event.{Event}
-use Rattle.simplex_transcript.specs.declared.event.Event.TheVariants as events
 use Rattle.simplex_transcript.specs.declared.node.Node.{Node}
 use Rattle.simplex_transcript.specs.declared.setup.Setup.{Setup}
 use Rattle.simplex_messages.specs.declared.call.Call.{Call}
 use Rattle.simplex_messages.specs.declared.call.Call.TheVariants as calls
-use Rattle.simplex_run.specs.Life.{Noted, Life, Stopped, Running, is_of, after, life_in}
+use Rattle.simplex_run.specs.Life.{Noted, Life, is_of, after, life_in}
 use Rattle.simplex_run.specs.Members.{is_same_node, rules_of}
 use Rattle.simplex_journal.specs.Journal.{Section}
 use Rattle.simplex_agreement.specs.World as agreement
@@ -109,7 +105,7 @@ go_further setup noted before node e b f =
     let m = run newborn b.calls in
     let calls_is = calls_then noted before node e in
     let taken_is : taken (calls_of node (noted ∷ before)) ≡ taken (calls_of node before) ++ taken noted.entry.calls =
-      ap taken calls_is ∙ taken-append (calls_of node before) noted.entry.calls in
+    ap taken calls_is ∙ taken-append (calls_of node before) noted.entry.calls in
     let floors_is = floors_then noted before node in
     record {
       calls = b.calls ++ f.calls;
@@ -125,10 +121,10 @@ go_further setup noted before node e b f =
         ]
       ];
       votes = subst (λ cs. AreSent cs (subjects_of (run newborn (b.calls ++ f.calls)).sent)) (sym calls_is)
-        (subst (AreSent (calls_of node before ++ noted.entry.calls)) (sym (ap (λ (n : Member). subjects_of n.sent) joined ∙ ap subjects_of f.sends ∙ map-append _ m.sent f.sent))
+          (subst (AreSent (calls_of node before ++ noted.entry.calls)) (sym (ap (λ (n : Member). subjects_of n.sent) joined ∙ ap subjects_of f.sends ∙ map-append _ m.sent f.sent))
           (AreSent-append (calls_of node before) noted.entry.calls (subjects_of m.sent) (subjects_of f.sent) b.votes f.votes));
       at = subst (λ x. IsAt setup node x (run newborn (b.calls ++ f.calls))) (sym (life_then setup noted before node e))
-        (subst (IsAt setup node (after setup noted.event noted.did (life_in setup before node))) (sym joined) f.at);
+          (subst (IsAt setup node (after setup noted.event noted.did (life_in setup before node))) (sym joined) f.at);
     }
 
 pub stay : (setup : Setup) (noted : Noted) (before : List Noted) (node : Node) → is_of node noted.event ≡ false → (b : IsLivedBy setup before node) → IsLivedBy setup (noted ∷ before) node

@@ -1,3 +1,4 @@
 mod Events
 mod Further
+mod Nodes
 mod Quiet

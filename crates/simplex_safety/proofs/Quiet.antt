@@ -1,10 +1,10 @@
 -- What a batcher calls: it reports, blocks and relays, and that is all.
-use Rattle.std.proofs.Common.{◌≡◌, ℕ, zero, suc, ◌+◌, ◌-◌, ◌==◌, ◌&&◌, ◌||◌, not, nat_lt, nat_le, Bool, true, false, List, [], ◌∷◌, ◌++◌, length, map, filter, take, Option, Some, None, option_to_list, unwrap_or, refl, sym, ap, ◌∙◌, subst, Result, Ok, Err, if◌then◌else◌}
-use Rattle.std.specs.Option.{is_some, option_map, option_map_or}
+use Rattle.std.proofs.Common.{ℕ, zero, suc, ◌==◌, ◌&&◌, ◌||◌, not, nat_le, Bool, true, false, List, [], ◌∷◌, ◌++◌, map, Option, Some, None, Result, Ok, Err, if◌then◌else◌}
+use Rattle.std.specs.Option.{option_map_or}
 use Rattle.simplex_values.specs.declared.proposal.Proposal.{Proposal}
 use Rattle.simplex_values.specs.declared.policy.SkipPolicy.{SkipPolicy}
 use Rattle.simplex_values.specs.declared.policy.SkipPolicy.TheVariants as skip
-use Rattle.simplex_values.specs.declared.timeout.TimeoutReason.TheVariants.{Inactivity, LeaderNullify}
+use Rattle.simplex_values.specs.declared.timeout.TimeoutReason.TheVariants.{Inactivity}
 use Rattle.simplex_wire.specs.declared.error.DecodeError.{DecodeError}
 use Rattle.simplex_wire.specs.declared.vote.Vote.{Vote}
 use Rattle.simplex_wire.specs.declared.certificate.Certificate.{Certificate}
@@ -12,7 +12,6 @@ use Rattle.simplex_wire.specs.Format.{whole}
 use Rattle.simplex_wire.specs.Message as format
 use Rattle.simplex_wire.specs.Certified.{is_certified}
 use Rattle.simplex_wire.specs.Fields.{certificate_subject, certificate_signatures}
-use Rattle.simplex_types.specs.declared.activity.Activity.{Activity}
 use Rattle.simplex_round.specs.declared.batch.Batch.{Batch}
 use Rattle.simplex_round.specs.Acceptance as votes
 use Rattle.simplex_round.specs.Assembly as assembly
@@ -22,7 +21,7 @@ use Rattle.simplex_messages.specs.declared.batcher.BatcherInput.TheVariants as i
 use Rattle.simplex_messages.specs.declared.batcher.Message.TheVariants as batcher
 use Rattle.simplex_messages.specs.declared.call.Call.{Call}
 use Rattle.simplex_messages.specs.declared.call.Call.TheVariants as call
-use Rattle.simplex_steps.specs.Batcher.{Made, Timed, RoundHistory, Standing, Doing, begun, known_in, called, and_blocked, with_round, has_skipping, leader_nullified, hinting, hinting_nullify, hinted_at_vote, is_me, is_active, hinted_at_update, targets_of, relayed, forwarding, vote_view, vote_epoch, certificate_view, certificate_epoch, retains_view, admits_view, round_for, with_heard, took_vote, took_constructed, holds_kind, kept_certificate, took_certificate, window_views, with_leader, took_update, forwarded, number_of, with_batch, constructing, constructing_times, worked, worked_all, dropped, seen_now, heard_vote, heard_certificate, acted, finished, step, standing_after, step_out}
+use Rattle.simplex_steps.specs.Batcher.{Made, Timed, RoundHistory, Doing, begun, known_in, called, and_blocked, has_skipping, leader_nullified, hinting, hinting_nullify, hinted_at_vote, is_me, is_active, hinted_at_update, targets_of, relayed, forwarding, vote_view, vote_epoch, certificate_view, certificate_epoch, retains_view, admits_view, round_for, with_heard, took_vote, took_constructed, holds_kind, kept_certificate, took_certificate, window_views, with_leader, took_update, forwarded, with_batch, constructing, constructing_times, worked, worked_all, dropped, seen_now, heard_vote, heard_certificate, acted, finished, step, standing_after, step_out}
 use Rattle.simplex_conduct.proofs.Replaying.{AllPlain, AllPlain-append}
 use Rattle.simplex_conduct.proofs.Simulating.{IsPlain}
 
@@ -49,7 +48,7 @@ unfolding hinted_at_update
 hinted_update made skip.Disabled leader now d p = p
 hinted_update made (skip.Enabled timeout budget) leader now d p =
     either (leader_nullified d.standing) (hinting_nullify made d) (if is_me made leader || is_active made d.standing leader timeout now then d else hinting made Inactivity d) p
-      (either (is_me made leader || is_active made d.standing leader timeout now) d (hinting made Inactivity d) p p)
+    (either (is_me made leader || is_active made d.standing leader timeout now) d (hinting made Inactivity d) p p)
 
 plain_relayed : (proposal : Proposal) (xs : List ℕ) → AllPlain (relayed proposal xs)
 plain_relayed proposal [] = tt
@@ -68,7 +67,7 @@ heard_plain : (view : ℕ) (round : RoundHistory) (heard : votes.Heard) (d : Doi
 unfolding with_heard
 heard_plain view round heard d p =
     AllPlain-append (d.calls ++ map call.Report heard.reports) (map call.Block heard.blocks)
-      (AllPlain-append d.calls (map call.Report heard.reports) p (plain_map call.Report heard.reports (λ a. tt))) (plain_map call.Block heard.blocks (λ a. tt))
+    (AllPlain-append d.calls (map call.Report heard.reports) p (plain_map call.Report heard.reports (λ a. tt))) (plain_map call.Block heard.blocks (λ a. tt))
 
 vote_plain : (made : Made) (sender : ℕ) (vote : Vote) (d : Doing) → Plain d → Plain (took_vote made sender vote d)
 unfolding took_vote
@@ -77,9 +76,9 @@ vote_plain made sender vote d p =
     let round = round_for made d.standing view in
     let heard = votes.heard_from (known_in round) sender vote in
     either (retains_view made d.standing view && admits_view made d.standing view)
-      (hinted_at_vote made heard.accepted (with_heard view (called (rounds.AddNetwork sender vote) round) heard d)) d
-      (hinted_vote made heard.accepted (with_heard view (called (rounds.AddNetwork sender vote) round) heard d)
-        (heard_plain view (called (rounds.AddNetwork sender vote) round) heard d p)) p
+    (hinted_at_vote made heard.accepted (with_heard view (called (rounds.AddNetwork sender vote) round) heard d)) d
+    (hinted_vote made heard.accepted (with_heard view (called (rounds.AddNetwork sender vote) round) heard d)
+    (heard_plain view (called (rounds.AddNetwork sender vote) round) heard d p)) p
 
 constructed_plain : (made : Made) (vote : Vote) (d : Doing) → Plain d → Plain (took_constructed made vote d)
 unfolding took_constructed
@@ -88,13 +87,13 @@ constructed_plain made vote d p =
     let round = round_for made d.standing view in
     let heard = votes.heard (known_in round) vote in
     either (retains_view made d.standing view) (with_heard view (called (rounds.AcceptVote vote) round) heard d) d
-      (heard_plain view (called (rounds.AcceptVote vote) round) heard d p) p
+    (heard_plain view (called (rounds.AcceptVote vote) round) heard d p) p
 
 certificate_plain : (made : Made) (sender : ℕ) (c : Certificate) (d : Doing) → Plain d → Plain (took_certificate made sender c d)
 unfolding took_certificate kept_certificate
 certificate_plain made sender c d p =
     either (not (retains_view made d.standing (certificate_view c)) || holds_kind d.standing c) d _ p
-      (either (is_certified (made.scheme.verifies (certificate_subject c)) made.members (certificate_signatures c)) (kept_certificate made c d) (and_blocked sender d) p (blocked sender d p))
+    (either (is_certified (made.scheme.verifies (certificate_subject c)) made.members (certificate_signatures c)) (kept_certificate made c d) (and_blocked sender d) p (blocked sender d p))
 
 update_plain : (made : Made) (current leader finalized : ℕ) (o : Option Proposal) (now : ℕ) (d : Doing) → Plain d → Plain (took_update made current leader finalized o now d)
 unfolding took_update
@@ -135,7 +134,7 @@ worked_plain made view d p =
     let handing = option_map_or (λ round. forwarded made view round d) (d.standing.rounds view) d in
     let h = handing_plain made view (d.standing.rounds view) d p in
     either (nat_le view d.standing.finalized) d _ p
-      (either (admits_view made d.standing view) (constructing_times 3 made view handing) handing (times_plain 3 made view handing h) h)
+    (either (admits_view made d.standing view) (constructing_times 3 made view handing) handing (times_plain 3 made view handing h) h)
 
 all_plain : (made : Made) (views : List ℕ) (d : Doing) → Plain d → Plain (worked_all made views d)
 unfolding worked_all
@@ -147,14 +146,14 @@ unfolding heard_vote
 heard_vote_plain made sender (Err fault) now d p = blocked sender d p
 heard_vote_plain made sender (Ok vote) now d p =
     either (vote_epoch vote == made.epoch) (took_vote made sender vote (record d { standing = seen_now sender now d.standing })) (and_blocked sender d)
-      (vote_plain made sender vote (record d { standing = seen_now sender now d.standing }) p) (blocked sender d p)
+    (vote_plain made sender vote (record d { standing = seen_now sender now d.standing }) p) (blocked sender d p)
 
 heard_certificate_plain : (made : Made) (sender : ℕ) (r : Result Certificate DecodeError) (now : ℕ) (d : Doing) → Plain d → Plain (heard_certificate made sender r now d)
 unfolding heard_certificate
 heard_certificate_plain made sender (Err fault) now d p = blocked sender d p
 heard_certificate_plain made sender (Ok c) now d p =
     either (certificate_epoch c == made.epoch) (took_certificate made sender c (record d { standing = seen_now sender now d.standing })) (and_blocked sender d)
-      (certificate_plain made sender c (record d { standing = seen_now sender now d.standing }) p) (blocked sender d p)
+    (certificate_plain made sender c (record d { standing = seen_now sender now d.standing }) p) (blocked sender d p)
 
 acted_plain : (made : Made) (i : BatcherInput) (now : ℕ) (d : Doing) → Plain d → Plain (acted made i now d)
 unfolding acted

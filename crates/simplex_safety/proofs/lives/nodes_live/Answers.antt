@@ -1,3 +1,5 @@
-use Rattle.simplex_safety.proofs.Events.{start_sections}
-use Rattle.simplex_safety.proofs.Further.{go_further}
+use Rattle.simplex_safety.proofs.Nodes.{node_lives}
 use Rattle.simplex_safety.proofs.lives.nodes_live.Goals as goal
+
+pub returns : goal.returns
+returns c = node_lives
