@@ -2,3 +2,4 @@ mod Events
 mod Further
 mod Nodes
 mod Quiet
+mod Speaking
