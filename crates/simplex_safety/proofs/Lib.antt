@@ -3,3 +3,4 @@ mod Further
 mod Nodes
 mod Quiet
 mod Speaking
+mod Telling

@@ -104,14 +104,14 @@ good_notarization Good known view n k e =
     let one = first_some (notarization_in view) known n e in
     k (statement_of (certificates.Notarization n)) (in_memory known one.0 _ one.1 (added_notarization view one.0 n one.2))
 
-good_nullification : (Good : agreement.Certificate → Type 0) (known : List Fact) (view : ℕ) (n : Nullification) → KnowsGood Good known → nullification_of known view ≡ Some n
+pub good_nullification : (Good : agreement.Certificate → Type 0) (known : List Fact) (view : ℕ) (n : Nullification) → KnowsGood Good known → nullification_of known view ≡ Some n
     → Good (statement_of (certificates.Nullification n))
 unfolding nullification_of
 good_nullification Good known view n k e =
     let one = first_some (nullification_in view) known n e in
     k (statement_of (certificates.Nullification n)) (in_memory known one.0 _ one.1 (added_nullification view one.0 n one.2))
 
-good_finalization : (Good : agreement.Certificate → Type 0) (known : List Fact) (view : ℕ) (n : Finalization) → KnowsGood Good known → finalization_of known view ≡ Some n
+pub good_finalization : (Good : agreement.Certificate → Type 0) (known : List Fact) (view : ℕ) (n : Finalization) → KnowsGood Good known → finalization_of known view ≡ Some n
     → Good (statement_of (certificates.Finalization n))
 unfolding finalization_of
 good_finalization Good known view n k e =
