@@ -233,7 +233,7 @@ answer_certify_touches made m now c _ d b = touched_at made m (settle_certify c.
 
 -- ---- a certificate
 
-adding_facts : (made : Made) (known : List Fact) (c : Certificate) (now : ℕ) → facts_of made known (adding c now) ≡ only_if (adds made known c) (Added c now)
+pub adding_facts : (made : Made) (known : List Fact) (c : Certificate) (now : ℕ) → facts_of made known (adding c now) ≡ only_if (adds made known c) (Added c now)
 unfolding facts_of
 adding_facts made known (certificates.Notarization n) now = refl
 adding_facts made known (certificates.Nullification n) now = refl
@@ -358,12 +358,12 @@ made_before made known view order e =
     let round = same_round v.0.round made.epoch view (order.own v.0 there) v.2 in
     subst (λ r. Contains (remembered known) (member.Own (subjects.Nullify r))) round (in_memory known (Voted (votes.Nullify v.0)) (member.Own (subjects.Nullify v.0.round)) there refl)
 
-nullifying_facts : (made : Made) (known : List Fact) (view now : ℕ) (n : Nullify) → nullify_at made view ≡ Some n
+pub nullifying_facts : (made : Made) (known : List Fact) (view now : ℕ) (n : Nullify) → nullify_at made view ≡ Some n
     → facts_of made known (state.ConstructNullify view LeaderTimeout now) ≡ Published view now ∷ only_if (not (has_nullified known view)) (Voted (votes.Nullify n))
 unfolding facts_of
 nullifying_facts made known view now n e = ap (λ o. option_map_or (nullify_facts known view now) o []) e
 
-none_facts : (made : Made) (known : List Fact) (view now : ℕ) → nullify_at made view ≡ None
+pub none_facts : (made : Made) (known : List Fact) (view now : ℕ) → nullify_at made view ≡ None
     → facts_of made known (state.ConstructNullify view LeaderTimeout now) ≡ []
 unfolding facts_of
 none_facts made known view now e = ap (λ o. option_map_or (nullify_facts known view now) o []) e

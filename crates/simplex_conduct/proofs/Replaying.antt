@@ -82,7 +82,7 @@ pub record IsReplayed (made : Made) (before after : List Fact) (a : Artifact) : 
   pub memory : remembered after ≡ (if member.is_taken (remembered before) (memory_of a) then remembered before ++ memory_of a ∷ [] else remembered before)
   pub order : IsInOrder made before → IsInOrder made after
 
-abbrev epoch_kept : Made → Artifact → Type 0
+abbrev pub epoch_kept : Made → Artifact → Type 0
 epoch_kept made (artifacts.Nullify v) = v.round.epoch ≡ made.epoch
 epoch_kept made _ = Unit {0}
 
@@ -95,7 +95,7 @@ certificate_replayed made known a c kind view now e =
       order = λ o. quiet_order made (Broadcast kind view ∷ []) (Added c now ∷ known) (refl, tt) (one_more made known (Added c now) tt o);
     }
 
-verdict_replayed : (made : Made) (known : List Fact) (view : ℕ) (good : Bool) (now : ℕ) (t : Bool) → takes_verdict known view ≡ t
+pub verdict_replayed : (made : Made) (known : List Fact) (view : ℕ) (good : Bool) (now : ℕ) (t : Bool) → takes_verdict known view ≡ t
     → (remembered (judged made known view good now ++ known) ≡ (if t then remembered known ++ member.Judged view good ∷ [] else remembered known))
     × (IsInOrder made known → IsInOrder made (judged made known view good now ++ known))
 verdict_replayed made known view good now true e =
@@ -110,7 +110,7 @@ verdict_replayed made known view good now false e =
     let same : judged made known view good now ++ known ≡ known = ap (λ xs. xs ++ known) (judged_left made known view good now e) in
     (ap remembered same, λ o. subst (IsInOrder made) (sym same) o)
 
-facts_replayed : (made : Made) (known : List Fact) (a : Artifact) (now : ℕ) → epoch_kept made a → IsReplayed made known (replay_facts made known a now ++ known) a
+pub facts_replayed : (made : Made) (known : List Fact) (a : Artifact) (now : ℕ) → epoch_kept made a → IsReplayed made known (replay_facts made known a now ++ known) a
 facts_replayed made known (artifacts.Notarize v) now own = record { memory = remembered_push (Voted (votes.Notarize v)) known; order = λ o. one_more made known (Voted (votes.Notarize v)) tt o }
 facts_replayed made known (artifacts.Nullify v) now own = record { memory = remembered_push (Voted (votes.Nullify v)) known; order = λ o. one_more made known (Voted (votes.Nullify v)) own o }
 facts_replayed made known (artifacts.Finalize v) now own = record { memory = remembered_push (Voted (votes.Finalize v)) known; order = λ o. one_more made known (Voted (votes.Finalize v)) tt o }
@@ -192,7 +192,7 @@ record_plain made now d (artifacts.Notarization v) p = told_plain made now d (ar
 record_plain made now d (artifacts.Nullification v) p = told_plain made now d (artifacts.Nullification v) p
 record_plain made now d (artifacts.Finalization v) p = told_plain made now d (artifacts.Finalization v) p
 
-record_known : (made : Made) (now : ℕ) (d : Doing) (a : Artifact) → (replay_record made now d a).desk.known ≡ replay_facts made d.desk.known a now ++ d.desk.known
+pub record_known : (made : Made) (now : ℕ) (d : Doing) (a : Artifact) → (replay_record made now d a).desk.known ≡ replay_facts made d.desk.known a now ++ d.desk.known
 unfolding replay_record told_on facts_of
 record_known made now d (artifacts.Certification r good) = verdict_known good (certified_answer d.desk.known r.view) (tell made (state.Replay (artifacts.Certification r good) now) d)
 record_known made now d (artifacts.Notarize v) = told_known made now d (artifacts.Notarize v)

@@ -2,3 +2,5 @@ mod Events
 mod Further
 mod Nodes
 mod Quiet
+mod Speaking
+mod Telling

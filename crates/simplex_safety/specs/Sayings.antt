@@ -1,0 +1,57 @@
+-- The certificates that a step says: in its calls and in what it hands on.
+use Rattle.std.specs.Prelude.{◌≡◌, ℕ, Bool, List, [], ◌∷◌, Contains, Option, Some, None}
+use Rattle.simplex_values.specs.declared.plan.Channel.TheVariants as channels
+use Rattle.simplex_values.specs.declared.plan.Recipients.TheVariants as recipients
+use Rattle.simplex_wire.specs.declared.artifact.Artifact.{Artifact}
+use Rattle.simplex_wire.specs.declared.artifact.Artifact.TheVariants as artifacts
+use Rattle.simplex_wire.specs.declared.certificate.Certificate.{Certificate}
+use Rattle.simplex_wire.specs.declared.certificate.Certificate.TheVariants as certificates
+use Rattle.simplex_wire.specs.Message as format
+use Rattle.simplex_types.specs.declared.activity.Activity.{Activity}
+use Rattle.simplex_types.specs.declared.activity.Activity.TheVariants as activities
+use Rattle.simplex_messages.specs.declared.call.Call.{Call}
+use Rattle.simplex_messages.specs.declared.call.Call.TheVariants as calls
+use Rattle.simplex_messages.specs.declared.handed.Handed.{Handed}
+use Rattle.simplex_messages.specs.declared.handed.Handed.TheVariants as handed
+use Rattle.simplex_messages.specs.declared.batcher.Message.TheVariants as batcher
+use Rattle.simplex_messages.specs.declared.voter.Message.TheVariants as voter
+use Rattle.simplex_messages.specs.declared.resolver.MailboxMessage.TheVariants as resolver
+use Rattle.simplex_agreement.specs.World as agreement
+use Rattle.simplex_conduct.specs.Life.{statement_of}
+
+-- each of them is such
+abbrev pub Each : {A : Type 0} → (A → Type 0) → List A → Type 0
+Each P [] = Unit {0}
+Each P (x ∷ xs) = P x × Each P xs
+
+-- what holds of a certificate holds of the one in a record, in a report, in a call or in a message
+abbrev pub InRecord : (agreement.Certificate → Type 0) → Artifact → Type 0
+InRecord Good (artifacts.Notarization c) = Good (statement_of (certificates.Notarization c))
+InRecord Good (artifacts.Nullification c) = Good (statement_of (certificates.Nullification c))
+InRecord Good (artifacts.Finalization c) = Good (statement_of (certificates.Finalization c))
+InRecord Good _ = Unit {0}
+
+abbrev pub InReport : (agreement.Certificate → Type 0) → Activity → Type 0
+InReport Good (activities.Notarization c) = Good (statement_of (certificates.Notarization c))
+InReport Good (activities.Certification c) = Good (statement_of (certificates.Notarization c))
+InReport Good (activities.Nullification c) = Good (statement_of (certificates.Nullification c))
+InReport Good (activities.Finalization c) = Good (statement_of (certificates.Finalization c))
+InReport Good _ = Unit {0}
+
+-- all is sent to all, and nothing but votes and certificates
+abbrev pub InCall : (agreement.Certificate → Type 0) → Call → Type 0
+InCall Good (calls.Append section artifact) = InRecord Good artifact
+InCall Good (calls.Send channels.Vote to bytes) = to ≡ recipients.All
+InCall Good (calls.Send channels.Certificate to bytes) =
+    (to ≡ recipients.All) × (c : Certificate) × (bytes ≡ format.certificate.spelling c) × Good (statement_of c)
+InCall Good (calls.Send channels.Resolver to bytes) = ⊥
+InCall Good (calls.Report activity) = InReport Good activity
+InCall Good _ = Unit {0}
+
+-- a constructed vote went out in the same calls
+abbrev pub InMessage : (agreement.Certificate → Type 0) → List Call → Handed → Type 0
+InMessage Good made (handed.Voter (voter.Verified c)) = Good (statement_of c)
+InMessage Good made (handed.Batcher (batcher.Constructed v)) = Contains made (calls.Send channels.Vote recipients.All (format.vote.spelling v))
+InMessage Good made (handed.Resolver (resolver.Updated c)) = Good (statement_of c)
+InMessage Good made (handed.Resolver (resolver.Certified c success)) = Good (statement_of (certificates.Notarization c))
+InMessage Good made _ = Unit {0}
