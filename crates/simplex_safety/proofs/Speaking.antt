@@ -1,11 +1,9 @@
 -- What a voter says at the end of a step.
-use Rattle.std.proofs.Common.{◌≡◌, ℕ, ◌+◌, ◌-◌, ◌<◌, ◌≤◌, ◌==◌, Bool, true, false, nat_lt, List, [], ◌∷◌, ◌++◌, map, Contains, Option, Some, None, option_to_list, refl, sym, ap, ◌∙◌, subst, inl, inr, ◌⊎◌, arith, append-nil, append_assoc, if◌then◌else◌}
-use Rattle.std.specs.Option.{is_some, option_or, option_map, option_map_or}
-use Rattle.std.proofs.lemmas.Grind.{common_steps}
+use Rattle.std.proofs.Common.{◌≡◌, ℕ, ◌-◌, ◌==◌, Bool, true, false, nat_lt, List, [], ◌∷◌, ◌++◌, map, Contains, Option, Some, None, refl, subst, inl, inr, if◌then◌else◌}
+use Rattle.std.specs.Option.{option_map_or}
 use Rattle.std.proofs.lemmas.List.Elements.{Contains-append_left, Contains-push, Contains-push_cases}
 use Rattle.simplex_values.specs.declared.plan.Channel.TheVariants as channels
 use Rattle.simplex_values.specs.declared.plan.Recipients.TheVariants as recipients
-use Rattle.simplex_values.specs.Terms.{next_term_start}
 use Rattle.simplex_wire.specs.declared.vote.Vote.{Vote}
 use Rattle.simplex_wire.specs.declared.vote.Vote.TheVariants as votes
 use Rattle.simplex_wire.specs.declared.vote.Notarize.{Notarize}
@@ -27,8 +25,7 @@ use Rattle.simplex_messages.specs.declared.batcher.Message.TheVariants as batche
 use Rattle.simplex_messages.specs.declared.resolver.MailboxMessage.TheVariants as resolver
 use Rattle.simplex_rules.specs.Known.{Made, Fact, Added, Voted, notarization_in, notarization_of, nullification_in, nullification_of, finalization_in, finalization_of, view_of}
 use Rattle.simplex_rules.specs.Views.{current_of}
-use Rattle.simplex_rules.specs.Ancestry.{has_true_verdict}
-use Rattle.simplex_rules.specs.Best.{greater, opening_nullification, best_certificate, forwardable_at}
+use Rattle.simplex_rules.specs.Best.{forwardable_at}
 use Rattle.simplex_rules.specs.Votes.{notarize_at, finalize_at}
 use Rattle.simplex_rules.specs.Calls as state
 use Rattle.simplex_rules.specs.Calls.{facts_of, unsent_notarization, unsent_nullification, unsent_finalization, prune_answer}
@@ -36,13 +33,12 @@ use Rattle.simplex_rules.specs.Pending.{Sought, reconciled, iterated}
 use Rattle.simplex_steps.specs.Desk.{Doing, tell, make, hand, append, resolve_of, seek, send_vote, send_certificate, report}
 use Rattle.simplex_steps.specs.Voter.{vote_notarize, vote_finalize, open_requests, sync, publish_verdict, publish_nullify, publish_notarization, publish_nullification, publish_finalization, with_certificate, update_message, update_batcher, end_of_step, prune_at, prune, begin_iteration}
 use Rattle.simplex_agreement.specs.World as agreement
-use Rattle.simplex_agreement.proofs.ListFacts.{not_in_empty, Contains-here, Contains-there, Contains-cons_cases}
 use Rattle.simplex_lives.specs.Artifacts as member
 use Rattle.simplex_conduct.specs.Life.{statement_of, noted, remembered}
 use Rattle.simplex_conduct.proofs.Remembering.{in_memory, first_some}
 use Rattle.simplex_conduct.proofs.Facts.{SameMemory, told_quiet, IsQuiet, reconciled_same, iterated_same}
 use Rattle.simplex_conduct.proofs.Publishing.{remembered_push}
-use Rattle.simplex_safety.specs.Sayings.{Each, InRecord, InReport, InCall, InMessage}
+use Rattle.simplex_safety.specs.Sayings.{Each, InCall, InMessage}
 
 pub Each-append : {A : Type 0} (P : A → Type 0) (xs ys : List A) → Each P xs → Each P ys → Each P (xs ++ ys)
 Each-append P [] ys p q = q
@@ -182,7 +178,7 @@ learn Good cs hs news facts later v n good s =
 pub says_told : (Good : agreement.Certificate → Type 0) (made : Made) (call : state.Call) (d : Doing) → IsQuiet call → SaysGood Good d → SaysGood Good (tell made call d)
 says_told Good made call d q s =
     learn Good d.calls d.handed d.added d.desk.known (facts_of made d.desk.known call ++ d.desk.known) d.verdict d.nullify
-      (same_good Good made d.desk.known (facts_of made d.desk.known call ++ d.desk.known) (told_quiet made d.desk.known call q) s.in_known) s
+    (same_good Good made d.desk.known (facts_of made d.desk.known call ++ d.desk.known) (told_quiet made d.desk.known call q) s.in_known) s
 
 pub says_made : (Good : agreement.Certificate → Type 0) (c : Call) (d : Doing) → InCall Good c → SaysGood Good d → SaysGood Good (make c d)
 says_made Good c d good s = say Good d.calls d.handed d.added d.desk.known d.verdict d.nullify c good s
@@ -193,7 +189,7 @@ says_handed Good h d good s = pass Good d.calls d.handed (h ∷ []) d.added d.de
 says_sought : (Good : agreement.Certificate → Type 0) (d : Doing) → SaysGood Good d → SaysGood Good (seek d)
 says_sought Good d s =
     pass Good d.calls d.handed (map (λ s. handed.Resolver (resolve_of s)) d.desk.sought) d.added d.desk.known d.verdict d.nullify
-      (Each-map (InMessage Good d.calls) (λ (s : Sought). handed.Resolver (resolve_of s)) d.desk.sought (λ a. tt)) s
+    (Each-map (InMessage Good d.calls) (λ (s : Sought). handed.Resolver (resolve_of s)) d.desk.sought (λ a. tt)) s
 
 own_is_none : (Good : agreement.Certificate → Type 0) (s : _) (c : agreement.Certificate) → member.Own s ≡ member.Proved c → Good c
 own_is_none Good s c e = cc
@@ -206,12 +202,12 @@ says_notarize Good made view d s = at (notarize_at made d.desk.known view)
   where
     at : (o : Option Notarize)
         → (let told = record d { desk = record d.desk { known = state.fact_of (λ v. Voted (votes.Notarize v)) o ++ d.desk.known } } in
-          SaysGood Good (option_map_or (λ n. append (artifacts.Notarize n) told) o told))
+        SaysGood Good (option_map_or (λ n. append (artifacts.Notarize n) told) o told))
     at None = s
     at (Some n) =
         say Good d.calls d.handed d.added (Voted (votes.Notarize n) ∷ d.desk.known) d.verdict d.nullify (calls.Append (view_of n.proposal) (artifacts.Notarize n)) tt
-          (learn Good d.calls d.handed d.added d.desk.known (Voted (votes.Notarize n) ∷ d.desk.known) d.verdict d.nullify
-            (push_good Good d.desk.known (Voted (votes.Notarize n) ∷ d.desk.known) _ (remembered_push (Voted (votes.Notarize n)) d.desk.known) (own_is_none Good _) s.in_known) s)
+        (learn Good d.calls d.handed d.added d.desk.known (Voted (votes.Notarize n) ∷ d.desk.known) d.verdict d.nullify
+        (push_good Good d.desk.known (Voted (votes.Notarize n) ∷ d.desk.known) _ (remembered_push (Voted (votes.Notarize n)) d.desk.known) (own_is_none Good _) s.in_known) s)
 
 says_finalize : (Good : agreement.Certificate → Type 0) (made : Made) (view : ℕ) (d : Doing) → SaysGood Good d → SaysGood Good (vote_finalize made view d)
 unfolding vote_finalize facts_of
@@ -219,19 +215,19 @@ says_finalize Good made view d s = at (finalize_at made d.desk.known view)
   where
     at : (o : Option Finalize)
         → (let told = record d { desk = record d.desk { known = state.fact_of (λ v. Voted (votes.Finalize v)) o ++ d.desk.known } } in
-          SaysGood Good (option_map_or (λ n. append (artifacts.Finalize n) told) o told))
+        SaysGood Good (option_map_or (λ n. append (artifacts.Finalize n) told) o told))
     at None = s
     at (Some n) =
         say Good d.calls d.handed d.added (Voted (votes.Finalize n) ∷ d.desk.known) d.verdict d.nullify (calls.Append (view_of n.proposal) (artifacts.Finalize n)) tt
-          (learn Good d.calls d.handed d.added d.desk.known (Voted (votes.Finalize n) ∷ d.desk.known) d.verdict d.nullify
-            (push_good Good d.desk.known (Voted (votes.Finalize n) ∷ d.desk.known) _ (remembered_push (Voted (votes.Finalize n)) d.desk.known) (own_is_none Good _) s.in_known) s)
+        (learn Good d.calls d.handed d.added d.desk.known (Voted (votes.Finalize n) ∷ d.desk.known) d.verdict d.nullify
+        (push_good Good d.desk.known (Voted (votes.Finalize n) ∷ d.desk.known) _ (remembered_push (Voted (votes.Finalize n)) d.desk.known) (own_is_none Good _) s.in_known) s)
 
 says_requests : (Good : agreement.Certificate → Type 0) (made : Made) (now : ℕ) (d : Doing) → SaysGood Good d → SaysGood Good (open_requests made now d)
 unfolding open_requests
 says_requests Good made now d s =
     says_sought Good (record d { desk = reconciled made now d.desk })
-      (learn Good d.calls d.handed d.added d.desk.known (reconciled made now d.desk).known d.verdict d.nullify
-        (same_good Good made d.desk.known (reconciled made now d.desk).known (reconciled_same made now d.desk) s.in_known) s)
+    (learn Good d.calls d.handed d.added d.desk.known (reconciled made now d.desk).known d.verdict d.nullify
+    (same_good Good made d.desk.known (reconciled made now d.desk).known (reconciled_same made now d.desk) s.in_known) s)
 
 says_synced : (Good : agreement.Certificate → Type 0) (view : ℕ) (d : Doing) → SaysGood Good d → SaysGood Good (sync view d)
 says_synced Good view d s = at d.wrote
@@ -250,6 +246,7 @@ says_verdict Good d s = at d.verdict s.in_verdict
         SaysGood Good (if b then report (activities.Certification n) told else told))
     one n good true g = says_made Good (calls.Report (activities.Certification n)) (hand (handed.Resolver (resolver.Certified n good)) d) g (says_handed Good (handed.Resolver (resolver.Certified n good)) d g s)
     one n good false g = says_handed Good (handed.Resolver (resolver.Certified n good)) d g s
+
     at : (o : Option (Notarization × Bool)) → OfVerdict Good o → SaysGood Good (option_map_or (λ v.
         let told = hand (handed.Resolver (resolver.Certified v.0 v.1)) d in
         if v.1 then report (activities.Certification v.0) told else told) o d)
@@ -267,7 +264,7 @@ pub says_vote : (Good : agreement.Certificate → Type 0) (v : Vote) (d : Doing)
 says_vote Good v d s =
     let c = calls.Send channels.Vote recipients.All (format.vote.spelling v) in
     pass Good (d.calls ++ c ∷ []) d.handed (handed.Batcher (batcher.Constructed v) ∷ []) d.added d.desk.known d.verdict d.nullify (Contains-push d.calls c, tt)
-      (say Good d.calls d.handed d.added d.desk.known d.verdict d.nullify c refl s)
+    (say Good d.calls d.handed d.added d.desk.known d.verdict d.nullify c refl s)
 
 says_nullify : (Good : agreement.Certificate → Type 0) (d : Doing) → SaysGood Good d → SaysGood Good (publish_nullify d)
 unfolding publish_nullify
@@ -295,13 +292,14 @@ says_notarization Good made view d s = at (unsent_notarization d.desk.known view
   where
     told : SaysGood Good (tell made (state.BroadcastNotarization view) d)
     told = says_told Good made (state.BroadcastNotarization view) d tt s
+
     at : (o : Option Notarization) → unsent_notarization d.desk.known view ≡ o
         → SaysGood Good (option_map_or (λ n. report (activities.Notarization n) (send_certificate (certificates.Notarization n) (tell made (state.BroadcastNotarization view) d))) o (tell made (state.BroadcastNotarization view) d))
     at None e = told
     at (Some n) e =
         let g = good_notarization Good d.desk.known view n s.in_known (unsent_known _ _ n e) in
         says_made Good (calls.Report (activities.Notarization n)) (send_certificate (certificates.Notarization n) (tell made (state.BroadcastNotarization view) d)) g
-          (says_certificate Good (certificates.Notarization n) (tell made (state.BroadcastNotarization view) d) g told)
+        (says_certificate Good (certificates.Notarization n) (tell made (state.BroadcastNotarization view) d) g told)
 
 says_nullification : (Good : agreement.Certificate → Type 0) (made : Made) (view : ℕ) (d : Doing) → SaysGood Good d → SaysGood Good (publish_nullification made view d)
 unfolding publish_nullification unsent_nullification
@@ -309,13 +307,14 @@ says_nullification Good made view d s = at (unsent_nullification d.desk.known vi
   where
     told : SaysGood Good (tell made (state.BroadcastNullification view) d)
     told = says_told Good made (state.BroadcastNullification view) d tt s
+
     at : (o : Option Nullification) → unsent_nullification d.desk.known view ≡ o
         → SaysGood Good (option_map_or (λ n. report (activities.Nullification n) (send_certificate (certificates.Nullification n) (tell made (state.BroadcastNullification view) d))) o (tell made (state.BroadcastNullification view) d))
     at None e = told
     at (Some n) e =
         let g = good_nullification Good d.desk.known view n s.in_known (unsent_known _ _ n e) in
         says_made Good (calls.Report (activities.Nullification n)) (send_certificate (certificates.Nullification n) (tell made (state.BroadcastNullification view) d)) g
-          (says_certificate Good (certificates.Nullification n) (tell made (state.BroadcastNullification view) d) g told)
+        (says_certificate Good (certificates.Nullification n) (tell made (state.BroadcastNullification view) d) g told)
 
 says_finalization : (Good : agreement.Certificate → Type 0) (made : Made) (view : ℕ) (d : Doing) → SaysGood Good d → SaysGood Good (publish_finalization made view d)
 unfolding publish_finalization unsent_finalization
@@ -323,13 +322,14 @@ says_finalization Good made view d s = at (unsent_finalization d.desk.known view
   where
     told : SaysGood Good (tell made (state.BroadcastFinalization view) d)
     told = says_told Good made (state.BroadcastFinalization view) d tt s
+
     at : (o : Option Finalization) → unsent_finalization d.desk.known view ≡ o
         → SaysGood Good (option_map_or (λ n. report (activities.Finalization n) (send_certificate (certificates.Finalization n) (tell made (state.BroadcastFinalization view) d))) o (tell made (state.BroadcastFinalization view) d))
     at None e = told
     at (Some n) e =
         let g = good_finalization Good d.desk.known view n s.in_known (unsent_known _ _ n e) in
         says_made Good (calls.Report (activities.Finalization n)) (send_certificate (certificates.Finalization n) (tell made (state.BroadcastFinalization view) d)) g
-          (says_certificate Good (certificates.Finalization n) (tell made (state.BroadcastFinalization view) d) g told)
+        (says_certificate Good (certificates.Finalization n) (tell made (state.BroadcastFinalization view) d) g told)
 
 says_update : (Good : agreement.Certificate → Type 0) (made : Made) (before : ℕ) (d : Doing) → SaysGood Good d → SaysGood Good (update_batcher made before d)
 unfolding update_batcher
@@ -356,23 +356,23 @@ says_at_end Good made now before view d s =
     let fifth = option_map_or (λ f. send_vote (votes.Finalize f) fourth) finalize fourth in
     let sixth = publish_finalization made view fifth in
     says_update Good made before sixth
-      (says_finalization Good made view fifth
-        (says_option_finalize Good finalize fourth
-          (says_nullification Good made view third
-            (says_notarization Good made view second
-              (says_option_notarize Good notarize first
-                (says_nullify Good (publish_verdict opened)
-                  (says_verdict Good opened
-                    (says_synced Good view (open_requests made now finalized)
-                      (says_requests Good made now finalized (says_finalize Good made view voted (says_notarize Good made view d s)))))))))))
+    (says_finalization Good made view fifth
+    (says_option_finalize Good finalize fourth
+    (says_nullification Good made view third
+    (says_notarization Good made view second
+    (says_option_notarize Good notarize first
+    (says_nullify Good (publish_verdict opened)
+    (says_verdict Good opened
+    (says_synced Good view (open_requests made now finalized)
+    (says_requests Good made now finalized (says_finalize Good made view voted (says_notarize Good made view d s)))))))))))
 
 pub says_iteration : (Good : agreement.Certificate → Type 0) (made : Made) (now : ℕ) (d : Doing) → SaysGood Good d → SaysGood Good (begin_iteration made now d)
 unfolding begin_iteration prune
 says_iteration Good made now d s =
     let begun = seek (record d { desk = iterated made now d.desk }) in
     at begun (says_sought Good (record d { desk = iterated made now d.desk })
-      (learn Good d.calls d.handed d.added d.desk.known (iterated made now d.desk).known d.verdict d.nullify
-        (same_good Good made d.desk.known (iterated made now d.desk).known (iterated_same made now d.desk) s.in_known) s)) (prune_answer made begun.desk.known)
+    (learn Good d.calls d.handed d.added d.desk.known (iterated made now d.desk).known d.verdict d.nullify
+    (same_good Good made d.desk.known (iterated made now d.desk).known (iterated_same made now d.desk) s.in_known) s)) (prune_answer made begun.desk.known)
   where
     at : (b : Doing) → SaysGood Good b → (o : Option ℕ) → SaysGood Good (prune_at o (tell made state.Prune b))
     at b g None = says_told Good made state.Prune b tt g

@@ -1,8 +1,7 @@
 -- What a voter says in a step, and in a start.
-use Rattle.std.proofs.Common.{◌≡◌, ℕ, ◌+◌, ◌-◌, ◌<◌, ◌≤◌, ◌==◌, ◌&&◌, not, Bool, true, false, nat_lt, nat_le, List, [], ◌∷◌, ◌++◌, map, Contains, Option, Some, None, find, option_to_list, refl, sym, ap, ◌∙◌, subst, inl, inr, ◌⊎◌, arith, append-nil, append_assoc, if◌then◌else◌}
+use Rattle.std.proofs.Common.{◌≡◌, ℕ, zero, suc, ◌-◌, ◌==◌, not, Bool, true, false, nat_lt, nat_le, List, [], ◌∷◌, ◌++◌, take, Contains, Option, Some, None, option_to_list, refl, sym, ◌∙◌, subst, if◌then◌else◌}
 use Rattle.std.specs.List.{list_any}
-use Rattle.std.specs.Option.{is_some, option_or, option_map, option_map_or, option_and_then}
-use Rattle.std.proofs.lemmas.Grind.{common_steps}
+use Rattle.std.specs.Option.{option_or, option_map, option_map_or, option_and_then}
 use Rattle.std.proofs.lemmas.List.Elements.{Contains-append_left}
 use Rattle.simplex_values.specs.declared.answer.Answer.{Answer}
 use Rattle.simplex_values.specs.declared.answer.Answer.TheVariants as answers
@@ -26,16 +25,16 @@ use Rattle.simplex_types.specs.declared.floor.Floor.TheVariants as floors
 use Rattle.simplex_rules.specs.declared.request.ProposalState.{ProposalState}
 use Rattle.simplex_rules.specs.declared.request.ProposalState.TheVariants.{Preparing, Proposing, Waiting, Held, Closed}
 use Rattle.simplex_wire.specs.declared.certificate.CertificateKind.TheVariants as kinds
-use Rattle.simplex_rules.specs.Known.{Made, Fact, Added, Judged, Voted, Published, FloorAt, Broadcast, view_of, notarization_of, finalization_of, has_nullified}
+use Rattle.simplex_rules.specs.Known.{Made, Fact, Added, Voted, Published, FloorAt, Broadcast, view_of, notarization_of, finalization_of, has_nullified}
 use Rattle.simplex_rules.specs.Views.{current_of, admits_certificate}
-use Rattle.simplex_rules.specs.Slot.{records_proposal, records_answer}
+use Rattle.simplex_rules.specs.Slot.{records_answer}
 use Rattle.simplex_rules.specs.Ancestry.{is_certified, has_true_verdict}
 use Rattle.simplex_rules.specs.Votes.{nullify_at}
 use Rattle.simplex_rules.specs.Deadline.{deadline_of}
 use Rattle.simplex_rules.specs.Best.{greater, opening_nullification, best_certificate}
 use Rattle.simplex_rules.specs.Calls as state
 use Rattle.simplex_rules.specs.Calls.{facts_of, replay_answer, takes_verdict, certified_answer, judged, only_if, replay_facts}
-use Rattle.simplex_rules.specs.Pending.{Pending, Opened, is_open, pending_view, pending_parent}
+use Rattle.simplex_rules.specs.Pending.{Pending, Opened, pending_view, pending_parent}
 use Rattle.simplex_messages.specs.declared.call.Call.TheVariants as calls
 use Rattle.simplex_messages.specs.declared.handed.Handed.TheVariants as handed
 use Rattle.simplex_messages.specs.declared.resolver.MailboxMessage.TheVariants as resolver
@@ -44,18 +43,23 @@ use Rattle.simplex_messages.specs.declared.voter.Message.TheVariants as mail
 use Rattle.simplex_messages.specs.declared.voter.VoterInput.{VoterInput}
 use Rattle.simplex_messages.specs.declared.voter.VoterInput.TheVariants as inputs
 use Rattle.simplex_steps.specs.Desk.{Doing, begun, tell, make, hand, append, report}
-use Rattle.simplex_steps.specs.Voter.{Standing, answer_to, settle_proposal, proposal_stands, propose, stage, give_up, act_on_deadline, act_on_proposal, act_on_verify, settle_certify, take_verdict, act_on_certify, record_of, adds, adding, block_for, certificate_view, act_on_certificate, act_on_mail, take_proposal, first_answered, acted, ended, end_of_step, finished, stepped, activity_of, certificate_in, report_if, updated_if, replay_verdict, replay_record, floor_view, replay_all, stand_on, is_final_from, keep_floor, sync, update_message, begin_iteration, blank_desk, started}
+use Rattle.simplex_steps.specs.Voter.{Standing, answer_to, settle_proposal, proposal_stands, propose, stage, give_up, act_on_deadline, act_on_proposal, act_on_verify, settle_certify, take_verdict, act_on_certify, record_of, adds, adding, block_for, certificate_view, act_on_certificate, act_on_mail, take_proposal, first_answered, acted, end_of_step, finished, stepped, activity_of, certificate_in, report_if, updated_if, replay_verdict, replay_record, floor_view, replay_all, stand_on, is_final_from, keep_floor, update_message, blank_desk, started}
+use Rattle.simplex_journal.specs.Journal.{Section}
+use Rattle.simplex_messages.specs.declared.step.Stop.{Stop}
+use Rattle.simplex_messages.specs.declared.step.Stop.TheVariants as stops
+use Rattle.simplex_steps.specs.Performed.{stop_place, whole, broken, performed}
+use Rattle.simplex_steps.specs.VoterLife.{before_reading, unread, start_performed}
 use Rattle.simplex_agreement.specs.World as agreement
 use Rattle.simplex_agreement.proofs.ListFacts.{not_in_empty, Contains-here, Contains-there}
 use Rattle.simplex_lives.specs.Artifacts as member
-use Rattle.simplex_conduct.specs.Life.{statement_of, memory_of, noted, remembered}
+use Rattle.simplex_conduct.specs.Life.{statement_of, noted, remembered}
 use Rattle.simplex_conduct.proofs.Remembering.{in_memory}
 use Rattle.simplex_conduct.proofs.Facts.{quiet_memory}
 use Rattle.simplex_conduct.proofs.Publishing.{remembered_push}
-use Rattle.simplex_conduct.proofs.Acting.{adding_facts, nullifying_facts, none_facts}
-use Rattle.simplex_conduct.proofs.Replaying.{IsReplayed, facts_replayed, record_known, verdict_replayed}
-use Rattle.simplex_safety.specs.Sayings.{Each, InRecord, InReport, InCall, InMessage}
-use Rattle.simplex_safety.proofs.Speaking.{KnowsGood, same_good, push_good, good_notarization, good_finalization, OfVerdict, OfOption, OfNullify, Says, SaysGood, say, pass, learn, says_told, says_made, says_handed, says_at_end, says_iteration}
+use Rattle.simplex_conduct.proofs.Acting.{adding_facts, nullifying_facts}
+use Rattle.simplex_conduct.proofs.Replaying.{verdict_replayed}
+use Rattle.simplex_safety.specs.Sayings.{Each, InRecord, InReport, InCall, AllSaid, InInput, InFloor, InRecords}
+use Rattle.simplex_safety.proofs.Speaking.{KnowsGood, push_good, good_notarization, good_finalization, OfOption, SaysGood, say, learn, says_told, says_made, says_handed, says_at_end, says_iteration}
 
 -- ---- the best certificate
 
@@ -77,8 +81,8 @@ unfolding opening_nullification
 opening_good Good length [] view m k e = cc
 opening_good Good length (Added (certificates.Nullification n) now ∷ known) view m k e =
     at (next_term_start length n.round.view == view) e
-      (k (statement_of (certificates.Nullification n)) (in_memory (Added (certificates.Nullification n) now ∷ known) (Added (certificates.Nullification n) now) _ (Contains-here (Added (certificates.Nullification n) now) known) refl))
-      (λ x h. opening_good Good length known view x (later_good Good (Added (certificates.Nullification n) now) known k) h)
+    (k (statement_of (certificates.Nullification n)) (in_memory (Added (certificates.Nullification n) now ∷ known) (Added (certificates.Nullification n) now) _ (Contains-here (Added (certificates.Nullification n) now) known) refl))
+    (λ x h. opening_good Good length known view x (later_good Good (Added (certificates.Nullification n) now) known k) h)
   where
     at : (b : Bool) → (if b then greater n (opening_nullification length known view) else opening_nullification length known view) ≡ Some m
         → Good (statement_of (certificates.Nullification n))
@@ -104,11 +108,11 @@ best_good : (Good : agreement.Certificate → Type 0) (made : Made) (known : Lis
 unfolding best_certificate
 best_good Good made known k =
     or_good Good (option_map certificates.Finalization (finalization_of known (current_of made known - 1))) _
-      (mapped_good Good certificates.Finalization (finalization_of known (current_of made known - 1)) (λ f e. good_finalization Good known (current_of made known - 1) f k e))
-      (or_good Good (if has_true_verdict known (current_of made known - 1) then option_map certificates.Notarization (notarization_of known (current_of made known - 1)) else None) _
-        (if_good Good (has_true_verdict known (current_of made known - 1)) (option_map certificates.Notarization (notarization_of known (current_of made known - 1)))
-          (mapped_good Good certificates.Notarization (notarization_of known (current_of made known - 1)) (λ n e. good_notarization Good known (current_of made known - 1) n k e)))
-        (mapped_good Good certificates.Nullification (opening_nullification made.term_length known (current_of made known)) (λ n e. opening_good Good made.term_length known (current_of made known) n k e)))
+    (mapped_good Good certificates.Finalization (finalization_of known (current_of made known - 1)) (λ f e. good_finalization Good known (current_of made known - 1) f k e))
+    (or_good Good (if has_true_verdict known (current_of made known - 1) then option_map certificates.Notarization (notarization_of known (current_of made known - 1)) else None) _
+    (if_good Good (has_true_verdict known (current_of made known - 1)) (option_map certificates.Notarization (notarization_of known (current_of made known - 1)))
+    (mapped_good Good certificates.Notarization (notarization_of known (current_of made known - 1)) (λ n e. good_notarization Good known (current_of made known - 1) n k e)))
+    (mapped_good Good certificates.Nullification (opening_nullification made.term_length known (current_of made known)) (λ n e. opening_good Good made.term_length known (current_of made known) n k e)))
 
 -- ---- acting
 
@@ -121,10 +125,12 @@ says_propose Good made p payload d s = at (records_answer made d.desk.known (pen
   where
     told : SaysGood Good (settle_proposal (tell made (state.Proposed p.context payload) d))
     told = says_told Good made (state.Proposed p.context payload) d tt s
+
     pair : Bool → Doing × Option ℕ
     pair t =
         let told = settle_proposal (tell made (state.Proposed p.context payload) d) in
         if t then (make (calls.Relay payload (plans.Propose p.context.round)) told, Some (pending_view p)) else (told, None)
+
     at : (t : Bool) → SaysGood Good (pair t).0
     at true = says_made Good (calls.Relay payload (plans.Propose p.context.round)) (settle_proposal (tell made (state.Proposed p.context payload) d)) tt told
     at false = told
@@ -135,6 +141,7 @@ says_stage Good made p payload d s = at (is_certified d.desk.known (pending_pare
   where
     pair : Bool → Doing × Option ℕ
     pair t = if t then propose made p payload d else (proposal_stands p (Held payload) (make (calls.Relay payload (plans.Prepare p.context.round)) d), None)
+
     at : (t : Bool) → SaysGood Good (pair t).0
     at true = says_propose Good made p payload d s
     at false = says_made Good (calls.Relay payload (plans.Prepare p.context.round)) d tt s
@@ -186,8 +193,8 @@ says_certify : (Good : agreement.Certificate → Type 0) (made : Made) (now : �
 unfolding act_on_certify facts_of
 says_certify Good made now c (answers.Verdict good) d s =
     says_verdict_taken Good made c.view good (certified_answer d.desk.known c.view) (tell made (state.Certified c.view good now) (settle_certify c.number d))
-      (λ n e. good_notarization Good d.desk.known c.view n s.in_known (certified_known d.desk.known c.view n e))
-      (learn Good d.calls d.handed d.added d.desk.known (judged made d.desk.known c.view good now ++ d.desk.known) d.verdict d.nullify (judged_good Good made d.desk.known c.view good now s.in_known) s)
+    (λ n e. good_notarization Good d.desk.known c.view n s.in_known (certified_known d.desk.known c.view n e))
+    (learn Good d.calls d.handed d.added d.desk.known (judged made d.desk.known c.view good now ++ d.desk.known) d.verdict d.nullify (judged_good Good made d.desk.known c.view good now s.in_known) s)
 says_certify Good made now c _ d s = s
 
 -- ---- a certificate
@@ -218,6 +225,7 @@ says_taken Good made now c d g s = at (not (admits_certificate made d.desk.known
   where
     told : SaysGood Good (tell made (adding c now) d)
     told = learn Good d.calls d.handed d.added d.desk.known (facts_of made d.desk.known (adding c now) ++ d.desk.known) d.verdict d.nullify (added_good Good made d.desk.known c now g s.in_known) s
+
     pair : Bool → Bool → Doing × Option ℕ
     pair past new =
         let known = d.desk.known in
@@ -231,34 +239,31 @@ says_taken Good made now c d g s = at (not (admits_certificate made d.desk.known
           Some (certificate_view c),
         )
         else (told, Some (certificate_view c))
+
     each_push : (xs : List Certificate) → Each (λ x. Good (statement_of x)) xs → Each (λ x. Good (statement_of x)) (xs ++ c ∷ [])
     each_push [] h = (g, tt)
     each_push (x ∷ xs) h = (h.0, each_push xs h.1)
+
     at : (past new : Bool) → SaysGood Good (pair past new).0
     at true new = told
     at false false = told
     at false true =
         let x = record (tell made (adding c now) d) { added = d.added ++ c ∷ [] } in
         let y : SaysGood Good x =
-          record {
-            in_calls = told.in_calls;
-            in_messages = told.in_messages;
-            in_added = each_push d.added told.in_added;
-            in_known = told.in_known;
-            in_verdict = told.in_verdict;
-            in_nullify = told.in_nullify;
-          } in
+        record {
+          in_calls = told.in_calls;
+          in_messages = told.in_messages;
+          in_added = each_push d.added told.in_added;
+          in_known = told.in_known;
+          in_verdict = told.in_verdict;
+          in_nullify = told.in_nullify;
+        } in
         let z = append (record_of c) x in
         let w : SaysGood Good z = say Good x.calls x.handed x.added x.desk.known x.verdict x.nullify (calls.Append (artifact_round (record_of c)).view (record_of c)) (in_record Good c g) y in
         says_handed Good (handed.Resolver (resolver.Updated c)) (block_for (replay_answer made d.desk.known (record_of c)) z) g
-          (says_blocked Good (replay_answer made d.desk.known (record_of c)) z w)
+        (says_blocked Good (replay_answer made d.desk.known (record_of c)) z w)
 
--- the certificate that a message brings is good
-abbrev pub BringsGood : (agreement.Certificate → Type 0) → VoterInput → Type 0
-BringsGood Good (inputs.Mail (mail.Verified c)) = Good (statement_of c)
-BringsGood Good _ = Unit {0}
-
-says_mail : (Good : agreement.Certificate → Type 0) (made : Made) (now : ℕ) (message : Message) (d : Doing) → BringsGood Good (inputs.Mail message) → SaysGood Good d → SaysGood Good (act_on_mail made now message d).0
+says_mail : (Good : agreement.Certificate → Type 0) (made : Made) (now : ℕ) (message : Message) (d : Doing) → InInput Good (inputs.Mail message) → SaysGood Good d → SaysGood Good (act_on_mail made now message d).0
 unfolding act_on_mail
 says_mail Good made now (mail.Proposal proposal) d g s = says_told Good made (state.SetProposal (view_of proposal) proposal) d tt s
 says_mail Good made now (mail.Timeout round reason) d g s = says_told Good made (state.TriggerTimeout round.view reason now) d tt s
@@ -274,7 +279,7 @@ nullify_good Good made known view now n e k =
     at : (b : Bool) → KnowsGood Good ((Published view now ∷ only_if b (Voted (votes.Nullify n))) ++ known)
     at true =
         push_good Good known (Published view now ∷ Voted (votes.Nullify n) ∷ known) _
-          (quiet_memory (Published view now ∷ []) (Voted (votes.Nullify n) ∷ known) (refl, tt) ∙ remembered_push (Voted (votes.Nullify n)) known) (λ c h. cc) k
+        (quiet_memory (Published view now ∷ []) (Voted (votes.Nullify n) ∷ known) (refl, tt) ∙ remembered_push (Voted (votes.Nullify n)) known) (λ c h. cc) k
     at false = λ c h. k c (subst (λ xs. Contains xs (member.Proved c)) (quiet_memory (Published view now ∷ []) known (refl, tt)) h)
 
 says_deadline : (Good : agreement.Certificate → Type 0) (made : Made) (now : ℕ) (d : Doing) → SaysGood Good d → SaysGood Good (act_on_deadline made now d)
@@ -283,24 +288,25 @@ says_deadline Good made now d s = at (nullify_at made (current_of made d.desk.kn
   where
     one : (n : Nullify) (t : Bool) → nullify_at made (current_of made d.desk.known) ≡ Some n
         → SaysGood Good (if t
-          then record (tell made (state.ConstructNullify (current_of made d.desk.known) LeaderTimeout now) d) { nullify = Some (n, best_certificate made d.desk.known) }
-          else record (append (artifacts.Nullify n) (tell made (state.ConstructNullify (current_of made d.desk.known) LeaderTimeout now) d)) { nullify = Some (n, None) })
+        then record (tell made (state.ConstructNullify (current_of made d.desk.known) LeaderTimeout now) d) { nullify = Some (n, best_certificate made d.desk.known) }
+        else record (append (artifacts.Nullify n) (tell made (state.ConstructNullify (current_of made d.desk.known) LeaderTimeout now) d)) { nullify = Some (n, None) })
     one n true e =
         let x = learn Good d.calls d.handed d.added d.desk.known (facts_of made d.desk.known (state.ConstructNullify (current_of made d.desk.known) LeaderTimeout now) ++ d.desk.known) d.verdict d.nullify
-          (nullify_good Good made d.desk.known (current_of made d.desk.known) now n e s.in_known) s in
+        (nullify_good Good made d.desk.known (current_of made d.desk.known) now n e s.in_known) s in
         record { in_calls = x.in_calls; in_messages = x.in_messages; in_added = x.in_added; in_known = x.in_known; in_verdict = x.in_verdict; in_nullify = best_good Good made d.desk.known s.in_known }
     one n false e =
         let x = learn Good d.calls d.handed d.added d.desk.known (facts_of made d.desk.known (state.ConstructNullify (current_of made d.desk.known) LeaderTimeout now) ++ d.desk.known) d.verdict d.nullify
-          (nullify_good Good made d.desk.known (current_of made d.desk.known) now n e s.in_known) s in
+        (nullify_good Good made d.desk.known (current_of made d.desk.known) now n e s.in_known) s in
         let y = say Good d.calls d.handed d.added (facts_of made d.desk.known (state.ConstructNullify (current_of made d.desk.known) LeaderTimeout now) ++ d.desk.known) d.verdict d.nullify
-          (calls.Append n.round.view (artifacts.Nullify n)) tt x in
+        (calls.Append n.round.view (artifacts.Nullify n)) tt x in
         record { in_calls = y.in_calls; in_messages = y.in_messages; in_added = y.in_added; in_known = y.in_known; in_verdict = y.in_verdict; in_nullify = tt }
+
     at : (o : Option Nullify) → nullify_at made (current_of made d.desk.known) ≡ o
         → SaysGood Good (option_map_or (λ n.
-          if has_nullified d.desk.known (current_of made d.desk.known)
-          then record (tell made (state.ConstructNullify (current_of made d.desk.known) LeaderTimeout now) d) { nullify = Some (n, best_certificate made d.desk.known) }
-          else record (append (artifacts.Nullify n) (tell made (state.ConstructNullify (current_of made d.desk.known) LeaderTimeout now) d)) { nullify = Some (n, None) })
-          o d)
+        if has_nullified d.desk.known (current_of made d.desk.known)
+        then record (tell made (state.ConstructNullify (current_of made d.desk.known) LeaderTimeout now) d) { nullify = Some (n, best_certificate made d.desk.known) }
+        else record (append (artifacts.Nullify n) (tell made (state.ConstructNullify (current_of made d.desk.known) LeaderTimeout now) d)) { nullify = Some (n, None) })
+        o d)
     at None e = s
     at (Some n) e = one n (has_nullified d.desk.known (current_of made d.desk.known)) e
 
@@ -334,7 +340,7 @@ taken_says Good made now s p Proposing outcome g e =
 taken_says Good made now s p Waiting outcome g e = cc
 taken_says Good made now s p Closed outcome g e = cc
 
-acted_says : (Good : agreement.Certificate → Type 0) (made : Made) (now : ℕ) (s : Standing) (input : VoterInput) (outcome : Doing × Option ℕ) → BringsGood Good input
+acted_says : (Good : agreement.Certificate → Type 0) (made : Made) (now : ℕ) (s : Standing) (input : VoterInput) (outcome : Doing × Option ℕ) → InInput Good input
     → SaysGood Good (begun s.desk) → acted made now s input ≡ Some outcome → SaysGood Good outcome.0
 unfolding acted
 acted_says Good made now s (inputs.Mail message) outcome b g e =
@@ -348,17 +354,17 @@ acted_says Good made now s inputs.Propose outcome b g e =
     gives_some (λ (o : Doing × Option ℕ). SaysGood Good o.0) (λ (p : Pending). take_proposal made now s p p.state) s.desk.proposal outcome (λ p. taken_says Good made now s p p.state outcome g) e
 acted_says Good made now s inputs.Verify outcome b g e =
     gives_some (λ (o : Doing × Option ℕ). SaysGood Good o.0) (λ (v : Opened). option_map (λ answer. act_on_verify made now v answer (begun s.desk)) (answer_to s.answers v.number)) s.desk.verify outcome
-      (λ v. gives (λ (o : Doing × Option ℕ). SaysGood Good o.0) (λ answer. act_on_verify made now v answer (begun s.desk)) (answer_to s.answers v.number) outcome (λ answer. says_verify Good made now v answer (begun s.desk) g)) e
+    (λ v. gives (λ (o : Doing × Option ℕ). SaysGood Good o.0) (λ answer. act_on_verify made now v answer (begun s.desk)) (answer_to s.answers v.number) outcome (λ answer. says_verify Good made now v answer (begun s.desk) g)) e
 acted_says Good made now s inputs.Certify outcome b g e =
     gives (λ (o : Doing × Option ℕ). SaysGood Good o.0) (λ (taken : Opened × Answer). act_on_certify made now taken.0 taken.1 (begun s.desk)) (first_answered s.desk.certify s.answers) outcome
-      (λ taken. says_certify Good made now taken.0 taken.1 (begun s.desk) g) e
+    (λ taken. says_certify Good made now taken.0 taken.1 (begun s.desk) g) e
 
 finished_says : (Good : agreement.Certificate → Type 0) (made : Made) (now before : ℕ) (outcome : Doing × Option ℕ) → SaysGood Good outcome.0 → SaysGood Good (finished made now before outcome)
 unfolding finished
 finished_says Good made now before (d, None) g = says_iteration Good made now d g
 finished_says Good made now before (d, Some view) g = says_iteration Good made now (end_of_step made now before view d) (says_at_end Good made now before view d g)
 
-pub stepped_says : (Good : agreement.Certificate → Type 0) (made : Made) (now : ℕ) (s : Standing) (input : VoterInput) (d : Doing) → BringsGood Good input → KnowsGood Good s.desk.known
+pub stepped_says : (Good : agreement.Certificate → Type 0) (made : Made) (now : ℕ) (s : Standing) (input : VoterInput) (d : Doing) → InInput Good input → KnowsGood Good s.desk.known
     → stepped made now s input ≡ Some d → SaysGood Good d
 unfolding stepped
 stepped_says Good made now s input d b k e = at (acted made now s input) refl e
@@ -367,12 +373,9 @@ stepped_says Good made now s input d b k e = at (acted made now s input) refl e
     at None f h = cc
     at (Some outcome) f h =
         subst (SaysGood Good) (some_is _ d h)
-          (finished_says Good made now (current_of made s.desk.known) outcome (acted_says Good made now s input outcome b (says_nothing Good s k) f))
+        (finished_says Good made now (current_of made s.desk.known) outcome (acted_says Good made now s input outcome b (says_nothing Good s k) f))
 
 -- ---- a start
-
-abbrev pub RecordsGood : (agreement.Certificate → Type 0) → List Artifact → Type 0
-RecordsGood Good rs = (a : Artifact) → Contains rs a → InRecord Good a
 
 in_report : (Good : agreement.Certificate → Type 0) (a : Artifact) (r : Activity) → InRecord Good a → activity_of a ≡ Some r → InReport Good r
 in_report Good (artifacts.Notarization n) r g e = subst (InReport Good) (some_is _ r e) g
@@ -411,7 +414,11 @@ certificate_known : (Good : agreement.Certificate → Type 0) (known : List Fact
     → KnowsGood Good (extra ∷ Added c now ∷ known)
 certificate_known Good known c extra now e g k =
     push_good Good known (extra ∷ Added c now ∷ known) (member.Proved (statement_of c)) (quiet_memory (extra ∷ []) (Added c now ∷ known) (e, tt) ∙ remembered_push (Added c now) known)
-      (λ x h. let same : statement_of c ≡ x = cc in subst Good same g) k
+    (λ x h. let same : statement_of c ≡ x = cc in subst Good same g) k
+
+nothing_remembered : remembered [] ≡ []
+unfolding remembered
+nothing_remembered = refl
 
 -- what a record makes known is good
 replayed_known : (Good : agreement.Certificate → Type 0) (made : Made) (known : List Fact) (a : Artifact) (now : ℕ) → InRecord Good a → KnowsGood Good known → KnowsGood Good (replay_facts made known a now ++ known)
@@ -434,14 +441,14 @@ says_plain_record Good made now d a g s =
     let told = tell made (state.Replay a now) d in
     let blocked = block_for (replay_answer made d.desk.known a) told in
     says_updated Good (certificate_in a) (report_if (activity_of a) blocked) (λ c e. in_certificate Good a c g e)
-      (says_reported Good (activity_of a) blocked (λ r e. in_report Good a r g e)
-        (says_blocked Good (replay_answer made d.desk.known a) told (replay_told Good made now d a g s)))
+    (says_reported Good (activity_of a) blocked (λ r e. in_report Good a r g e)
+    (says_blocked Good (replay_answer made d.desk.known a) told (replay_told Good made now d a g s)))
 
 says_record : (Good : agreement.Certificate → Type 0) (made : Made) (now : ℕ) (d : Doing) (a : Artifact) → InRecord Good a → SaysGood Good d → SaysGood Good (replay_record made now d a)
 unfolding replay_record
 says_record Good made now d (artifacts.Certification r good) g s =
     says_kept_verdict Good good (certified_answer d.desk.known r.view) (tell made (state.Replay (artifacts.Certification r good) now) d)
-      (λ n e. good_notarization Good d.desk.known r.view n s.in_known (certified_known d.desk.known r.view n e)) (replay_told Good made now d (artifacts.Certification r good) tt s)
+    (λ n e. good_notarization Good d.desk.known r.view n s.in_known (certified_known d.desk.known r.view n e)) (replay_told Good made now d (artifacts.Certification r good) tt s)
 says_record Good made now d (artifacts.Notarize v) g s = says_plain_record Good made now d (artifacts.Notarize v) g s
 says_record Good made now d (artifacts.Nullify v) g s = says_plain_record Good made now d (artifacts.Nullify v) g s
 says_record Good made now d (artifacts.Finalize v) g s = says_plain_record Good made now d (artifacts.Finalize v) g s
@@ -449,13 +456,74 @@ says_record Good made now d (artifacts.Notarization v) g s = says_plain_record G
 says_record Good made now d (artifacts.Nullification v) g s = says_plain_record Good made now d (artifacts.Nullification v) g s
 says_record Good made now d (artifacts.Finalization v) g s = says_plain_record Good made now d (artifacts.Finalization v) g s
 
-says_records : (Good : agreement.Certificate → Type 0) (made : Made) (now floor : ℕ) (d : Doing) (rs : List Artifact) → RecordsGood Good rs → SaysGood Good d → SaysGood Good (replay_all made now floor d rs)
+says_records : (Good : agreement.Certificate → Type 0) (made : Made) (now floor : ℕ) (d : Doing) (rs : List Artifact) → InRecords Good rs → SaysGood Good d → SaysGood Good (replay_all made now floor d rs)
 unfolding replay_all
 says_records Good made now floor d [] g s = s
 says_records Good made now floor d (a ∷ rest) g s =
     says_records Good made now floor (if nat_lt floor (artifact_round a).view then replay_record made now d a else d) rest (λ x c. g x (Contains-there a rest x c))
-      (at (nat_lt floor (artifact_round a).view))
+    (at (nat_lt floor (artifact_round a).view))
   where
     at : (b : Bool) → SaysGood Good (if b then replay_record made now d a else d)
     at true = says_record Good made now d a (g a (Contains-here a rest)) s
     at false = s
+
+says_floor : (Good : agreement.Certificate → Type 0) (made : Made) (now : ℕ) (floor : Floor) → InFloor Good floor → SaysGood Good (stand_on made now floor (begun blank_desk))
+unfolding facts_of
+says_floor Good made now (floors.Genesis payload) g =
+    record { in_calls = tt; in_messages = tt; in_added = tt; in_known = λ c h. floor_only payload c h; in_verdict = tt; in_nullify = tt }
+  where
+    floor_only : (payload : List ℕ) (c : agreement.Certificate) → Contains (remembered (FloorAt 0 payload ∷ [])) (member.Proved c) → Good c
+    floor_only payload c h = absurd (not_in_empty _ (subst (λ xs. Contains xs (member.Proved c)) (quiet_memory (FloorAt 0 payload ∷ []) [] (refl, tt) ∙ nothing_remembered) h))
+says_floor Good made now (floors.Finalized f) g =
+    let known : KnowsGood Good (facts_of made [] (state.SetFloor (floors.Finalized f) now) ++ []) =
+    certificate_known Good (FloorAt (view_of f.proposal) f.proposal.payload ∷ []) (certificates.Finalization f) (Broadcast kinds.Finalization (view_of f.proposal)) now refl g
+    (λ c h. absurd (not_in_empty _ (subst (λ xs. Contains xs (member.Proved c)) (quiet_memory (FloorAt (view_of f.proposal) f.proposal.payload ∷ []) [] (refl, tt) ∙ nothing_remembered) h))) in
+    record { in_calls = (g, tt); in_messages = (g, tt); in_added = tt; in_known = known; in_verdict = tt; in_nullify = tt }
+
+says_kept_floor : (Good : agreement.Certificate → Type 0) (floor : Floor) (records : List Artifact) (d : Doing) → InFloor Good floor → SaysGood Good d → SaysGood Good (keep_floor floor records d)
+says_kept_floor Good (floors.Genesis payload) records d g s = s
+says_kept_floor Good (floors.Finalized f) records d g s = at (list_any (is_final_from (view_of f.proposal)) records)
+  where
+    at : (b : Bool) → SaysGood Good (if b then d else make (calls.Sync (view_of f.proposal)) (append (artifacts.Finalization f) d))
+    at true = s
+    at false =
+        says_made Good (calls.Sync (view_of f.proposal)) (append (artifacts.Finalization f) d) tt
+        (say Good d.calls d.handed d.added d.desk.known d.verdict d.nullify (calls.Append (view_of f.proposal) (artifacts.Finalization f)) g s)
+
+pub started_says : (Good : agreement.Certificate → Type 0) (made : Made) (now : ℕ) (floor : Floor) (records : List Artifact) → InFloor Good floor → InRecords Good records
+    → SaysGood Good (started made now floor records)
+unfolding started
+started_says Good made now floor records f r =
+    let read = replay_all made now (floor_view floor) (stand_on made now floor (begun blank_desk)) records in
+    let replayed = hand (handed.Resolver resolver.Replayed) read in
+    let kept = keep_floor floor records replayed in
+    says_iteration Good made now (hand (update_message made kept.desk.known None) kept)
+    (says_handed Good (update_message made kept.desk.known None) kept tt
+    (says_kept_floor Good floor records replayed f
+    (says_handed Good (handed.Resolver resolver.Replayed) read tt
+    (says_records Good made now (floor_view floor) (stand_on made now floor (begun blank_desk)) records r (says_floor Good made now floor f)))))
+
+-- ---- as it was made
+
+Each-take : {A : Type 0} (P : A → Type 0) (n : ℕ) (xs : List A) → Each P xs → Each P (take n xs)
+Each-take P zero xs h = tt
+Each-take P (suc n) [] h = tt
+Each-take P (suc n) (x ∷ xs) h = (h.0, Each-take P n xs h.1)
+
+pub said : (Good : agreement.Certificate → Type 0) (stop : Stop) (d : Doing) (js : List Section) → SaysGood Good d → AllSaid Good (performed stop d js).out
+unfolding performed
+said Good stop d js s = at (stop_place stop d.calls)
+  where
+    at : (o : Option ℕ) → AllSaid Good (option_map_or (broken stop d js) o (whole d js)).out
+    at None = record { calls = s.in_calls; handed = s.in_messages; added = s.in_added }
+    at (Some place) = record { calls = Each-take (InCall Good) place d.calls s.in_calls; handed = tt; added = tt }
+
+pub said_at_start : (Good : agreement.Certificate → Type 0) (stop : Stop) (floor : Floor) (d : Doing) (js : List Section) → SaysGood Good d → AllSaid Good (start_performed stop floor d js).out
+unfolding start_performed
+said_at_start Good stops.None floor d js s = said Good stops.None d js s
+said_at_start Good (stops.Cut call keep) floor d js s = said Good (stops.Cut call keep) d js s
+said_at_start Good (stops.Fail call keep) floor d js s = at (call == 1)
+  where
+    at : (b : Bool) → AllSaid Good (if b then unread floor d keep js else performed (stops.Fail (call - 1) keep) d js).out
+    at true = record { calls = Each-take (InCall Good) (before_reading floor) d.calls s.in_calls; handed = tt; added = tt }
+    at false = said Good (stops.Fail (call - 1) keep) d js s

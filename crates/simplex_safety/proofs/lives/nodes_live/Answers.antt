@@ -1,5 +1,4 @@
 use Rattle.simplex_safety.proofs.Nodes.{node_lives}
-use Rattle.simplex_safety.proofs.Telling.{BringsGood}
 use Rattle.simplex_safety.proofs.lives.nodes_live.Goals as goal
 
 pub returns : goal.returns
