@@ -401,8 +401,8 @@ repeat_touches made m now desk sections n low r e f =
             sim = record { legal = tt; up = r.up; memory = r.memory; order = r.order; box = ap (λ box. subjects_of (box ++ record { subject = subjects.Nullify n.round; known = member.certificates m.known } ∷ [])) r.outbox; fit = tt; sends = tt; first = nothing_first again };
             only = only_from view m.journal r.stored;
             unwritten = λ h. r.stored;
-            noted = (inl was, tt);
-            earlier = λ h. (inr was, tt);
+            noted = (inl (was, may.1.0), tt);
+            earlier = λ h. (inr (was, may.1.0), tt);
           }));
     }
 

@@ -1,5 +1,5 @@
 -- A step that was made whole, and one that a stop ended.
-use Rattle.std.proofs.Common.{◌≡◌, ℕ, zero, suc, List, [], ◌∷◌, ◌++◌, take, Contains, Option, Some, None, refl, sym, ap, ◌∙◌, subst, inl, inr, ◌⊎◌, arith, append-nil}
+use Rattle.std.proofs.Common.{◌≡◌, ℕ, zero, suc, ◌<◌, List, [], ◌∷◌, ◌++◌, take, Contains, Option, Some, None, refl, sym, ap, ◌∙◌, subst, inl, inr, ◌⊎◌, arith, append-nil}
 use Rattle.std.specs.Option.{option_map_or}
 use Rattle.std.proofs.lemmas.Bool.Decides.{nat_tests}
 use Rattle.std.proofs.lemmas.Grind.{common_steps}
@@ -162,6 +162,7 @@ pub stopped : (made : rules.Made) (keep : ℕ) (n : Member) (js : List Section) 
 stopped made keep n js ready =
     record {
       up = refl;
+      blank = refl;
       journal = ap (kept.left (λ view. keep)) ready.journal ∙ sym (crash_is keep js);
       stored = left_waiting (λ view. keep) n.journal;
       rising = rw (numbers-crashed keep js) ready.rising;
@@ -216,7 +217,7 @@ ended_at made m first stop keep cs place facts js legal quiet ready sim =
     }
 
 earlier_is : (m n : Member) (cs : List Call) → n.known ≡ m.known → AreStoredFirst (IsEarlier n) cs → AreStoredFirst (IsEarlier m) cs
-earlier_is m n cs e = subst (λ known. AreStoredFirst (λ v. Contains known (member.Own (vote_subject v))) cs) e
+earlier_is m n cs e = subst (λ known. AreStoredFirst (λ v. Contains known (member.Own (vote_subject v)) × (member.last_finalized known < member.subject_view (vote_subject v))) cs) e
 
 broken_by : (made : rules.Made) (m : Member) (first : List life.Call) (stop : Stop) (d : Doing) (js : List Section) (place : ℕ)
     → IsLegal made.term_length m first → life.brought first ≡ [] → (run m first).known ≡ m.known → (run m first).sent ≡ m.sent → Ready made js (run m first)

@@ -85,9 +85,11 @@ pub record IsRunning (made : Made) (known : List Fact) (sections : List Section)
   pub order : IsInOrder made known
   pub own : AreOwn made sections
 
--- before a start and behind a stop the member does not run, and has the same journal, in which nothing is pending
+-- before a start and behind a stop the member does not run, has the same journal, in which nothing is pending, and
+-- knows nothing else
 pub record IsStopped (made : Made) (sections : List Section) (m : Member) : Type 0 where
   pub up : m.up ≡ false
+  pub blank : m.known ≡ []
   pub journal : m.journal ≡ journal_of sections
   pub stored : kept.waiting m.journal ≡ []
   pub rising : IsRising sections
@@ -112,9 +114,9 @@ AreSent (calls.Send channels.Vote recipients bytes ∷ rest) subjects =
     (v : Vote) × (others : List Subject) × (bytes ≡ format.vote.spelling v) × (subjects ≡ vote_subject v ∷ others) × AreSent rest others
 AreSent (_ ∷ rest) subjects = AreSent rest subjects
 
--- a vote that the member made before
+-- a vote that the member made before, for a view above all that is final
 abbrev pub IsEarlier : Member → Vote → Type 0
-IsEarlier m v = Contains m.known (member.Own (vote_subject v))
+IsEarlier m v = Contains m.known (member.Own (vote_subject v)) × (member.last_finalized m.known < member.subject_view (vote_subject v))
 
 -- where the member is behind a step: it runs where the step was made whole, and does not where a stop ended it
 abbrev pub IsLeft : Made → List Fact → Outcome → List Section → Member → Type 0

@@ -1,4 +1,5 @@
 -- What the member lives in each kind of event of its node.
+use Rattle.simplex_values.specs.declared.plan.Channel.TheVariants as channels
 use Rattle.std.proofs.Common.{◌≡◌, ℕ, zero, suc, ◌-◌, ◌<◌, ◌==◌, ◌&&◌, nat_lt, nat_le, Bool, true, false, List, [], ◌∷◌, ◌++◌, length, map, take, Contains, Option, Some, None, refl, sym, ap, ◌∙◌, subst, inl, inr, arith, append-nil, if◌then◌else◌}
 use Rattle.std.specs.Option.{option_map, option_map_or}
 use Rattle.std.specs.List.{filter_map}
@@ -12,7 +13,10 @@ use Rattle.simplex_rules.specs.Views.{current_of}
 use Rattle.simplex_journal.specs.Journal.{Section, replayed, crashed}
 use Rattle.simplex_journal.specs.Contents as journal
 use Rattle.simplex_journal.proofs.Contents.{crashed-rested}
+use Rattle.simplex_values.specs.declared.plan.Recipients.{Recipients}
+use Rattle.simplex_wire.specs.declared.vote.Vote.{Vote}
 use Rattle.simplex_messages.specs.declared.call.Call.{Call}
+use Rattle.simplex_messages.specs.declared.call.Call.TheVariants as calls
 use Rattle.simplex_messages.specs.declared.batcher.BatcherInput.{BatcherInput}
 use Rattle.simplex_messages.specs.declared.voter.VoterInput.{VoterInput}
 use Rattle.simplex_messages.specs.declared.step.Outcome.{Outcome}
@@ -39,7 +43,8 @@ use Rattle.simplex_lives.specs.Member.{Member, happens, run, IsLegal}
 use Rattle.simplex_wire.specs.declared.certificate.Certificate.TheVariants as certificates
 use Rattle.simplex_agreement.specs.World as agreement
 use Rattle.simplex_agreement.proofs.ListFacts.{not_in_empty}
-use Rattle.simplex_conduct.specs.Life.{statement_of, memory_of, section_of, journal_of, floor_statement, AreSent, IsRunning, IsStopped, IsLived, IsBegun, IsLeft, IsFloor}
+use Rattle.simplex_conduct.specs.Life.{statement_of, memory_of, section_of, journal_of, floor_statement, AreSent, IsRunning, IsStopped, IsLived, IsBegun, IsLeft, IsEarlier, IsFloor}
+use Rattle.simplex_conduct.specs.Storing.{AreStoredFirst}
 use Rattle.simplex_conduct.specs.Life as conduct
 use Rattle.simplex_conduct.proofs.Stepping.{step_lived}
 use Rattle.simplex_conduct.proofs.Floors.{start_lived, crash_lived}
@@ -83,6 +88,27 @@ start_reads (stops.Fail call keep) floor d js e = at (call == 1) e
     at : (b : Bool) → (if b then unread floor d keep js else performed (stops.Fail (call - 1) keep) d js).outcome ≡ outcomes.Done → b ≡ false
     at true h = cc
     at false h = refl
+
+-- ---- where no vote goes out
+
+no_vote : (Earlier : Vote → Type 0) (cs before behind : List Call) (to : Recipients) (bytes : List ℕ) → AreSent cs [] → cs ≡ before ++ (calls.Send channels.Vote to bytes ∷ behind) → ⊥
+unfolding AreSent
+no_vote Earlier cs before behind to bytes h e = at before (subst (λ xs. AreSent xs []) e h)
+  where
+    at : (xs : List Call) → AreSent (xs ++ (calls.Send channels.Vote to bytes ∷ behind)) [] → ⊥
+    at [] k = cc k.3
+    at (calls.Send channels.Vote t b ∷ xs) k = cc k.3
+    at (calls.Send channels.Certificate t b ∷ xs) k = at xs k
+    at (calls.Send channels.Resolver t b ∷ xs) k = at xs k
+    at (calls.Append n a ∷ xs) k = at xs k
+    at (calls.Sync n ∷ xs) k = at xs k
+    at (calls.Prune n ∷ xs) k = at xs k
+    at (calls.Report activity ∷ xs) k = at xs k
+    at (calls.Relay payload plan ∷ xs) k = at xs k
+    at (calls.Block who ∷ xs) k = at xs k
+
+voteless_first : (Earlier : Vote → Type 0) (cs : List Call) → AreSent cs [] → AreStoredFirst Earlier cs
+voteless_first Earlier cs h before behind to bytes e = absurd (no_vote Earlier cs before behind to bytes h e)
 
 -- ---- a start
 
@@ -169,6 +195,7 @@ start_further setup node floor stop js now m noted good s calls_is event_is =
       votes = subst (λ cs. AreSent cs []) (sym (calls_is ∙ ap (λ (d : Did). d.out.calls) same)) x.votes;
       at = subst (λ d. IsAt setup node (going_on (engine_at setup node floor js) (d ∷ [])) (run m x.calls)) (sym same)
           (start_leaves setup node floor js now stop (run m x.calls) (given_start setup node floor js now stop).outcome refl x.left);
+      first = voteless_first (IsEarlier m) noted.entry.calls (subst (λ cs. AreSent cs []) (sym (calls_is ∙ ap (λ (d : Did). d.out.calls) same)) x.votes);
     }
 
 -- ---- events that the voter does not see
@@ -236,6 +263,7 @@ quiet_on setup node noted later m plain a =
       sends = sym (append-nil m.sent);
       votes = none_sent noted.entry.calls (plain_voteless noted.entry.calls plain);
       at = a;
+      first = voteless_first (IsEarlier m) noted.entry.calls (none_sent noted.entry.calls (plain_voteless noted.entry.calls plain));
     }
 
 quiet_off : (setup : Setup) (node : Node) (noted : Noted) (later : Life) (m : Member) → AllPlain noted.entry.calls → IsAt setup node later (happens m (life.Crash (λ view. 0)))
@@ -249,6 +277,7 @@ quiet_off setup node noted later m plain a =
       sends = sym (append-nil m.sent);
       votes = none_sent noted.entry.calls (plain_voteless noted.entry.calls plain);
       at = a;
+      first = voteless_first (IsEarlier m) noted.entry.calls (none_sent noted.entry.calls (plain_voteless noted.entry.calls plain));
     }
 
 plain_take : (n : ℕ) (xs : List Call) → AllPlain xs → AllPlain (take n xs)
@@ -404,6 +433,7 @@ voter_steps setup node made past m noted taken input now stop d step low e same 
       votes = subst (λ cs. AreSent cs (subjects_of x.sent)) (sym same) x.votes;
       at = step_leaves setup node made past did later input now stop d (run m x.calls) given.outcome a.0
           (ap (λ w. place_of w (voter_past (did ∷ past))) p.0 ∙ ap (place_of v) p.1 ∙ step_place v (voter_past past) input now stop d e) p.0 refl refl refl x.left;
+      first = subst (AreStoredFirst (IsEarlier m)) (sym same) x.first;
     }
 
 pub voter_further : (setup : Setup) (node : Node) (made : EngineMade) (past : List Did) (m : Member) (noted : Noted) (taken : Taken) (input : VoterInput) (now : ℕ) (stop : Stop)

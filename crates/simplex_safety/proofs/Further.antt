@@ -1,4 +1,11 @@
 -- One more event of a node, and what its member lives in it.
+use Rattle.std.proofs.Common.{◌<◌}
+use Rattle.simplex_run.specs.Life.{Stopped, Running, sections_in}
+use Rattle.simplex_steps.specs.VoterLife.{place_of}
+use Rattle.simplex_steps.specs.Engine.{voter_in, voter_past, sections_of}
+use Rattle.simplex_wire.specs.Fields.{vote_subject}
+use Rattle.simplex_wire.specs.declared.vote.Vote.{Vote}
+use Rattle.simplex_wire.specs.declared.artifact.Artifact.{Artifact}
 use Rattle.std.proofs.Common.{◌≡◌, ℕ, ◌==◌, ◌&&◌, Bool, true, false, List, [], ◌∷◌, ◌++◌, map, Contains, refl, sym, ap, ◌∙◌, subst, inl, inr, ◌⊎◌, arith, append_assoc, eqb-true, eq-eqb, if◌then◌else◌}
 use Rattle.std.proofs.lemmas.Grind.{common_steps}
 use Rattle.std.proofs.lemmas.List.{map-append}
@@ -11,14 +18,21 @@ use Rattle.simplex_messages.specs.declared.call.Call.{Call}
 use Rattle.simplex_messages.specs.declared.call.Call.TheVariants as calls
 use Rattle.simplex_run.specs.Life.{Noted, Life, is_of, after, life_in}
 use Rattle.simplex_run.specs.Members.{is_same_node, rules_of}
-use Rattle.simplex_journal.specs.Journal.{Section}
+use Rattle.simplex_journal.specs.Journal.{Section, replayed}
 use Rattle.simplex_agreement.specs.World as agreement
 use Rattle.simplex_agreement.specs.World.{Sent}
+use Rattle.simplex_lives.specs.Artifacts as member
+use Rattle.simplex_lives.specs.Journal as kept
 use Rattle.simplex_lives.specs.Member as life
 use Rattle.simplex_lives.specs.Member.{Member, newborn, run, IsLegal}
+use Rattle.simplex_lives.proofs.Invariant.{Lives, Lives-run, Lives-newborn}
+use Rattle.simplex_lives.proofs.JournalFacts.{held_kept}
+use Rattle.simplex_agreement.proofs.ListFacts.{not_in_empty, Contains-here, Contains-there, Contains-cons_cases}
 use Rattle.simplex_lives.proofs.CallFacts.{run-append, IsLegal-append, brought-append}
-use Rattle.simplex_conduct.specs.Life.{certificate_in, taken, AreSent, IsStopped}
-use Rattle.simplex_safety.specs.Histories.{calls_of, floor_in, floors_of, IsAt, IsLivedBy}
+use Rattle.simplex_conduct.specs.Life.{memory_of, journal_of, certificate_in, taken, AreSent, IsEarlier, IsStopped}
+use Rattle.simplex_conduct.specs.Storing.{AreStoredFirst}
+use Rattle.simplex_conduct.proofs.Replaying.{kept_is}
+use Rattle.simplex_safety.specs.Histories.{calls_of, floor_in, floors_of, IsAt, IsHeld, AreStored, IsLivedBy}
 
 pub same_self : (a : Node) → is_same_node a a ≡ true
 same_self a = grind (arith, common_steps, eq-eqb a.member a.member refl, eq-eqb a.half a.half refl)
@@ -34,7 +48,7 @@ same_node a b e =
 
 pub stopped_any : (setup : Setup) (member a b : ℕ) (js : List Section) (m : Member) → IsStopped (rules_of setup member a) js m → IsStopped (rules_of setup member b) js m
 unfolding rules_of
-stopped_any setup member a b js m s = record { up = s.up; journal = s.journal; stored = s.stored; rising = s.rising; own = s.own }
+stopped_any setup member a b js m s = record { up = s.up; blank = s.blank; journal = s.journal; stored = s.stored; rising = s.rising; own = s.own }
 
 -- ---- one more event
 
@@ -93,14 +107,60 @@ pub record Further (setup : Setup) (noted : Noted) (node : Node) (later : Life) 
   pub sends : (run m calls).sent ≡ m.sent ++ sent
   pub votes : AreSent noted.entry.calls (subjects_of sent)
   pub at : IsAt setup node later (run m calls)
+  pub first : AreStoredFirst (IsEarlier m) noted.entry.calls
 
 floors_then : (noted : Noted) (before : List Noted) (node : Node) → floors_of node (noted ∷ before) ≡ floors_of node before ++ floor_in node noted.event
 unfolding floors_of
 floors_then noted before node = refl
 
-pub go_further : (setup : Setup) (noted : Noted) (before : List Noted) (node : Node) → is_of node noted.event ≡ true → (b : IsLivedBy setup before node)
+-- ---- what was made before stands in the journal
+
+kept_in : (js : List Section) (a : member.Artifact) → kept.waiting (journal_of js) ≡ [] → Contains (kept.held (journal_of js)) a → Contains (map memory_of (replayed js)) a
+kept_in js a rest c = subst (λ xs. Contains xs a) (held_kept (journal_of js) rest ∙ kept_is js rest) c
+
+from_map : (xs : List Artifact) (x : member.Artifact) → Contains (map memory_of xs) x → (a : Artifact) × Contains xs a × (memory_of a ≡ x)
+from_map [] x c = absurd (not_in_empty x c)
+from_map (y ∷ ys) x c =
+    elim (Contains-cons_cases (memory_of y) (map memory_of ys) x c) [
+      | inl e ↦ (y, Contains-here y ys, e)
+      | inr r ↦ (let p = from_map ys x r in (p.0, Contains-there y ys p.0 p.1, p.2))
+    ]
+
+held_vote : (length : ℕ) (js : List Section) (m : Member) (v : Vote) → Lives length m → m.up ≡ true → m.journal ≡ journal_of js → kept.waiting m.journal ≡ [] → IsEarlier m v → IsHeld js v
+held_vote length js m v l up journal rest e =
+    let stands = (l.running up).knowing.stands (member.Own (vote_subject v)) e.0 e.1 in
+    from_map (replayed js) (member.Own (vote_subject v))
+    (kept_in js (member.Own (vote_subject v)) (ap kept.waiting (sym journal) ∙ rest) (subst (λ j. Contains (kept.held j) (member.Own (vote_subject v))) journal stands))
+
+-- a member that is down knows nothing that it made
+first_held : (setup : Setup) (node : Node) (l : Life) (m : Member) (length : ℕ) (cs : List Call) → Lives length m → IsAt setup node l m → AreStoredFirst (IsEarlier m) cs
+    → AreStoredFirst (IsHeld (sections_in l)) cs
+unfolding IsAt sections_of
+first_held setup node (Stopped sections) m length cs lives at first before behind to bytes e =
+    let x = first before behind to bytes e in
+    (x.0, x.1, elim x.2 [ inl s ↦ inl s | inr k ↦ absurd (not_in_empty _ (subst (λ xs. Contains xs (member.Own (vote_subject x.0))) at.blank k.0)) ])
+first_held setup node (Running made past) m length cs lives at first before behind to bytes e =
+    let x = first before behind to bytes e in (
+      x.0,
+      x.1,
+      elim x.2 [
+        | inl s ↦ inl s
+        | inr k ↦ inr (held_vote length (place_of (voter_in made past) (voter_past past)).sections m x.0 lives at.1.up at.1.journal at.1.stored k)
+      ],
+    )
+
+stored_then : (setup : Setup) (noted : Noted) (before : List Noted) (node : Node) → AreStoredFirst (IsHeld (sections_in (life_in setup before node))) noted.entry.calls
+    → AreStored setup node before → AreStored setup node (noted ∷ before)
+unfolding AreStored
+stored_then setup noted before node f s = (λ e. f, s)
+
+stored_still : (setup : Setup) (noted : Noted) (before : List Noted) (node : Node) → is_of node noted.event ≡ false → AreStored setup node before → AreStored setup node (noted ∷ before)
+unfolding AreStored
+stored_still setup noted before node e s = (λ t. absurd (cc (e, t)), s)
+
+pub go_further : (setup : Setup) (noted : Noted) (before : List Noted) (node : Node) → 0 < setup.term → is_of node noted.event ≡ true → (b : IsLivedBy setup before node)
     → Further setup noted node (after setup noted.event noted.did (life_in setup before node)) (run newborn b.calls) → IsLivedBy setup (noted ∷ before) node
-go_further setup noted before node e b f =
+go_further setup noted before node pos e b f =
     let joined = run-append newborn b.calls f.calls in
     let m = run newborn b.calls in
     let calls_is = calls_then noted before node e in
@@ -125,6 +185,8 @@ go_further setup noted before node e b f =
           (AreSent-append (calls_of node before) noted.entry.calls (subjects_of m.sent) (subjects_of f.sent) b.votes f.votes));
       at = subst (λ x. IsAt setup node x (run newborn (b.calls ++ f.calls))) (sym (life_then setup noted before node e))
           (subst (IsAt setup node (after setup noted.event noted.did (life_in setup before node))) (sym joined) f.at);
+      stored = stored_then setup noted before node
+          (first_held setup node (life_in setup before node) m setup.term noted.entry.calls (Lives-run setup.term pos newborn b.calls b.legal (Lives-newborn setup.term)) b.at f.first) b.stored;
     }
 
 pub stay : (setup : Setup) (noted : Noted) (before : List Noted) (node : Node) → is_of node noted.event ≡ false → (b : IsLivedBy setup before node) → IsLivedBy setup (noted ∷ before) node
@@ -138,4 +200,5 @@ stay setup noted before node e b =
       ];
       votes = subst (λ cs. AreSent cs (subjects_of (run newborn b.calls).sent)) (sym (calls_still noted before node e)) b.votes;
       at = subst (λ x. IsAt setup node x (run newborn b.calls)) (sym (life_still setup noted before node e)) b.at;
+      stored = stored_still setup noted before node e b.stored;
     }

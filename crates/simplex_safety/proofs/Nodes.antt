@@ -39,7 +39,7 @@ use Rattle.simplex_run.specs.Entries.{noted_with, noted_blank, took_of, is_at_en
 use Rattle.simplex_lives.specs.Member.{Member, newborn, run}
 use Rattle.simplex_conduct.specs.Life.{IsFloor, IsStopped}
 use Rattle.simplex_conduct.specs.Life as conduct
-use Rattle.simplex_safety.specs.Histories.{IsRun, IsStartAbove, AreFloors, IsAt, calls_of, IsLivedBy}
+use Rattle.simplex_safety.specs.Histories.{IsRun, IsStartAbove, AreFloors, IsAt, calls_of, AreStored, IsLivedBy}
 use Rattle.simplex_safety.proofs.Further.{Further, same_self, same_node, go_further, stay}
 use Rattle.simplex_safety.proofs.Events.{start_further, batcher_further, nothing_further, voter_further, answer_further, crash_further}
 
@@ -65,16 +65,16 @@ each_node setup noted before at node of f b = cases (is_same_node at node) refl
 
 -- ---- a start
 
-start_case : (setup : Setup) (before : List Noted) (at : Node) (floor : Option Finalization) (stop : Stop) (js : List Section) → life_in setup before at ≡ Stopped js
+start_case : (setup : Setup) → 0 < setup.term → (before : List Noted) (at : Node) (floor : Option Finalization) (stop : Stop) (js : List Section) → life_in setup before at ≡ Stopped js
     → IsStartAbove (events.Start at floor stop)
     → (let did = engine.begun (engine_of setup at.member (floor_of setup floor) js) (clock_of before) stop in
     let noted = noted_with setup before (events.Start at floor stop) at (Some tooks.Floor) did in
     IsLivedBy setup before at → IsLivedBy setup (noted ∷ before) at)
 unfolding after
-start_case setup before at floor stop js e above b =
+start_case setup pos before at floor stop js e above b =
     let did = engine.begun (engine_of setup at.member (floor_of setup floor) js) (clock_of before) stop in
     let noted = noted_with setup before (events.Start at floor stop) at (Some tooks.Floor) did in
-    go_further setup noted before at (same_self at) b
+    go_further setup noted before at pos (same_self at) b
     (subst (λ l. Further setup noted at (going_on (engine_of setup at.member (floor_of setup floor) (sections_in l)) (did ∷ [])) (run newborn b.calls)) (sym e)
     (start_further setup at floor stop js (clock_of before) (run newborn b.calls) noted (is_floor floor above)
     (subst (λ l. IsAt setup at l (run newborn b.calls)) e b.at) refl refl))
@@ -83,9 +83,9 @@ start_case setup before at floor stop js e above b =
     is_floor None h = tt
     is_floor (Some f) h = h
 
-start_lives : (setup : Setup) (before : List Noted) (at node : Node) (floor : Option Finalization) (stop : Stop) (noted : Noted) → IsStartAbove noted.event
+start_lives : (setup : Setup) → 0 < setup.term → (before : List Noted) (at node : Node) (floor : Option Finalization) (stop : Stop) (noted : Noted) → IsStartAbove noted.event
     → on_start setup before at floor stop (life_in setup before at) ≡ Ok noted → IsLivedBy setup before node → IsLivedBy setup (noted ∷ before) node
-start_lives setup before at node floor stop noted above e b = cases (life_in setup before at) refl e
+start_lives setup pos before at node floor stop noted above e b = cases (life_in setup before at) refl e
   where
     cases : (l : Life) → life_in setup before at ≡ l → on_start setup before at floor stop l ≡ Ok noted → IsLivedBy setup (noted ∷ before) node
     cases (Running made past) f h = cc
@@ -93,18 +93,18 @@ start_lives setup before at node floor stop noted above e b = cases (life_in set
         let did = engine.begun (engine_of setup at.member (floor_of setup floor) js) (clock_of before) stop in
         let same = ok_is (noted_with setup before (events.Start at floor stop) at (Some tooks.Floor) did) noted (if_ok (is_own_floor before floor) _ _ noted h).1 in
         subst (λ n. IsLivedBy setup (n ∷ before) node) same
-        (each_node setup _ before at node refl (start_case setup before at floor stop js f (subst (λ (n : Noted). IsStartAbove n.event) (sym same) above)) b)
+        (each_node setup _ before at node refl (start_case setup pos before at floor stop js f (subst (λ (n : Noted). IsStartAbove n.event) (sym same) above)) b)
 
 -- ---- what goes on while the engine runs
 
 -- an event that an engine takes
-goes_on : (setup : Setup) (before : List Noted) (at : Node) (noted : Noted) (made : EngineMade) (past : List Did) (did : Did)
+goes_on : (setup : Setup) → 0 < setup.term → (before : List Noted) (at : Node) (noted : Noted) (made : EngineMade) (past : List Did) (did : Did)
     → life_in setup before at ≡ Running made past → is_of at noted.event ≡ true → after setup noted.event noted.did (Running made past) ≡ going_on made (did ∷ past)
     → ((m : Member) → IsAt setup at (Running made past) m → Further setup noted at (going_on made (did ∷ past)) m)
     → IsLivedBy setup before at → IsLivedBy setup (noted ∷ before) at
-goes_on setup before at noted made past did e of gone f b =
+goes_on setup pos before at noted made past did e of gone f b =
     let m = run newborn b.calls in
-    go_further setup noted before at of b
+    go_further setup noted before at pos of b
     (subst (λ l. Further setup noted at (after setup noted.event noted.did l) m) (sym e)
     (subst (λ l. Further setup noted at l m) (sym gone) (f m (subst (λ l. IsAt setup at l m) e b.at))))
 
@@ -119,26 +119,26 @@ heard_further setup at made past m noted sender channels.Certificate bytes now s
 heard_further setup at made past m noted sender channels.Resolver bytes now same a =
     nothing_further setup at made past m noted (engine.Heard sender channels.Resolver bytes) now stops.None outcomes.Done (λ n s o out. refl, refl) same a
 
-packet_lives : (setup : Setup) (before : List Noted) (at node : Node) (ref : Ref) (noted : Noted) (made : EngineMade) (past : List Did) (o : Option Packet)
+packet_lives : (setup : Setup) → 0 < setup.term → (before : List Noted) (at node : Node) (ref : Ref) (noted : Noted) (made : EngineMade) (past : List Did) (o : Option Packet)
     → life_in setup before at ≡ Running made past → on_packet setup before at ref o made past ≡ Ok noted → IsLivedBy setup before node → IsLivedBy setup (noted ∷ before) node
 unfolding after
-packet_lives setup before at node ref noted made past None f e b = cc
-packet_lives setup before at node ref noted made past (Some packet) f e b =
+packet_lives setup pos before at node ref noted made past None f e b = cc
+packet_lives setup pos before at node ref noted made past (Some packet) f e b =
     let did = engine.heard made past packet.from.member packet.channel packet.bytes (clock_of before) in
     let new = noted_with setup before (events.Deliver at ref) at (Some (tooks.Packet ref)) did in
     let same = ok_is new noted (if_err (is_at_end setup made past) _ _ noted e).1 in
     subst (λ n. IsLivedBy setup (n ∷ before) node) same
     (each_node setup new before at node refl
-    (goes_on setup before at new made past did f (same_self at) refl
+    (goes_on setup pos before at new made past did f (same_self at) refl
     (λ m a. heard_further setup at made past m new packet.from.member packet.channel packet.bytes (clock_of before) refl a)) b)
 
-deliver_lives : (setup : Setup) (before : List Noted) (at node : Node) (ref : Ref) (noted : Noted)
+deliver_lives : (setup : Setup) → 0 < setup.term → (before : List Noted) (at node : Node) (ref : Ref) (noted : Noted)
     → on_deliver setup before at ref (life_in setup before at) ≡ Ok noted → IsLivedBy setup before node → IsLivedBy setup (noted ∷ before) node
-deliver_lives setup before at node ref noted e b = cases (life_in setup before at) refl e
+deliver_lives setup pos before at node ref noted e b = cases (life_in setup before at) refl e
   where
     cases : (l : Life) → life_in setup before at ≡ l → on_deliver setup before at ref l ≡ Ok noted → IsLivedBy setup (noted ∷ before) node
     cases (Stopped js) f h = cc
-    cases (Running made past) f h = packet_lives setup before at node ref noted made past (packet_for before at ref) f h b
+    cases (Running made past) f h = packet_lives setup pos before at node ref noted made past (packet_for before at ref) f h b
 
 -- ---- a step
 
@@ -192,45 +192,45 @@ step_lives setup before at node source stop noted pos e b = cases (life_in setup
         let low = low_view setup.term setup.lookahead (current_of (voter_in made past).rules (place_of (voter_in made past) (voter_past past)).standing.desk.known) pos parts.0 in
         subst (λ n. IsLivedBy setup (n ∷ before) node) same
         (each_node setup new before at node refl
-        (goes_on setup before at new made past did f (same_self at) refl
+        (goes_on setup pos before at new made past did f (same_self at) refl
         (λ m a. step_further setup at made past m new source (clock_of before) stop low refl a)) b)
 
 -- ---- an answer
 
-request_lives : (setup : Setup) (before : List Noted) (at node : Node) (ref : Ref) (answer : Answer) (noted : Noted) (made : EngineMade) (past : List Did) (o : Option ℕ)
+request_lives : (setup : Setup) → 0 < setup.term → (before : List Noted) (at node : Node) (ref : Ref) (answer : Answer) (noted : Noted) (made : EngineMade) (past : List Did) (o : Option ℕ)
     → life_in setup before at ≡ Running made past → on_request setup before at ref answer o made past ≡ Ok noted → IsLivedBy setup before node → IsLivedBy setup (noted ∷ before) node
 unfolding after
-request_lives setup before at node ref answer noted made past None f e b = cc
-request_lives setup before at node ref answer noted made past (Some number) f e b =
+request_lives setup pos before at node ref answer noted made past None f e b = cc
+request_lives setup pos before at node ref answer noted made past (Some number) f e b =
     let did = engine.replied number answer (clock_of before) in
     let new = noted_with setup before (events.Answer at ref answer) at None did in
     let same = ok_is new noted (if_ok (engine.takes_reply made past number answer) _ _ noted e).1 in
     subst (λ n. IsLivedBy setup (n ∷ before) node) same
     (each_node setup new before at node refl
-    (goes_on setup before at new made past did f (same_self at) refl
+    (goes_on setup pos before at new made past did f (same_self at) refl
     (λ m a. answer_further setup at made past m new number answer (clock_of before) refl a)) b)
 
-answer_lives : (setup : Setup) (before : List Noted) (at node : Node) (ref : Ref) (answer : Answer) (noted : Noted)
+answer_lives : (setup : Setup) → 0 < setup.term → (before : List Noted) (at node : Node) (ref : Ref) (answer : Answer) (noted : Noted)
     → on_answer setup before at ref answer (life_in setup before at) ≡ Ok noted → IsLivedBy setup before node → IsLivedBy setup (noted ∷ before) node
-answer_lives setup before at node ref answer noted e b = cases (life_in setup before at) refl e
+answer_lives setup pos before at node ref answer noted e b = cases (life_in setup before at) refl e
   where
     cases : (l : Life) → life_in setup before at ≡ l → on_answer setup before at ref answer l ≡ Ok noted → IsLivedBy setup (noted ∷ before) node
     cases (Stopped js) f h = cc
-    cases (Running made past) f h = request_lives setup before at node ref answer noted made past (request_number before at ref) f h b
+    cases (Running made past) f h = request_lives setup pos before at node ref answer noted made past (request_number before at ref) f h b
 
 -- ---- a crash
 
-crash_lives : (setup : Setup) (before : List Noted) (at node : Node) (noted : Noted)
+crash_lives : (setup : Setup) → 0 < setup.term → (before : List Noted) (at node : Node) (noted : Noted)
     → on_crash before at (life_in setup before at) ≡ Ok noted → IsLivedBy setup before node → IsLivedBy setup (noted ∷ before) node
 unfolding after
-crash_lives setup before at node noted e b = cases (life_in setup before at) refl e
+crash_lives setup pos before at node noted e b = cases (life_in setup before at) refl e
   where
     crash : (made : EngineMade) (past : List Did) → life_in setup before at ≡ Running made past → IsLivedBy setup before at
         → IsLivedBy setup (noted_blank before (events.Crash at) (Some at) ∷ before) at
     crash made past f x =
         let new = noted_blank before (events.Crash at) (Some at) in
         let m = run newborn x.calls in
-        go_further setup new before at (same_self at) x
+        go_further setup new before at pos (same_self at) x
         (subst (λ l. Further setup new at (Stopped (crashed 0 (sections_in l))) m) (sym f)
         (crash_further setup at made past m new refl (subst (λ l. IsAt setup at l m) f x.at)))
 
@@ -249,11 +249,11 @@ both_err false x y a e = cc
 event_lives : (setup : Setup) (before : List Noted) (event : Event) (noted : Noted) (node : Node) → 0 < setup.term → IsStartAbove noted.event
     → entry_of setup before event ≡ Ok noted → IsLivedBy setup before node → IsLivedBy setup (noted ∷ before) node
 unfolding entry_of
-event_lives setup before (events.Start at floor stop) noted node pos above e b = start_lives setup before at node floor stop noted above (if_ok (is_node setup at) _ _ noted e).1 b
-event_lives setup before (events.Deliver at ref) noted node pos above e b = deliver_lives setup before at node ref noted (if_ok (is_node setup at) _ _ noted e).1 b
+event_lives setup before (events.Start at floor stop) noted node pos above e b = start_lives setup pos before at node floor stop noted above (if_ok (is_node setup at) _ _ noted e).1 b
+event_lives setup before (events.Deliver at ref) noted node pos above e b = deliver_lives setup pos before at node ref noted (if_ok (is_node setup at) _ _ noted e).1 b
 event_lives setup before (events.Step at source stop) noted node pos above e b = step_lives setup before at node source stop noted pos (if_ok (is_node setup at) _ _ noted e).1 b
-event_lives setup before (events.Answer at ref answer) noted node pos above e b = answer_lives setup before at node ref answer noted (if_ok (is_node setup at) _ _ noted e).1 b
-event_lives setup before (events.Crash at) noted node pos above e b = crash_lives setup before at node noted (if_ok (is_node setup at) _ _ noted e).1 b
+event_lives setup before (events.Answer at ref answer) noted node pos above e b = answer_lives setup pos before at node ref answer noted (if_ok (is_node setup at) _ _ noted e).1 b
+event_lives setup before (events.Crash at) noted node pos above e b = crash_lives setup pos before at node noted (if_ok (is_node setup at) _ _ noted e).1 b
 event_lives setup before (events.Tick ms) noted node pos above e b =
     let same = ok_is (noted_blank before (events.Tick ms) None) noted (if_ok (nat_le (clock_of before + ms) (2 ^ 63 - 1)) _ _ noted e).1 in
     subst (λ n. IsLivedBy setup (n ∷ before) node) same (stay setup (noted_blank before (events.Tick ms) None) before node refl b)
@@ -263,14 +263,15 @@ event_lives setup before events.Later noted node pos above e b = cc
 -- ---- every run
 
 none_yet : (setup : Setup) (node : Node) → IsLivedBy setup [] node
-unfolding IsAt life_in calls_of conduct.taken conduct.AreSent conduct.journal_of numbers IsStrictlySortedBy replayed
+unfolding IsAt life_in calls_of AreStored conduct.taken conduct.AreSent conduct.journal_of numbers IsStrictlySortedBy replayed
 none_yet setup node =
     record {
       calls = [];
       legal = tt;
       brought = λ c k. inl k;
       votes = refl;
-      at = record { up = refl; journal = refl; stored = refl; rising = tt; own = λ v c. absurd (omega (arith, c.1)) };
+      stored = tt;
+      at = record { up = refl; blank = refl; journal = refl; stored = refl; rising = tt; own = λ v c. absurd (omega (arith, c.1)) };
     }
 
 pub node_lives : (setup : Setup) (noted : List Noted) (node : Node) → 0 < setup.term → IsRun setup noted → AreFloors noted → IsLivedBy setup noted node

@@ -1,5 +1,7 @@
 -- What a node did in a run, and the member whose life that is.
-use Rattle.std.specs.Prelude.{ℕ, ◌≡◌, ◌<◌, ◌++◌, ◌⊎◌, List, [], ◌∷◌, map, Contains, Ok, Some, if◌then◌else◌}
+use Rattle.simplex_wire.specs.declared.artifact.Artifact.{Artifact}
+use Rattle.simplex_wire.specs.declared.vote.Vote.{Vote}
+use Rattle.std.specs.Prelude.{true, ℕ, ◌≡◌, ◌<◌, ◌++◌, ◌⊎◌, List, [], ◌∷◌, map, Contains, Ok, Some, if◌then◌else◌}
 use Rattle.simplex_wire.specs.declared.certificate.Certificate.TheVariants as certificates
 use Rattle.simplex_transcript.specs.declared.event.Event.{Event}
 use Rattle.simplex_transcript.specs.declared.event.Event.TheVariants as events
@@ -8,15 +10,19 @@ use Rattle.simplex_transcript.specs.declared.setup.Setup.{Setup}
 use Rattle.simplex_messages.specs.declared.call.Call.{Call}
 use Rattle.simplex_steps.specs.VoterLife.{place_of}
 use Rattle.simplex_steps.specs.Engine.{voter_in, voter_past}
+use Rattle.simplex_wire.specs.Fields.{vote_subject}
+use Rattle.simplex_journal.specs.Journal.{Section, replayed}
 use Rattle.simplex_rules.specs.Known.{view_of}
-use Rattle.simplex_run.specs.Life.{Noted, Life, Stopped, Running, is_of, life_in}
+use Rattle.simplex_run.specs.Life.{Noted, Life, Stopped, Running, is_of, life_in, sections_in}
 use Rattle.simplex_run.specs.Members.{is_same_node, rules_of}
 use Rattle.simplex_run.specs.Entries.{entry_of}
 use Rattle.simplex_agreement.specs.World as agreement
 use Rattle.simplex_agreement.specs.World.{Sent}
+use Rattle.simplex_lives.specs.Artifacts as member
 use Rattle.simplex_lives.specs.Member as life
 use Rattle.simplex_lives.specs.Member.{Member, newborn}
-use Rattle.simplex_conduct.specs.Life.{statement_of, taken, AreSent, IsRunning, IsStopped}
+use Rattle.simplex_conduct.specs.Life.{statement_of, memory_of, taken, AreSent, IsRunning, IsStopped}
+use Rattle.simplex_conduct.specs.Storing.{AreStoredFirst}
 
 -- entries of a run, the newest first: each is what its event makes of those before it
 unfoldable pub IsRun : Setup → List Noted → Type 0
@@ -53,11 +59,24 @@ IsAt setup node (Running made past) m =
     ((start : ℕ) → (made.voter start).rules ≡ rules_of setup node.member start)
     × IsRunning (voter_in made past).rules (place_of (voter_in made past) (voter_past past)).standing.desk.known (place_of (voter_in made past) (voter_past past)).sections m
 
+-- the node's journal holds an own vote like this
+abbrev pub IsHeld : List Section → Vote → Type 0
+IsHeld sections v = (a : Artifact) × Contains (replayed sections) a × (memory_of a ≡ member.Own (vote_subject v))
+
+-- In each event of the node whatever went out on the vote channel is a vote that was appended and synced before it in
+-- this event, or one that its journal held, synced, before the event
+unfoldable pub AreStored : Setup → Node → List Noted → Type 0
+AreStored setup node [] = Unit {0}
+AreStored setup node (noted ∷ before) =
+    (is_of node noted.event ≡ true → AreStoredFirst (IsHeld (sections_in (life_in setup before node))) noted.entry.calls)
+    × AreStored setup node before
+
 -- What the node did is the life of an honest member: its calls are legal, certificates come to it only as records that
--- the node appended or as floors of its starts, it sent the votes that went out of the node, and it is where the node is
+-- the node appended or as floors of its starts, it sent the votes that went out of the node, and it is where the node is. Each vote was stored before it was sent
 pub record IsLivedBy (setup : Setup) (noted : List Noted) (node : Node) : Type 0 where
   pub calls : List life.Call
   pub legal : life.IsLegal setup.term newborn calls
   pub brought : (c : agreement.Certificate) → Contains (life.brought calls) c → Contains (taken (calls_of node noted)) c ⊎ Contains (floors_of node noted) c
   pub votes : AreSent (calls_of node noted) (map (λ (s : Sent). s.subject) (life.run newborn calls).sent)
   pub at : IsAt setup node (life_in setup noted node) (life.run newborn calls)
+  pub stored : AreStored setup node noted
