@@ -110,6 +110,32 @@ inserted view e views views' timers timers' numbers numbers' ix at free rises pu
       ] refl;
 }
 
+-- where a view is taken back that was not put in whole, all is as before
+pub restored : (view : ℕ) (e : Entry) (views : List (ℕ × Entry)) (timers set cleared numbers opened closed : List (ℕ × ℕ))
+    → IsIndexed views timers numbers → entry_at views view ≡ None → IsFree (id_of e.state) views
+    → ((d v : ℕ) → list_any (is_at (pair_cmp (d, v))) set ≡ ((is_value d (deadline_of e.state) && v == view) || list_any (is_at (pair_cmp (d, v))) timers))
+    → ((d v : ℕ) → list_any (is_at (pair_cmp (d, v))) cleared ≡ (not (is_value d (deadline_of e.state) && v == view) && list_any (is_at (pair_cmp (d, v))) set))
+    → ((q : ℕ) → lookup (is_at (nat_cmp q)) opened ≡ (if is_value q (id_of e.state) then Some view else lookup (is_at (nat_cmp q)) numbers))
+    → ((q : ℕ) → lookup (is_at (nat_cmp q)) closed ≡ (if is_value q (id_of e.state) then None else lookup (is_at (nat_cmp q)) opened))
+    → IsIndexed views cleared closed
+restored view e views timers set cleared numbers opened closed ix at free comes goes opens closes = record {
+  rising = ix.rising;
+  timed = λ d v.
+      let was = ix.timed d v in let a = comes d v in let b = goes d v in
+      elim (cases_eq v view) [
+        | inl same ↦ let here : entry_at views v ≡ None = rw same at in grind (arith, common_steps, nat_tests)
+        | inr apart ↦ grind (arith, common_steps, nat_tests)
+      ];
+  numbered = λ id v.
+      let was = ix.numbered id v in let a = opens id in let b = closes id in
+      elim (is_value id (id_of e.state)) as (λ b. is_value id (id_of e.state) ≡ b → is_value v (lookup (is_at (nat_cmp id)) closed) ≡ has_id id (entry_at views v)) [
+        | true ↦ λ yes.
+            let other : has_id id (entry_at views v) ≡ false = free_of id (id_of e.state) views free yes v in
+            grind (arith, common_steps, nat_tests)
+        | false ↦ λ no. grind (arith, common_steps, nat_tests)
+      ] refl;
+}
+
 -- where a test needs the number: the view of the number is the first that passes, if it passes
 module _ (views : List (ℕ × Entry)) (timers numbers : List (ℕ × ℕ)) (ix : IsIndexed views timers numbers)
     (id : ℕ) (test : Entry → Bool) (needs : (e : Entry) → test e ≡ true → is_value id (id_of e.state) ≡ true) where
