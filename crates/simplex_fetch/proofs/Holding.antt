@@ -1,5 +1,5 @@
 -- The views that hold asks, as entries come and go.
-use Rattle.std.proofs.Common.{◌≡◌, ◌==◌, ◌&&◌, ◌||◌, ℕ, Bool, true, false, not, refl, sym, ◌∙◌, List, Option, Some, None, inl, inr, arith, rules}
+use Rattle.std.proofs.Common.{◌≡◌, ◌==◌, ◌&&◌, ◌||◌, ℕ, Bool, not, List, Some, None, inl, inr, arith}
 use Rattle.std.specs.Prelude.{if◌then◌else◌}
 use Rattle.std.proofs.lemmas.Grind.{common_steps}
 use Rattle.std.proofs.lemmas.Bool.{cases_eq}
@@ -12,7 +12,7 @@ use Rattle.simplex_fetch.specs.declared.entry.Entry.{Entry}
 use Rattle.simplex_fetch.specs.declared.holders.Holders.{Holders}
 use Rattle.simplex_fetch.specs.Asks.{asks_any, held_of, same_kind, same_until}
 use Rattle.simplex_fetch.specs.Views.{entry_at}
-use Rattle.simplex_fetch.specs.Index.{is_there, has_ask, AreHolders, IsHeld}
+use Rattle.simplex_fetch.specs.Index.{is_there, AreHolders, IsHeld}
 use Rattle.simplex_fetch.specs.Holders.{of_kind, IsNoted, IsForgotten}
 
 -- an entry is put at the view

@@ -1,5 +1,5 @@
 -- Deadlines and numbers beside the views, as entries come and go.
-use Rattle.std.proofs.Common.{◌≡◌, ◌==◌, ◌&&◌, ◌||◌, ℕ, Bool, true, false, not, refl, sym, ap, ◌∙◌, List, [], ◌∷◌, Option, Some, None, inl, inr, arith, rules}
+use Rattle.std.proofs.Common.{◌≡◌, ◌==◌, ◌&&◌, ◌||◌, ℕ, Bool, true, false, not, refl, sym, ap, ◌∙◌, List, Option, Some, None, inl, inr, arith}
 use Rattle.std.specs.Prelude.{if◌then◌else◌}
 use Rattle.std.proofs.lemmas.Grind.{common_steps}
 use Rattle.std.proofs.lemmas.Bool.{cases_eq}
@@ -12,7 +12,7 @@ use Rattle.simplex_fetch.specs.declared.entry.Entry.{Entry}
 use Rattle.simplex_fetch.specs.declared.entry.State.{State}
 use Rattle.simplex_fetch.specs.declared.entry.State.TheVariants.{Waiting, Asked, Judged}
 use Rattle.simplex_fetch.specs.Views.{entry_at, deadline_of, id_of, first_view, is_asked_as, is_judged_as, asked_view}
-use Rattle.simplex_fetch.specs.Index.{is_value, has_deadline, has_id, pair_cmp, IsIndexed, IsFree}
+use Rattle.simplex_fetch.specs.Index.{is_value, has_id, pair_cmp, IsIndexed, IsFree}
 use Rattle.simplex_fetch.proofs.Entries.{Rising, passes, first_view-some, first_view-none}
 
 -- a value that is there is the only one

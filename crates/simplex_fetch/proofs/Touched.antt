@@ -1,5 +1,5 @@
 -- The views with an ask that is done with.
-use Rattle.std.proofs.Common.{◌≡◌, ◌<◌, ◌==◌, ◌&&◌, ℕ, Bool, true, false, not, nat_le, refl, sym, ap, ◌∙◌, List, [], ◌∷◌, map, Option, Some, None, inl, inr, arith, rules}
+use Rattle.std.proofs.Common.{◌≡◌, ◌<◌, ◌&&◌, ℕ, Bool, true, false, nat_le, refl, sym, ap, ◌∙◌, List, [], ◌∷◌, map, Option, Some, None, arith}
 use Rattle.std.specs.Prelude.{filter}
 use Rattle.std.proofs.lemmas.Grind.{common_steps}
 use Rattle.std.proofs.lemmas.Bool.Decides.{nat_tests}

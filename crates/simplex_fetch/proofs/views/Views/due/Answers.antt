@@ -1,5 +1,3 @@
-use Rattle.std.proofs.Common.{rules, arith}
-use Rattle.std.proofs.lemmas.Grind.{common_steps}
 use Rattle.std.proofs.lemmas.Result.{IfOk-weaker}
 use Rattle.simplex_fetch.proofs.Reached.{due-is}
 use Rattle.simplex_fetch.proofs.views.Views.due.Goals as goal

@@ -1,4 +1,4 @@
-use Rattle.std.proofs.Common.{rules, arith, refl}
+use Rattle.std.proofs.Common.{arith}
 use Rattle.std.proofs.lemmas.Grind.{common_steps}
 use Rattle.simplex_fetch.specs.Views.{entry_at}
 use Rattle.simplex_fetch.specs.Index.{AreHolders}

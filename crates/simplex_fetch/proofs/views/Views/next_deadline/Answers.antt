@@ -1,11 +1,6 @@
-use Rattle.std.proofs.Common.{◌≡◌, ◌≤◌, ◌==◌, ℕ, Bool, true, false, refl, sym, ap, ◌∙◌, Option, Some, None, [], rules, arith}
-use Rattle.std.specs.Prelude.{IfSome}
+use Rattle.std.proofs.Common.{◌≡◌, [], rules, arith}
 use Rattle.std.proofs.lemmas.List.{nil_from_length}
 use Rattle.std.proofs.lemmas.Grind.{common_steps}
-use Rattle.std.specs.List.{list_any}
-use Rattle.std.specs.BTreeMap.{is_at}
-use Rattle.simplex_fetch.specs.Views.{entry_at, next_deadline}
-use Rattle.simplex_fetch.specs.Index.{pair_cmp, has_deadline}
 use Rattle.simplex_fetch.proofs.Deadlines.{least-is, least-missing}
 use Rattle.simplex_fetch.proofs.views.Views.next_deadline.Goals as goal
 

@@ -1,11 +1,7 @@
-use Rattle.std.proofs.Common.{◌≡◌, ◌==◌, ℕ, Some, None, rules, arith, sym, ◌∙◌}
-use Rattle.std.specs.Prelude.{if◌then◌else◌}
-use Rattle.std.specs.Cmp.{unsigned_tied}
-use Rattle.std.proofs.lemmas.Grind.{common_steps}
-use Rattle.std.proofs.lemmas.Bool.Decides.{nat_tests}
+use Rattle.std.proofs.Common.{◌≡◌, None, rules}
 use Rattle.simplex_fetch.specs.Asks.{held_of}
 use Rattle.simplex_fetch.specs.Views.{entry_at, with_entry, id_of}
-use Rattle.simplex_fetch.specs.Index.{IsFree, IsIndexed}
+use Rattle.simplex_fetch.specs.Index.{IsFree}
 use Rattle.simplex_fetch.specs.Holders.{IsNoted, IsForgotten}
 use Rattle.simplex_fetch.proofs.Entries.{entry_at-put}
 use Rattle.simplex_fetch.proofs.Indexing.{inserted, restored}

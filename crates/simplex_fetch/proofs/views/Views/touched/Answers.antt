@@ -1,8 +1,5 @@
-use Rattle.std.proofs.Common.{rules, arith, sym, ◌∙◌, filter}
+use Rattle.std.proofs.Common.{sym, ◌∙◌}
 use Rattle.std.proofs.lemmas.Result.{IfOk-weaker}
-use Rattle.std.specs.Ordering.{nat_cmp}
-use Rattle.std.specs.declared.ops.Bound.TheVariants.{Included}
-use Rattle.std.specs.BTreeMap.Range.{range_contains}
 use Rattle.simplex_values.specs.declared.ask.Until.TheVariants as until
 use Rattle.simplex_fetch.specs.Asks.{same_kind, same_until}
 use Rattle.simplex_fetch.specs.Holders.{of_kind}
