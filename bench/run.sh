@@ -50,10 +50,9 @@ mailbox)
 fetch)
     times=${2:-1000000}
     for views in 1000 10000; do
-        for work in fetch answer serve expire; do
+        for work in fetch answer serve expire sweep; do
             line "$times" $work $views
         done
-        line $((times / views)) sweep $views
     done
     ;;
 round)
