@@ -1,4 +1,9 @@
 //! One member of four: what its steps hand on, and what they call.
+mod conflicts;
+mod forwarding;
+mod hints;
+mod windows;
+
 ghost use Rattle.std.specs.Prelude.{◌<◌, ◌^◌};
 
 use simplex_batcher::{Actor, Config};
@@ -11,29 +16,31 @@ use simplex_types::{
 use std::alloc::{AllocError, Global};
 use std::test::Fail;
 
+/// What members of this scheme are made with: terms have one view.
+fn config(scheme: Keyed) -> Config<Keyed> {
+    Config {
+        scheme,
+        track_historical_votes: false,
+        view_retention: ViewDelta(10),
+        skip: SkipPolicy::Enabled {
+            timeout: 100,
+            budget: SkipBudget::Participants,
+        },
+        epoch: Epoch(0),
+        mailbox_size: 16,
+        lookahead: Lookahead {
+            length: TermLength::ONE,
+            views: 0,
+        },
+        forward: ForwardPolicy::SilentVoters,
+        floor: View(0),
+    }
+}
+
 /// Member 0 of four.
 fn member(alloc: Global) -> Result<Actor<Keyed>, AllocError> {
     let scheme = Keyed::new(alloc, 7, 4, Some(Participant(0)))?;
-    Actor::new(
-        alloc,
-        Config {
-            scheme,
-            track_historical_votes: false,
-            view_retention: ViewDelta(10),
-            skip: SkipPolicy::Enabled {
-                timeout: 100,
-                budget: SkipBudget::Participants,
-            },
-            epoch: Epoch(0),
-            mailbox_size: 16,
-            lookahead: Lookahead {
-                length: TermLength::ONE,
-                views: 0,
-            },
-            forward: ForwardPolicy::SilentVoters,
-            floor: View(0),
-        },
-    )
+    Actor::new(alloc, config(scheme))
 }
 
 fn round(view: u64) -> Round {
