@@ -182,8 +182,8 @@ module _ (made : Made) (accepted : Vote → Type 0) where
   unfolding is_certified
   certified subject valid fits enough rise each =
       let each_verifies = list_all-from_AllPass (λ (a : Attestation). nat_lt a.signer made.members && made.scheme.verifies subject a) valid
-          (All-weaker (IsVoteOn made accepted subject) (λ (a : Attestation). nat_lt a.signer made.members && made.scheme.verifies subject a ≡ true)
-          (λ a v. grind (arith, common_steps, v.verifies, fits.signers subject a v.verifies)) valid each) in
+      (All-weaker (IsVoteOn made accepted subject) (λ (a : Attestation). nat_lt a.signer made.members && made.scheme.verifies subject a ≡ true)
+      (λ a v. grind (arith, common_steps, v.verifies, fits.signers subject a v.verifies)) valid each) in
       grind (arith, common_steps, each_verifies, rise, enough, fits.members)
 
   -- a certificate of good ballots is founded

@@ -105,6 +105,12 @@ module _ (verifies : Subject → Attestation → Bool) (accepted came : Vote →
         rise = placed_rise 0 (record { vote = vote; found = None }) (side_of known (vote_kind vote)) (omega arith) none side.rise;
       }
 
+  old_good : (vote : Vote) (old : Ballot) → ballot_of (side_of known (vote_kind vote)) (vote_signer vote) ≡ Some old → GoodBallot verifies accepted old
+  unfolding ballot_of
+  old_good vote old is =
+      some_at (GoodBallot verifies accepted) (ballot_of (side_of known (vote_kind vote)) (vote_signer vote)) old is
+      (found_case (GoodBallot verifies accepted) (λ (b : Ballot). vote_signer b.vote == vote_signer vote) (side_of known (vote_kind vote)) (side_good verifies accepted known (vote_kind vote) good).each)
+
   beside_good : (vote : Vote) (o : Option Ballot) → ballot_of (side_of known (vote_kind vote)) (vote_signer vote) ≡ o
       → ((heard_beside known vote o).accepted ≡ true → accepted vote) → came vote → GoodHeard verifies accepted came (heard_beside known vote o)
   unfolding heard_beside with_accepted
@@ -118,12 +124,6 @@ module _ (verifies : Subject → Attestation → Bool) (accepted came : Vote →
       let ballot = old_good vote old is in
       accused_good (vote_signer vote) (evidence_of old.vote vote)
       (evidence_founded accepted came old.vote vote (ballot_signer (side_of known (vote_kind vote)) (vote_signer vote) old is) ballot.was_accepted (is_came old.vote ballot.was_accepted) comes)
-    where
-      old_good : (vote : Vote) (old : Ballot) → ballot_of (side_of known (vote_kind vote)) (vote_signer vote) ≡ Some old → GoodBallot verifies accepted old
-      unfolding ballot_of
-      old_good vote old is =
-          some_at (GoodBallot verifies accepted) (ballot_of (side_of known (vote_kind vote)) (vote_signer vote)) old is
-          (found_case (GoodBallot verifies accepted) (λ (b : Ballot). vote_signer b.vote == vote_signer vote) (side_of known (vote_kind vote)) (side_good verifies accepted known (vote_kind vote) good).each)
 
   pub heard_good : (vote : Vote) → ((heard known vote).accepted ≡ true → accepted vote) → came vote → GoodHeard verifies accepted came (heard known vote)
   unfolding heard

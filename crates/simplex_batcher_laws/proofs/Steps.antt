@@ -104,7 +104,7 @@ after_sound made past given good =
 
 pub rounds_good : (made : Made) (past : List Timed) → GoodRounds made (Accepted made past) (standing_after made past).rounds
 unfolding standing_after at_first
-rounds_good made [] view = tt
+rounds_good made [] = λ view. tt
 rounds_good made (given ∷ past) = (after_sound made past given (rounds_good made past)).rounds
 
 pub step_founded : (made : Made) (past : List Timed) (given : Timed)

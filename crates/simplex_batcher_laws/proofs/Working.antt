@@ -11,7 +11,7 @@ use Rattle.simplex_wire.specs.declared.certificate.CertificateKind.TheVariants a
 use Rattle.simplex_wire.specs.declared.vote.Vote.{Vote}
 use Rattle.simplex_round.specs.declared.ballot.Ballot.{Ballot}
 use Rattle.simplex_round.specs.declared.batch.Batch.{Batch}
-use Rattle.simplex_round.specs.Known as known
+use Rattle.simplex_round.specs.Known as rules
 use Rattle.simplex_round.specs.Forwarding as proposals
 use Rattle.simplex_round.specs.Assembly as assembly
 use Rattle.simplex_round.specs.Calls as rounds
@@ -38,7 +38,7 @@ module _ (made : Made) (accepted : Vote → Type 0) (is_new : Certificate → Ty
     pub ballots : GoodBallots made.scheme.verifies accepted work.ballots
     pub certificate : IfSome work.certificate FoundedIf
 
-  work_if_any_good : (round : known.Made) (kind : CertificateKind) (ballots : List Ballot) (subject : Subject) → GoodBallots made.scheme.verifies accepted ballots
+  work_if_any_good : (round : rules.Made) (kind : CertificateKind) (ballots : List Ballot) (subject : Subject) → GoodBallots made.scheme.verifies accepted ballots
       → IfSome (assembly.work_if_any round made.scheme kind ballots subject) GoodWork
   unfolding assembly.work_if_any assembly.work_on
   work_if_any_good round kind ballots subject good =
@@ -49,18 +49,18 @@ module _ (made : Made) (accepted : Vote → Type 0) (is_new : Certificate → Ty
       (λ h. if_case (λ (o : Option assembly.Work). IfSome o GoodWork) (nat_lt 0 work.processed || is_some work.certificate) (Some work) None (λ k. is) (λ k. tt))
       (λ h. tt)
 
-  work_good : (round : known.Made) (known : known.Known) (kind : CertificateKind) → GoodKnown made.scheme.verifies accepted known
+  work_good : (round : rules.Made) (known : rules.Known) (kind : CertificateKind) → GoodKnown made.scheme.verifies accepted known
       → IfSome (assembly.work_of round made.scheme known kind) GoodWork
   unfolding assembly.work_of
   work_good round known kind good =
-      let work : Subject → Option assembly.Work = assembly.work_if_any round made.scheme kind (known.side_of known kind) in
+      let work : Subject → Option assembly.Work = assembly.work_if_any round made.scheme kind (rules.side_of known kind) in
       if_case (λ (o : Option assembly.Work). IfSome o GoodWork) (round.skipped || proposals.is_held known kind) None
       (option_and_then work (assembly.subject_of round known kind))
       (λ h. tt)
       (λ h. and_then_case GoodWork work (assembly.subject_of round known kind)
-      (λ subject. work_if_any_good round kind (known.side_of known kind) subject (side_good made.scheme.verifies accepted known kind good)))
+      (λ subject. work_if_any_good round kind (rules.side_of known kind) subject (side_good made.scheme.verifies accepted known kind good)))
 
-  first_good : (round : known.Made) (known : known.Known) → GoodKnown made.scheme.verifies accepted known
+  first_good : (round : rules.Made) (known : rules.Known) → GoodKnown made.scheme.verifies accepted known
       → IfSome (assembly.first_work round made.scheme known) GoodWork
   unfolding assembly.first_work
   first_good round known good =
@@ -70,17 +70,17 @@ module _ (made : Made) (accepted : Vote → Type 0) (is_new : Certificate → Ty
       (either_case GoodWork (assembly.work_of round made.scheme known kinds.Nullification) (assembly.work_of round made.scheme known kinds.Finalization)
       (work_good round known kinds.Nullification good) (work_good round known kinds.Finalization good))
 
-  after_assembly_good : (known : known.Known) (o : Option Certificate) → GoodKnown made.scheme.verifies accepted known
+  after_assembly_good : (known : rules.Known) (o : Option Certificate) → GoodKnown made.scheme.verifies accepted known
       → GoodKnown made.scheme.verifies accepted (assembly.after_assembly known o)
   after_assembly_good known None good = good
   after_assembly_good known (Some certificate) good = certificate_good made.scheme.verifies accepted known certificate good
 
-  after_work_good : (known : known.Known) (o : Option assembly.Work) → GoodKnown made.scheme.verifies accepted known → IfSome o GoodWork
+  after_work_good : (known : rules.Known) (o : Option assembly.Work) → GoodKnown made.scheme.verifies accepted known → IfSome o GoodWork
       → GoodKnown made.scheme.verifies accepted (assembly.after_work known o)
   unfolding assembly.after_work
   after_work_good known None good work = good
   after_work_good known (Some work) good is =
-      after_assembly_good (known.with_side known work.kind work.ballots) work.certificate (with_side_good made.scheme.verifies accepted known work.kind work.ballots good is.ballots)
+      after_assembly_good (rules.with_side known work.kind work.ballots) work.certificate (with_side_good made.scheme.verifies accepted known work.kind work.ballots good is.ballots)
 
   construct_called : (round : RoundHistory) → GoodRound made accepted round → GoodRound made accepted (called (rounds.TryConstruct made.scheme) round)
   unfolding rounds.known_after rounds.after_call

@@ -9,4 +9,6 @@ mod certificates;
 mod votes;
 
 pub use certificates::handed_certificates_are_founded;
-pub use votes::{accepted_votes_came_from_their_signers, held_votes_were_accepted, reports_are_founded};
+pub use votes::{
+    accepted_votes_came_from_their_signers, held_votes_were_accepted, reports_are_founded,
+};
