@@ -1,8 +1,8 @@
 -- The ballots of a round are of accepted votes, rise by signer, and were checked rightly.
-use Rattle.std.proofs.Common.{◌≡◌, ℕ, ◌≤◌, ◌+◌, Bool, true, false, if◌then◌else◌, List, [], ◌∷◌, All, map, filter, refl, sym, subst, arith, ltb-true}
-use Rattle.std.specs.Prelude.{⊤, Option, Some, None, nat_lt}
+use Rattle.std.proofs.Common.{◌≡◌, ℕ, ◌≤◌, ◌+◌, Bool, true, List, [], ◌∷◌, All, arith}
+use Rattle.std.specs.Prelude.{⊤, Some, None, nat_lt}
 use Rattle.std.proofs.lemmas.Grind.{common_steps}
-use Rattle.std.proofs.lemmas.List.Elements.{All-nil, All-cons, All-head, All-tail, All-map, All-weaker}
+use Rattle.std.proofs.lemmas.List.Elements.{All-cons, All-head, All-tail, All-weaker}
 use Rattle.simplex_values.specs.declared.proposal.Subject.{Subject}
 use Rattle.simplex_wire.specs.declared.attestation.Attestation.{Attestation}
 use Rattle.simplex_wire.specs.declared.vote.Vote.{Vote}
@@ -11,7 +11,7 @@ use Rattle.simplex_round.specs.declared.ballot.Ballot.{Ballot}
 use Rattle.simplex_round.specs.Votes.{vote_signer}
 use Rattle.simplex_round.specs.Known.{Known, ballot_of}
 use Rattle.simplex_round.specs.Acceptance.{placed}
-use Rattle.simplex_batcher_laws.specs.Votes.{HoldsAccepted}
+use Rattle.simplex_batcher_laws.specs.Votes.{HoldsOnly}
 use Rattle.simplex_batcher_laws.proofs.Choices.{if_case}
 
 pub record GoodBallot (verifies : Subject → Attestation → Bool) (accepted : Vote → Type 0) (b : Ballot) : Type 0 where
@@ -59,8 +59,8 @@ known_more verifies accepted later known more good = record {
   others = ballots_more verifies accepted later known.others more good.others;
 }
 
-pub holds_accepted : (verifies : Subject → Attestation → Bool) (accepted : Vote → Type 0) (known : Known) → GoodKnown verifies accepted known → HoldsAccepted accepted known
-holds_accepted verifies accepted known good = record {
+pub holds_only : (verifies : Subject → Attestation → Bool) (accepted : Vote → Type 0) (known : Known) → GoodKnown verifies accepted known → HoldsOnly accepted known
+holds_only verifies accepted known good = record {
   notarizes = All-weaker (GoodBallot verifies accepted) (λ (b : Ballot). accepted b.vote) (λ b g. g.was_accepted) known.notarizes good.notarizes.each;
   others = All-weaker (GoodBallot verifies accepted) (λ (b : Ballot). accepted b.vote) (λ b g. g.was_accepted) known.others good.others.each;
 }

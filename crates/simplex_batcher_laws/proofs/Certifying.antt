@@ -1,7 +1,6 @@
 -- A certificate that is made of good ballots verifies.
-use Rattle.std.proofs.Common.{◌≡◌, ℕ, ◌≤◌, ◌<◌, ◌+◌, Bool, true, false, if◌then◌else◌, List, [], ◌∷◌, All, map, filter, length, refl, sym, subst, ap, ◌∙◌, arith, inl, inr, nat_lt, nat_le}
-use Rattle.std.specs.Prelude.{⊤, ◌==◌, ◌&&◌, not, Option, Some, None, Result, Ok, Err}
-use Rattle.std.specs.List.{list_all}
+use Rattle.std.proofs.Common.{◌≡◌, ℕ, ◌≤◌, ◌+◌, Bool, true, false, if◌then◌else◌, List, [], ◌∷◌, All, map, filter, length, refl, sym, subst, ap, arith, inr, nat_lt, nat_le}
+use Rattle.std.specs.Prelude.{◌==◌, ◌&&◌, Option, Some, None, Result, Ok, Err}
 use Rattle.std.specs.Option.{IfSome, option_map, is_none}
 use Rattle.std.specs.Result.{result_ok}
 use Rattle.std.specs.Str.{bytes_eq}
@@ -30,7 +29,7 @@ use Rattle.simplex_round.specs.Votes.{is_same_subject, vote_signer, certificate_
 use Rattle.simplex_round.specs.Known as known
 use Rattle.simplex_round.specs.Assembly.{was_found, is_unchecked, is_valid, checked, valid_on, assembled_on}
 use Rattle.simplex_steps.specs.Batcher.{Made}
-use Rattle.simplex_batcher_laws.specs.Certificates.{IsSchemeOfMembers, IsVoteOn, IsMadeOfVotes, IsFoundedCertificate}
+use Rattle.simplex_batcher_laws.specs.Certificates.{IsSchemeOfMembers, IsVoteOn, IsFoundedCertificate}
 use Rattle.simplex_batcher_laws.proofs.Choices.{if_case, some_more}
 use Rattle.simplex_batcher_laws.proofs.Ballots.{GoodBallot, GoodBallots, Rise}
 

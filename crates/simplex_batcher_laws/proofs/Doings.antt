@@ -1,8 +1,8 @@
 -- What a step does with what it takes keeps all founded.
 use Rattle.std.proofs.Common.{◌≡◌, ℕ, Bool, true, false, if◌then◌else◌, List, [], ◌∷◌, ◌++◌, All, map, refl, inl}
-use Rattle.std.specs.Prelude.{⊤, ◌==◌, ◌||◌, ◌&&◌, not, Option, Some, None}
-use Rattle.std.specs.Option.{IfSome, option_map_or}
-use Rattle.std.proofs.lemmas.List.Elements.{All-nil, All-cons, All-push, All-append, All-map}
+use Rattle.std.specs.Prelude.{◌||◌, ◌&&◌, not, Option, Some, None}
+use Rattle.std.specs.Option.{option_map_or}
+use Rattle.std.proofs.lemmas.List.Elements.{All-nil, All-cons, All-push, All-append, All-map, All-weaker}
 use Rattle.simplex_values.specs.declared.proposal.Proposal.{Proposal}
 use Rattle.simplex_values.specs.declared.policy.SkipPolicy.{SkipPolicy}
 use Rattle.simplex_values.specs.declared.policy.SkipPolicy.TheVariants as skip
@@ -14,22 +14,21 @@ use Rattle.simplex_wire.specs.declared.certificate.Certificate.{Certificate}
 use Rattle.simplex_wire.specs.declared.vote.Vote.{Vote}
 use Rattle.simplex_wire.specs.Certified.{is_certified}
 use Rattle.simplex_wire.specs.Fields.{certificate_subject, certificate_signatures}
-use Rattle.simplex_types.specs.declared.activity.Activity.{Activity}
 use Rattle.simplex_round.specs.Votes.{vote_signer}
 use Rattle.simplex_round.specs.Acceptance as votes
 use Rattle.simplex_round.specs.Forwarding.{gives_proposal}
 use Rattle.simplex_round.specs.Calls as rounds
 use Rattle.simplex_messages.specs.declared.voter.Message.{Message}
 use Rattle.simplex_messages.specs.declared.voter.Message.TheVariants as voter
-use Rattle.simplex_messages.specs.declared.handed.Handed.{Handed}
 use Rattle.simplex_messages.specs.declared.handed.Handed.TheVariants as handed
 use Rattle.simplex_messages.specs.declared.call.Call.{Call}
 use Rattle.simplex_messages.specs.declared.call.Call.TheVariants as call
-use Rattle.simplex_steps.specs.Batcher.{Made, Standing, RoundHistory, Doing, known_in, called, round_for, with_round, and_blocked, and_handed, and_marked, vote_view, certificate_view, retains_view, admits_view, has_skipping, leader_nullified, hinting, hinting_nullify, hinted_at_vote, hinted_at_update, is_me, is_active, forwarding, relayed, targets_of, with_heard, took_vote, took_constructed, holds_kind, kept_certificate, took_certificate, with_leader, window_views, took_update}
+use Rattle.simplex_steps.specs.Batcher.{Made, RoundHistory, Doing, known_in, called, round_for, with_round, and_blocked, and_handed, and_marked, vote_view, certificate_view, retains_view, admits_view, has_skipping, leader_nullified, hinting, hinting_nullify, hinted_at_vote, hinted_at_update, is_me, is_active, forwarding, relayed, targets_of, with_heard, took_vote, took_constructed, holds_kind, kept_certificate, took_certificate, with_leader, window_views, took_update}
+use Rattle.simplex_batcher_laws.specs.Votes.{IsOf}
 use Rattle.simplex_batcher_laws.specs.Reports.{IsFounded, IsFoundedCall}
-use Rattle.simplex_batcher_laws.specs.Certificates.{IsSchemeOfMembers, IsFoundedCertificate, IsFoundedMessage}
+use Rattle.simplex_batcher_laws.specs.Certificates.{IsSchemeOfMembers, IsFoundedMessage}
 use Rattle.simplex_batcher_laws.proofs.Choices.{if_case, map_or_any, all_any}
-use Rattle.simplex_batcher_laws.proofs.Hearing.{GoodHeard, heard_good, heard_from_good}
+use Rattle.simplex_batcher_laws.proofs.Hearing.{heard_good, heard_from_good, founded_more}
 use Rattle.simplex_batcher_laws.proofs.Rounds.{GoodRound, GoodRounds, certificate_called, network_called, own_called, round_for_good, put_good, with_leader_good}
 
 pub record Sound (made : Made) (accepted came : Vote → Type 0) (is_new : Certificate → Type 0) (doing : Doing) : Type 0 where
@@ -55,7 +54,7 @@ module _ (made : Made) (accepted came : Vote → Type 0) (is_new : Certificate �
   marked_sound : (is_marked : Bool) (view : ℕ) (doing : Doing) → S doing → S (and_marked is_marked view doing)
   marked_sound is_marked view doing s = record { rounds = s.rounds; handed = s.handed; calls = s.calls }
 
-  pub round_sound : (view : ℕ) (round : RoundHistory) (doing : Doing) → GoodRound made accepted round → S doing → S (with_round view round doing)
+  pub round_sound : (view : ℕ) (round : RoundHistory) (doing : Doing) → GoodRound made (IsOf view accepted) round → S doing → S (with_round view round doing)
   round_sound view round doing good s = record { rounds = put_good made accepted doing.standing.rounds view round good s.rounds; handed = s.handed; calls = s.calls }
 
   -- ---- hints
@@ -88,11 +87,13 @@ module _ (made : Made) (accepted came : Vote → Type 0) (is_new : Certificate �
       All-cons (IsFoundedCall accepted came) (call.Relay proposal.payload (plan.Forward proposal.round (recipients.Some (member ∷ others)))) [] tt (All-nil (IsFoundedCall accepted came))
 
   -- ---- votes
-  with_heard_sound : (view : ℕ) (round : RoundHistory) (heard : votes.Heard) (doing : Doing) → GoodRound made accepted round → All (IsFounded accepted came) heard.reports
+  with_heard_sound : (view : ℕ) (round : RoundHistory) (heard : votes.Heard) (doing : Doing) → GoodRound made (IsOf view accepted) round → All (IsFounded (IsOf view accepted) (IsOf view came)) heard.reports
       → S doing → S (with_heard view round heard doing)
   unfolding with_heard
   with_heard_sound view round heard doing good reports s =
-      let reported = All-map (IsFoundedCall accepted came) call.Report heard.reports reports in
+      let founded = All-weaker (IsFounded (IsOf view accepted) (IsOf view came)) (IsFounded accepted came)
+      (founded_more (IsOf view accepted) (IsOf view came) accepted came (λ v was. was.0) (λ v comes. comes.0)) heard.reports reports in
+      let reported = All-map (IsFoundedCall accepted came) call.Report heard.reports founded in
       let blocked = All-map (IsFoundedCall accepted came) call.Block heard.blocks (all_any (λ (m : ℕ). IsFoundedCall accepted came (call.Block m)) heard.blocks (λ m. tt)) in
       record {
         rounds = put_good made accepted doing.standing.rounds view round good s.rounds;
@@ -109,11 +110,12 @@ module _ (made : Made) (accepted came : Vote → Type 0) (is_new : Certificate �
       let view = vote_view vote in
       let round = round_for made doing.standing view in
       let heard = votes.heard_from (known_in round) sender vote in
-      let good = heard_from_good made.scheme.verifies accepted came is_came (known_in round) (round_for_good made accepted doing.standing view s.rounds) sender vote accepts comes in
+      let good = heard_from_good made.scheme.verifies (IsOf view accepted) (IsOf view came) (λ v was. (is_came v was.0, was.1)) view (λ v came. came.1) (known_in round)
+      (round_for_good made accepted doing.standing view s.rounds) sender vote (λ from h. (accepts from h, refl)) (λ from. (comes from, refl)) in
       if_case S (retains_view made doing.standing view && admits_view made doing.standing view)
       (hinted_at_vote made heard.accepted (with_heard view (called (rounds.AddNetwork sender vote) round) heard doing)) doing
       (λ h. hinted_at_vote_sound heard.accepted (with_heard view (called (rounds.AddNetwork sender vote) round) heard doing)
-      (with_heard_sound view (called (rounds.AddNetwork sender vote) round) heard doing (network_called made accepted round sender vote good.known) good.reports s))
+      (with_heard_sound view (called (rounds.AddNetwork sender vote) round) heard doing (network_called made (IsOf view accepted) round sender vote good.known) good.reports s))
       (λ h. s)
 
   pub took_constructed_sound : (is_came : (v : Vote) → accepted v → came v) (vote : Vote) (doing : Doing)
@@ -124,9 +126,10 @@ module _ (made : Made) (accepted came : Vote → Type 0) (is_new : Certificate �
       let view = vote_view vote in
       let round = round_for made doing.standing view in
       let heard = votes.heard (known_in round) vote in
-      let good = heard_good made.scheme.verifies accepted came is_came (known_in round) (round_for_good made accepted doing.standing view s.rounds) vote accepts comes in
+      let good = heard_good made.scheme.verifies (IsOf view accepted) (IsOf view came) (λ v was. (is_came v was.0, was.1)) view (λ v came. came.1) (known_in round)
+      (round_for_good made accepted doing.standing view s.rounds) vote (λ h. (accepts h, refl)) (comes, refl) in
       if_case S (retains_view made doing.standing view) (with_heard view (called (rounds.AcceptVote vote) round) heard doing) doing
-      (λ h. with_heard_sound view (called (rounds.AcceptVote vote) round) heard doing (own_called made accepted round vote good.known) good.reports s)
+      (λ h. with_heard_sound view (called (rounds.AcceptVote vote) round) heard doing (own_called made (IsOf view accepted) round vote good.known) good.reports s)
       (λ h. s)
 
   -- ---- certificates
@@ -141,7 +144,7 @@ module _ (made : Made) (accepted came : Vote → Type 0) (is_new : Certificate �
       let kept = with_round view (called (rounds.RecordCertificate certificate) round) doing in
       handed_sound (voter.Verified certificate) (and_marked is_marked view kept) (λ fits. record { verifies = verifies; source = inl new })
       (marked_sound is_marked view kept
-      (round_sound view (called (rounds.RecordCertificate certificate) round) doing (certificate_called made accepted round certificate (round_for_good made accepted doing.standing view s.rounds)) s))
+      (round_sound view (called (rounds.RecordCertificate certificate) round) doing (certificate_called made (IsOf view accepted) round certificate (round_for_good made accepted doing.standing view s.rounds)) s))
 
   pub took_certificate_sound : (sender : ℕ) (certificate : Certificate) (doing : Doing) → (holds_kind doing.standing certificate ≡ false → is_new certificate)
       → S doing → S (took_certificate made sender certificate doing)

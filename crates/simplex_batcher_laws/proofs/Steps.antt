@@ -1,7 +1,6 @@
 -- A step keeps all founded, and so does every list of steps.
-use Rattle.std.proofs.Common.{◌≡◌, ℕ, Bool, true, false, if◌then◌else◌, List, [], ◌∷◌, All, refl, sym, inl, inr, ◌⊎◌}
-use Rattle.std.specs.Prelude.{⊤, ◌==◌, Option, Some, None, Result, Ok, Err}
-use Rattle.std.specs.Option.{IfSome}
+use Rattle.std.proofs.Common.{◌≡◌, ℕ, Bool, true, false, List, [], ◌∷◌, All, refl, inl, inr}
+use Rattle.std.specs.Prelude.{◌==◌, Some, Result, Ok, Err}
 use Rattle.std.proofs.lemmas.List.Elements.{All-nil}
 use Rattle.simplex_wire.specs.declared.error.DecodeError.{DecodeError}
 use Rattle.simplex_wire.specs.declared.certificate.Certificate.{Certificate}
@@ -13,12 +12,12 @@ use Rattle.simplex_round.specs.Acceptance as votes
 use Rattle.simplex_messages.specs.declared.batcher.BatcherInput.{BatcherInput}
 use Rattle.simplex_messages.specs.declared.batcher.BatcherInput.TheVariants as input
 use Rattle.simplex_messages.specs.declared.batcher.Message.TheVariants as batcher
-use Rattle.simplex_steps.specs.Batcher.{Made, Timed, Standing, RoundHistory, Doing, known_in, begun, at_first, and_blocked, vote_view, vote_epoch, certificate_epoch, round_for, new_round, led, holds_kind, seen_now, took_vote, took_certificate, heard_vote, heard_certificate, acted, finished, step, standing_after, step_out}
-use Rattle.simplex_batcher_laws.specs.Votes.{Brings, Came, Accepts, Accepted, HoldsAccepted}
+use Rattle.simplex_steps.specs.Batcher.{Made, Timed, Standing, RoundHistory, Doing, known_in, begun, at_first, and_blocked, vote_view, vote_epoch, certificate_epoch, round_for, new_round, led, holds_kind, seen_now, took_vote, took_certificate, heard_vote, heard_certificate, acted, step, standing_after, step_out}
+use Rattle.simplex_batcher_laws.specs.Votes.{Brings, Came, Accepted, HoldsOnly, IsOf}
 use Rattle.simplex_batcher_laws.specs.Reports.{IsFoundedCall}
 use Rattle.simplex_batcher_laws.specs.Certificates.{IsSchemeOfMembers, IsFoundedMessage, BringsNew}
 use Rattle.simplex_batcher_laws.proofs.Choices.{if_case, some_at}
-use Rattle.simplex_batcher_laws.proofs.Ballots.{holds_accepted}
+use Rattle.simplex_batcher_laws.proofs.Ballots.{holds_only}
 use Rattle.simplex_batcher_laws.proofs.Rounds.{GoodRound, GoodRounds, rounds_more}
 use Rattle.simplex_batcher_laws.proofs.Doings.{Sound, blocked_sound, took_vote_sound, took_constructed_sound, took_certificate_sound, took_update_sound}
 use Rattle.simplex_batcher_laws.proofs.Working.{finished_sound}
@@ -123,7 +122,7 @@ unfolding step_out
 calls_founded made past given = (step_founded made past given).calls
 
 pub held_accepted : (made : Made) (past : List Timed) (view : ℕ) (round : RoundHistory) → (standing_after made past).rounds view ≡ Some round
-    → HoldsAccepted (Accepted made past) (known_in round)
+    → HoldsOnly (IsOf view (Accepted made past)) (known_in round)
 held_accepted made past view round is =
-    holds_accepted made.scheme.verifies (Accepted made past) (known_in round)
-    (some_at (GoodRound made (Accepted made past)) ((standing_after made past).rounds view) round is (rounds_good made past view))
+    holds_only made.scheme.verifies (IsOf view (Accepted made past)) (known_in round)
+    (some_at (GoodRound made (IsOf view (Accepted made past))) ((standing_after made past).rounds view) round is (rounds_good made past view))

@@ -1,13 +1,15 @@
 -- The work on marked views keeps all founded.
-use Rattle.std.proofs.Common.{◌≡◌, ℕ, Bool, true, false, if◌then◌else◌, List, [], ◌∷◌, ◌++◌, All, map, refl, nat_lt, nat_le, zero, suc, length}
-use Rattle.std.specs.Prelude.{⊤, ◌||◌, Option, Some, None, filter}
-use Rattle.std.specs.Option.{IfSome, is_some, option_or, option_map, option_map_or, option_and_then, option_to_list}
-use Rattle.std.proofs.lemmas.List.Elements.{All-nil, All-append, All-map}
+use Rattle.std.proofs.Common.{inl, inr, ◌⊎◌, ℕ, if◌then◌else◌, List, [], ◌∷◌, ◌++◌, All, map, nat_lt, nat_le, zero, suc, length}
+use Rattle.std.specs.Prelude.{◌||◌, Option, Some, None, filter}
+use Rattle.std.specs.Option.{IfSome, is_some, option_or, option_map_or, option_and_then, option_to_list}
+use Rattle.std.proofs.lemmas.List.Elements.{All-nil, All-append, All-map, All-weaker}
 use Rattle.simplex_values.specs.declared.proposal.Proposal.{Proposal}
 use Rattle.simplex_values.specs.declared.proposal.Subject.{Subject}
 use Rattle.simplex_wire.specs.declared.certificate.Certificate.{Certificate}
 use Rattle.simplex_wire.specs.declared.certificate.CertificateKind.{CertificateKind}
 use Rattle.simplex_wire.specs.declared.certificate.CertificateKind.TheVariants as kinds
+use Rattle.simplex_wire.specs.declared.attestation.Attestation.{Attestation}
+use Rattle.simplex_wire.specs.Fields.{certificate_subject, certificate_signatures}
 use Rattle.simplex_wire.specs.declared.vote.Vote.{Vote}
 use Rattle.simplex_round.specs.declared.ballot.Ballot.{Ballot}
 use Rattle.simplex_round.specs.declared.batch.Batch.{Batch}
@@ -18,16 +20,16 @@ use Rattle.simplex_round.specs.Calls as rounds
 use Rattle.simplex_messages.specs.declared.voter.Message.TheVariants as voter
 use Rattle.simplex_messages.specs.declared.handed.Handed.{Handed}
 use Rattle.simplex_messages.specs.declared.handed.Handed.TheVariants as handed
-use Rattle.simplex_messages.specs.declared.call.Call.{Call}
 use Rattle.simplex_messages.specs.declared.call.Call.TheVariants as call
-use Rattle.simplex_steps.specs.Batcher.{Made, RoundHistory, Doing, known_in, called, with_round, with_batch, number_of, forwarded, constructing, constructing_times, worked, worked_all, dropped, finished, retains_view, admits_view}
+use Rattle.simplex_steps.specs.Batcher.{Made, RoundHistory, Doing, known_in, called, with_batch, number_of, forwarded, constructing, constructing_times, worked, worked_all, dropped, finished, retains_view, admits_view}
+use Rattle.simplex_batcher_laws.specs.Votes.{IsOf}
 use Rattle.simplex_batcher_laws.specs.Reports.{IsFoundedCall}
-use Rattle.simplex_batcher_laws.specs.Certificates.{IsSchemeOfMembers, IsFoundedCertificate, IsFoundedMessage}
-use Rattle.simplex_batcher_laws.proofs.Choices.{if_case, either_case, and_then_case, map_case, all_any, listed}
+use Rattle.simplex_batcher_laws.specs.Certificates.{IsSchemeOfMembers, IsVoteOn, IsMadeOfVotes, IsFoundedCertificate, IsFoundedMessage}
+use Rattle.simplex_batcher_laws.proofs.Choices.{if_case, either_case, and_then_case, map_case, some_more, all_any, listed}
 use Rattle.simplex_batcher_laws.proofs.Ballots.{GoodBallots, GoodKnown}
 use Rattle.simplex_batcher_laws.proofs.Certifying.{checked_ballots, founded}
 use Rattle.simplex_batcher_laws.proofs.Hearing.{side_good, with_side_good}
-use Rattle.simplex_batcher_laws.proofs.Rounds.{GoodRound, GoodRounds, forward_called, certificate_good}
+use Rattle.simplex_batcher_laws.proofs.Rounds.{GoodRound, forward_called, certificate_good}
 use Rattle.simplex_batcher_laws.proofs.Doings.{Sound, round_sound}
 
 module _ (made : Made) (accepted : Vote → Type 0) (is_new : Certificate → Type 0) where
@@ -93,6 +95,21 @@ module _ (made : Made) (accepted : Vote → Type 0) (is_new : Certificate → Ty
       map_case GoodWork (λ (batch : Batch). IfSome batch.certificate FoundedIf) assembly.batch_of (assembly.first_work round.made made.scheme (known_in round))
       (λ work is. is.certificate) (first_good round.made (known_in round) good)
 
+-- what is made of such votes is made of more
+votes_more : (made : Made) (accepted accepted_too : Vote → Type 0) (is_new : Certificate → Type 0) (certificate : Certificate) → ((v : Vote) → accepted v → accepted_too v)
+    → IsFoundedCertificate made accepted is_new certificate → IsFoundedCertificate made accepted_too is_new certificate
+votes_more made accepted accepted_too is_new certificate more is = record { verifies = is.verifies; source = source is.source }
+  where
+    vote : (a : Attestation) → IsVoteOn made accepted (certificate_subject certificate) a → IsVoteOn made accepted_too (certificate_subject certificate) a
+    vote a it = record { vote = it.vote; signature = it.signature; on = it.on; verifies = it.verifies; was_accepted = more it.vote it.was_accepted }
+
+    source : is_new certificate ⊎ IsMadeOfVotes made accepted certificate → is_new certificate ⊎ IsMadeOfVotes made accepted_too certificate
+    source (inl new) = inl new
+    source (inr of) = inr (record {
+      quorum = of.quorum;
+      each = All-weaker (IsVoteOn made accepted (certificate_subject certificate)) (IsVoteOn made accepted_too (certificate_subject certificate)) vote (certificate_signatures certificate) of.each;
+    })
+
 -- a list of founded certificates
 all_founded : (made : Made) (accepted : Vote → Type 0) (is_new : Certificate → Type 0) (o : Option Certificate)
     → IfSome o (λ (c : Certificate). IsSchemeOfMembers made → IsFoundedCertificate made accepted is_new c) → IsSchemeOfMembers made
@@ -115,20 +132,29 @@ module _ (made : Made) (accepted came : Vote → Type 0) (is_new : Certificate �
         (All-map (IsFoundedCall accepted came) call.Block batch.invalid (all_any (λ (m : ℕ). IsFoundedCall accepted came (call.Block m)) batch.invalid (λ m. tt)));
   }
 
-  constructing_sound : (view : ℕ) (round : RoundHistory) (doing : Doing) → GoodRound made accepted round → S doing → S (constructing made view round doing)
+  batch_of_view : (view : ℕ) (round : RoundHistory) → GoodRound made (IsOf view accepted) round
+      → IfSome (assembly.constructed round.made made.scheme (known_in round)) (λ (batch : Batch). IfSome batch.certificate (λ (c : Certificate). IsSchemeOfMembers made → IsFoundedCertificate made accepted is_new c))
+  batch_of_view view round good =
+      let Narrow : Certificate → Type 0 = λ c. IsSchemeOfMembers made → IsFoundedCertificate made (IsOf view accepted) is_new c in
+      let Wide : Certificate → Type 0 = λ c. IsSchemeOfMembers made → IsFoundedCertificate made accepted is_new c in
+      some_more (λ (batch : Batch). IfSome batch.certificate Narrow) (λ (batch : Batch). IfSome batch.certificate Wide) (assembly.constructed round.made made.scheme (known_in round))
+      (λ batch is. some_more Narrow Wide batch.certificate (λ c founded fits. votes_more made (IsOf view accepted) accepted is_new c (λ v was. was.0) (founded fits)) is)
+      (batch_founded made (IsOf view accepted) is_new round good)
+
+  constructing_sound : (view : ℕ) (round : RoundHistory) (doing : Doing) → GoodRound made (IsOf view accepted) round → S doing → S (constructing made view round doing)
   unfolding constructing
   constructing_sound view round doing good s =
       round_sound made accepted came is_new view (called (rounds.TryConstruct made.scheme) round) (with_batch (assembly.constructed round.made made.scheme (known_in round)) doing)
-      (construct_called made accepted is_new round good)
-      (batch_sound (assembly.constructed round.made made.scheme (known_in round)) doing (batch_founded made accepted is_new round good) s)
+      (construct_called made (IsOf view accepted) is_new round good)
+      (batch_sound (assembly.constructed round.made made.scheme (known_in round)) doing (batch_of_view view round good) s)
 
-  forwarded_sound : (view : ℕ) (round : RoundHistory) (doing : Doing) → GoodRound made accepted round → S doing → S (forwarded made view round doing)
+  forwarded_sound : (view : ℕ) (round : RoundHistory) (doing : Doing) → GoodRound made (IsOf view accepted) round → S doing → S (forwarded made view round doing)
   unfolding forwarded
   forwarded_sound view round doing good s =
       let given = option_to_list (proposals.forwarded_to_voter (known_in round) (number_of made)) in
       let message : Proposal → Handed = λ proposal. handed.Voter (voter.Proposal proposal) in
       round_sound made accepted came is_new view (called (rounds.TryForward (number_of made)) round) (record doing { handed = doing.handed ++ map message given })
-      (forward_called made accepted round (number_of made) good)
+      (forward_called made (IsOf view accepted) round (number_of made) good)
       (record {
         rounds = s.rounds;
         handed = λ fits. All-append (IsFoundedMessage made accepted is_new) doing.handed (map message given) (s.handed fits)
@@ -137,10 +163,10 @@ module _ (made : Made) (accepted came : Vote → Type 0) (is_new : Certificate �
       })
 
   -- on the round of a view, if there is one
-  round_of_view : (o : Option RoundHistory) (turn : RoundHistory → Doing) (doing : Doing) → ((round : RoundHistory) → GoodRound made accepted round → S (turn round))
-      → IfSome o (GoodRound made accepted) → S doing → S (option_map_or turn o doing)
-  round_of_view None turn doing sound good s = s
-  round_of_view (Some round) turn doing sound good s = sound round good
+  round_of_view : (view : ℕ) (o : Option RoundHistory) (turn : RoundHistory → Doing) (doing : Doing) → ((round : RoundHistory) → GoodRound made (IsOf view accepted) round → S (turn round))
+      → IfSome o (GoodRound made (IsOf view accepted)) → S doing → S (option_map_or turn o doing)
+  round_of_view view None turn doing sound good s = s
+  round_of_view view (Some round) turn doing sound good s = sound round good
 
   times_sound : (n view : ℕ) (doing : Doing) → S doing → S (constructing_times n made view doing)
   unfolding constructing_times
@@ -148,14 +174,14 @@ module _ (made : Made) (accepted came : Vote → Type 0) (is_new : Certificate �
   times_sound (suc n) view doing s =
       let turn : RoundHistory → Doing = λ round. constructing made view round doing in
       times_sound n view (option_map_or turn (doing.standing.rounds view) doing)
-      (round_of_view (doing.standing.rounds view) turn doing (λ round good. constructing_sound view round doing good s) (s.rounds view) s)
+      (round_of_view view (doing.standing.rounds view) turn doing (λ round good. constructing_sound view round doing good s) (s.rounds view) s)
 
   worked_sound : (view : ℕ) (doing : Doing) → S doing → S (worked made view doing)
   unfolding worked
   worked_sound view doing s =
       let turn : RoundHistory → Doing = λ round. forwarded made view round doing in
       let handing = option_map_or turn (doing.standing.rounds view) doing in
-      let sound : S handing = round_of_view (doing.standing.rounds view) turn doing (λ round good. forwarded_sound view round doing good s) (s.rounds view) s in
+      let sound : S handing = round_of_view view (doing.standing.rounds view) turn doing (λ round good. forwarded_sound view round doing good s) (s.rounds view) s in
       if_case S (nat_le view doing.standing.finalized) doing (if admits_view made doing.standing view then constructing_times 3 made view handing else handing)
       (λ h. s)
       (λ h. if_case S (admits_view made doing.standing view) (constructing_times 3 made view handing) handing (λ k. times_sound 3 view handing sound) (λ k. sound))
@@ -168,7 +194,7 @@ module _ (made : Made) (accepted came : Vote → Type 0) (is_new : Certificate �
   dropped_sound : (doing : Doing) → S doing → S (dropped made doing)
   unfolding dropped
   dropped_sound doing s = record {
-    rounds = λ view. if_case (λ (o : Option RoundHistory). IfSome o (GoodRound made accepted)) (retains_view made doing.standing view) (doing.standing.rounds view) None
+    rounds = λ view. if_case (λ (o : Option RoundHistory). IfSome o (GoodRound made (IsOf view accepted))) (retains_view made doing.standing view) (doing.standing.rounds view) None
         (λ h. s.rounds view) (λ h. tt);
     handed = s.handed;
     calls = s.calls;

@@ -1,5 +1,6 @@
 -- What a report says, by which votes came and which were accepted.
-use Rattle.std.specs.Prelude.{◌≡◌, ◌⊎◌}
+use Rattle.std.specs.Prelude.{◌≡◌, ◌⊎◌, Bool, true, false, not}
+use Rattle.simplex_values.specs.Proposal.{is_same_proposal}
 use Rattle.simplex_wire.specs.declared.vote.Vote.{Vote}
 use Rattle.simplex_wire.specs.declared.vote.Vote.TheVariants as votes
 use Rattle.simplex_types.specs.declared.activity.Activity.{Activity}
@@ -7,10 +8,20 @@ use Rattle.simplex_types.specs.declared.activity.Activity.TheVariants as activit
 use Rattle.simplex_round.specs.Votes.{vote_signer}
 use Rattle.simplex_messages.specs.declared.call.Call.{Call}
 use Rattle.simplex_messages.specs.declared.call.Call.TheVariants as call
+use Rattle.simplex_steps.specs.Batcher.{vote_view}
 
--- both votes are one signer's and came from it, and one of them was accepted
+-- whether no honest member signs both in one view: two proposals notarized or finalized, or a nullify beside a finalize
+abbrev pub conflict : Vote → Vote → Bool
+conflict (votes.Notarize a) (votes.Notarize b) = not (is_same_proposal a.proposal b.proposal)
+conflict (votes.Finalize a) (votes.Finalize b) = not (is_same_proposal a.proposal b.proposal)
+conflict (votes.Nullify a) (votes.Finalize b) = true
+conflict _ _ = false
+
+-- both votes are one signer's and came from it, one of them was accepted, and in one view they conflict
 pub record SignedBoth (accepted came : Vote → Type 0) (first second : Vote) : Type 0 where
   pub signer : vote_signer first ≡ vote_signer second
+  pub view : vote_view first ≡ vote_view second
+  pub conflicts : conflict first second ≡ true
   pub came_first : came first
   pub came_second : came second
   pub one_accepted : accepted first ⊎ accepted second

@@ -1,5 +1,5 @@
 -- Which votes came, and which were accepted.
-use Rattle.std.specs.Prelude.{◌≡◌, ◌⊎◌, true, List, [], ◌∷◌, Ok, All}
+use Rattle.std.specs.Prelude.{ℕ, ◌≡◌, ◌⊎◌, true, List, [], ◌∷◌, Ok, All}
 use Rattle.simplex_wire.specs.declared.vote.Vote.{Vote}
 use Rattle.simplex_wire.specs.Format.{whole}
 use Rattle.simplex_wire.specs.Message as format
@@ -33,7 +33,11 @@ unfoldable pub Accepted : Made → List Timed → Vote → Type 0
 Accepted made [] vote = ⊥
 Accepted made (given ∷ before) vote = Accepts made before given vote ⊎ Accepted made before vote
 
--- each vote of the round was accepted
-pub record HoldsAccepted (accepted : Vote → Type 0) (known : Known) : Type 0 where
+-- each vote of the round is such
+pub record HoldsOnly (accepted : Vote → Type 0) (known : Known) : Type 0 where
   pub notarizes : All (λ b. accepted b.vote) known.notarizes
   pub others : All (λ b. accepted b.vote) known.others
+
+-- and it is of this view
+abbrev pub IsOf : ℕ → (Vote → Type 0) → Vote → Type 0
+IsOf view accepted vote = accepted vote × (vote_view vote ≡ view)
