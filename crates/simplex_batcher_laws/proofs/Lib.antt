@@ -6,3 +6,4 @@ pub mod Rounds
 pub mod Doings
 pub mod Working
 pub mod Steps
+pub mod Schemes
