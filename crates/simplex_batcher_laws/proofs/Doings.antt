@@ -23,12 +23,12 @@ use Rattle.simplex_messages.specs.declared.voter.Message.TheVariants as voter
 use Rattle.simplex_messages.specs.declared.handed.Handed.TheVariants as handed
 use Rattle.simplex_messages.specs.declared.call.Call.{Call}
 use Rattle.simplex_messages.specs.declared.call.Call.TheVariants as call
-use Rattle.simplex_steps.specs.Batcher.{Made, RoundHistory, Doing, known_in, called, round_for, with_round, and_blocked, and_handed, and_marked, vote_view, certificate_view, retains_view, admits_view, has_skipping, leader_nullified, hinting, hinting_nullify, hinted_at_vote, hinted_at_update, is_me, is_active, forwarding, relayed, targets_of, with_heard, took_vote, took_constructed, holds_kind, kept_certificate, took_certificate, with_leader, window_views, took_update}
+use Rattle.simplex_steps.specs.Batcher.{Made, Standing, RoundHistory, Doing, known_in, called, round_for, with_round, and_blocked, and_handed, and_marked, vote_view, certificate_view, retains_view, admits_view, has_skipping, leader_nullified, hinting, hinting_nullify, hinted_at_vote, hinted_at_update, is_me, is_active, forwarding, relayed, targets_of, with_heard, took_vote, took_constructed, holds_kind, kept_certificate, took_certificate, with_leader, window_views, took_update}
 use Rattle.simplex_batcher_laws.specs.Votes.{IsOf}
 use Rattle.simplex_batcher_laws.specs.Reports.{IsFounded, IsFoundedCall}
 use Rattle.simplex_batcher_laws.specs.Certificates.{IsSchemeOfMembers, IsFoundedMessage}
 use Rattle.simplex_batcher_laws.proofs.Choices.{if_case, map_or_any, all_any}
-use Rattle.simplex_batcher_laws.proofs.Hearing.{heard_good, heard_from_good, founded_more}
+use Rattle.simplex_batcher_laws.proofs.Hearing.{GoodHeard, heard_good, heard_from_good, founded_more}
 use Rattle.simplex_batcher_laws.proofs.Rounds.{GoodRound, GoodRounds, certificate_called, network_called, own_called, round_for_good, put_good, with_leader_good}
 
 pub record Sound (made : Made) (accepted came : Vote → Type 0) (is_new : Certificate → Type 0) (doing : Doing) : Type 0 where
@@ -39,6 +39,14 @@ pub record Sound (made : Made) (accepted came : Vote → Type 0) (is_new : Certi
 or_false : (a b : Bool) → (a || b) ≡ false → b ≡ false
 or_false true b e = absurd (cc)
 or_false false b e = e
+
+-- whether the view of a vote is kept and admitted
+abbrev pub is_admitted : Made → Standing → Vote → Bool
+is_admitted made standing vote = retains_view made standing (vote_view vote) && admits_view made standing (vote_view vote)
+
+-- whether the round of its view accepts it
+abbrev pub is_accepted : Made → Standing → Vote → Bool
+is_accepted made standing vote = (votes.heard (known_in (round_for made standing (vote_view vote))) vote).accepted
 
 module _ (made : Made) (accepted came : Vote → Type 0) (is_new : Certificate → Type 0) where
   abbrev pub S : Doing → Type 0
@@ -102,35 +110,49 @@ module _ (made : Made) (accepted came : Vote → Type 0) (is_new : Certificate �
             (All-append (IsFoundedCall accepted came) doing.calls (map call.Report heard.reports) s.calls reported) blocked;
       }
 
-  pub took_vote_sound : (is_came : (v : Vote) → accepted v → came v) (sender : ℕ) (vote : Vote) (doing : Doing)
-      → (sender ≡ vote_signer vote → (votes.heard (known_in (round_for made doing.standing (vote_view vote))) vote).accepted ≡ true → accepted vote)
-      → (sender ≡ vote_signer vote → came vote) → S doing → S (took_vote made sender vote doing)
-  unfolding took_vote
-  took_vote_sound is_came sender vote doing accepts comes s =
-      let view = vote_view vote in
-      let round = round_for made doing.standing view in
-      let heard = votes.heard_from (known_in round) sender vote in
-      let good = heard_from_good made.scheme.verifies (IsOf view accepted) (IsOf view came) (λ v was. (is_came v was.0, was.1)) view (λ v came. came.1) (known_in round)
-      (round_for_good made accepted doing.standing view s.rounds) sender vote (λ from h. (accepts from h, refl)) (λ from. (comes from, refl)) in
-      if_case S (retains_view made doing.standing view && admits_view made doing.standing view)
-      (hinted_at_vote made heard.accepted (with_heard view (called (rounds.AddNetwork sender vote) round) heard doing)) doing
-      (λ h. hinted_at_vote_sound heard.accepted (with_heard view (called (rounds.AddNetwork sender vote) round) heard doing)
-      (with_heard_sound view (called (rounds.AddNetwork sender vote) round) heard doing (network_called made (IsOf view accepted) round sender vote good.known) good.reports s))
-      (λ h. s)
+  module _ (is_came : (v : Vote) → accepted v → came v) (doing : Doing) (s : S doing) where
+    from_network : (sender : ℕ) (vote : Vote) → (sender ≡ vote_signer vote → is_accepted made doing.standing vote ≡ true → accepted vote) → (sender ≡ vote_signer vote → came vote)
+        → GoodHeard made.scheme.verifies (IsOf (vote_view vote) accepted) (IsOf (vote_view vote) came) (votes.heard_from (known_in (round_for made doing.standing (vote_view vote))) sender vote)
+    from_network sender vote accepts comes =
+        heard_from_good made.scheme.verifies (IsOf (vote_view vote) accepted) (IsOf (vote_view vote) came) (λ v was. (is_came v was.0, was.1)) (vote_view vote) (λ v came. came.1)
+        (known_in (round_for made doing.standing (vote_view vote))) (round_for_good made accepted doing.standing (vote_view vote) s.rounds) sender vote
+        (λ from h. (accepts from h, refl)) (λ from. (comes from, refl))
 
-  pub took_constructed_sound : (is_came : (v : Vote) → accepted v → came v) (vote : Vote) (doing : Doing)
-      → ((votes.heard (known_in (round_for made doing.standing (vote_view vote))) vote).accepted ≡ true → accepted vote)
-      → came vote → S doing → S (took_constructed made vote doing)
-  unfolding took_constructed
-  took_constructed_sound is_came vote doing accepts comes s =
-      let view = vote_view vote in
-      let round = round_for made doing.standing view in
-      let heard = votes.heard (known_in round) vote in
-      let good = heard_good made.scheme.verifies (IsOf view accepted) (IsOf view came) (λ v was. (is_came v was.0, was.1)) view (λ v came. came.1) (known_in round)
-      (round_for_good made accepted doing.standing view s.rounds) vote (λ h. (accepts h, refl)) (comes, refl) in
-      if_case S (retains_view made doing.standing view) (with_heard view (called (rounds.AcceptVote vote) round) heard doing) doing
-      (λ h. with_heard_sound view (called (rounds.AcceptVote vote) round) heard doing (own_called made (IsOf view accepted) round vote good.known) good.reports s)
-      (λ h. s)
+    from_voter : (vote : Vote) → (is_accepted made doing.standing vote ≡ true → accepted vote) → came vote
+        → GoodHeard made.scheme.verifies (IsOf (vote_view vote) accepted) (IsOf (vote_view vote) came) (votes.heard (known_in (round_for made doing.standing (vote_view vote))) vote)
+    from_voter vote accepts comes =
+        heard_good made.scheme.verifies (IsOf (vote_view vote) accepted) (IsOf (vote_view vote) came) (λ v was. (is_came v was.0, was.1)) (vote_view vote) (λ v came. came.1)
+        (known_in (round_for made doing.standing (vote_view vote))) (round_for_good made accepted doing.standing (vote_view vote) s.rounds) vote
+        (λ h. (accepts h, refl)) (comes, refl)
+
+    pub took_vote_sound : (sender : ℕ) (vote : Vote)
+        → (sender ≡ vote_signer vote → is_admitted made doing.standing vote ≡ true → is_accepted made doing.standing vote ≡ true → accepted vote)
+        → (sender ≡ vote_signer vote → came vote) → S (took_vote made sender vote doing)
+    unfolding took_vote
+    took_vote_sound sender vote accepts comes =
+        let view = vote_view vote in
+        let round = round_for made doing.standing view in
+        let heard = votes.heard_from (known_in round) sender vote in
+        if_case S (is_admitted made doing.standing vote)
+        (hinted_at_vote made heard.accepted (with_heard view (called (rounds.AddNetwork sender vote) round) heard doing)) doing
+        (λ h.
+        let good = from_network sender vote (λ from. accepts from h) comes in
+        hinted_at_vote_sound heard.accepted (with_heard view (called (rounds.AddNetwork sender vote) round) heard doing)
+        (with_heard_sound view (called (rounds.AddNetwork sender vote) round) heard doing (network_called made (IsOf view accepted) round sender vote good.known) good.reports s))
+        (λ h. s)
+
+    pub took_constructed_sound : (vote : Vote) → (retains_view made doing.standing (vote_view vote) ≡ true → is_accepted made doing.standing vote ≡ true → accepted vote)
+        → came vote → S (took_constructed made vote doing)
+    unfolding took_constructed
+    took_constructed_sound vote accepts comes =
+        let view = vote_view vote in
+        let round = round_for made doing.standing view in
+        let heard = votes.heard (known_in round) vote in
+        if_case S (retains_view made doing.standing view) (with_heard view (called (rounds.AcceptVote vote) round) heard doing) doing
+        (λ h.
+        let good = from_voter vote (accepts h) comes in
+        with_heard_sound view (called (rounds.AcceptVote vote) round) heard doing (own_called made (IsOf view accepted) round vote good.known) good.reports s)
+        (λ h. s)
 
   -- ---- certificates
   kept_sound : (certificate : Certificate) (doing : Doing)

@@ -1,6 +1,5 @@
 -- A scheme that knows its members' signatures alone.
 use Rattle.std.proofs.Common.{◌≡◌, ◌<◌, ℕ, Bool, true, ap, sym, ◌∙◌, arith}
-use Rattle.std.specs.Prelude.{◌&&◌, nat_lt}
 use Rattle.std.proofs.lemmas.Grind.{common_steps}
 use Rattle.simplex_values.specs.declared.proposal.Subject.{Subject}
 use Rattle.simplex_wire.specs.declared.attestation.Attestation.{Attestation}

@@ -1,81 +1,96 @@
 //! A member that votes twice, and one that votes in another's name.
-ghost use Rattle.std.specs.Prelude.{◌<◌};
-
-use super::{member, packet, round, step, update};
-use simplex_messages::{BatcherInput, Call, StepOut};
-use simplex_types::{Activity, Digest, Keyed, Notarize, Participant, Proposal, View, Vote};
-use std::alloc::Global;
+use super::script::{Given, last};
+use simplex_messages::{Call, StepOut};
+use simplex_types::{Activity, ConflictingNotarize};
 use std::test::Fail;
 
-fn block(payload: u8) -> Proposal {
-    Proposal {
-        round: round(1),
-        parent: View(0),
-        payload: Digest([payload; 32]),
+/// Member 1 leads view 1. Member 3 notarizes one proposal, and then twice another.
+const CONFLICT: [Given; 4] = [
+    Given::Update { view: 1, leader: 1 },
+    Given::Notarize {
+        signer: 3,
+        payload: 17,
+    },
+    Given::Notarize {
+        signer: 3,
+        payload: 18,
+    },
+    Given::Notarize {
+        signer: 3,
+        payload: 18,
+    },
+];
+
+/// Whether it is of member 3's notarizes, the accepted one first.
+fn is_the_conflict(it: &ConflictingNotarize) -> bool {
+    let first = it.first.attestation.signer.0 == 3 && it.first.proposal.payload.0[0] == 17;
+    let second = it.second.attestation.signer.0 == 3 && it.second.proposal.payload.0[0] == 18;
+    first && second
+}
+
+/// Whether the conflict is reported and member 3 blocked, and nothing else.
+fn is_evidence(out: &StepOut) -> bool {
+    match out.calls.as_slice() {
+        [
+            Call::Report(Activity::ConflictingNotarize(it)),
+            Call::Block(member),
+        ] => { is_the_conflict(it) && member.0 == 3 }
+        _ => false,
     }
 }
 
-/// A packet of one member with another's notarize of view 1.
-fn notarize(alloc: Global, sender: u32, signer: u32, payload: u8) -> Result<BatcherInput, Fail>
-    requires { signer < 4 }
-{
-    let scheme = Keyed::new(alloc, 7, 4, Some(Participant(signer)))?;
-    let vote = Notarize::sign(&scheme, block(payload)).ok_or("it signs")?;
-    Ok(packet(alloc, sender, &Vote::Notarize(vote))?)
+#[test]
+fn two_notarizes_are_evidence(rt: HostRuntime) -> Result<(), Fail> {
+    let [update, first, second, _] = CONFLICT;
+    let out = last(rt.alloc(), &[update, first, second])?;
+    assert!(rt; is_evidence(&out));
+    Ok(())
 }
 
-/// The signers and payloads of the two notarizes that the first call reports as evidence.
-fn evidence(out: &StepOut) -> Option<(u32, Digest, u32, Digest)> {
-    let Call::Report(Activity::ConflictingNotarize(it)) = out.calls.as_slice().first()? else {
-        return None;
-    };
-    let first = it.first.attestation.signer.0;
-    let second = it.second.attestation.signer.0;
-    Some((
-        first,
-        it.first.proposal.payload,
-        second,
-        it.second.proposal.payload,
-    ))
+#[test]
+fn evidence_comes_once(rt: HostRuntime) -> Result<(), Fail> {
+    let out = last(rt.alloc(), &CONFLICT)?;
+    assert!(rt; out.calls.as_slice().is_empty());
+    Ok(())
 }
 
-/// Whether the step's one call is that it blocks the member.
-fn only_blocks(out: &StepOut, member: u32) -> bool {
+/// A packet of member 3 with a vote of member 2, and then another vote of member 2 from itself.
+const IMPERSONATED: [Given; 3] = [
+    Given::Update { view: 1, leader: 1 },
+    Given::Borrowed {
+        sender: 3,
+        signer: 2,
+    },
+    Given::Notarize {
+        signer: 2,
+        payload: 18,
+    },
+];
+
+/// Whether the step's one call is that it blocks member 3.
+fn only_blocks(out: &StepOut) -> bool {
     match out.calls.as_slice() {
-        [Call::Block(blocked)] => blocked.0 == member,
+        [Call::Block(blocked)] => blocked.0 == 3,
         _ => false,
     }
 }
 
 /// Whether the step's one call reports a notarize.
-fn only_reports_notarize(out: &StepOut) -> bool {
+fn only_reports(out: &StepOut) -> bool {
     matches!(out.calls.as_slice(), [Call::Report(Activity::Notarize(_))])
 }
 
 #[test]
-fn two_notarizes_are_evidence_once(rt: HostRuntime) -> Result<(), Fail> {
-    let alloc = rt.alloc();
-    let mut batcher = member(alloc)?;
-    step(alloc, &mut batcher, update(1, 1), 0)?;
-    let first = step(alloc, &mut batcher, notarize(alloc, 3, 3, 17)?, 0)?;
-    assert!(rt; only_reports_notarize(&first));
-    let second = step(alloc, &mut batcher, notarize(alloc, 3, 3, 18)?, 0)?;
-    let found = evidence(&second);
-    assert_eq!(rt; found, Some((3, Digest([17; 32]), 3, Digest([18; 32]))));
-    assert_eq!(rt; super::last_blocked(&second), Some(3));
-    let third = step(alloc, &mut batcher, notarize(alloc, 3, 3, 18)?, 0)?;
-    assert!(rt; third.calls.as_slice().is_empty());
+fn a_vote_in_anothers_name_blocks_its_sender(rt: HostRuntime) -> Result<(), Fail> {
+    let [update, borrowed, _] = IMPERSONATED;
+    let out = last(rt.alloc(), &[update, borrowed])?;
+    assert!(rt; only_blocks(&out));
     Ok(())
 }
 
 #[test]
-fn a_vote_in_anothers_name(rt: HostRuntime) -> Result<(), Fail> {
-    let alloc = rt.alloc();
-    let mut batcher = member(alloc)?;
-    step(alloc, &mut batcher, update(1, 1), 0)?;
-    let forged = step(alloc, &mut batcher, notarize(alloc, 3, 2, 17)?, 0)?;
-    assert!(rt; only_blocks(&forged, 3));
-    let own = step(alloc, &mut batcher, notarize(alloc, 2, 2, 18)?, 0)?;
-    assert!(rt; only_reports_notarize(&own));
+fn a_vote_in_anothers_name_is_not_accepted(rt: HostRuntime) -> Result<(), Fail> {
+    let out = last(rt.alloc(), &IMPERSONATED)?;
+    assert!(rt; only_reports(&out));
     Ok(())
 }

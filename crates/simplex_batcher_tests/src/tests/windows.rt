@@ -1,81 +1,63 @@
-//! Certificates for views ahead. The network has one member, which signs them alone; the batcher is no member of it.
-ghost use Rattle.std.specs.Prelude.{◌≤◌, ◌^◌};
-
-use super::{config, round, step, update};
-use simplex_batcher::Actor;
-use simplex_messages::{BatcherInput, Handed, StepOut, voter};
-use simplex_types::{
-    Certificate, Digest, Keyed, Lookahead, Notarization, Notarize, Participant, Proposal, Sequence,
-    TermLength, View,
-};
+//! Certificates for views ahead. The batcher watches a network of one, and works two views ahead in terms of five.
+use super::script::{Given, config, last_of};
+use simplex_messages::{Handed, StepOut, voter};
+use simplex_types::{Keyed, Lookahead, TermLength};
 use std::alloc::Global;
 use std::test::Fail;
 
-/// Of a network of one, which works two views ahead in terms of five.
-fn observer(alloc: Global) -> Result<Actor<Keyed>, Fail> {
+/// What the last of these gives in view 1.
+fn watched(alloc: Global, script: &[Given]) -> Result<StepOut, Fail> {
     let scheme = Keyed::new(alloc, 7, 1, None)?;
     let mut made = config(scheme);
     made.lookahead = Lookahead {
         length: TermLength::new(5).ok_or("a term may have five views")?,
         views: 2,
     };
-    Ok(Actor::new(alloc, made)?)
+    last_of(alloc, made, script)
 }
 
-fn block(view: u64) -> Proposal {
-    Proposal {
-        round: round(view),
-        parent: View(0),
-        payload: Digest([9; 32]),
-    }
-}
+const UPDATE: Given = Given::Update { view: 1, leader: 0 };
 
-/// The member's packet of a notarization of the view.
-fn notarization(alloc: Global, view: u64) -> Result<BatcherInput, Fail> {
-    let scheme = Keyed::new(alloc, 7, 1, Some(Participant(0)))?;
-    let vote = Notarize::sign(&scheme, block(view)).ok_or("it signs")?;
-    let Ok(it) = Notarization::from_notarizes(alloc, &scheme, &[vote]) else {
-        return Err(Fail::from("one is a quorum"));
-    };
-    let bytes = Certificate::Notarization(it).encode(alloc)?;
-    Ok(BatcherInput::Certificate {
-        sender: Participant(0),
-        bytes: Sequence::from_vec(bytes),
-    })
-}
+const INSIDE: Given = Given::Notarization { view: 3 };
 
-/// The view of the certificate that is handed on first, and of the proposal that is handed on behind it.
-fn views(out: &StepOut) -> (Option<View>, Option<View>) {
+const OUTSIDE: Given = Given::Notarization { view: 4 };
+
+/// Whether the view's certificate is handed on and then its proposal, which a view with a leader gives.
+fn is_led(out: &StepOut) -> bool {
     match out.handed.as_slice() {
-        [Handed::Voter(voter::Message::Verified { certificate })] => {
-            (Some(certificate.view()), None)
-        }
         [
-            Handed::Voter(voter::Message::Verified { certificate }),
-            Handed::Voter(voter::Message::Proposal { proposal }),
-        ] => (Some(certificate.view()), Some(proposal.round.view)),
-        _ => (None, None),
+            Handed::Voter(voter::Message::Verified { .. }),
+            Handed::Voter(voter::Message::Proposal { .. }),
+        ] => true,
+        _ => false,
     }
+}
+
+/// Whether a certificate alone is handed on.
+fn is_bare(out: &StepOut) -> bool {
+    matches!(
+        out.handed.as_slice(),
+        [Handed::Voter(voter::Message::Verified { .. })]
+    )
 }
 
 #[test]
 fn a_view_of_the_window_has_the_leader(rt: HostRuntime) -> Result<(), Fail> {
-    let alloc = rt.alloc();
-    let mut batcher = observer(alloc)?;
-    step(alloc, &mut batcher, update(1, 0), 0)?;
-    let inside = step(alloc, &mut batcher, notarization(alloc, 3)?, 1)?;
-    assert_eq!(rt; views(&inside), (Some(View(3)), Some(View(3))));
-    let again = step(alloc, &mut batcher, notarization(alloc, 3)?, 2)?;
-    assert_eq!(rt; views(&again), (None, None));
+    let out = watched(rt.alloc(), &[UPDATE, INSIDE])?;
+    assert!(rt; is_led(&out));
+    Ok(())
+}
+
+#[test]
+fn a_second_certificate_is_ignored(rt: HostRuntime) -> Result<(), Fail> {
+    let out = watched(rt.alloc(), &[UPDATE, INSIDE, INSIDE])?;
+    assert!(rt; out.handed.as_slice().is_empty());
     Ok(())
 }
 
 #[test]
 fn a_view_behind_the_window_has_none(rt: HostRuntime) -> Result<(), Fail> {
-    let alloc = rt.alloc();
-    let mut batcher = observer(alloc)?;
-    step(alloc, &mut batcher, update(1, 0), 0)?;
-    let outside = step(alloc, &mut batcher, notarization(alloc, 4)?, 1)?;
-    assert_eq!(rt; views(&outside), (Some(View(4)), None));
+    let out = watched(rt.alloc(), &[UPDATE, OUTSIDE])?;
+    assert!(rt; is_bare(&out));
     Ok(())
 }
