@@ -23,13 +23,19 @@ print(f"{int(times) / best:.0f}")
 P
 }
 
-# A batcher and the round alone, for so many members: the rate of each, and how long the one takes by the other.
+# A batcher and the round alone, so often and for so many members: the rate of each, and how long the one takes by the
+# other. The batcher's time is taken without that of its scheme.
 beside_round() {
-    local round actor
+    local round actor scheme
     round=$(rate "$1" "$proved" round "$2")
     actor=$(rate "$1" "$proved" actor "$2")
-    printf '%-14s %12s %12s %18s\n' "$2" "$round" "$actor" \
-        "$(python3 -c 'import sys; print(f"{int(sys.argv[1]) / int(sys.argv[2]):.2f}")' "$round" "$actor")"
+    scheme=$(rate "$1" "$proved" scheme "$2")
+    python3 - "$2" "$round" "$actor" "$scheme" <<'P'
+import sys
+members, round, actor, scheme = map(int, sys.argv[1:])
+alone = 1 / (1 / actor - 1 / scheme)
+print(f"{members:<14} {round:12} {alone:12.0f} {round / alone:18.2f}")
+P
 }
 
 if [ "$what" = batcher ]; then

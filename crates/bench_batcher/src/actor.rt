@@ -1,14 +1,14 @@
 //! The view by a batcher.
 ghost use Rattle.std.specs.Prelude.{◌<◌};
 
-use crate::votes::{KEY_BASE, Votes, view};
+use crate::votes::{Votes, scheme, view};
 use anyhow::Result;
 use simplex_batcher::{Actor, Config};
 use simplex_mailbox::Mailbox;
 use simplex_messages::{BatcherInput, Handed, StepOut, batcher, voter};
 use simplex_types::{
-    ForwardPolicy, Keep, Keyed, Lookahead, Participant, SkipBudget, SkipPolicy, TermLength, View,
-    ViewDelta,
+    ForwardPolicy, Keyed, Lookahead, Participant, Sequence, SkipBudget, SkipPolicy, TermLength,
+    View, ViewDelta,
 };
 use std::alloc::Global;
 
@@ -16,9 +16,8 @@ use std::alloc::Global;
 fn member(alloc: Global, members: u32) -> Result<Actor<Keyed>>
     requires { 0 < members }
 {
-    let scheme = Keyed::new(alloc, KEY_BASE, members, Some(Participant(0)))?;
     let config = Config {
-        scheme,
+        scheme: scheme(alloc, members)?,
         track_historical_votes: false,
         view_retention: ViewDelta(10),
         skip: SkipPolicy::Enabled {
@@ -26,7 +25,7 @@ fn member(alloc: Global, members: u32) -> Result<Actor<Keyed>>
             budget: SkipBudget::Participants,
         },
         epoch: view().epoch,
-        mailbox_size: 1024,
+        mailbox_size: 16,
         lookahead: Lookahead {
             length: TermLength::ONE,
             views: 0,
@@ -63,18 +62,26 @@ pub fn turn(alloc: Global, members: u32, votes: &Votes) -> Result<u64>
     requires { 0 < members }
 {
     let mut batcher = member(alloc, members)?;
-    let mut post = Mailbox::<voter::Message>::new(alloc, 1024)?;
+    let mut post = Mailbox::<voter::Message>::new(alloc, 16)?;
     let mut out = StepOut::new(alloc);
     batcher.step(update(), 0, &mut post, &mut out)?;
     let mut certificates = 0u64;
     for sent in &votes.sent {
         let input = BatcherInput::Vote {
             sender: sent.vote.signer(),
-            bytes: sent.bytes.keep(alloc)?,
+            bytes: Sequence::from_vec(sent.bytes.clone()?),
         };
         let mut out = StepOut::new(alloc);
         batcher.step(input, 1, &mut post, &mut out)?;
         certificates = certificates.saturating_add(certificates_in(&out));
     }
     Ok(certificates)
+}
+
+/// The scheme that a batcher is made with, and nothing with it.
+pub fn scheme_alone(alloc: Global, members: u32) -> Result<u64>
+    requires { 0 < members }
+{
+    let _scheme = scheme(alloc, members)?;
+    Ok(0)
 }

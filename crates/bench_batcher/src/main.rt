@@ -1,6 +1,6 @@
 //! A view whose votes all come in, again and again: by a batcher that takes them as packets, and by the round
-//! alone. It prints no times: `bench_batcher WORK MEMBERS TIMES`, where WORK is `round`, `actor` or `all`.
-//! `bench/run.sh` takes the times.
+//! alone. It prints no times: `bench_batcher WORK MEMBERS TIMES`, where WORK is `round`, `actor`, `scheme` or
+//! `all`. `bench/run.sh` takes the times. A new batcher wants a scheme of its own, so `scheme` only makes one.
 #![tactic(auto)]
 
 mod actor;
@@ -13,19 +13,28 @@ use anyhow::{Context, Result, bail};
 use std::alloc::Global;
 use std::env;
 use std::io::Print;
-use votes::Votes;
+use votes::{Votes, scheme};
+
+/// What is done in a turn.
+#[derive(Clone, Copy)]
+enum Work {
+    Round,
+    Actor,
+    Scheme,
+}
 
 /// How many certificates come out of so many views.
-fn turns(alloc: Global, actor: bool, members: u32, times: u32) -> Result<u64>
+fn turns(alloc: Global, work: Work, members: u32, times: u32) -> Result<u64>
     requires { 0 < members }
 {
     let votes = Votes::signed(alloc, members)?;
+    let scheme = scheme(alloc, members)?;
     let mut certificates = 0u64;
     for _ in 0..times {
-        let made = if actor {
-            actor::turn(alloc, members, &votes)?
-        } else {
-            round::turn(alloc, members, &votes)?
+        let made = match work {
+            Work::Round => round::turn(alloc, &scheme, members, &votes)?,
+            Work::Actor => actor::turn(alloc, members, &votes)?,
+            Work::Scheme => actor::scheme_alone(alloc, members)?,
         };
         certificates = certificates.saturating_add(made);
     }
@@ -36,9 +45,14 @@ fn run(rt: &impl Print, alloc: Global, word: &str, members: u32, times: u32) -> 
     if members == 0 {
         bail!("one member at least");
     }
-    for (name, actor) in [("round", false), ("actor", true)] {
+    let works = [
+        ("round", Work::Round),
+        ("actor", Work::Actor),
+        ("scheme", Work::Scheme),
+    ];
+    for (name, work) in works {
         if word == name || word == "all" {
-            let certificates = turns(alloc, actor, members, times)?;
+            let certificates = turns(alloc, work, members, times)?;
             println!(rt; "{name} {members} {times} {certificates}")?;
         }
     }

@@ -1,7 +1,7 @@
 //! The view by its round alone.
 ghost use Rattle.std.specs.Prelude.{◌<◌};
 
-use crate::votes::{KEY_BASE, Votes, view};
+use crate::votes::{Votes, view};
 use anyhow::{Result, bail};
 use simplex_round::{Round, RoundOut};
 use simplex_types::{Keyed, Participant, quorum};
@@ -20,10 +20,9 @@ fn made(alloc: Global, round: &mut Round, scheme: &Keyed) -> Result<u64> {
 }
 
 /// How many certificates come out of the view: behind each vote the round is asked for what there is to do.
-pub fn turn(alloc: Global, members: u32, votes: &Votes) -> Result<u64>
+pub fn turn(alloc: Global, scheme: &Keyed, members: u32, votes: &Votes) -> Result<u64>
     requires { 0 < members }
 {
-    let scheme = Keyed::new(alloc, KEY_BASE, members, Some(Participant(0)))?;
     let mut round = Round::new(alloc, view(), members, quorum(members), false)?;
     round.set_leader(Participant(0));
     let mut certificates = 0u64;
@@ -33,7 +32,7 @@ pub fn turn(alloc: Global, members: u32, votes: &Votes) -> Result<u64>
             bail!("each vote is accepted");
         }
         let _proposal = round.try_forward_proposal(Participant(0));
-        certificates = certificates.saturating_add(made(alloc, &mut round, &scheme)?);
+        certificates = certificates.saturating_add(made(alloc, &mut round, scheme)?);
     }
     Ok(certificates)
 }

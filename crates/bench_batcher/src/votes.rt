@@ -3,13 +3,19 @@ ghost use Rattle.std.specs.Prelude.{◌<◌};
 
 use anyhow::{Context, Result};
 use simplex_types::{
-    Digest, Epoch, Finalize, Keyed, Notarize, Participant, Proposal, Round as ViewRound, Sequence,
-    View, Vote,
+    Digest, Epoch, Finalize, Keyed, Notarize, Participant, Proposal, Round as ViewRound, View, Vote,
 };
 use std::alloc::Global;
 
 /// What every key is made from.
-pub const KEY_BASE: u64 = 1;
+const KEY_BASE: u64 = 1;
+
+/// The scheme of member 0.
+pub fn scheme(alloc: Global, members: u32) -> Result<Keyed>
+    requires { 0 < members }
+{
+    Ok(Keyed::new(alloc, KEY_BASE, members, Some(Participant(0)))?)
+}
 
 /// View 300.
 pub fn view() -> ViewRound {
@@ -32,12 +38,12 @@ fn proposal() -> Proposal {
 #[derive(Drop)]
 pub struct Sent {
     pub vote: Vote,
-    pub bytes: Sequence<u8>,
+    pub bytes: Vec<u8>,
 }
 
 impl Sent {
     fn new(alloc: Global, vote: Vote) -> Result<Sent> {
-        let bytes = Sequence::from_vec(vote.encode(alloc)?);
+        let bytes = vote.encode(alloc)?;
         Ok(Sent { vote, bytes })
     }
 }
