@@ -1,6 +1,4 @@
 //! Rounds that assemble no certificate, and votes that make two.
-ghost use Rattle.std.specs.Prelude.{◌<◌};
-
 use super::votes::{member, notarize_by, nullify_by, verifier, view_one};
 use simplex_round::{Round, RoundOut};
 use simplex_values::Participant;

@@ -1,5 +1,5 @@
 //! Votes of view 1, signed by members of a scheme or by nobody.
-ghost use Rattle.std.specs.Prelude.{◌<◌, None};
+ghost use Rattle.std.specs.Prelude.{◌<◌};
 
 use simplex_types::Keyed;
 use simplex_values::{Digest, Epoch, Participant, Proposal, Round as ViewRound, View};
