@@ -1,0 +1,182 @@
+//! Votes of a member that conflict.
+use super::votes::{finalize, notarize, nullify, view_one};
+use simplex_round::{Round, RoundOut};
+use simplex_types::{Activity, ConflictingFinalize, ConflictingNotarize, NullifyFinalize};
+use simplex_values::Participant;
+use simplex_wire::Vote;
+use std::alloc::{AllocError, Global};
+use std::process::Abort;
+use std::test::Fail;
+
+/// What a round makes of these votes of member 3 from the network.
+fn heard(alloc: Global, votes: &[Vote]) -> Result<RoundOut, AllocError> {
+    let mut round = Round::new(alloc, view_one(), 4, 3, true)?;
+    let mut out = RoundOut::new(alloc);
+    for vote in votes {
+        let _accepted = round.add_network(Participant(3), *vote, &mut out)?;
+    }
+    Ok(out)
+}
+
+/// What a round makes of these votes where they are own ones.
+fn heard_own(alloc: Global, votes: &[Vote]) -> Result<RoundOut, AllocError> {
+    let mut round = Round::new(alloc, view_one(), 4, 3, true)?;
+    let mut out = RoundOut::new(alloc);
+    for vote in votes {
+        round.accept_vote(*vote, &mut out)?;
+    }
+    Ok(out)
+}
+
+/// These reports, and member 3 blocked so often.
+fn assert_out(
+    rt: &impl Abort,
+    alloc: Global,
+    out: &RoundOut,
+    reports: &[Activity],
+    blocks: u32,
+) -> Result<(), AllocError> {
+    assert_eq!(rt; out.reports.as_slice(), reports);
+    let mut members = Vec::new(alloc);
+    for _ in 0..blocks {
+        members.push(Participant(3))?;
+    }
+    assert_eq!(rt; out.blocks.as_slice(), members.as_slice());
+    Ok(())
+}
+
+/// The same comes of these votes of member 3 whether the network brings them or they are own ones.
+fn assert_heard(
+    rt: &impl Abort,
+    alloc: Global,
+    votes: &[Vote],
+    reports: &[Activity],
+    blocks: u32,
+) -> Result<(), AllocError> {
+    let out = heard(alloc, votes)?;
+    assert_out(rt, alloc, &out, reports, blocks)?;
+    let out = heard_own(alloc, votes)?;
+    assert_out(rt, alloc, &out, reports, blocks)
+}
+
+fn two_notarizes(first: u8, second: u8) -> Activity {
+    Activity::ConflictingNotarize(ConflictingNotarize {
+        first: notarize(3, first),
+        second: notarize(3, second),
+    })
+}
+
+fn two_finalizes(first: u8, second: u8) -> Activity {
+    Activity::ConflictingFinalize(ConflictingFinalize {
+        first: finalize(3, first),
+        second: finalize(3, second),
+    })
+}
+
+fn nullify_and_finalize(payload: u8) -> Activity {
+    Activity::NullifyFinalize(NullifyFinalize {
+        nullify: nullify(3),
+        finalize: finalize(3, payload),
+    })
+}
+
+/// A repeated vote is nothing new, and a third proposal no further evidence.
+#[test]
+fn two_notarizes_are_evidence_once(rt: HostRuntime) -> Result<(), Fail> {
+    let votes = [
+        Vote::Notarize(notarize(3, 9)),
+        Vote::Notarize(notarize(3, 9)),
+        Vote::Notarize(notarize(3, 8)),
+        Vote::Notarize(notarize(3, 7)),
+    ];
+    let reports = [Activity::Notarize(notarize(3, 9)), two_notarizes(9, 8)];
+    assert_heard(&rt, rt.alloc(), &votes, &reports, 1)?;
+    Ok(())
+}
+
+#[test]
+fn two_finalizes_are_evidence_once(rt: HostRuntime) -> Result<(), Fail> {
+    let votes = [
+        Vote::Finalize(finalize(3, 9)),
+        Vote::Finalize(finalize(3, 9)),
+        Vote::Finalize(finalize(3, 8)),
+        Vote::Finalize(finalize(3, 7)),
+    ];
+    let reports = [Activity::Finalize(finalize(3, 9)), two_finalizes(9, 8)];
+    assert_heard(&rt, rt.alloc(), &votes, &reports, 1)?;
+    Ok(())
+}
+
+#[test]
+fn a_nullify_beside_a_finalize_is_evidence_once(rt: HostRuntime) -> Result<(), Fail> {
+    let votes = [
+        Vote::Finalize(finalize(3, 9)),
+        Vote::Nullify(nullify(3)),
+        Vote::Nullify(nullify(3)),
+    ];
+    let reports = [Activity::Finalize(finalize(3, 9)), nullify_and_finalize(9)];
+    assert_heard(&rt, rt.alloc(), &votes, &reports, 1)?;
+    Ok(())
+}
+
+#[test]
+fn a_finalize_beside_a_nullify_is_evidence_once(rt: HostRuntime) -> Result<(), Fail> {
+    let votes = [
+        Vote::Nullify(nullify(3)),
+        Vote::Finalize(finalize(3, 9)),
+        Vote::Finalize(finalize(3, 8)),
+    ];
+    let reports = [Activity::Nullify(nullify(3)), nullify_and_finalize(9)];
+    assert_heard(&rt, rt.alloc(), &votes, &reports, 1)?;
+    Ok(())
+}
+
+/// A notarize stands beside a finalize and beside a nullify. The three kinds of evidence are given one by one.
+#[test]
+fn each_kind_of_evidence_is_given(rt: HostRuntime) -> Result<(), Fail> {
+    let votes = [
+        Vote::Notarize(notarize(3, 9)),
+        Vote::Finalize(finalize(3, 9)),
+        Vote::Nullify(nullify(3)),
+        Vote::Finalize(finalize(3, 8)),
+        Vote::Notarize(notarize(3, 8)),
+    ];
+    let reports = [
+        Activity::Notarize(notarize(3, 9)),
+        Activity::Finalize(finalize(3, 9)),
+        nullify_and_finalize(9),
+        two_finalizes(9, 8),
+        two_notarizes(9, 8),
+    ];
+    assert_heard(&rt, rt.alloc(), &votes, &reports, 3)?;
+    Ok(())
+}
+
+/// An own vote beside another of this member that the network brought: the member blocks itself.
+#[test]
+fn an_own_vote_beside_a_conflicting_one_is_evidence(rt: HostRuntime) -> Result<(), Fail> {
+    let alloc = rt.alloc();
+    let mut round = Round::new(alloc, view_one(), 4, 3, true)?;
+    let mut out = RoundOut::new(alloc);
+    let brought = Vote::Notarize(notarize(3, 9));
+    assert!(rt; round.add_network(Participant(3), brought, &mut out)?);
+    round.accept_vote(Vote::Notarize(notarize(3, 8)), &mut out)?;
+    let reports = [Activity::Notarize(notarize(3, 9)), two_notarizes(9, 8)];
+    assert_out(&rt, alloc, &out, &reports, 1)?;
+    Ok(())
+}
+
+/// A vote that another member sends is nobody's: its sender is blocked, and its signer may still vote otherwise.
+#[test]
+fn a_vote_of_another_sender_is_no_evidence(rt: HostRuntime) -> Result<(), Fail> {
+    let alloc = rt.alloc();
+    let mut round = Round::new(alloc, view_one(), 4, 3, true)?;
+    let mut out = RoundOut::new(alloc);
+    let sent = Vote::Notarize(notarize(1, 8));
+    assert!(rt; !round.add_network(Participant(3), sent, &mut out)?);
+    let own = Vote::Notarize(notarize(1, 9));
+    assert!(rt; round.add_network(Participant(1), own, &mut out)?);
+    let reports = [Activity::Notarize(notarize(1, 9))];
+    assert_out(&rt, alloc, &out, &reports, 1)?;
+    Ok(())
+}

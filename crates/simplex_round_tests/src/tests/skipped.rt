@@ -1,0 +1,68 @@
+//! Rounds that assemble no certificate, and votes that make two.
+use super::votes::{member, notarize_by, nullify_by, verifier, view_one};
+use simplex_round::{Round, RoundOut};
+use simplex_values::Participant;
+use simplex_wire::CertificateKind;
+use std::alloc::{AllocError, Global};
+use std::test::Fail;
+
+/// Notarizes of block 9 of four members, of whom member 0 leads, and nullifies of three.
+fn fill(alloc: Global, round: &mut Round) -> Result<(), AllocError> {
+    let mut out = RoundOut::new(alloc);
+    round.set_leader(Participant(0));
+    for signer in 0..4 {
+        let scheme = member(alloc, 7, 4, signer)?;
+        if let Some(vote) = notarize_by(&scheme) {
+            round.accept_vote(vote, &mut out)?;
+        }
+        if signer == 3 {
+            continue;
+        }
+        if let Some(vote) = nullify_by(&scheme) {
+            round.accept_vote(vote, &mut out)?;
+        }
+    }
+    Ok(())
+}
+
+/// How many votes are checked by one call.
+fn checked(alloc: Global, round: &mut Round) -> Result<u64, AllocError> {
+    let scheme = verifier(alloc, 4)?;
+    match round.try_construct(alloc, &scheme)? {
+        Some(batch) => Ok(batch.processed),
+        None => Ok(0),
+    }
+}
+
+/// Whether these are the certificates that the round holds.
+fn holds(round: &Round, notarization: bool, nullification: bool) -> bool {
+    round.has_certificate(CertificateKind::Notarization) == notarization
+        && round.has_certificate(CertificateKind::Nullification) == nullification
+}
+
+#[test]
+fn a_skipped_round_makes_nothing(rt: HostRuntime) -> Result<(), Fail> {
+    let alloc = rt.alloc();
+    let mut round = Round::skipped(alloc, view_one(), 4)?;
+    fill(alloc, &mut round)?;
+    let processed = checked(alloc, &mut round)?;
+    assert_eq!(rt; processed, 0);
+    assert!(rt; holds(&round, false, false));
+    assert!(rt; round.has_nullify(Participant(2)));
+    assert!(rt; !round.has_nullify(Participant(3)));
+    Ok(())
+}
+
+/// One kind a call, a notarization first.
+#[test]
+fn the_same_votes_make_two_certificates(rt: HostRuntime) -> Result<(), Fail> {
+    let alloc = rt.alloc();
+    let mut round = Round::new(alloc, view_one(), 4, 3, true)?;
+    fill(alloc, &mut round)?;
+    for processed in [4, 3, 0] {
+        let found = checked(alloc, &mut round)?;
+        assert_eq!(rt; found, processed);
+    }
+    assert!(rt; holds(&round, true, true));
+    Ok(())
+}
