@@ -1,0 +1,1 @@
+-- Which gaps are new after a call.

@@ -1,0 +1,5 @@
+pub mod Held
+pub mod Terms
+pub mod Ranges
+pub mod Fresh
+pub mod Candidates
