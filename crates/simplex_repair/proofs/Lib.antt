@@ -3,3 +3,4 @@ pub mod Terms
 pub mod Ranges
 pub mod Fresh
 pub mod Candidates
+pub mod Leads

@@ -4,7 +4,7 @@ use Rattle.std.proofs.lemmas.Grind.{common_steps}
 use Rattle.std.specs.List.{range_with_len}
 
 -- where nothing passes, nothing is left
-none_left : (test : ℕ → Bool) (a m : ℕ) → ((q : ℕ) → a ≤ q → q < a + m → test q ≡ false) → filter test (range_with_len a m) ≡ []
+pub none_left : (test : ℕ → Bool) (a m : ℕ) → ((q : ℕ) → a ≤ q → q < a + m → test q ≡ false) → filter test (range_with_len a m) ≡ []
 none_left test a zero none = refl
 none_left test a (suc m) none =
     (let here = none a (omega arith) (omega arith) in
@@ -35,7 +35,7 @@ skip_end test a (suc m) k none =
 true_is_false : true ≡ false → (b : Bool) → b ≡ false
 true_is_false e b = cc
 
-never : (b : Bool) → (b ≡ true → true ≡ false) → b ≡ false
+pub never : (b : Bool) → (b ≡ true → true ≡ false) → b ≡ false
 never false h = refl
 never true h = h refl
 

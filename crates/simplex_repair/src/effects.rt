@@ -52,10 +52,11 @@ impl RepairState {
         ensures effects { IfOk result (λ effects. Answers self.old (λ length calls. effects_of length calls Replayed) effects.items) }
     {
         let mut effects = Vec::new(self.alloc);
-        if self.is_replayed {
+        let was_replayed = self.is_replayed;
+        self.note_replayed();
+        if was_replayed {
             return Ok(effects);
         }
-        self.note_replayed();
         self.fetch(self.floor, self.top, &mut effects)?;
         Ok(effects)
     }

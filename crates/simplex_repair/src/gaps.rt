@@ -2,6 +2,7 @@
 #![tactic(auto, unfolding(crate::specs::Stands::StandsFor))]
 
 ghost use Rattle.std.specs.Prelude.{◌≡◌, ℕ, ◌+◌, ◌<◌, ◌≤◌, ◌++◌, map, true, false, List, OnOk, IfSome, IfNone};
+ghost use Rattle.simplex_values.specs.Terms.{next_term_start};
 ghost use Rattle.simplex_rules.specs.declared.effect.Effect.TheVariants.{Fetch};
 ghost use Rattle.simplex_rules.specs.Repair.{RepairCall, is_gap, is_first_above, repair_floor};
 ghost use Rattle.simplex_repair.specs.Gaps.{gaps_between, asked_to};
@@ -11,7 +12,7 @@ use crate::maps::{contains, first_from};
 use crate::notes::later;
 use crate::repair::RepairState;
 use simplex_rules::Effect;
-use simplex_values::View;
+use simplex_values::{TermLength, View};
 use std::alloc::AllocError;
 
 impl RepairState {
@@ -70,7 +71,7 @@ impl RepairState {
 
     /// The least view behind one and up to another that can be a gap, if there is one.
     fn next_candidate(&self, at: View, last: View) -> Option<View>
-        ensures above { IfSome result (λ view. (length : ℕ) (calls : List RepairCall) → StandsFor self.now length calls → at < view) }
+        ensures above { IfSome result (λ view. at < view) }
         ensures bound { IfSome result (λ view. view ≤ last) }
         ensures least { IfSome result (λ view. (length : ℕ) (calls : List RepairCall) → StandsFor self.now length calls
             → (q : ℕ) → at < q → q < view → is_gap length calls q ≡ false) }
@@ -90,7 +91,7 @@ impl RepairState {
     #[tactic(auto, unfolding(crate::specs::Stands::StandsFor), using(crate::proofs::Candidates::no_gap))]
     /// The least view from this one on that can be a gap, or a view before which there is none.
     fn candidate_from(&self, view: View) -> View
-        ensures bound { (length : ℕ) (calls : List RepairCall) → StandsFor self.now length calls → view ≤ result }
+        ensures bound { view ≤ result }
         ensures least { (length : ℕ) (calls : List RepairCall) → StandsFor self.now length calls
             → (q : ℕ) → view ≤ q → q < result → is_gap length calls q ≡ false }
     {
@@ -104,7 +105,7 @@ impl RepairState {
     #[tactic(auto, unfolding(crate::specs::Stands::StandsFor), using(crate::proofs::Candidates::rest_of_term, crate::proofs::Terms::next_later))]
     /// The first view above the floor, the view itself at its term's start, or else the next term's start.
     fn first_above_from(&self, view: View) -> View
-        ensures bound { (length : ℕ) (calls : List RepairCall) → StandsFor self.now length calls → view ≤ result }
+        ensures bound { view ≤ result }
         ensures least { (length : ℕ) (calls : List RepairCall) → StandsFor self.now length calls
             → (q : ℕ) → view ≤ q → q < result → is_first_above length (repair_floor calls) q ≡ false }
     {
@@ -114,6 +115,15 @@ impl RepairState {
         if self.is_first_above(view) {
             return view;
         }
-        view.next_term_start(self.length)
+        next_start(self.length, view)
     }
+}
+
+/// The first view of the next term.
+#[tactic(auto, using(crate::proofs::Terms::next_later))]
+fn next_start(length: TermLength, view: View) -> View
+    ensures start { result ≡ next_term_start length view }
+    ensures later { view ≤ result }
+{
+    view.next_term_start(length)
 }
