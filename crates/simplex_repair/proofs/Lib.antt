@@ -4,3 +4,4 @@ pub mod Ranges
 pub mod Fresh
 pub mod Candidates
 pub mod Leads
+pub mod Spans

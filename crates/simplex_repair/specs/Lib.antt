@@ -1,3 +1,4 @@
 pub mod Maps
+pub mod Taken
 pub mod Gaps
 pub mod Stands

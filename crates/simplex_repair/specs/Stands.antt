@@ -6,6 +6,7 @@ use Rattle.simplex_values.specs.Terms.{term_index}
 use Rattle.simplex_rules.specs.Repair.{RepairCall, notarization_held, nullification_held, finalization_held, covering_nullification, is_final, is_good, is_failed, is_replayed_in, repair_floor, top_of}
 use Rattle.simplex_repair.specs.declared.repair.RepairState.{RepairState}
 use Rattle.simplex_repair.specs.Maps.{found, has, reaching}
+use Rattle.simplex_repair.specs.Taken.{is_taken}
 
 -- the state keeps what was given, but for what can not be asked for any more since a later view is final
 pub record Keeps (state : RepairState) (length : ℕ) (calls : List RepairCall) : Type 0 where
@@ -16,8 +17,8 @@ pub record Keeps (state : RepairState) (length : ℕ) (calls : List RepairCall) 
   pub finalization : state.finalization ≡ finalization_held calls
   pub floor : state.floor ≡ repair_floor calls
   pub top : state.top ≡ top_of length calls
-  pub notarized : (view : ℕ) → has state.notarized view ≡ is_some (notarization_held calls view)
-  pub nullified : (view : ℕ) → has state.nullified view ≡ is_some (nullification_held calls view)
+  pub notarized : (view : ℕ) → is_taken state.notarized view ≡ is_some (notarization_held calls view)
+  pub nullified : (view : ℕ) → is_taken state.nullified view ≡ is_some (nullification_held calls view)
   pub failed : (view : ℕ) → has state.failed view ≡ is_failed calls view
   pub good : (view : ℕ) → is_final calls view ≡ false → has state.good view ≡ is_good calls view
   pub notarizations : (view : ℕ) → is_final calls view ≡ false → found state.notarizations view ≡ notarization_held calls view

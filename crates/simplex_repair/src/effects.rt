@@ -1,14 +1,13 @@
 //! What a call leads to.
 #![tactic(auto, unfolding(crate::specs::Stands::StandsFor))]
 
-ghost use Rattle.std.specs.Prelude.{◌≡◌, min, ◌++◌, ◌∷◌, [], if◌then◌else◌, true, false, OnOk, IfOk};
+ghost use Rattle.std.specs.Prelude.{◌≡◌, min, nat_lt, ◌++◌, ◌∷◌, [], if◌then◌else◌, true, false, OnOk, IfOk};
 ghost use Rattle.simplex_wire.specs.declared.certificate.Certificate.TheVariants as certificates;
 ghost use Rattle.simplex_values.specs.declared.ask.Kind.TheVariants as kinds;
-ghost use Rattle.simplex_rules.specs.declared.effect.Effect.TheVariants as effects;
+ghost use Rattle.simplex_rules.specs.declared.effect.Effect.TheVariants.{Settled, Raised};
 ghost use Rattle.simplex_rules.specs.Repair.{Updated, Certified, Replayed, effects_of};
 ghost use Rattle.simplex_repair.specs.Stands.{Takes, Answers};
 
-use crate::maps::contains;
 use crate::notes::later;
 use crate::repair::RepairState;
 use simplex_rules::Effect;
@@ -68,7 +67,7 @@ impl RepairState {
         let view = it.view();
         let behind = self.asked_to(earlier(self.top, view));
         let mut effects = Vec::new(self.alloc);
-        let is_new = !contains(&self.notarized, view.0);
+        let is_new = !self.notarized.contains(view.0);
         push_if(&mut effects, is_new, notarization_settled(view))?;
         self.note_notarization(it)?;
         self.fetch(behind, view, &mut effects)?;
@@ -88,7 +87,7 @@ impl RepairState {
             start: view,
             end: view.term_end(self.length),
         };
-        let is_new = !contains(&self.nullified, view.0);
+        let is_new = !self.nullified.contains(view.0);
         push_if(&mut effects, is_new, settled)?;
         self.note_nullification(it)?;
         self.fetch(behind, last, &mut effects)?;
@@ -107,8 +106,7 @@ impl RepairState {
         let is_new = !self.is_final(view);
         push_if(&mut effects, is_new, Effect::Finalized(view))?;
         self.note_finalization(it)?;
-        let rose = floor < self.floor;
-        push_if(&mut effects, rose, Effect::Raised(self.floor))?;
+        self.push_raised(floor, &mut effects)?;
         self.fetch(behind, next, &mut effects)?;
         Ok(effects)
     }
@@ -122,11 +120,10 @@ impl RepairState {
         let next = later(floor, view).next();
         let behind = self.asked_to(next);
         let mut effects = Vec::new(self.alloc);
-        let is_new = !contains(&self.notarized, view.0);
+        let is_new = !self.notarized.contains(view.0);
         push_if(&mut effects, is_new, notarization_settled(view))?;
         self.note_good(it)?;
-        let rose = floor < self.floor;
-        push_if(&mut effects, rose, Effect::Raised(self.floor))?;
+        self.push_raised(floor, &mut effects)?;
         self.fetch(behind, next, &mut effects)?;
         Ok(effects)
     }
@@ -138,11 +135,18 @@ impl RepairState {
         let view = it.view();
         let behind = self.asked_to(earlier(self.top, view));
         let mut effects = Vec::new(self.alloc);
-        let is_new = !contains(&self.notarized, view.0) || !self.is_failed(view);
+        let is_new = !self.notarized.contains(view.0) || !self.is_failed(view);
         push_if(&mut effects, is_new, notarization_settled(view))?;
         self.note_failed(it)?;
         self.fetch(behind, view, &mut effects)?;
         Ok(effects)
+    }
+
+    /// Tells of the floor, where it rose from this view.
+    fn push_raised(&self, before: View, effects: &mut Vec<Effect>) -> Result<(), AllocError>
+        ensures { OnOk result (effects.new.items ≡ effects.old.items ++ (if nat_lt before self.now.floor then Raised self.now.floor ∷ [] else [])) }
+    {
+        push_if(effects, before < self.floor, Effect::Raised(self.floor))
     }
 }
 
@@ -155,7 +159,7 @@ fn earlier(one: View, other: View) -> View
 
 /// Asks for the notarization of the view are settled.
 fn notarization_settled(view: View) -> Effect
-    ensures { result ≡ effects.Settled kinds.Notarization view view }
+    ensures { result ≡ Settled kinds.Notarization view view }
 {
     Effect::Settled {
         kind: Kind::Notarization,

@@ -38,8 +38,8 @@ impl RepairState {
         Ok(())
     }
 
-    #[tactic(auto, unfolding(crate::specs::Stands::StandsFor, crate::specs::Gaps::asked_to))]
     /// The view behind which new gaps can stand: this one, where it is a gap now, else the one before it.
+    #[tactic(auto, unfolding(crate::specs::Stands::StandsFor, crate::specs::Gaps::asked_to))]
     pub(crate) fn asked_to(&self, view: View) -> View
         ensures { Answers self.now (λ length calls. asked_to length calls view) result }
     {
@@ -49,8 +49,8 @@ impl RepairState {
         View(view.0.saturating_sub(1))
     }
 
-    #[tactic(auto, unfolding(crate::specs::Stands::StandsFor, simplex_rules::specs::Repair::is_gap), using(crate::proofs::Held::above_floor))]
     /// Whether a nullification of the view has to be asked for.
+    #[tactic(auto, unfolding(crate::specs::Stands::StandsFor, simplex_rules::specs::Repair::is_gap), using(crate::proofs::Held::above_floor))]
     fn is_gap(&self, view: View) -> bool
         ensures { Answers self.now (λ length calls. is_gap length calls view) result }
     {
@@ -60,8 +60,8 @@ impl RepairState {
         (view < self.top && self.is_first_above(view)) || self.is_failed(view)
     }
 
-    #[tactic(auto, unfolding(simplex_rules::specs::Repair::is_first_above))]
     /// Whether the view is its term's first above the floor.
+    #[tactic(auto, unfolding(simplex_rules::specs::Repair::is_first_above))]
     fn is_first_above(&self, view: View) -> bool
         requires { self.now.floor < view }
         ensures { result ≡ is_first_above self.now.length self.now.floor view }
@@ -88,8 +88,8 @@ impl RepairState {
         Some(view)
     }
 
-    #[tactic(auto, unfolding(crate::specs::Stands::StandsFor), using(crate::proofs::Candidates::no_gap))]
     /// The least view from this one on that can be a gap, or a view before which there is none.
+    #[tactic(auto, unfolding(crate::specs::Stands::StandsFor), using(crate::proofs::Candidates::no_gap))]
     fn candidate_from(&self, view: View) -> View
         ensures bound { view ≤ result }
         ensures least { (length : ℕ) (calls : List RepairCall) → StandsFor self.now length calls
@@ -102,8 +102,8 @@ impl RepairState {
         }
     }
 
-    #[tactic(auto, unfolding(crate::specs::Stands::StandsFor), using(crate::proofs::Candidates::rest_of_term, crate::proofs::Terms::next_later))]
     /// The first view above the floor, the view itself at its term's start, or else the next term's start.
+    #[tactic(auto, unfolding(crate::specs::Stands::StandsFor), using(crate::proofs::Candidates::rest_of_term, crate::proofs::Terms::next_later))]
     fn first_above_from(&self, view: View) -> View
         ensures bound { view ≤ result }
         ensures least { (length : ℕ) (calls : List RepairCall) → StandsFor self.now length calls

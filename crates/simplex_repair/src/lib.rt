@@ -11,5 +11,6 @@ mod gaps;
 mod maps;
 mod notes;
 mod repair;
+mod taken;
 
 pub use repair::RepairState;

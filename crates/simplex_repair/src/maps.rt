@@ -1,7 +1,7 @@
 //! Maps and sets by number.
 #![tactic(auto, unfolding(crate::specs::Maps::found, crate::specs::Maps::has))]
 
-ghost use Rattle.std.specs.Prelude.{◌≡◌, ◌≤◌, ◌<◌, ℕ, ◌==◌, ◌||◌, ◌&&◌, not, true, false, IfSome, IfNone, Some, None, if◌then◌else◌, OnOk, IfOk};
+ghost use Rattle.std.specs.Prelude.{◌≡◌, ◌≤◌, ◌<◌, ℕ, ◌==◌, ◌||◌, true, false, IfSome, IfNone, Some, None, if◌then◌else◌, OnOk, IfOk};
 ghost use Rattle.simplex_repair.specs.Maps.{found, has};
 
 use simplex_values::Keep;
@@ -61,23 +61,6 @@ pub(crate) fn add(views: &mut BTreeSet<u64>, view: u64) -> Result<(), AllocError
 {
     views.insert(view)?;
     Ok(())
-}
-
-/// Holds the value of a view, where none was taken yet.
-pub(crate) fn hold<V: Drop>(
-    values: &mut BTreeMap<u64, V>,
-    taken: &mut BTreeSet<u64>,
-    view: u64,
-    value: V,
-) -> Result<(), AllocError>
-    ensures taken { OnOk result ((q : ℕ) → has taken.new q ≡ (view == q || has taken.old q)) }
-    ensures held { OnOk result ((q : ℕ) → found values.new q ≡ (if view == q && not (has taken.old view) then Some value else found values.old q)) }
-{
-    if contains(taken, view) {
-        return Ok(());
-    }
-    put(values, view, value)?;
-    add(taken, view)
 }
 
 /// Drops what stands below a number.

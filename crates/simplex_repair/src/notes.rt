@@ -9,8 +9,9 @@ ghost use Rattle.simplex_rules.specs.Repair.{Updated, Certified, Replayed};
 ghost use Rattle.simplex_repair.specs.Stands.{Takes};
 
 use crate::covers::cover;
-use crate::maps::{add, drop_below, hold, remove_below};
+use crate::maps::{add, drop_below, remove_below};
 use crate::repair::RepairState;
+use crate::taken::hold;
 use simplex_values::{Keep, View};
 use simplex_wire::{Finalization, Notarization, Nullification};
 use std::alloc::AllocError;
@@ -31,13 +32,12 @@ impl RepairState {
     pub(crate) fn note_nullification(&mut self, it: &Nullification) -> Result<(), AllocError>
         ensures { OnOk result (Takes self.old self.new (Updated (certificates.Nullification it.now))) }
     {
-        add(&mut self.nullified, it.view().0)?;
+        self.nullified.add(it.view().0)?;
         cover(self.alloc, &mut self.nullifications, self.length, it)?;
         self.top = later(self.top, it.view().next_term_start(self.length));
         Ok(())
     }
 
-    #[tactic(auto, unfolding(crate::specs::Stands::StandsFor, simplex_rules::specs::Lists::first_of, simplex_rules::specs::Lists::greatest_of, simplex_rules::specs::Repair::notarization_held, simplex_rules::specs::Repair::nullification_held, simplex_rules::specs::Repair::finalization_held, simplex_rules::specs::Repair::is_good, simplex_rules::specs::Repair::is_failed, simplex_rules::specs::Repair::final_view, simplex_rules::specs::Repair::repair_floor, simplex_rules::specs::Repair::is_final, simplex_rules::specs::Repair::covering_nullification, simplex_rules::specs::Repair::top_of), using(crate::proofs::Terms::term_rises))]
     /// A finalization is held, where it is the greatest. What can not be asked for any more is let go.
     pub(crate) fn note_finalization(&mut self, it: &Finalization) -> Result<(), AllocError>
         ensures { OnOk result (Takes self.old self.new (Updated (certificates.Finalization it.now))) }

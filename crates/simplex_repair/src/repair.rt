@@ -11,7 +11,7 @@ ghost use Rattle.simplex_repair.specs.Stands.{StandsFor, Answers};
 
 use crate::covers::{copy_covering, is_covered};
 use crate::maps::{contains, copy_at, empty_map, empty_set};
-use simplex_rules::Effect;
+use crate::taken::Taken;
 use simplex_values::{Keep, Kind, TermLength, View};
 use simplex_wire::{Certificate, Finalization, Notarization, Nullification};
 use std::alloc::{AllocError, Global};
@@ -32,9 +32,9 @@ pub struct RepairState {
     /// The view up to which certificates are known to lead.
     pub(crate) top: View,
     /// The views whose notarization was taken.
-    pub(crate) notarized: BTreeSet<u64>,
+    pub(crate) notarized: Taken,
     /// The views whose nullification was taken.
-    pub(crate) nullified: BTreeSet<u64>,
+    pub(crate) nullified: Taken,
     /// The views with a false verdict.
     pub(crate) failed: BTreeSet<u64>,
     /// The views with a true verdict, from the last final one on.
@@ -46,8 +46,8 @@ pub struct RepairState {
 }
 
 impl RepairState {
-    #[tactic(auto, unfolding(crate::specs::Stands::StandsFor, crate::specs::Maps::reaching, simplex_rules::specs::Lists::first_of, simplex_rules::specs::Lists::greatest_of, simplex_rules::specs::Repair::notarization_held, simplex_rules::specs::Repair::nullification_held, simplex_rules::specs::Repair::finalization_held, simplex_rules::specs::Repair::is_good, simplex_rules::specs::Repair::is_failed, simplex_rules::specs::Repair::final_view, simplex_rules::specs::Repair::repair_floor, simplex_rules::specs::Repair::is_final, simplex_rules::specs::Repair::covering_nullification, simplex_rules::specs::Repair::top_of))]
     /// Nothing is held yet.
+    #[tactic(auto, unfolding(crate::specs::Stands::StandsFor, crate::specs::Maps::reaching, simplex_rules::specs::Lists::first_of, simplex_rules::specs::Lists::greatest_of, simplex_rules::specs::Repair::notarization_held, simplex_rules::specs::Repair::nullification_held, simplex_rules::specs::Repair::finalization_held, simplex_rules::specs::Repair::is_good, simplex_rules::specs::Repair::is_failed, simplex_rules::specs::Repair::final_view, simplex_rules::specs::Repair::repair_floor, simplex_rules::specs::Repair::is_final, simplex_rules::specs::Repair::covering_nullification, simplex_rules::specs::Repair::top_of))]
     pub fn new(alloc: Global, length: TermLength) -> RepairState
         ensures { StandsFor result length [] }
     {
@@ -58,8 +58,8 @@ impl RepairState {
             finalization: None,
             floor: View(0),
             top: View(0),
-            notarized: empty_set(alloc),
-            nullified: empty_set(alloc),
+            notarized: Taken::new(alloc),
+            nullified: Taken::new(alloc),
             failed: empty_set(alloc),
             good: empty_set(alloc),
             notarizations: empty_map(alloc),
@@ -74,8 +74,8 @@ impl RepairState {
         self.length
     }
 
-    #[tactic(auto, unfolding(crate::specs::Stands::StandsFor, simplex_rules::specs::Repair::is_settled))]
     /// Whether an ask of this kind for the view has its answer.
+    #[tactic(auto, unfolding(crate::specs::Stands::StandsFor, simplex_rules::specs::Repair::is_settled))]
     pub fn settled(&self, view: View, kind: Kind) -> bool
         ensures { Answers self.now (λ length calls. is_settled length calls view kind) result }
     {
@@ -84,7 +84,7 @@ impl RepairState {
         }
         match kind {
             Kind::Nullification => self.is_nullified(view),
-            Kind::Notarization => contains(&self.notarized, view.0) || self.is_failed(view),
+            Kind::Notarization => self.notarized.contains(view.0) || self.is_failed(view),
         }
     }
 
@@ -115,8 +115,8 @@ impl RepairState {
         }
     }
 
-    #[tactic(auto, unfolding(crate::specs::Stands::StandsFor, simplex_rules::specs::Repair::produced), using(crate::proofs::Held::above_open))]
     /// The certificate for one who asks for the view.
+    #[tactic(auto, unfolding(crate::specs::Stands::StandsFor, simplex_rules::specs::Repair::produced), using(crate::proofs::Held::above_open))]
     fn certificate_for(&self, view: View) -> Result<Option<Certificate>, AllocError>
         ensures { IfOk result (λ it. Answers self.now (λ length calls. produced length calls view) it) }
     {
