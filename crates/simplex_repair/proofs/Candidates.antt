@@ -1,8 +1,8 @@
 -- Which views can be gaps.
-use Rattle.std.proofs.Common.{◌≡◌, ℕ, ◌+◌, ◌-◌, ◌<◌, ◌≤◌, ◌∷◌, [], ◌++◌, if◌then◌else◌, max, Bool, true, false, List, filter, refl, sym, ◌∙◌, arith}
+use Rattle.std.proofs.Common.{◌≡◌, ℕ, ◌+◌, ◌-◌, ◌<◌, ◌≤◌, ◌∷◌, [], if◌then◌else◌, max, false, List, arith}
 use Rattle.std.proofs.lemmas.Grind.{common_steps}
-use Rattle.std.specs.List.{range_with_len, list_any}
-use Rattle.simplex_values.specs.Terms.{term_start, next_term_start}
+use Rattle.std.specs.List.{list_any}
+use Rattle.simplex_values.specs.Terms.{next_term_start}
 use Rattle.simplex_rules.specs.Repair.{RepairCall, is_gap, is_failed, is_first_above, is_replayed_in, repair_floor}
 use Rattle.simplex_repair.specs.Gaps.{gaps_between}
 use Rattle.simplex_repair.proofs.Ranges.{skip_front, none_left}

@@ -1,7 +1,7 @@
 -- Which gaps are new after a call.
-use Rattle.std.proofs.Common.{◌≡◌, ℕ, ◌+◌, ◌-◌, ◌<◌, ◌≤◌, ◌^◌, ◌&&◌, ◌∷◌, [], ◌++◌, if◌then◌else◌, not, max, min, Bool, true, false, List, filter, map, refl, sym, ap, ◌∙◌, arith}
+use Rattle.std.proofs.Common.{◌≡◌, ℕ, ◌+◌, ◌-◌, ◌<◌, ◌≤◌, ◌^◌, ◌&&◌, ◌∷◌, if◌then◌else◌, not, max, min, Bool, true, false, List, map, ap, ◌∙◌, arith}
 use Rattle.std.proofs.lemmas.Grind.{common_steps}
-use Rattle.std.specs.List.{range_with_len, list_any}
+use Rattle.std.specs.List.{range_with_len}
 use Rattle.simplex_wire.specs.declared.certificate.Notarization.{Notarization}
 use Rattle.simplex_wire.specs.declared.certificate.Nullification.{Nullification}
 use Rattle.simplex_wire.specs.declared.certificate.Finalization.{Finalization}
@@ -10,10 +10,10 @@ use Rattle.simplex_values.specs.Terms.{next_of, next_term_start}
 use Rattle.simplex_rules.specs.declared.effect.Effect.TheVariants.{Fetch}
 use Rattle.simplex_rules.specs.Lists.{greatest_of}
 use Rattle.simplex_rules.specs.Known.{view_of}
-use Rattle.simplex_rules.specs.Repair.{RepairCall, Updated, Certified, Replayed, is_gap, is_failed, is_nullified, is_first_above, is_replayed_in, finalization_held, final_view, repair_floor, top_of, gaps_of, fetched_by}
+use Rattle.simplex_rules.specs.Repair.{RepairCall, Updated, Certified, is_gap, is_failed, is_nullified, is_first_above, finalization_held, final_view, repair_floor, top_of, gaps_of, fetched_by}
 use Rattle.simplex_repair.specs.Gaps.{gaps_between, asked_to}
 use Rattle.simplex_repair.proofs.Ranges.{same_range, filter_alike, filter_twice, never}
-use Rattle.simplex_repair.proofs.Held.{failed_low, before_replay}
+use Rattle.simplex_repair.proofs.Held.{failed_low}
 
 -- ---- where new gaps can stand
 

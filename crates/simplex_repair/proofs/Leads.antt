@@ -1,5 +1,5 @@
 -- What each call leads to.
-use Rattle.std.proofs.Common.{◌≡◌, ℕ, ◌+◌, ◌-◌, ◌<◌, ◌≤◌, ◌^◌, ◌&&◌, ◌||◌, ◌∷◌, [], ◌++◌, if◌then◌else◌, nat_lt, not, max, min, Bool, true, false, List, filter, map, refl, sym, ap, ◌∙◌, arith}
+use Rattle.std.proofs.Common.{◌≡◌, ℕ, ◌+◌, ◌-◌, ◌<◌, ◌^◌, ◌&&◌, ◌||◌, ◌∷◌, [], ◌++◌, if◌then◌else◌, nat_lt, not, max, min, Bool, true, false, List, map, ap, ◌∙◌, arith}
 use Rattle.std.proofs.lemmas.Grind.{common_steps}
 use Rattle.std.specs.List.{range_with_len, list_any}
 use Rattle.std.specs.Option.{is_none}
@@ -13,7 +13,7 @@ use Rattle.simplex_rules.specs.declared.effect.Effect.{Effect}
 use Rattle.simplex_rules.specs.declared.effect.Effect.TheVariants.{Fetch, Settled, Finalized, Raised}
 use Rattle.simplex_rules.specs.Lists.{greatest_of}
 use Rattle.simplex_rules.specs.Known.{view_of}
-use Rattle.simplex_rules.specs.Repair.{RepairCall, Updated, Certified, Replayed, is_gap, is_final, is_failed, is_nullified, is_first_above, is_replayed_in, notarization_held, nullification_held, finalization_held, final_view, repair_floor, top_of, gaps_of, settled_by, finalized_by, raised_by, fetched_by, effects_of}
+use Rattle.simplex_rules.specs.Repair.{RepairCall, Updated, Certified, Replayed, is_gap, is_final, is_failed, is_nullified, is_replayed_in, notarization_held, nullification_held, finalization_held, final_view, repair_floor, top_of, gaps_of, settled_by, finalized_by, raised_by, fetched_by, effects_of}
 use Rattle.simplex_repair.specs.Gaps.{gaps_between, asked_to}
 use Rattle.simplex_repair.proofs.Ranges.{filter_alike, filter_twice, none_left}
 use Rattle.simplex_repair.proofs.Held.{before_replay}
