@@ -5,3 +5,4 @@ pub mod Fresh
 pub mod Candidates
 pub mod Leads
 pub mod Spans
+pub mod Lacking

@@ -2,3 +2,4 @@ pub mod Maps
 pub mod Taken
 pub mod Gaps
 pub mod Stands
+pub mod Laws

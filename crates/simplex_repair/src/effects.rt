@@ -60,6 +60,7 @@ impl RepairState {
         Ok(effects)
     }
 
+    /// Takes a notarization, whose view may be one that nothing led to yet.
     fn take_notarization(&mut self, it: &Notarization) -> Result<Vec<Effect>, AllocError>
         ensures stands { OnOk result (Takes self.old self.new (Updated (certificates.Notarization it.now))) }
         ensures effects { IfOk result (λ effects. Answers self.old (λ length calls. effects_of length calls (Updated (certificates.Notarization it.now))) effects.items) }
@@ -74,6 +75,7 @@ impl RepairState {
         Ok(effects)
     }
 
+    /// Takes a nullification, which opens the next term.
     fn take_nullification(&mut self, it: &Nullification) -> Result<Vec<Effect>, AllocError>
         ensures stands { OnOk result (Takes self.old self.new (Updated (certificates.Nullification it.now))) }
         ensures effects { IfOk result (λ effects. Answers self.old (λ length calls. effects_of length calls (Updated (certificates.Nullification it.now))) effects.items) }
@@ -94,6 +96,7 @@ impl RepairState {
         Ok(effects)
     }
 
+    /// Takes a finalization, behind which a term may go on.
     fn take_finalization(&mut self, it: &Finalization) -> Result<Vec<Effect>, AllocError>
         ensures stands { OnOk result (Takes self.old self.new (Updated (certificates.Finalization it.now))) }
         ensures effects { IfOk result (λ effects. Answers self.old (λ length calls. effects_of length calls (Updated (certificates.Finalization it.now))) effects.items) }
@@ -111,6 +114,7 @@ impl RepairState {
         Ok(effects)
     }
 
+    /// Takes a true verdict, behind which a term may go on.
     fn take_good(&mut self, it: Notarization) -> Result<Vec<Effect>, AllocError>
         ensures stands { OnOk result (Takes self.old self.new (Certified it true)) }
         ensures effects { IfOk result (λ effects. Answers self.old (λ length calls. effects_of length calls (Certified it true)) effects.items) }
@@ -128,6 +132,7 @@ impl RepairState {
         Ok(effects)
     }
 
+    /// Takes a false verdict, after which the view itself can be a gap.
     fn take_failed(&mut self, it: Notarization) -> Result<Vec<Effect>, AllocError>
         ensures stands { OnOk result (Takes self.old self.new (Certified it false)) }
         ensures effects { IfOk result (λ effects. Answers self.old (λ length calls. effects_of length calls (Certified it false)) effects.items) }

@@ -8,9 +8,11 @@
 mod covers;
 mod effects;
 mod gaps;
+mod laws;
 mod maps;
 mod notes;
 mod repair;
 mod taken;
 
+pub use laws::gaps_are_what_is_lacking;
 pub use repair::RepairState;
