@@ -32,10 +32,7 @@ pub gap_low : (length : ℕ) (calls : List RepairCall) (u : ℕ) → is_gap leng
 unfolding is_gap
 gap_low length calls u g = grind (arith, common_steps, g, failed_low length calls u)
 
--- whether a view is a gap and was none
-is_new : ℕ → List RepairCall → RepairCall → ℕ → Bool
-is_new length calls call u = is_gap length (call ∷ calls) u && not (is_gap length calls u)
-
+-- the parts of the test that a view is a gap and was none
 both : (a b : Bool) → (a && not b) ≡ true → (a ≡ true)
 both a b e = grind (arith, common_steps, e)
 

@@ -7,6 +7,6 @@ use Rattle.simplex_rules.specs.Repair.{RepairCall, is_gap}
 unfoldable pub gaps_between : ℕ → List RepairCall → ℕ → ℕ → List ℕ
 gaps_between length calls behind last = filter (is_gap length calls) (range_with_len (behind + 1) (last - behind))
 
--- the view behind which the views from this one on are no gaps, where the later ones are none
+-- up to where gaps were asked for, where none stands behind the view: to the view, if it is a gap, else to the one before
 unfoldable pub asked_to : ℕ → List RepairCall → ℕ → ℕ
 asked_to length calls first = if is_gap length calls first then first else first - 1

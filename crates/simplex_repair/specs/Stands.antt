@@ -8,7 +8,7 @@ use Rattle.simplex_repair.specs.declared.repair.RepairState.{RepairState}
 use Rattle.simplex_repair.specs.Maps.{found, has, reaching}
 use Rattle.simplex_repair.specs.Taken.{is_taken}
 
--- the state keeps what was given, but for what can not be asked for any more since a later view is final
+-- the state keeps what was given, but for what cannot be asked for any more since a later view is final
 pub record Keeps (state : RepairState) (length : ℕ) (calls : List RepairCall) : Type 0 where
   pub terms : state.length ≡ length
   pub some_length : 0 < length

@@ -38,7 +38,7 @@ impl RepairState {
         Ok(())
     }
 
-    /// The view behind which new gaps can stand: this one, where it is a gap now, else the one before it.
+    /// The view behind which new gaps can stand: this one, where it is a gap already, else the one before.
     #[tactic(auto, unfolding(crate::specs::Stands::StandsFor, crate::specs::Gaps::asked_to))]
     pub(crate) fn asked_to(&self, view: View) -> View
         ensures { Answers self.now (λ length calls. asked_to length calls view) result }
@@ -103,7 +103,7 @@ impl RepairState {
     }
 
     /// The first view above the floor, the view itself at its term's start, or else the next term's start.
-    #[tactic(auto, unfolding(crate::specs::Stands::StandsFor), using(crate::proofs::Candidates::rest_of_term, crate::proofs::Terms::next_later))]
+    #[tactic(auto, unfolding(crate::specs::Stands::StandsFor), using(crate::proofs::Candidates::rest_of_term))]
     fn first_above_from(&self, view: View) -> View
         ensures bound { view ≤ result }
         ensures least { (length : ℕ) (calls : List RepairCall) → StandsFor self.now length calls

@@ -38,7 +38,7 @@ impl RepairState {
         Ok(())
     }
 
-    /// A finalization is held, where it is the greatest. What can not be asked for any more is let go.
+    /// A finalization is held, where it is the greatest. What cannot be asked for any more is let go.
     pub(crate) fn note_finalization(&mut self, it: &Finalization) -> Result<(), AllocError>
         ensures { OnOk result (Takes self.old self.new (Updated (certificates.Finalization it.now))) }
     {

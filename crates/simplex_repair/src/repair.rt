@@ -31,9 +31,9 @@ pub struct RepairState {
     pub(crate) floor: View,
     /// The view up to which certificates are known to lead.
     pub(crate) top: View,
-    /// The views whose notarization was taken.
+    /// The views whose notarization was taken, as ranges.
     pub(crate) notarized: Taken,
-    /// The views whose nullification was taken.
+    /// The views whose nullification was taken, as ranges.
     pub(crate) nullified: Taken,
     /// The views with a false verdict.
     pub(crate) failed: BTreeSet<u64>,
