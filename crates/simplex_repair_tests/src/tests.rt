@@ -199,5 +199,5 @@ fn far_ahead_each_term_is_asked_for(rt: HostRuntime) -> Result<(), Fail> {
         opens(&rt, alloc, 3, view)?;
         opens(&rt, alloc, 5, view)?;
     }
-    Ok(())
+    opens(&rt, alloc, 1, 100_001)
 }
