@@ -1,4 +1,9 @@
 //! What an engine is connected to. Each may answer want of memory.
+ghost use Rattle.std.specs.Prelude.{Result};
+ghost use Rattle.std.specs.declared.alloc.AllocError.{AllocError};
+ghost use Rattle.simplex_values.specs.declared.feedback.Feedback.{Feedback};
+ghost use Rattle.simplex_types.specs.Reporting.{if_there};
+
 use simplex_values::{Context, Digest, Feedback, Participant, Plan, Round, View};
 use std::alloc::AllocError;
 
@@ -6,12 +11,18 @@ use std::alloc::AllocError;
 pub trait Reporter {
     type Activity;
 
+    /// What the reporter answers to an activity, and what it is then.
+    ghost reports: { Self → Self.Activity → Result Feedback AllocError → Self → Type 0 };
+
     /// Takes an activity.
-    fn report(&mut self, activity: Self::Activity) -> Result<Feedback, AllocError>;
+    fn report(&mut self, activity: Self::Activity) -> Result<Feedback, AllocError>
+        ensures told { reports self.old activity result self.new };
 }
 
 impl<R: Reporter<Activity: Drop>> Reporter for Option<R> {
     type Activity = R::Activity;
+
+    ghost reports = { if_there R.reports };
 
     fn report(&mut self, activity: R::Activity) -> Result<Feedback, AllocError> {
         match self {

@@ -2,7 +2,8 @@
 //!
 //! The digests were made by Python's `hashlib.sha256` from the bytes that the definitions name, put together
 //! by a short script, and not by this crate.
-ghost use Rattle.std.specs.Prelude.{◌≡◌, ◌<◌, IfOk};
+ghost use Rattle.std.specs.Prelude.{◌≡◌, ◌<◌, IfOk, Ok};
+ghost use Rattle.simplex_values.specs.declared.feedback.Feedback.TheVariants.{Backoff};
 
 use super::*;
 use crate::elector::{Config, Elector};
@@ -346,6 +347,8 @@ struct Sum {
 
 impl Reporter for Sum {
     type Activity = u32;
+
+    ghost reports = { λ before activity answer after. answer ≡ Ok Backoff };
 
     fn report(&mut self, activity: u32) -> Result<Feedback, AllocError> {
         self.total = self.total.saturating_add(u64::from(activity));
