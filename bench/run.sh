@@ -1,14 +1,11 @@
 #!/bin/bash
-# Times the work of crates/bench_wire, bench_mailbox, bench_fetch and bench_round, by the proved program and by plain Rust.
-# Run it from anywhere, after `rt run` in the program's crate: bench/run.sh wire|mailbox|fetch|round [TIMES].
+# Times the work of crates/bench_wire, bench_mailbox, bench_fetch and bench_round, by the proved program and by plain
+# Rust, and that of crates/bench_batcher by a batcher and by the round alone.
+# Run it from anywhere, after `rt run` in the program's crate: bench/run.sh wire|mailbox|fetch|round|batcher [TIMES].
 set -euo pipefail
 cd "$(dirname "$0")"
-what=${1:?wire, mailbox, fetch or round}
+what=${1:?wire, mailbox, fetch, round or batcher}
 proved=../crates/bench_$what/out/bench_$what
-export CARGO_TARGET_DIR=${CARGO_TARGET_DIR:-/tmp/bench_target}
-built=$CARGO_TARGET_DIR/release/bench_$what
-(cd rust && cargo build --release --offline --quiet && cp "$built" "$CARGO_TARGET_DIR/plain")
-(cd rust && cargo build --release --offline --quiet --features soft && cp "$built" "$CARGO_TARGET_DIR/soft")
 
 # How often a program does the work in a second of user time: that of so many turns, less that of none,
 # the least of five runs each. The words are the program's, without the number of turns.
@@ -25,6 +22,28 @@ best = min(run(times) for _ in range(5)) - min(run(0) for _ in range(5))
 print(f"{int(times) / best:.0f}")
 P
 }
+
+# A batcher and the round alone, for so many members: the rate of each, and how long the one takes by the other.
+beside_round() {
+    local round actor
+    round=$(rate "$1" "$proved" round "$2")
+    actor=$(rate "$1" "$proved" actor "$2")
+    printf '%-14s %12s %12s %18s\n' "$2" "$round" "$actor" \
+        "$(python3 -c 'import sys; print(f"{int(sys.argv[1]) / int(sys.argv[2]):.2f}")' "$round" "$actor")"
+}
+
+if [ "$what" = batcher ]; then
+    times=${2:-2000}
+    printf '%-14s %12s %12s %18s\n' 'members' 'round alone' 'batcher' 'times the round'
+    beside_round $((times * 20)) 4
+    beside_round "$times" 100
+    exit
+fi
+
+export CARGO_TARGET_DIR=${CARGO_TARGET_DIR:-/tmp/bench_target}
+built=$CARGO_TARGET_DIR/release/bench_$what
+(cd rust && cargo build --release --offline --quiet && cp "$built" "$CARGO_TARGET_DIR/plain")
+(cd rust && cargo build --release --offline --quiet --features soft && cp "$built" "$CARGO_TARGET_DIR/soft")
 
 # A line of the table: the work's words, and its rate by each program.
 line() {

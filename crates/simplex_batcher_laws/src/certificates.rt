@@ -1,0 +1,20 @@
+//! Certificates that are handed to the voter.
+ghost use Rattle.std.specs.Prelude.{ℕ, ◌≡◌, Bool, List, ◌∷◌, All};
+ghost use Rattle.simplex_types.specs.Keyed.{keyed_verifies};
+ghost use Rattle.simplex_round.specs.Assembly.{as_scheme};
+ghost use Rattle.simplex_steps.specs.Batcher.{Made, Timed, standing_after, step_out};
+ghost use Rattle.simplex_batcher_laws.specs.Votes.{Accepted};
+ghost use Rattle.simplex_batcher_laws.specs.Certificates.{IsSchemeOfMembers, BringsNew, IsFoundedMessage};
+
+/// A certificate that a step hands to the voter verifies. Either the step took it from the network, and the round
+/// of its view held none of its kind; or it lists a quorum of signers, each with a vote on the certificate's
+/// subject that was accepted and verifies.
+pub fn handed_certificates_are_founded()
+    ensures { (made : Made) (past : List Timed) (given : Timed) → IsSchemeOfMembers made
+        → All (IsFoundedMessage made (Accepted made (given ∷ past)) (BringsNew (standing_after made past) given.input)) (step_out made past given).handed }
+{}
+
+/// The keyed scheme of a batcher's members is one by which no signature of another verifies.
+pub fn keyed_scheme_is_of_its_members()
+    ensures { (made : Made) (base : ℕ) (recovers : Bool) → made.scheme ≡ as_scheme (keyed_verifies base made.members) recovers made.members → IsSchemeOfMembers made }
+{}

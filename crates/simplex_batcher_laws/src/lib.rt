@@ -1,0 +1,14 @@
+//! What a batcher can be trusted with, whatever it is given.
+//!
+//! Each law is the contract of a function below, and is about the definition of a batcher's step alone: a batcher
+//! is the list of its inputs since its start, the newest first. No code is named here; an actor that makes such
+//! steps has these laws.
+#![tactic(auto)]
+
+mod certificates;
+mod votes;
+
+pub use certificates::{handed_certificates_are_founded, keyed_scheme_is_of_its_members};
+pub use votes::{
+    accepted_votes_came_from_their_signers, held_votes_were_accepted, reports_are_founded,
+};
