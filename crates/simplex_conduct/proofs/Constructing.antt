@@ -16,11 +16,10 @@ use Rattle.simplex_messages.specs.declared.batcher.Message.TheVariants as batche
 use Rattle.simplex_rules.specs.Known.{Made, Fact}
 use Rattle.simplex_agreement.specs.World.{Sent}
 use Rattle.simplex_agreement.proofs.ListFacts.{Contains-here}
-use Rattle.simplex_lives.specs.Member as life
 use Rattle.simplex_lives.specs.Member.{Member}
 use Rattle.simplex_conduct.specs.Life.{IsVoteSent, AreVotesSent}
 use Rattle.simplex_conduct.proofs.Facts.{SameMemory}
-use Rattle.simplex_conduct.proofs.Living.{behind, subjects_of}
+use Rattle.simplex_conduct.proofs.Living.{behind, subjects_of, first_out}
 use Rattle.simplex_conduct.proofs.Simulating.{Stores, IsPlain, behind-push, plain_behind, stores_known, stores_plain, stores_send}
 
 -- no constructed vote
@@ -94,11 +93,6 @@ published_hand made m cs hs facts queue h silent p =
       constructed = AreVotesSent-append (behind m cs).sent hs (h ∷ []) p.constructed (silent_sent (behind m cs).sent h silent, tt);
     }
 
-out_first : (m : Member) (box : List Sent) (s : Subject) (others : List Subject) → subjects_of box ≡ s ∷ others
-    → (x : Sent) × (x.subject ≡ s) × ((life.published m box).sent ≡ m.sent ++ x ∷ [])
-out_first m [] s others h = cc
-out_first m (x ∷ rest) s others h = (x, cc, refl)
-
 here : (xs : List Sent) (x : Sent) (s : Subject) → x.subject ≡ s → Contains (subjects_of (xs ++ x ∷ [])) s
 here xs x s e =
     subst (λ ys. Contains ys s) (sym (map-append (λ (y : Sent). y.subject) xs (x ∷ [])))
@@ -110,7 +104,7 @@ pub published_send : (made : Made) (m : Member) (cs : List Call) (hs : List Hand
 published_send made m cs hs facts queue v p =
     let now = behind m cs in
     let c = calls.Send channels.Vote recipients.All (format.vote.spelling v) in
-    let x = out_first now now.outbox (vote_subject v) (map vote_subject queue) p.stores.sim.box in
+    let x = first_out now now.outbox (vote_subject v) (map vote_subject queue) refl p.stores.sim.box in
     record {
       stores = stores_send made m cs facts queue v p.stores;
       constructed = subst (λ (n : Member). AreVotesSent n.sent (hs ++ handed.Batcher (batcher.Constructed v) ∷ [])) (sym (behind-push m cs c))

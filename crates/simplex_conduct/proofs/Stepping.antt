@@ -1,6 +1,6 @@
 -- A step, whatever its source holds.
 use Rattle.std.proofs.Common.{◌≡◌, ℕ, ◌<◌, Bool, true, false, nat_le, List, [], Option, Some, None, refl, ◌∙◌, subst, if◌then◌else◌}
-use Rattle.std.specs.Option.{option_map, option_and_then}
+use Rattle.std.specs.Option.{option_map}
 use Rattle.simplex_values.specs.declared.answer.Answer.{Answer}
 use Rattle.simplex_values.specs.Terms.{greatest_view}
 use Rattle.simplex_journal.specs.Journal.{Section}
@@ -21,22 +21,10 @@ use Rattle.simplex_lives.specs.Member.{Member, run}
 use Rattle.simplex_conduct.specs.Life.{IsRunning, IsLived}
 use Rattle.simplex_conduct.proofs.Constructing.{AreSilent, all_silent}
 use Rattle.simplex_conduct.proofs.Living.{behind}
-use Rattle.simplex_conduct.proofs.Silent.{silent_acted}
+use Rattle.simplex_conduct.proofs.Silent.{some_is, gives, gives_some, silent_acted}
 use Rattle.simplex_conduct.proofs.Publishing.{Publishing, step_ends, iteration_publishes}
 use Rattle.simplex_conduct.proofs.Acting.{Touched, Repeats, begin, plainly, mail_touches, deadline_touches, propose_touches, proposal_touches, verify_touches, answer_certify_touches}
 use Rattle.simplex_conduct.proofs.Stopping.{lived}
-
-some_is : {A : Type 0} (a b : A) → Some a ≡ Some b → a ≡ b
-some_is a b e = cc
-
--- what an option gives, its value gives
-gives : {A B : Type 0} (P : B → Type 0) (f : A → B) (o : Option A) (b : B) → ((a : A) → P (f a)) → option_map f o ≡ Some b → P b
-gives P f None b each e = cc
-gives P f (Some a) b each e = subst P (some_is (f a) b e) (each a)
-
-gives_some : {A B : Type 0} (P : B → Type 0) (f : A → Option B) (o : Option A) (b : B) → ((a : A) → f a ≡ Some b → P b) → option_and_then f o ≡ Some b → P b
-gives_some P f None b each e = cc
-gives_some P f (Some a) b each e = each a e
 
 taken_proposal : (made : Made) (m : Member) (now : ℕ) (s : Standing) (sections : List Section) (p : Pending) (at : ProposalState) (outcome : Doing × Option ℕ)
     → IsRunning made s.desk.known sections m → take_proposal made now s p at ≡ Some outcome → Repeats made m outcome

@@ -135,7 +135,7 @@ unfolding place_of
 start_sections made now stop = refl
 
 -- the engine of a start, and what it did
-abbrev engine_at : Setup → Node → Option Finalization → List Section → EngineMade
+abbrev pub engine_at : Setup → Node → Option Finalization → List Section → EngineMade
 engine_at setup node floor js = engine_of setup node.member (floor_of setup floor) js
 
 engine_rules : (setup : Setup) (node : Node) (floor : Option Finalization) (js : List Section) (start : ℕ) → ((engine_at setup node floor js).voter start).rules ≡ rules_of setup node.member start
@@ -143,11 +143,11 @@ unfolding engine_of
 engine_rules setup node floor js start = refl
 
 -- what the start gives, by its rules
-abbrev given_start : Setup → Node → Option Finalization → List Section → ℕ → Stop → Performed
+abbrev pub given_start : Setup → Node → Option Finalization → List Section → ℕ → Stop → Performed
 given_start setup node floor js now stop =
     start_performed stop (floor_of setup floor) (voter.started (rules_of setup node.member now) now (floor_of setup floor) (replayed js)) js
 
-begun_gives : (setup : Setup) (node : Node) (floor : Option Finalization) (js : List Section) (now : ℕ) (stop : Stop)
+pub begun_gives : (setup : Setup) (node : Node) (floor : Option Finalization) (js : List Section) (now : ℕ) (stop : Stop)
     → engine.begun (engine_at setup node floor js) now stop ≡ by_voter Began now stop (given_start setup node floor js now stop)
 unfolding engine.begun engine_of start_given place_of
 begun_gives setup node floor js now stop = refl
@@ -455,7 +455,7 @@ unfolding place_of
 idle_place made given input now stop e =
     ap (λ o. option_map_or (λ doing. record { standing = rest doing (place_of made given).standing.answers; sections = (performed stop doing (place_of made given).sections).sections }) o (place_of made given)) e
 
-step_gives : (made : VoterMade) (given : List Given) (input : VoterInput) (now : ℕ) (stop : Stop) (o : Option Doing) → voter.stepped made.rules now (place_of made given).standing input ≡ o
+pub step_gives : (made : VoterMade) (given : List Given) (input : VoterInput) (now : ℕ) (stop : Stop) (o : Option Doing) → voter.stepped made.rules now (place_of made given).standing input ≡ o
     → step_given made given input now stop ≡ option_map_or (λ doing. performed stop doing (place_of made given).sections) o (idle (place_of made given).sections)
 unfolding step_given
 step_gives made given input now stop o e = ap (λ o. option_map_or (λ doing. performed stop doing (place_of made given).sections) o (idle (place_of made given).sections)) e

@@ -58,7 +58,7 @@ pub life_then : (setup : Setup) (noted : Noted) (before : List Noted) (node : No
 unfolding life_in
 life_then setup noted before node e = ap (λ b. if b then after setup noted.event noted.did (life_in setup before node) else life_in setup before node) e
 
-life_still : (setup : Setup) (noted : Noted) (before : List Noted) (node : Node) → is_of node noted.event ≡ false
+pub life_still : (setup : Setup) (noted : Noted) (before : List Noted) (node : Node) → is_of node noted.event ≡ false
     → life_in setup (noted ∷ before) node ≡ life_in setup before node
 unfolding life_in
 life_still setup noted before node e = ap (λ b. if b then after setup noted.event noted.did (life_in setup before node) else life_in setup before node) e

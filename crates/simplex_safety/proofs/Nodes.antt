@@ -43,14 +43,14 @@ use Rattle.simplex_safety.specs.Histories.{IsRun, IsStartAbove, AreFloors, IsAt,
 use Rattle.simplex_safety.proofs.Further.{Further, same_self, same_node, go_further, stay}
 use Rattle.simplex_safety.proofs.Events.{start_further, batcher_further, nothing_further, voter_further, answer_further, crash_further}
 
-ok_is : {E A : Type 0} (a b : A) → ◌≡◌ {A = Result A E} (Ok a) (Ok b) → a ≡ b
+pub ok_is : {E A : Type 0} (a b : A) → ◌≡◌ {A = Result A E} (Ok a) (Ok b) → a ≡ b
 ok_is a b e = cc
 
-if_ok : {E A : Type 0} (b : Bool) (x : Result A E) (error : E) (a : A) → (if b then x else Err error) ≡ Ok a → (b ≡ true) × (x ≡ Ok a)
+pub if_ok : {E A : Type 0} (b : Bool) (x : Result A E) (error : E) (a : A) → (if b then x else Err error) ≡ Ok a → (b ≡ true) × (x ≡ Ok a)
 if_ok true x error a e = (refl, e)
 if_ok false x error a e = cc
 
-if_err : {E A : Type 0} (b : Bool) (x : Result A E) (error : E) (a : A) → (if b then Err error else x) ≡ Ok a → (b ≡ false) × (x ≡ Ok a)
+pub if_err : {E A : Type 0} (b : Bool) (x : Result A E) (error : E) (a : A) → (if b then Err error else x) ≡ Ok a → (b ≡ false) × (x ≡ Ok a)
 if_err true x error a e = cc
 if_err false x error a e = (refl, e)
 
@@ -242,7 +242,7 @@ crash_lives setup pos before at node noted e b = cases (life_in setup before at)
 
 -- ---- every event
 
-both_err : {E A : Type 0} (b : Bool) (x y : E) (a : A) → ◌≡◌ {A = Result A E} (if b then Err x else Err y) (Ok a) → ⊥
+pub both_err : {E A : Type 0} (b : Bool) (x y : E) (a : A) → ◌≡◌ {A = Result A E} (if b then Err x else Err y) (Ok a) → ⊥
 both_err true x y a e = cc
 both_err false x y a e = cc
 
