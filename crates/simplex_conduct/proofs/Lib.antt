@@ -1,5 +1,6 @@
 pub mod Acting
 pub mod Beginning
+pub mod Constructing
 pub mod Facts
 pub mod Floors
 pub mod Journals
@@ -8,6 +9,7 @@ pub mod Pruning
 pub mod Publishing
 pub mod Remembering
 pub mod Replaying
+pub mod Silent
 pub mod Simulating
 pub mod Starting
 pub mod Stepping

@@ -238,7 +238,7 @@ pub record Out (m : Member) (cs : List Call) : Type 0 where
   pub sends : (behind m cs).sent ≡ m.sent ++ sent
   pub votes : AreSent cs (subjects_of sent)
 
-first_out : (m : Member) (box : List Sent) (s : Subject) (others : List Subject) → m.outbox ≡ box → subjects_of box ≡ s ∷ others
+pub first_out : (m : Member) (box : List Sent) (s : Subject) (others : List Subject) → m.outbox ≡ box → subjects_of box ≡ s ∷ others
     → (x : Sent) × (x.subject ≡ s) × ((life.published m box).sent ≡ m.sent ++ x ∷ [])
 first_out m [] s others e h = cc
 first_out m (x ∷ rest) s others e h = (x, cc, refl)

@@ -38,7 +38,10 @@ use Rattle.simplex_conduct.specs.Life.{noted, remembered}
 use Rattle.simplex_conduct.proofs.Remembering.{final_is}
 use Rattle.simplex_conduct.proofs.Voting.{may_notarize, may_finalize}
 use Rattle.simplex_conduct.proofs.Facts.{told_quiet, IsQuiet, one_more, reconciled_same, iterated_same}
-use Rattle.simplex_conduct.proofs.Simulating.{Writes, Stores, writes_known, writes_note, writes_sync, stores_known, stores_plain, stores_send, stores_prune}
+use Rattle.simplex_conduct.proofs.Constructing.{AreSilent, all_silent, Published, published_known, published_plain, published_hand, published_send}
+use Rattle.simplex_conduct.proofs.Silent.{silent_notarize, silent_finalize, silent_requests, silent_sync, iteration_hands}
+use Rattle.simplex_conduct.proofs.Living.{behind}
+use Rattle.simplex_conduct.proofs.Simulating.{Writes, Stores, writes_known, writes_note, writes_sync, stores_known, stores_prune}
 
 -- what a step has done so far is lived by the member; it writes to this view's section, or all is stored
 abbrev pub Writing : Made → Member → ℕ → Doing → List Vote → Type 0
@@ -46,6 +49,10 @@ Writing made m view d queue = Writes made m view d.calls d.wrote d.desk.known qu
 
 abbrev pub Storing : Made → Member → Doing → List Vote → Type 0
 Storing made m d queue = Stores made m d.calls d.desk.known queue
+
+-- and each vote that it handed to the batcher as constructed was sent
+abbrev pub Publishing : Made → Member → Doing → List Vote → Type 0
+Publishing made m d queue = Published made m d.calls d.handed d.desk.known queue
 
 -- one more fact is remembered behind the others
 pub remembered_push : (fact : Fact) (known : List Fact) → remembered (fact ∷ known) ≡ remembered known ++ option_to_list (noted fact)
@@ -142,16 +149,18 @@ sync_keeps view d = at d.wrote
 
 -- ---- what is published
 
-verdict_out : (made : Made) (m : Member) (d : Doing) (queue : List Vote) → Storing made m d queue → Storing made m (publish_verdict d) queue
+verdict_out : (made : Made) (m : Member) (d : Doing) (queue : List Vote) → Publishing made m d queue → Publishing made m (publish_verdict d) queue
 unfolding publish_verdict
 verdict_out made m d queue s = at d.verdict
   where
     one : (n : Notarization) (good b : Bool) → (let told = hand (handed.Resolver (resolver.Certified n good)) d in
-        Storing made m (if b then report (activities.Certification n) told else told) queue)
-    one n good true = stores_plain made m d.calls d.desk.known queue (calls.Report (activities.Certification n)) tt s
-    one n good false = s
+        Publishing made m (if b then report (activities.Certification n) told else told) queue)
+    one n good true =
+        published_plain made m d.calls (hand (handed.Resolver (resolver.Certified n good)) d).handed d.desk.known queue (calls.Report (activities.Certification n)) tt
+        (published_hand made m d.calls d.handed d.desk.known queue (handed.Resolver (resolver.Certified n good)) tt s)
+    one n good false = published_hand made m d.calls d.handed d.desk.known queue (handed.Resolver (resolver.Certified n good)) tt s
 
-    at : (o : Option (Notarization × Bool)) → Storing made m (option_map_or (λ v.
+    at : (o : Option (Notarization × Bool)) → Publishing made m (option_map_or (λ v.
         let told = hand (handed.Resolver (resolver.Certified v.0 v.1)) d in
         if v.1 then report (activities.Certification v.0) told else told) o d) queue
     at None = s
@@ -177,77 +186,77 @@ abbrev pub nullify_waiting : Option (Nullify × Option Certificate) → List Vot
 nullify_waiting None = []
 nullify_waiting (Some n) = votes.Nullify n.0 ∷ []
 
-certificate_out : (made : Made) (m : Member) (d : Doing) (queue : List Vote) (o : Option Certificate) → Storing made m d queue → Storing made m (with_certificate o d) queue
+certificate_out : (made : Made) (m : Member) (d : Doing) (queue : List Vote) (o : Option Certificate) → Publishing made m d queue → Publishing made m (with_certificate o d) queue
 certificate_out made m d queue None s = s
 certificate_out made m d queue (Some c) s =
-    stores_plain made m d.calls d.desk.known queue (calls.Send channels.Certificate recipients.All (format.certificate.spelling c)) tt s
+    published_plain made m d.calls d.handed d.desk.known queue (calls.Send channels.Certificate recipients.All (format.certificate.spelling c)) tt s
 
-nullify_out : (made : Made) (m : Member) (d : Doing) (queue : List Vote) → Storing made m d (nullify_waiting d.nullify ++ queue) → Storing made m (publish_nullify d) queue
+nullify_out : (made : Made) (m : Member) (d : Doing) (queue : List Vote) → Publishing made m d (nullify_waiting d.nullify ++ queue) → Publishing made m (publish_nullify d) queue
 unfolding publish_nullify
 nullify_out made m d queue s = at d.nullify s
   where
-    at : (o : Option (Nullify × Option Certificate)) → Storing made m d (nullify_waiting o ++ queue)
-        → Storing made m (option_map_or (λ n. with_certificate n.1 (send_vote (votes.Nullify n.0) d)) o d) queue
+    at : (o : Option (Nullify × Option Certificate)) → Publishing made m d (nullify_waiting o ++ queue)
+        → Publishing made m (option_map_or (λ n. with_certificate n.1 (send_vote (votes.Nullify n.0) d)) o d) queue
     at None h = h
-    at (Some n) h = certificate_out made m (send_vote (votes.Nullify n.0) d) queue n.1 (stores_send made m d.calls d.desk.known queue (votes.Nullify n.0) h)
+    at (Some n) h = certificate_out made m (send_vote (votes.Nullify n.0) d) queue n.1 (published_send made m d.calls d.handed d.desk.known queue (votes.Nullify n.0) h)
 
-notarize_out : (made : Made) (m : Member) (d : Doing) (queue : List Vote) (o : Option Notarize) → Storing made m d (notarize_waiting o ++ queue)
-    → Storing made m (option_map_or (λ n. send_vote (votes.Notarize n) d) o d) queue
+notarize_out : (made : Made) (m : Member) (d : Doing) (queue : List Vote) (o : Option Notarize) → Publishing made m d (notarize_waiting o ++ queue)
+    → Publishing made m (option_map_or (λ n. send_vote (votes.Notarize n) d) o d) queue
 notarize_out made m d queue None s = s
-notarize_out made m d queue (Some n) s = stores_send made m d.calls d.desk.known queue (votes.Notarize n) s
+notarize_out made m d queue (Some n) s = published_send made m d.calls d.handed d.desk.known queue (votes.Notarize n) s
 
-finalize_out : (made : Made) (m : Member) (d : Doing) (queue : List Vote) (o : Option Finalize) → Storing made m d (finalize_waiting o ++ queue)
-    → Storing made m (option_map_or (λ n. send_vote (votes.Finalize n) d) o d) queue
+finalize_out : (made : Made) (m : Member) (d : Doing) (queue : List Vote) (o : Option Finalize) → Publishing made m d (finalize_waiting o ++ queue)
+    → Publishing made m (option_map_or (λ n. send_vote (votes.Finalize n) d) o d) queue
 finalize_out made m d queue None s = s
-finalize_out made m d queue (Some n) s = stores_send made m d.calls d.desk.known queue (votes.Finalize n) s
+finalize_out made m d queue (Some n) s = published_send made m d.calls d.handed d.desk.known queue (votes.Finalize n) s
 
 -- a certificate is sent and reported
-both_out : (made : Made) (m : Member) (d : Doing) (queue : List Vote) (c : Certificate) (a : Activity) → Storing made m d queue → Storing made m (report a (send_certificate c d)) queue
+both_out : (made : Made) (m : Member) (d : Doing) (queue : List Vote) (c : Certificate) (a : Activity) → Publishing made m d queue → Publishing made m (report a (send_certificate c d)) queue
 both_out made m d queue c a s =
-    stores_plain made m (send_certificate c d).calls d.desk.known queue (calls.Report a) tt
-    (stores_plain made m d.calls d.desk.known queue (calls.Send channels.Certificate recipients.All (format.certificate.spelling c)) tt s)
+    published_plain made m (send_certificate c d).calls d.handed d.desk.known queue (calls.Report a) tt
+    (published_plain made m d.calls d.handed d.desk.known queue (calls.Send channels.Certificate recipients.All (format.certificate.spelling c)) tt s)
 
-told_out : (made : Made) (m : Member) (d : Doing) (queue : List Vote) (call : state.Call) → IsQuiet call → Storing made m d queue → Storing made m (tell made call d) queue
-told_out made m d queue call q s = stores_known made m d.calls d.desk.known (facts_of made d.desk.known call ++ d.desk.known) queue (told_quiet made d.desk.known call q) s
+told_out : (made : Made) (m : Member) (d : Doing) (queue : List Vote) (call : state.Call) → IsQuiet call → Publishing made m d queue → Publishing made m (tell made call d) queue
+told_out made m d queue call q s = published_known made m d.calls d.handed d.desk.known (facts_of made d.desk.known call ++ d.desk.known) queue (told_quiet made d.desk.known call q) s
 
-notarization_out : (made : Made) (m : Member) (view : ℕ) (d : Doing) (queue : List Vote) → Storing made m d queue → Storing made m (publish_notarization made view d) queue
+notarization_out : (made : Made) (m : Member) (view : ℕ) (d : Doing) (queue : List Vote) → Publishing made m d queue → Publishing made m (publish_notarization made view d) queue
 unfolding publish_notarization
 notarization_out made m view d queue s = at (unsent_notarization d.desk.known view)
   where
-    at : (o : Option Notarization) → Storing made m (option_map_or (λ n. report (activities.Notarization n) (send_certificate (certificates.Notarization n) (tell made (state.BroadcastNotarization view) d))) o (tell made (state.BroadcastNotarization view) d)) queue
+    at : (o : Option Notarization) → Publishing made m (option_map_or (λ n. report (activities.Notarization n) (send_certificate (certificates.Notarization n) (tell made (state.BroadcastNotarization view) d))) o (tell made (state.BroadcastNotarization view) d)) queue
     at None = told_out made m d queue (state.BroadcastNotarization view) tt s
     at (Some n) = both_out made m (tell made (state.BroadcastNotarization view) d) queue _ _ (told_out made m d queue (state.BroadcastNotarization view) tt s)
 
-nullification_out : (made : Made) (m : Member) (view : ℕ) (d : Doing) (queue : List Vote) → Storing made m d queue → Storing made m (publish_nullification made view d) queue
+nullification_out : (made : Made) (m : Member) (view : ℕ) (d : Doing) (queue : List Vote) → Publishing made m d queue → Publishing made m (publish_nullification made view d) queue
 unfolding publish_nullification
 nullification_out made m view d queue s = at (unsent_nullification d.desk.known view)
   where
-    at : (o : Option Nullification) → Storing made m (option_map_or (λ n. report (activities.Nullification n) (send_certificate (certificates.Nullification n) (tell made (state.BroadcastNullification view) d))) o (tell made (state.BroadcastNullification view) d)) queue
+    at : (o : Option Nullification) → Publishing made m (option_map_or (λ n. report (activities.Nullification n) (send_certificate (certificates.Nullification n) (tell made (state.BroadcastNullification view) d))) o (tell made (state.BroadcastNullification view) d)) queue
     at None = told_out made m d queue (state.BroadcastNullification view) tt s
     at (Some n) = both_out made m (tell made (state.BroadcastNullification view) d) queue _ _ (told_out made m d queue (state.BroadcastNullification view) tt s)
 
-finalization_out : (made : Made) (m : Member) (view : ℕ) (d : Doing) (queue : List Vote) → Storing made m d queue → Storing made m (publish_finalization made view d) queue
+finalization_out : (made : Made) (m : Member) (view : ℕ) (d : Doing) (queue : List Vote) → Publishing made m d queue → Publishing made m (publish_finalization made view d) queue
 unfolding publish_finalization
 finalization_out made m view d queue s = at (unsent_finalization d.desk.known view)
   where
-    at : (o : Option Finalization) → Storing made m (option_map_or (λ n. report (activities.Finalization n) (send_certificate (certificates.Finalization n) (tell made (state.BroadcastFinalization view) d))) o (tell made (state.BroadcastFinalization view) d)) queue
+    at : (o : Option Finalization) → Publishing made m (option_map_or (λ n. report (activities.Finalization n) (send_certificate (certificates.Finalization n) (tell made (state.BroadcastFinalization view) d))) o (tell made (state.BroadcastFinalization view) d)) queue
     at None = told_out made m d queue (state.BroadcastFinalization view) tt s
     at (Some n) = both_out made m (tell made (state.BroadcastFinalization view) d) queue _ _ (told_out made m d queue (state.BroadcastFinalization view) tt s)
 
-update_out : (made : Made) (m : Member) (before : ℕ) (d : Doing) (queue : List Vote) → Storing made m d queue → Storing made m (update_batcher made before d) queue
+update_out : (made : Made) (m : Member) (before : ℕ) (d : Doing) (queue : List Vote) → Publishing made m d queue → Publishing made m (update_batcher made before d) queue
 unfolding update_batcher
 update_out made m before d queue s = at (nat_lt before (current_of made d.desk.known))
   where
-    at : (b : Bool) → Storing made m (if b then hand (update_message made d.desk.known (forwardable_at d.desk.known (current_of made d.desk.known - 1))) d else d) queue
-    at true = s
+    at : (b : Bool) → Publishing made m (if b then hand (update_message made d.desk.known (forwardable_at d.desk.known (current_of made d.desk.known - 1))) d else d) queue
+    at true = published_hand made m d.calls d.handed d.desk.known queue (update_message made d.desk.known (forwardable_at d.desk.known (current_of made d.desk.known - 1))) tt s
     at false = s
 
 -- ---- the end of a step
 
 pub step_ends : (made : Made) (m : Member) (now before view : ℕ) (d : Doing) → Writing made m view d (nullify_waiting d.nullify)
-    → Storing made m (end_of_step made now before view d) []
+    → AreSilent d.handed → Publishing made m (end_of_step made now before view d) []
 unfolding end_of_step
-step_ends made m now before view d w =
+step_ends made m now before view d w silent =
     let notarize = notarize_at made d.desk.known view in
     let voted = vote_notarize made view d in
     let finalize = finalize_at made voted.desk.known view in
@@ -261,14 +270,19 @@ step_ends made m now before view d w =
     (writing_requests made m now view finalized all
     (subst (Writing made m view finalized) (append_assoc first (notarize_waiting notarize) (finalize_waiting finalize))
     (writing_finalize made m view voted (first ++ notarize_waiting notarize) (writing_notarize made m view d first w)))) in
+    let published : Publishing made m opened all = record {
+      stores = stored;
+      constructed = all_silent (behind m opened.calls).sent opened.handed
+          (silent_sync view asked (silent_requests made now finalized (silent_finalize made view voted (silent_notarize made view d silent))));
+    } in
     let kept : opened.nullify ≡ d.nullify =
     sync_keeps view asked ∙ requests_keep made now finalized ∙ finalize_keeps made view voted ∙ notarize_keeps made view d in
     let judged = publish_verdict opened in
     let kept' : judged.nullify ≡ d.nullify = verdict_keeps opened ∙ kept in
-    let nullified : Storing made m (publish_nullify judged) (notarize_waiting notarize ++ finalize_waiting finalize) =
+    let nullified : Publishing made m (publish_nullify judged) (notarize_waiting notarize ++ finalize_waiting finalize) =
     nullify_out made m judged (notarize_waiting notarize ++ finalize_waiting finalize)
-    (subst (λ o. Storing made m judged (nullify_waiting o ++ (notarize_waiting notarize ++ finalize_waiting finalize))) (sym kept')
-    (verdict_out made m opened all stored)) in
+    (subst (λ o. Publishing made m judged (nullify_waiting o ++ (notarize_waiting notarize ++ finalize_waiting finalize))) (sym kept')
+    (verdict_out made m opened all published)) in
     let out1 = publish_nullify judged in
     let out2 = option_map_or (λ n. send_vote (votes.Notarize n) out1) notarize out1 in
     let out3 = publish_notarization made view out2 in
@@ -276,10 +290,10 @@ step_ends made m now before view d w =
     let out5 = option_map_or (λ f. send_vote (votes.Finalize f) out4) finalize out4 in
     let out6 = publish_finalization made view out5 in
     let left = finalize_waiting finalize in
-    let given_up : Storing made m out4 left =
+    let given_up : Publishing made m out4 left =
     nullification_out made m view out3 left (notarization_out made m view out2 left (notarize_out made m out1 left notarize nullified)) in
     update_out made m before out6 []
-    (finalization_out made m view out5 [] (finalize_out made m out4 [] finalize (subst (Storing made m out4) (sym (append-nil left)) given_up)))
+    (finalization_out made m view out5 [] (finalize_out made m out4 [] finalize (subst (Publishing made m out4) (sym (append-nil left)) given_up)))
 
 -- ---- the start of the next iteration
 
@@ -291,6 +305,9 @@ pruned_low made known least e = at (nat_lt (greatest_of pruned_view known) (rule
     at true h = let same : rules.last_finalized known - made.retention ≡ least = cc in omega (arith, same, final_is known)
     at false h = cc
 
+told_stored : (made : Made) (m : Member) (d : Doing) (queue : List Vote) (call : state.Call) → IsQuiet call → Storing made m d queue → Storing made m (tell made call d) queue
+told_stored made m d queue call q s = stores_known made m d.calls d.desk.known (facts_of made d.desk.known call ++ d.desk.known) queue (told_quiet made d.desk.known call q) s
+
 pub iteration_begins : (made : Made) (m : Member) (now : ℕ) (d : Doing) → Storing made m d [] → Storing made m (begin_iteration made now d) []
 unfolding begin_iteration prune
 iteration_begins made m now d s =
@@ -300,9 +317,14 @@ iteration_begins made m now d s =
     at begun ready (prune_answer made known) refl
   where
     at : (b : Doing) → Storing made m b [] → (o : Option ℕ) → prune_answer made b.desk.known ≡ o → Storing made m (prune_at o (tell made state.Prune b)) []
-    at b ready None e = told_out made m b [] state.Prune tt ready
+    at b ready None e = told_stored made m b [] state.Prune tt ready
     at b ready (Some least) e =
         let told = told_quiet made b.desk.known state.Prune tt in
         stores_prune made m b.calls (tell made state.Prune b).desk.known [] least
         (subst (λ known. least ≤ member.last_finalized known) (sym told.memory) (pruned_low made b.desk.known least e))
-        (told_out made m b [] state.Prune tt ready)
+        (told_stored made m b [] state.Prune tt ready)
+
+-- and what it handed on is what it handed on before, and what it seeks
+pub iteration_publishes : (made : Made) (m : Member) (now : ℕ) (d : Doing) → Publishing made m d [] → Publishing made m (begin_iteration made now d) []
+iteration_publishes made m now d p =
+    record { stores = iteration_begins made m now d p.stores; constructed = iteration_hands made m now d p.constructed }

@@ -1,6 +1,6 @@
 -- A step, whatever its source holds.
 use Rattle.std.proofs.Common.{◌≡◌, ℕ, ◌<◌, Bool, true, false, nat_le, List, [], Option, Some, None, refl, ◌∙◌, subst, if◌then◌else◌}
-use Rattle.std.specs.Option.{option_map, option_and_then}
+use Rattle.std.specs.Option.{option_map}
 use Rattle.simplex_values.specs.declared.answer.Answer.{Answer}
 use Rattle.simplex_values.specs.Terms.{greatest_view}
 use Rattle.simplex_journal.specs.Journal.{Section}
@@ -19,21 +19,12 @@ use Rattle.simplex_steps.specs.Voter.{Standing, answer_to, propose, act_on_deadl
 use Rattle.simplex_steps.specs.Performed.{performed}
 use Rattle.simplex_lives.specs.Member.{Member, run}
 use Rattle.simplex_conduct.specs.Life.{IsRunning, IsLived}
-use Rattle.simplex_conduct.proofs.Publishing.{Storing, step_ends, iteration_begins}
+use Rattle.simplex_conduct.proofs.Constructing.{AreSilent, all_silent}
+use Rattle.simplex_conduct.proofs.Living.{behind}
+use Rattle.simplex_conduct.proofs.Silent.{some_is, gives, gives_some, silent_acted}
+use Rattle.simplex_conduct.proofs.Publishing.{Publishing, step_ends, iteration_publishes}
 use Rattle.simplex_conduct.proofs.Acting.{Touched, Repeats, begin, plainly, mail_touches, deadline_touches, propose_touches, proposal_touches, verify_touches, answer_certify_touches}
 use Rattle.simplex_conduct.proofs.Stopping.{lived}
-
-some_is : {A : Type 0} (a b : A) → Some a ≡ Some b → a ≡ b
-some_is a b e = cc
-
--- what an option gives, its value gives
-gives : {A B : Type 0} (P : B → Type 0) (f : A → B) (o : Option A) (b : B) → ((a : A) → P (f a)) → option_map f o ≡ Some b → P b
-gives P f None b each e = cc
-gives P f (Some a) b each e = subst P (some_is (f a) b e) (each a)
-
-gives_some : {A B : Type 0} (P : B → Type 0) (f : A → Option B) (o : Option A) (b : B) → ((a : A) → f a ≡ Some b → P b) → option_and_then f o ≡ Some b → P b
-gives_some P f None b each e = cc
-gives_some P f (Some a) b each e = each a e
 
 taken_proposal : (made : Made) (m : Member) (now : ℕ) (s : Standing) (sections : List Section) (p : Pending) (at : ProposalState) (outcome : Doing × Option ℕ)
     → IsRunning made s.desk.known sections m → take_proposal made now s p at ≡ Some outcome → Repeats made m outcome
@@ -72,10 +63,12 @@ acted_repeats made m now s sections inputs.Certify outcome low r e =
     gives (Repeats made m) (λ (taken : Opened × Answer). act_on_certify made now taken.0 taken.1 (begun s.desk)) (first_answered s.desk.certify s.answers) outcome
     (λ taken. plainly made m _ (answer_certify_touches made m now taken.0 taken.1 (begun s.desk) (begin made s.desk sections m r))) e
 
-finished_stores : (made : Made) (n : Member) (now before : ℕ) (outcome : Doing × Option ℕ) → Touched made n outcome → Storing made n (finished made now before outcome) []
+finished_publishes : (made : Made) (n : Member) (now before : ℕ) (outcome : Doing × Option ℕ) → Touched made n outcome → AreSilent outcome.0.handed
+    → Publishing made n (finished made now before outcome) []
 unfolding finished
-finished_stores made n now before (d, None) t = iteration_begins made n now d t
-finished_stores made n now before (d, Some view) t = iteration_begins made n now (end_of_step made now before view d) (step_ends made n now before view d t)
+finished_publishes made n now before (d, None) t silent = iteration_publishes made n now d (record { stores = t; constructed = all_silent (behind n d.calls).sent d.handed silent })
+finished_publishes made n now before (d, Some view) t silent =
+    iteration_publishes made n now (end_of_step made now before view d) (step_ends made n now before view d t silent)
 
 pub step_lived : (made : Made) (now : ℕ) (input : VoterInput) (stop : Stop) (s : Standing) (sections : List Section) (d : Doing) (m : Member)
     → current_of made s.desk.known < greatest_view → IsRunning made s.desk.known sections m → stepped made now s input ≡ Some d
@@ -84,14 +77,14 @@ unfolding stepped
 step_lived made now input stop s sections d m low r e =
     at (acted made now s input) refl e
   where
-    one : (outcome : Doing × Option ℕ) → Repeats made m outcome → finished made now (current_of made s.desk.known) outcome ≡ d
+    one : (outcome : Doing × Option ℕ) → Repeats made m outcome → AreSilent outcome.0.handed → finished made now (current_of made s.desk.known) outcome ≡ d
         → IsLived made d.desk.known (performed stop d sections) m
-    one outcome t same =
+    one outcome t silent same =
         lived made m t.first stop d sections t.legal t.brought t.known t.sent
         (record { journal = t.journal ∙ r.journal; rising = r.rising; own = r.own })
-        (subst (λ x. Storing made (run m t.first) x []) same (finished_stores made (run m t.first) now (current_of made s.desk.known) outcome t.touched))
+        (subst (λ x. Publishing made (run m t.first) x []) same (finished_publishes made (run m t.first) now (current_of made s.desk.known) outcome t.touched silent))
 
     at : (o : Option (Doing × Option ℕ)) → acted made now s input ≡ o → option_map (finished made now (current_of made s.desk.known)) o ≡ Some d
         → IsLived made d.desk.known (performed stop d sections) m
     at None f h = cc
-    at (Some outcome) f h = one outcome (acted_repeats made m now s sections input outcome low r f) (some_is _ d h)
+    at (Some outcome) f h = one outcome (acted_repeats made m now s sections input outcome low r f) (silent_acted made now s input outcome f) (some_is _ d h)

@@ -24,11 +24,12 @@ use Rattle.simplex_lives.specs.Member as life
 use Rattle.simplex_lives.specs.Member.{Member, happens, run, IsLegal, May}
 use Rattle.simplex_lives.proofs.CallFacts.{run-append, IsLegal-append, brought-append}
 use Rattle.simplex_lives.proofs.JournalFacts.{left_waiting}
-use Rattle.simplex_conduct.specs.Life.{journal_of, taken, AreSent, AreOwn, IsRunning, IsStopped, IsEarlier, IsLived}
+use Rattle.simplex_conduct.specs.Life.{journal_of, taken, AreSent, AreOwn, IsRunning, IsStopped, IsEarlier, AreVotesSent, IsLived}
 use Rattle.simplex_conduct.specs.Storing.{AreStoredFirst}
 use Rattle.simplex_conduct.proofs.Journals.{crash_is}
 use Rattle.simplex_conduct.proofs.Pruning.{prunes_less, was_there}
 use Rattle.simplex_conduct.proofs.Living.{doings, doings-append, behind, AreFit-take, legal_take, journals_after, rising_afters, own_afters, brought_is, subjects_of, Sends-take, out_of}
+use Rattle.simplex_conduct.proofs.Constructing.{Published}
 use Rattle.simplex_conduct.proofs.Simulating.{Sim, Stores, first_take}
 
 -- the journal at which a step begins
@@ -233,6 +234,7 @@ broken_by made m first (stops.Cut call keep) d js place legal none known quiet r
       brought = x.brought ∙ ap (λ xs. xs ++ taken (take place d.calls)) none;
       sends = x.sends;
       votes = x.votes;
+      constructed = tt;
       first = first_take (IsEarlier m) place d.calls (earlier_is m (run m first) d.calls known sim.first);
       left = x.left;
     }
@@ -245,16 +247,20 @@ broken_by made m first (stops.Fail call keep) d js place legal none known quiet 
       brought = x.brought ∙ ap (λ xs. xs ++ taken (take place d.calls)) none;
       sends = x.sends;
       votes = x.votes;
+      constructed = tt;
       first = first_take (IsEarlier m) place d.calls (earlier_is m (run m first) d.calls known sim.first);
       left = x.left;
     }
 
 pub lived : (made : rules.Made) (m : Member) (first : List life.Call) (stop : Stop) (d : Doing) (js : List Section)
     → IsLegal made.term_length m first → life.brought first ≡ [] → (run m first).known ≡ m.known → (run m first).sent ≡ m.sent → Ready made js (run m first)
-    → Stores made (run m first) d.calls d.desk.known [] → IsLived made d.desk.known (performed stop d js) m
-unfolding performed
-lived made m first stop d js legal none known quiet ready s = at (stop_place stop d.calls) refl
+    → Published made (run m first) d.calls d.handed d.desk.known [] → IsLived made d.desk.known (performed stop d js) m
+unfolding performed made_whole
+lived made m first stop d js legal none known quiet ready p = at (stop_place stop d.calls) refl
   where
+    s : Stores made (run m first) d.calls d.desk.known []
+    s = p.stores
+
     whole_of : IsLived made d.desk.known (whole d js) m
     whole_of =
         let x = made_whole made m first d.calls d.desk.known js legal quiet ready s in
@@ -265,6 +271,7 @@ lived made m first stop d js legal none known quiet ready s = at (stop_place sto
           brought = x.brought ∙ ap (λ xs. xs ++ taken d.calls) none;
           sends = x.sends;
           votes = x.votes;
+          constructed = subst (λ (n : Member). AreVotesSent n.sent d.handed) (sym (run-append m first (doings d.calls))) p.constructed;
           first = earlier_is m (run m first) d.calls known s.sim.first;
           left = x.left;
         }

@@ -20,6 +20,9 @@ use Rattle.simplex_journal.specs.Journal.{Section, replayed}
 use Rattle.simplex_journal.specs.Contents.{IsRising}
 use Rattle.simplex_messages.specs.declared.call.Call.{Call}
 use Rattle.simplex_messages.specs.declared.call.Call.TheVariants as calls
+use Rattle.simplex_messages.specs.declared.handed.Handed.{Handed}
+use Rattle.simplex_messages.specs.declared.handed.Handed.TheVariants as handed
+use Rattle.simplex_messages.specs.declared.batcher.Message.TheVariants as batcher
 use Rattle.simplex_messages.specs.declared.step.Outcome.{Outcome}
 use Rattle.simplex_messages.specs.declared.step.Outcome.TheVariants as outcomes
 use Rattle.simplex_steps.specs.Performed.{Performed}
@@ -114,6 +117,15 @@ AreSent (calls.Send channels.Vote recipients bytes ∷ rest) subjects =
     (v : Vote) × (others : List Subject) × (bytes ≡ format.vote.spelling v) × (subjects ≡ vote_subject v ∷ others) × AreSent rest others
 AreSent (_ ∷ rest) subjects = AreSent rest subjects
 
+-- each vote that is handed to the batcher as a constructed one is on a subject of these votes
+abbrev pub IsVoteSent : List Sent → Handed → Type 0
+IsVoteSent sent (handed.Batcher (batcher.Constructed v)) = Contains (map (λ (s : Sent). s.subject) sent) (vote_subject v)
+IsVoteSent sent _ = Unit {0}
+
+abbrev pub AreVotesSent : List Sent → List Handed → Type 0
+AreVotesSent sent [] = Unit {0}
+AreVotesSent sent (h ∷ rest) = IsVoteSent sent h × AreVotesSent sent rest
+
 -- a vote that the member made before, for a view above all that is final
 abbrev pub IsEarlier : Member → Vote → Type 0
 IsEarlier m v = Contains m.known (member.Own (vote_subject v)) × (member.last_finalized m.known < member.subject_view (vote_subject v))
@@ -132,6 +144,7 @@ pub record IsLived (made : Made) (known : List Fact) (p : Performed) (m : Member
   pub brought : life.brought calls ≡ taken p.out.calls
   pub sends : (life.run m calls).sent ≡ m.sent ++ sent
   pub votes : AreSent p.out.calls (map (λ (s : Sent). s.subject) sent)
+  pub constructed : AreVotesSent (life.run m calls).sent p.out.handed
   pub first : AreStoredFirst (IsEarlier m) p.out.calls
   pub left : IsLeft made known p.outcome p.sections (life.run m calls)
 

@@ -42,16 +42,27 @@ use Rattle.simplex_lives.specs.Member as life
 use Rattle.simplex_lives.specs.Member.{Member, happens, run, IsLegal}
 use Rattle.simplex_wire.specs.declared.certificate.Certificate.TheVariants as certificates
 use Rattle.simplex_agreement.specs.World as agreement
-use Rattle.simplex_agreement.proofs.ListFacts.{not_in_empty}
-use Rattle.simplex_conduct.specs.Life.{statement_of, memory_of, section_of, journal_of, floor_statement, AreSent, IsRunning, IsStopped, IsLived, IsBegun, IsLeft, IsEarlier, IsFloor}
+use Rattle.simplex_agreement.proofs.ListFacts.{not_in_empty, Contains-cons_cases}
+use Rattle.simplex_conduct.specs.Life.{statement_of, memory_of, section_of, journal_of, floor_statement, AreSent, IsRunning, IsStopped, AreVotesSent, IsLived, IsBegun, IsLeft, IsEarlier, IsFloor}
 use Rattle.simplex_conduct.specs.Storing.{AreStoredFirst}
 use Rattle.simplex_conduct.specs.Life as conduct
 use Rattle.simplex_conduct.proofs.Stepping.{step_lived}
 use Rattle.simplex_conduct.proofs.Floors.{start_lived, crash_lived}
 use Rattle.simplex_conduct.proofs.Starting.{none_sent, plain_voteless}
 use Rattle.simplex_conduct.proofs.Replaying.{AllPlain}
+use Rattle.simplex_conduct.proofs.Constructing.{AreSilent, all_silent}
+use Rattle.simplex_messages.specs.declared.handed.Handed.{Handed}
+use Rattle.simplex_messages.specs.declared.handed.Handed.TheVariants as handed
+use Rattle.simplex_messages.specs.declared.batcher.Message.TheVariants as batcher_message
+use Rattle.simplex_wire.specs.declared.artifact.Artifact.{Artifact}
+use Rattle.simplex_wire.specs.declared.artifact.Artifact.TheVariants as artifacts
+use Rattle.simplex_wire.specs.Message as format
+use Rattle.simplex_values.specs.declared.plan.Recipients.TheVariants as recipients
+use Rattle.simplex_types.specs.declared.floor.Floor.TheVariants as floors
+use Rattle.simplex_safety.specs.Sayings.{Each, InMessage, InRecord, InFloor}
+use Rattle.simplex_safety.proofs.Telling.{started_says, said_at_start}
 use Rattle.simplex_safety.specs.Histories.{IsAt, floor_in}
-use Rattle.simplex_safety.proofs.Quiet.{batcher_plain}
+use Rattle.simplex_safety.proofs.Quiet.{batcher_hush, batcher_plain, for_voter_silent}
 use Rattle.simplex_safety.proofs.Further.{Further, subjects_of, same_self, stopped_any}
 
 -- ---- what an outcome is
@@ -124,7 +135,7 @@ unfolding place_of
 start_sections made now stop = refl
 
 -- the engine of a start, and what it did
-abbrev engine_at : Setup → Node → Option Finalization → List Section → EngineMade
+abbrev pub engine_at : Setup → Node → Option Finalization → List Section → EngineMade
 engine_at setup node floor js = engine_of setup node.member (floor_of setup floor) js
 
 engine_rules : (setup : Setup) (node : Node) (floor : Option Finalization) (js : List Section) (start : ℕ) → ((engine_at setup node floor js).voter start).rules ≡ rules_of setup node.member start
@@ -132,11 +143,11 @@ unfolding engine_of
 engine_rules setup node floor js start = refl
 
 -- what the start gives, by its rules
-abbrev given_start : Setup → Node → Option Finalization → List Section → ℕ → Stop → Performed
+abbrev pub given_start : Setup → Node → Option Finalization → List Section → ℕ → Stop → Performed
 given_start setup node floor js now stop =
     start_performed stop (floor_of setup floor) (voter.started (rules_of setup node.member now) now (floor_of setup floor) (replayed js)) js
 
-begun_gives : (setup : Setup) (node : Node) (floor : Option Finalization) (js : List Section) (now : ℕ) (stop : Stop)
+pub begun_gives : (setup : Setup) (node : Node) (floor : Option Finalization) (js : List Section) (now : ℕ) (stop : Stop)
     → engine.begun (engine_at setup node floor js) now stop ≡ by_voter Began now stop (given_start setup node floor js now stop)
 unfolding engine.begun engine_of start_given place_of
 begun_gives setup node floor js now stop = refl
@@ -174,9 +185,53 @@ in_floor setup node None stop c k = absurd (not_in_empty c k)
 in_floor setup node (Some f) stop c k =
     subst (λ b. Contains (if b then statement_of (certificates.Finalization f) ∷ [] else []) c) (sym (same_self node)) k
 
+-- a start hands on no constructed vote: it sends none
+abbrev nothing_bad : agreement.Certificate → Type 0
+nothing_bad c = Unit {0}
+
+no_send : (cs : List Call) (to : Recipients) (bytes : List ℕ) → AreSent cs [] → ¬ (Contains cs (calls.Send channels.Vote to bytes))
+unfolding AreSent
+no_send [] to bytes h k = absurd (not_in_empty _ k)
+no_send (calls.Send channels.Vote t b ∷ xs) to bytes h k = cc h.3
+no_send (calls.Send channels.Certificate t b ∷ xs) to bytes h k = elim (Contains-cons_cases _ xs _ k) [ inl e ↦ cc e | inr r ↦ no_send xs to bytes h r ]
+no_send (calls.Send channels.Resolver t b ∷ xs) to bytes h k = elim (Contains-cons_cases _ xs _ k) [ inl e ↦ cc e | inr r ↦ no_send xs to bytes h r ]
+no_send (calls.Append n a ∷ xs) to bytes h k = elim (Contains-cons_cases _ xs _ k) [ inl e ↦ cc e | inr r ↦ no_send xs to bytes h r ]
+no_send (calls.Sync n ∷ xs) to bytes h k = elim (Contains-cons_cases _ xs _ k) [ inl e ↦ cc e | inr r ↦ no_send xs to bytes h r ]
+no_send (calls.Prune n ∷ xs) to bytes h k = elim (Contains-cons_cases _ xs _ k) [ inl e ↦ cc e | inr r ↦ no_send xs to bytes h r ]
+no_send (calls.Report activity ∷ xs) to bytes h k = elim (Contains-cons_cases _ xs _ k) [ inl e ↦ cc e | inr r ↦ no_send xs to bytes h r ]
+no_send (calls.Relay payload plan ∷ xs) to bytes h k = elim (Contains-cons_cases _ xs _ k) [ inl e ↦ cc e | inr r ↦ no_send xs to bytes h r ]
+no_send (calls.Block who ∷ xs) to bytes h k = elim (Contains-cons_cases _ xs _ k) [ inl e ↦ cc e | inr r ↦ no_send xs to bytes h r ]
+
+unsent_silent : (cs : List Call) (hs : List Handed) → AreSent cs [] → Each (InMessage nothing_bad cs) hs → AreSilent hs
+unsent_silent cs [] h k = tt
+unsent_silent cs (handed.Batcher (batcher_message.Constructed v) ∷ rest) h k = absurd (no_send cs recipients.All (format.vote.spelling v) h k.0)
+unsent_silent cs (handed.Batcher (batcher_message.Update current leader finalized proposal) ∷ rest) h k = (tt, unsent_silent cs rest h k.1)
+unsent_silent cs (handed.Voter message ∷ rest) h k = (tt, unsent_silent cs rest h k.1)
+unsent_silent cs (handed.Resolver message ∷ rest) h k = (tt, unsent_silent cs rest h k.1)
+unsent_silent cs (handed.Handler message ∷ rest) h k = (tt, unsent_silent cs rest h k.1)
+
+any_record : (a : Artifact) → InRecord nothing_bad a
+any_record (artifacts.Notarization c) = tt
+any_record (artifacts.Nullification c) = tt
+any_record (artifacts.Finalization c) = tt
+any_record _ = tt
+
+any_floor : (f : Floor) → InFloor nothing_bad f
+any_floor (floors.Genesis payload) = tt
+any_floor (floors.Finalized f) = tt
+
+start_silent : (setup : Setup) (node : Node) (floor : Option Finalization) (js : List Section) (now : ℕ) (stop : Stop)
+    → AreSent (given_start setup node floor js now stop).out.calls [] → AreSilent (given_start setup node floor js now stop).out.handed
+start_silent setup node floor js now stop h =
+    let f = floor_of setup floor in
+    let rules = rules_of setup node.member now in
+    let said = said_at_start nothing_bad stop f (voter.started rules now f (replayed js)) js
+    (started_says nothing_bad rules now f (replayed js) (any_floor f) (λ a k. any_record a)) in
+    unsent_silent (given_start setup node floor js now stop).out.calls (given_start setup node floor js now stop).out.handed h said.handed
+
 pub start_further : (setup : Setup) (node : Node) (floor : Option Finalization) (stop : Stop) (js : List Section) (now : ℕ) (m : Member) (noted : Noted)
     → IsFloor (floor_of setup floor) → IsAt setup node (Stopped js) m
-    → noted.entry.calls ≡ (engine.begun (engine_at setup node floor js) now stop).out.calls → noted.event ≡ events.Start node floor stop
+    → (noted.entry.calls ≡ (engine.begun (engine_at setup node floor js) now stop).out.calls) × (noted.entry.handed ≡ (engine.begun (engine_at setup node floor js) now stop).out.handed) → noted.event ≡ events.Start node floor stop
     → Further setup noted node (going_on (engine_at setup node floor js) (engine.begun (engine_at setup node floor js) now stop ∷ [])) m
 unfolding IsAt rules_of runs start_known
 start_further setup node floor stop js now m noted good s calls_is event_is =
@@ -192,10 +247,12 @@ start_further setup node floor stop js now m noted good s calls_is event_is =
         | inr one ↦ subst (λ xs. Contains xs c) one k
       ])));
       sends = x.sends ∙ sym (append-nil m.sent);
-      votes = subst (λ cs. AreSent cs []) (sym (calls_is ∙ ap (λ (d : Did). d.out.calls) same)) x.votes;
+      votes = subst (λ cs. AreSent cs []) (sym (calls_is.0 ∙ ap (λ (d : Did). d.out.calls) same)) x.votes;
       at = subst (λ d. IsAt setup node (going_on (engine_at setup node floor js) (d ∷ [])) (run m x.calls)) (sym same)
           (start_leaves setup node floor js now stop (run m x.calls) (given_start setup node floor js now stop).outcome refl x.left);
-      first = voteless_first (IsEarlier m) noted.entry.calls (subst (λ cs. AreSent cs []) (sym (calls_is ∙ ap (λ (d : Did). d.out.calls) same)) x.votes);
+      first = voteless_first (IsEarlier m) noted.entry.calls (subst (λ cs. AreSent cs []) (sym (calls_is.0 ∙ ap (λ (d : Did). d.out.calls) same)) x.votes);
+      constructed = all_silent (run m x.calls).sent noted.entry.handed
+          (subst AreSilent (sym (calls_is.1 ∙ ap (λ (d : Did). d.out.handed) same)) (start_silent setup node floor js now stop x.votes));
     }
 
 -- ---- events that the voter does not see
@@ -253,8 +310,8 @@ quiet_stopped setup node made did past m e f a =
     (stopped_any setup node.member (started_at past) 0 place.sections (happens m (life.Crash (λ view. 0))) stopped))
 
 -- the member does nothing, or stops
-quiet_on : (setup : Setup) (node : Node) (noted : Noted) (later : Life) (m : Member) → AllPlain noted.entry.calls → IsAt setup node later m → Further setup noted node later m
-quiet_on setup node noted later m plain a =
+quiet_on : (setup : Setup) (node : Node) (noted : Noted) (later : Life) (m : Member) → AllPlain noted.entry.calls → AreSilent noted.entry.handed → IsAt setup node later m → Further setup noted node later m
+quiet_on setup node noted later m plain silent a =
     record {
       calls = [];
       sent = [];
@@ -264,11 +321,12 @@ quiet_on setup node noted later m plain a =
       votes = none_sent noted.entry.calls (plain_voteless noted.entry.calls plain);
       at = a;
       first = voteless_first (IsEarlier m) noted.entry.calls (none_sent noted.entry.calls (plain_voteless noted.entry.calls plain));
+      constructed = all_silent m.sent noted.entry.handed silent;
     }
 
-quiet_off : (setup : Setup) (node : Node) (noted : Noted) (later : Life) (m : Member) → AllPlain noted.entry.calls → IsAt setup node later (happens m (life.Crash (λ view. 0)))
+quiet_off : (setup : Setup) (node : Node) (noted : Noted) (later : Life) (m : Member) → AllPlain noted.entry.calls → AreSilent noted.entry.handed → IsAt setup node later (happens m (life.Crash (λ view. 0)))
     → Further setup noted node later m
-quiet_off setup node noted later m plain a =
+quiet_off setup node noted later m plain silent a =
     record {
       calls = life.Crash (λ view. 0) ∷ [];
       sent = [];
@@ -278,6 +336,7 @@ quiet_off setup node noted later m plain a =
       votes = none_sent noted.entry.calls (plain_voteless noted.entry.calls plain);
       at = a;
       first = voteless_first (IsEarlier m) noted.entry.calls (none_sent noted.entry.calls (plain_voteless noted.entry.calls plain));
+      constructed = all_silent m.sent noted.entry.handed silent;
     }
 
 plain_take : (n : ℕ) (xs : List Call) → AllPlain xs → AllPlain (take n xs)
@@ -290,17 +349,17 @@ abbrev pub IsUnseen : Taken → Type 0
 IsUnseen taken = ((now : ℕ) (stop : Stop) (outcome : Outcome) (out : StepOut) → given_to_voter (did_of taken now stop outcome out) ≡ None) × (is_start taken ≡ false)
 
 unseen_further : (setup : Setup) (node : Node) (made : EngineMade) (past : List Did) (m : Member) (noted : Noted) (taken : Taken) (now : ℕ) (stop : Stop) (o : Outcome) (out : StepOut)
-    → IsUnseen taken → AllPlain out.calls → noted.entry.calls ≡ out.calls → IsAt setup node (Running made past) m
+    → IsUnseen taken → AllPlain out.calls → AreSilent out.handed → (noted.entry.calls ≡ out.calls) × (noted.entry.handed ≡ out.handed) → IsAt setup node (Running made past) m
     → Further setup noted node (going_on made (did_of taken now stop o out ∷ past)) m
 unfolding runs
-unseen_further setup node made past m noted taken now stop outcomes.Done out u plain same a =
-    quiet_on setup node noted _ m (subst AllPlain (sym same) plain) (quiet_at setup node made (did_of taken now stop outcomes.Done out) past m (u.0 now stop outcomes.Done out) u.1 a)
-unseen_further setup node made past m noted taken now stop outcomes.Idle out u plain same a =
-    quiet_on setup node noted _ m (subst AllPlain (sym same) plain) (quiet_at setup node made (did_of taken now stop outcomes.Idle out) past m (u.0 now stop outcomes.Idle out) u.1 a)
-unseen_further setup node made past m noted taken now stop outcomes.Journal out u plain same a =
-    quiet_off setup node noted _ m (subst AllPlain (sym same) plain) (quiet_stopped setup node made (did_of taken now stop outcomes.Journal out) past m (u.0 now stop outcomes.Journal out) u.1 a)
-unseen_further setup node made past m noted taken now stop outcomes.Cut out u plain same a =
-    quiet_off setup node noted _ m (subst AllPlain (sym same) plain) (quiet_stopped setup node made (did_of taken now stop outcomes.Cut out) past m (u.0 now stop outcomes.Cut out) u.1 a)
+unseen_further setup node made past m noted taken now stop outcomes.Done out u plain silent same a =
+    quiet_on setup node noted _ m (subst AllPlain (sym same.0) plain) (subst AreSilent (sym same.1) silent) (quiet_at setup node made (did_of taken now stop outcomes.Done out) past m (u.0 now stop outcomes.Done out) u.1 a)
+unseen_further setup node made past m noted taken now stop outcomes.Idle out u plain silent same a =
+    quiet_on setup node noted _ m (subst AllPlain (sym same.0) plain) (subst AreSilent (sym same.1) silent) (quiet_at setup node made (did_of taken now stop outcomes.Idle out) past m (u.0 now stop outcomes.Idle out) u.1 a)
+unseen_further setup node made past m noted taken now stop outcomes.Journal out u plain silent same a =
+    quiet_off setup node noted _ m (subst AllPlain (sym same.0) plain) (subst AreSilent (sym same.1) silent) (quiet_stopped setup node made (did_of taken now stop outcomes.Journal out) past m (u.0 now stop outcomes.Journal out) u.1 a)
+unseen_further setup node made past m noted taken now stop outcomes.Cut out u plain silent same a =
+    quiet_off setup node noted _ m (subst AllPlain (sym same.0) plain) (subst AreSilent (sym same.1) silent) (quiet_stopped setup node made (did_of taken now stop outcomes.Cut out) past m (u.0 now stop outcomes.Cut out) u.1 a)
 
 -- what a batcher did
 cut_plain : (stop : Stop) (out : StepOut) → AllPlain out.calls → AllPlain (cut_short stop out).1.calls
@@ -315,19 +374,32 @@ cut_plain (stops.Cut call keep) out p = at (nat_lt 0 call && nat_le call (length
     at true = plain_take (call - 1) out.calls p
     at false = p
 
+cut_silent : (stop : Stop) (out : StepOut) → AreSilent out.handed → AreSilent (cut_short stop out).1.handed
+cut_silent stops.None out p = p
+cut_silent (stops.Fail call keep) out p = p
+cut_silent (stops.Cut call keep) out p = at (nat_lt 0 call && nat_le call (length out.calls))
+  where
+    pair : Bool → Outcome × StepOut
+    pair b = if b then (outcomes.Cut, record no_out { calls = take (call - 1) out.calls }) else (outcomes.Done, out)
+
+    at : (b : Bool) → AreSilent (pair b).1.handed
+    at true = tt
+    at false = p
+
 pub batcher_further : (setup : Setup) (node : Node) (made : EngineMade) (past : List Did) (m : Member) (noted : Noted) (taken : Taken) (input : BatcherInput) (now : ℕ) (stop : Stop)
-    → IsUnseen taken → noted.entry.calls ≡ (by_batcher made past taken input now stop).out.calls → IsAt setup node (Running made past) m
+    → IsUnseen taken → (noted.entry.calls ≡ (by_batcher made past taken input now stop).out.calls) × (noted.entry.handed ≡ (by_batcher made past taken input now stop).out.handed) → IsAt setup node (Running made past) m
     → Further setup noted node (going_on made (by_batcher made past taken input now stop ∷ past)) m
 unfolding by_batcher
 batcher_further setup node made past m noted taken input now stop u same a =
     let given : batcher.Timed = record { input = input; now = now } in
     let out = batcher.step_out made.batcher (engine.batcher_past past) given in
     let cut = cut_short stop out in
-    unseen_further setup node made past m noted taken now stop cut.0 cut.1 u (cut_plain stop out (batcher_plain made.batcher (engine.batcher_past past) given)) same a
+    unseen_further setup node made past m noted taken now stop cut.0 cut.1 u (cut_plain stop out (batcher_plain made.batcher (engine.batcher_past past) given))
+    (cut_silent stop out (for_voter_silent out.handed (batcher_hush made.batcher (engine.batcher_past past) given).1)) same a
 
 pub nothing_further : (setup : Setup) (node : Node) (made : EngineMade) (past : List Did) (m : Member) (noted : Noted) (taken : Taken) (now : ℕ) (stop : Stop) (o : Outcome)
-    → IsUnseen taken → noted.entry.calls ≡ [] → IsAt setup node (Running made past) m → Further setup noted node (going_on made (did_of taken now stop o no_out ∷ past)) m
-nothing_further setup node made past m noted taken now stop o u same a = unseen_further setup node made past m noted taken now stop o no_out u tt same a
+    → IsUnseen taken → (noted.entry.calls ≡ []) × (noted.entry.handed ≡ []) → IsAt setup node (Running made past) m → Further setup noted node (going_on made (did_of taken now stop o no_out ∷ past)) m
+nothing_further setup node made past m noted taken now stop o u same a = unseen_further setup node made past m noted taken now stop o no_out u tt tt same a
 
 -- ---- a step of the voter
 
@@ -383,7 +455,7 @@ unfolding place_of
 idle_place made given input now stop e =
     ap (λ o. option_map_or (λ doing. record { standing = rest doing (place_of made given).standing.answers; sections = (performed stop doing (place_of made given).sections).sections }) o (place_of made given)) e
 
-step_gives : (made : VoterMade) (given : List Given) (input : VoterInput) (now : ℕ) (stop : Stop) (o : Option Doing) → voter.stepped made.rules now (place_of made given).standing input ≡ o
+pub step_gives : (made : VoterMade) (given : List Given) (input : VoterInput) (now : ℕ) (stop : Stop) (o : Option Doing) → voter.stepped made.rules now (place_of made given).standing input ≡ o
     → step_given made given input now stop ≡ option_map_or (λ doing. performed stop doing (place_of made given).sections) o (idle (place_of made given).sections)
 unfolding step_given
 step_gives made given input now stop o e = ap (λ o. option_map_or (λ doing. performed stop doing (place_of made given).sections) o (idle (place_of made given).sections)) e
@@ -399,20 +471,20 @@ same_place setup node made did past m v p a = (
 )
 
 voter_idles : (setup : Setup) (node : Node) (made : EngineMade) (past : List Did) (m : Member) (noted : Noted) (taken : Taken) (input : VoterInput) (now : ℕ) (stop : Stop)
-    → IsStep taken input → voter.stepped (voter_in made past).rules now (place_of (voter_in made past) (voter_past past)).standing input ≡ None → noted.entry.calls ≡ []
+    → IsStep taken input → voter.stepped (voter_in made past).rules now (place_of (voter_in made past) (voter_past past)).standing input ≡ None → (noted.entry.calls ≡ []) × (noted.entry.handed ≡ [])
     → IsAt setup node (Running made past) m → Further setup noted node (going_on made (did_of taken now stop outcomes.Idle no_out ∷ past)) m
 unfolding runs
 voter_idles setup node made past m noted taken input now stop step e same a =
     let did = did_of taken now stop outcomes.Idle no_out in
     let p = place_then made did past (Stepped input now stop) (step.0 now stop outcomes.Idle no_out) step.1 in
-    quiet_on setup node noted (Running made (did ∷ past)) m (subst AllPlain (sym same) tt)
+    quiet_on setup node noted (Running made (did ∷ past)) m (subst AllPlain (sym same.0) tt) (subst AreSilent (sym same.1) tt)
     (same_place setup node made did past m p.0
     (ap (λ v. place_of v (voter_past (did ∷ past))) p.0 ∙ ap (place_of (voter_in made past)) p.1 ∙ idle_place (voter_in made past) (voter_past past) input now stop e) a)
 
 voter_steps : (setup : Setup) (node : Node) (made : EngineMade) (past : List Did) (m : Member) (noted : Noted) (taken : Taken) (input : VoterInput) (now : ℕ) (stop : Stop) (d : Doing)
     → IsStep taken input → current_of (voter_in made past).rules (place_of (voter_in made past) (voter_past past)).standing.desk.known < greatest_view
     → voter.stepped (voter_in made past).rules now (place_of (voter_in made past) (voter_past past)).standing input ≡ Some d
-    → noted.entry.calls ≡ (performed stop d (place_of (voter_in made past) (voter_past past)).sections).out.calls
+    → (noted.entry.calls ≡ (performed stop d (place_of (voter_in made past) (voter_past past)).sections).out.calls) × (noted.entry.handed ≡ (performed stop d (place_of (voter_in made past) (voter_past past)).sections).out.handed)
     → IsAt setup node (Running made past) m
     → Further setup noted node (going_on made (by_voter taken now stop (performed stop d (place_of (voter_in made past) (voter_past past)).sections) ∷ past)) m
 unfolding IsAt runs rules_of
@@ -428,17 +500,18 @@ voter_steps setup node made past m noted taken input now stop d step low e same 
       calls = x.calls;
       sent = x.sent;
       legal = subst (λ (r : Made). IsLegal r.term_length m x.calls) (a.0 (started_at past)) x.legal;
-      brought = λ c k. inl (subst (λ cs. Contains (conduct.taken cs) c) (sym same) (subst (λ xs. Contains xs c) x.brought k));
+      brought = λ c k. inl (subst (λ cs. Contains (conduct.taken cs) c) (sym same.0) (subst (λ xs. Contains xs c) x.brought k));
       sends = x.sends;
-      votes = subst (λ cs. AreSent cs (subjects_of x.sent)) (sym same) x.votes;
+      votes = subst (λ cs. AreSent cs (subjects_of x.sent)) (sym same.0) x.votes;
       at = step_leaves setup node made past did later input now stop d (run m x.calls) given.outcome a.0
           (ap (λ w. place_of w (voter_past (did ∷ past))) p.0 ∙ ap (place_of v) p.1 ∙ step_place v (voter_past past) input now stop d e) p.0 refl refl refl x.left;
-      first = subst (AreStoredFirst (IsEarlier m)) (sym same) x.first;
+      first = subst (AreStoredFirst (IsEarlier m)) (sym same.0) x.first;
+      constructed = subst (AreVotesSent (run m x.calls).sent) (sym same.1) x.constructed;
     }
 
 pub voter_further : (setup : Setup) (node : Node) (made : EngineMade) (past : List Did) (m : Member) (noted : Noted) (taken : Taken) (input : VoterInput) (now : ℕ) (stop : Stop)
     → IsStep taken input → current_of (voter_in made past).rules (place_of (voter_in made past) (voter_past past)).standing.desk.known < greatest_view
-    → noted.entry.calls ≡ (by_voter taken now stop (step_given (voter_in made past) (voter_past past) input now stop)).out.calls
+    → (noted.entry.calls ≡ (by_voter taken now stop (step_given (voter_in made past) (voter_past past) input now stop)).out.calls) × (noted.entry.handed ≡ (by_voter taken now stop (step_given (voter_in made past) (voter_past past) input now stop)).out.handed)
     → IsAt setup node (Running made past) m
     → Further setup noted node (going_on made (by_voter taken now stop (step_given (voter_in made past) (voter_past past) input now stop) ∷ past)) m
 voter_further setup node made past m noted taken input now stop step low same a =
@@ -449,11 +522,11 @@ voter_further setup node made past m noted taken input now stop step low same a 
     at None e =
         let g = step_gives (voter_in made past) (voter_past past) input now stop None e in
         subst (λ x. Further setup noted node (going_on made (by_voter taken now stop x ∷ past)) m) (sym g)
-        (voter_idles setup node made past m noted taken input now stop step e (same ∙ ap (λ (x : Performed). x.out.calls) g) a)
+        (voter_idles setup node made past m noted taken input now stop step e (same.0 ∙ ap (λ (x : Performed). x.out.calls) g, same.1 ∙ ap (λ (x : Performed). x.out.handed) g) a)
     at (Some d) e =
         let g = step_gives (voter_in made past) (voter_past past) input now stop (Some d) e in
         subst (λ x. Further setup noted node (going_on made (by_voter taken now stop x ∷ past)) m) (sym g)
-        (voter_steps setup node made past m noted taken input now stop d step low e (same ∙ ap (λ (x : Performed). x.out.calls) g) a)
+        (voter_steps setup node made past m noted taken input now stop d step low e (same.0 ∙ ap (λ (x : Performed). x.out.calls) g, same.1 ∙ ap (λ (x : Performed). x.out.handed) g) a)
 
 -- ---- an answer
 
@@ -483,20 +556,20 @@ answered_at setup node made did past number answer m e f a =
     )
 
 pub answer_further : (setup : Setup) (node : Node) (made : EngineMade) (past : List Did) (m : Member) (noted : Noted) (number : ℕ) (answer : Answer) (now : ℕ)
-    → noted.entry.calls ≡ [] → IsAt setup node (Running made past) m → Further setup noted node (going_on made (engine.replied number answer now ∷ past)) m
+    → (noted.entry.calls ≡ []) × (noted.entry.handed ≡ []) → IsAt setup node (Running made past) m → Further setup noted node (going_on made (engine.replied number answer now ∷ past)) m
 unfolding runs
 answer_further setup node made past m noted number answer now same a =
-    quiet_on setup node noted (Running made (engine.replied number answer now ∷ past)) m (subst AllPlain (sym same) tt)
+    quiet_on setup node noted (Running made (engine.replied number answer now ∷ past)) m (subst AllPlain (sym same.0) tt) (subst AreSilent (sym same.1) tt)
     (answered_at setup node made (engine.replied number answer now) past number answer m refl refl a)
 
 -- ---- a crash
 
-pub crash_further : (setup : Setup) (node : Node) (made : EngineMade) (past : List Did) (m : Member) (noted : Noted) → noted.entry.calls ≡ [] → IsAt setup node (Running made past) m
+pub crash_further : (setup : Setup) (node : Node) (made : EngineMade) (past : List Did) (m : Member) (noted : Noted) → (noted.entry.calls ≡ []) × (noted.entry.handed ≡ []) → IsAt setup node (Running made past) m
     → Further setup noted node (Stopped (crashed 0 (sections_of made past))) m
 unfolding IsAt sections_of
 crash_further setup node made past m noted same a =
     let place = place_of (voter_in made past) (voter_past past) in
     let after = happens m (life.Crash (λ view. 0)) in
-    quiet_off setup node noted (Stopped (crashed 0 place.sections)) m (subst AllPlain (sym same) tt)
+    quiet_off setup node noted (Stopped (crashed 0 place.sections)) m (subst AllPlain (sym same.0) tt) (subst AreSilent (sym same.1) tt)
     (stopped_any setup node.member (started_at past) 0 (crashed 0 place.sections) after
     (subst (λ r. IsStopped r (crashed 0 place.sections) after) (a.0 (started_at past)) (crash_lived (voter_in made past).rules 0 place.standing.desk.known place.sections m a.1)))

@@ -29,10 +29,11 @@ use Rattle.simplex_lives.proofs.Invariant.{Lives, Lives-run, Lives-newborn}
 use Rattle.simplex_lives.proofs.JournalFacts.{held_kept}
 use Rattle.simplex_agreement.proofs.ListFacts.{not_in_empty, Contains-here, Contains-there, Contains-cons_cases}
 use Rattle.simplex_lives.proofs.CallFacts.{run-append, IsLegal-append, brought-append}
-use Rattle.simplex_conduct.specs.Life.{memory_of, journal_of, certificate_in, taken, AreSent, IsEarlier, IsStopped}
+use Rattle.simplex_conduct.specs.Life.{memory_of, journal_of, certificate_in, taken, AreSent, AreVotesSent, IsEarlier, IsStopped}
 use Rattle.simplex_conduct.specs.Storing.{AreStoredFirst}
+use Rattle.simplex_conduct.proofs.Constructing.{AreVotesSent-more}
 use Rattle.simplex_conduct.proofs.Replaying.{kept_is}
-use Rattle.simplex_safety.specs.Histories.{calls_of, floor_in, floors_of, IsAt, IsHeld, AreStored, IsLivedBy}
+use Rattle.simplex_safety.specs.Histories.{calls_of, floor_in, floors_of, IsAt, IsHeld, AreStored, AreConstructed, IsLivedBy}
 
 pub same_self : (a : Node) → is_same_node a a ≡ true
 same_self a = grind (arith, common_steps, eq-eqb a.member a.member refl, eq-eqb a.half a.half refl)
@@ -57,7 +58,7 @@ pub life_then : (setup : Setup) (noted : Noted) (before : List Noted) (node : No
 unfolding life_in
 life_then setup noted before node e = ap (λ b. if b then after setup noted.event noted.did (life_in setup before node) else life_in setup before node) e
 
-life_still : (setup : Setup) (noted : Noted) (before : List Noted) (node : Node) → is_of node noted.event ≡ false
+pub life_still : (setup : Setup) (noted : Noted) (before : List Noted) (node : Node) → is_of node noted.event ≡ false
     → life_in setup (noted ∷ before) node ≡ life_in setup before node
 unfolding life_in
 life_still setup noted before node e = ap (λ b. if b then after setup noted.event noted.did (life_in setup before node) else life_in setup before node) e
@@ -108,6 +109,7 @@ pub record Further (setup : Setup) (noted : Noted) (node : Node) (later : Life) 
   pub votes : AreSent noted.entry.calls (subjects_of sent)
   pub at : IsAt setup node later (run m calls)
   pub first : AreStoredFirst (IsEarlier m) noted.entry.calls
+  pub constructed : AreVotesSent (run m calls).sent noted.entry.handed
 
 floors_then : (noted : Noted) (before : List Noted) (node : Node) → floors_of node (noted ∷ before) ≡ floors_of node before ++ floor_in node noted.event
 unfolding floors_of
@@ -158,6 +160,21 @@ stored_still : (setup : Setup) (noted : Noted) (before : List Noted) (node : Nod
 unfolding AreStored
 stored_still setup noted before node e s = (λ t. absurd (cc (e, t)), s)
 
+constructed_more : (node : Node) (before : List Noted) (sent more : List Sent) → AreConstructed node before sent → AreConstructed node before (sent ++ more)
+unfolding AreConstructed
+constructed_more node [] sent more h = tt
+constructed_more node (noted ∷ before) sent more h = (λ e. AreVotesSent-more sent more noted.entry.handed (h.0 e), constructed_more node before sent more h.1)
+
+constructed_then : (node : Node) (noted : Noted) (before : List Noted) (sent : List Sent) → AreVotesSent sent noted.entry.handed → AreConstructed node before sent
+    → AreConstructed node (noted ∷ before) sent
+unfolding AreConstructed
+constructed_then node noted before sent f h = (λ e. f, h)
+
+constructed_still : (node : Node) (noted : Noted) (before : List Noted) (sent : List Sent) → is_of node noted.event ≡ false → AreConstructed node before sent
+    → AreConstructed node (noted ∷ before) sent
+unfolding AreConstructed
+constructed_still node noted before sent e h = (λ t. absurd (cc (e, t)), h)
+
 pub go_further : (setup : Setup) (noted : Noted) (before : List Noted) (node : Node) → 0 < setup.term → is_of node noted.event ≡ true → (b : IsLivedBy setup before node)
     → Further setup noted node (after setup noted.event noted.did (life_in setup before node)) (run newborn b.calls) → IsLivedBy setup (noted ∷ before) node
 go_further setup noted before node pos e b f =
@@ -187,6 +204,9 @@ go_further setup noted before node pos e b f =
           (subst (IsAt setup node (after setup noted.event noted.did (life_in setup before node))) (sym joined) f.at);
       stored = stored_then setup noted before node
           (first_held setup node (life_in setup before node) m setup.term noted.entry.calls (Lives-run setup.term pos newborn b.calls b.legal (Lives-newborn setup.term)) b.at f.first) b.stored;
+      constructed = constructed_then node noted before (run newborn (b.calls ++ f.calls)).sent
+          (subst (λ (n : Member). AreVotesSent n.sent noted.entry.handed) (sym joined) f.constructed)
+          (subst (AreConstructed node before) (sym (ap (λ (n : Member). n.sent) joined ∙ f.sends)) (constructed_more node before m.sent f.sent b.constructed));
     }
 
 pub stay : (setup : Setup) (noted : Noted) (before : List Noted) (node : Node) → is_of node noted.event ≡ false → (b : IsLivedBy setup before node) → IsLivedBy setup (noted ∷ before) node
@@ -201,4 +221,5 @@ stay setup noted before node e b =
       votes = subst (λ cs. AreSent cs (subjects_of (run newborn b.calls).sent)) (sym (calls_still noted before node e)) b.votes;
       at = subst (λ x. IsAt setup node x (run newborn b.calls)) (sym (life_still setup noted before node e)) b.at;
       stored = stored_still setup noted before node e b.stored;
+      constructed = constructed_still node noted before (run newborn b.calls).sent e b.constructed;
     }

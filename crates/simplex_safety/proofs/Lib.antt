@@ -1,6 +1,13 @@
+mod Above
+mod Agreeing
+mod Backing
 mod Events
+mod Founded
 mod Further
+mod Knowledge
+mod Mails
 mod Nodes
 mod Quiet
+mod Single
 mod Speaking
 mod Telling

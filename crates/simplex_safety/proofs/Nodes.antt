@@ -39,18 +39,18 @@ use Rattle.simplex_run.specs.Entries.{noted_with, noted_blank, took_of, is_at_en
 use Rattle.simplex_lives.specs.Member.{Member, newborn, run}
 use Rattle.simplex_conduct.specs.Life.{IsFloor, IsStopped}
 use Rattle.simplex_conduct.specs.Life as conduct
-use Rattle.simplex_safety.specs.Histories.{IsRun, IsStartAbove, AreFloors, IsAt, calls_of, AreStored, IsLivedBy}
+use Rattle.simplex_safety.specs.Histories.{IsRun, IsStartAbove, AreFloors, IsAt, calls_of, AreStored, AreConstructed, IsLivedBy}
 use Rattle.simplex_safety.proofs.Further.{Further, same_self, same_node, go_further, stay}
 use Rattle.simplex_safety.proofs.Events.{start_further, batcher_further, nothing_further, voter_further, answer_further, crash_further}
 
-ok_is : {E A : Type 0} (a b : A) → ◌≡◌ {A = Result A E} (Ok a) (Ok b) → a ≡ b
+pub ok_is : {E A : Type 0} (a b : A) → ◌≡◌ {A = Result A E} (Ok a) (Ok b) → a ≡ b
 ok_is a b e = cc
 
-if_ok : {E A : Type 0} (b : Bool) (x : Result A E) (error : E) (a : A) → (if b then x else Err error) ≡ Ok a → (b ≡ true) × (x ≡ Ok a)
+pub if_ok : {E A : Type 0} (b : Bool) (x : Result A E) (error : E) (a : A) → (if b then x else Err error) ≡ Ok a → (b ≡ true) × (x ≡ Ok a)
 if_ok true x error a e = (refl, e)
 if_ok false x error a e = cc
 
-if_err : {E A : Type 0} (b : Bool) (x : Result A E) (error : E) (a : A) → (if b then Err error else x) ≡ Ok a → (b ≡ false) × (x ≡ Ok a)
+pub if_err : {E A : Type 0} (b : Bool) (x : Result A E) (error : E) (a : A) → (if b then Err error else x) ≡ Ok a → (b ≡ false) × (x ≡ Ok a)
 if_err true x error a e = cc
 if_err false x error a e = (refl, e)
 
@@ -77,7 +77,7 @@ start_case setup pos before at floor stop js e above b =
     go_further setup noted before at pos (same_self at) b
     (subst (λ l. Further setup noted at (going_on (engine_of setup at.member (floor_of setup floor) (sections_in l)) (did ∷ [])) (run newborn b.calls)) (sym e)
     (start_further setup at floor stop js (clock_of before) (run newborn b.calls) noted (is_floor floor above)
-    (subst (λ l. IsAt setup at l (run newborn b.calls)) e b.at) refl refl))
+    (subst (λ l. IsAt setup at l (run newborn b.calls)) e b.at) (refl, refl) refl))
   where
     is_floor : (f : Option Finalization) → IsStartAbove (events.Start at f stop) → IsFloor (floor_of setup f)
     is_floor None h = tt
@@ -109,7 +109,7 @@ goes_on setup pos before at noted made past did e of gone f b =
     (subst (λ l. Further setup noted at l m) (sym gone) (f m (subst (λ l. IsAt setup at l m) e b.at))))
 
 heard_further : (setup : Setup) (at : Node) (made : EngineMade) (past : List Did) (m : Member) (noted : Noted) (sender : ℕ) (channel : Channel) (bytes : List ℕ) (now : ℕ)
-    → noted.entry.calls ≡ (engine.heard made past sender channel bytes now).out.calls → IsAt setup at (Running made past) m
+    → (noted.entry.calls ≡ (engine.heard made past sender channel bytes now).out.calls) × (noted.entry.handed ≡ (engine.heard made past sender channel bytes now).out.handed) → IsAt setup at (Running made past) m
     → Further setup noted at (going_on made (engine.heard made past sender channel bytes now ∷ past)) m
 unfolding engine.heard
 heard_further setup at made past m noted sender channels.Vote bytes now same a =
@@ -130,7 +130,7 @@ packet_lives setup pos before at node ref noted made past (Some packet) f e b =
     subst (λ n. IsLivedBy setup (n ∷ before) node) same
     (each_node setup new before at node refl
     (goes_on setup pos before at new made past did f (same_self at) refl
-    (λ m a. heard_further setup at made past m new packet.from.member packet.channel packet.bytes (clock_of before) refl a)) b)
+    (λ m a. heard_further setup at made past m new packet.from.member packet.channel packet.bytes (clock_of before) (refl, refl) a)) b)
 
 deliver_lives : (setup : Setup) → 0 < setup.term → (before : List Noted) (at node : Node) (ref : Ref) (noted : Noted)
     → on_deliver setup before at ref (life_in setup before at) ≡ Ok noted → IsLivedBy setup before node → IsLivedBy setup (noted ∷ before) node
@@ -146,7 +146,7 @@ low_view : (term lookahead current : ℕ) → 0 < term → nat_lt (greatest_view
 low_view term lookahead current pos e = grind (arith, nat_tests, pos, e)
 
 batcher_mail_further : (setup : Setup) (at : Node) (made : EngineMade) (past : List Did) (m : Member) (noted : Noted) (now : ℕ) (stop : Stop) (o : Option batcher_message.Message)
-    → noted.entry.calls ≡ (engine.on_batcher_mail made past now stop o).out.calls → IsAt setup at (Running made past) m
+    → (noted.entry.calls ≡ (engine.on_batcher_mail made past now stop o).out.calls) × (noted.entry.handed ≡ (engine.on_batcher_mail made past now stop o).out.handed) → IsAt setup at (Running made past) m
     → Further setup noted at (going_on made (engine.on_batcher_mail made past now stop o ∷ past)) m
 batcher_mail_further setup at made past m noted now stop None same a =
     nothing_further setup at made past m noted (engine.Took sources.Batcher None) now stop outcomes.Idle (λ n s o out. refl, refl) same a
@@ -155,7 +155,7 @@ batcher_mail_further setup at made past m noted now stop (Some message) same a =
 
 voter_mail_further : (setup : Setup) (at : Node) (made : EngineMade) (past : List Did) (m : Member) (noted : Noted) (now : ℕ) (stop : Stop) (o : Option voter_message.Message)
     → current_of (voter_in made past).rules (place_of (voter_in made past) (voter_past past)).standing.desk.known < greatest_view
-    → noted.entry.calls ≡ (engine.on_voter_mail made past now stop o).out.calls → IsAt setup at (Running made past) m
+    → (noted.entry.calls ≡ (engine.on_voter_mail made past now stop o).out.calls) × (noted.entry.handed ≡ (engine.on_voter_mail made past now stop o).out.handed) → IsAt setup at (Running made past) m
     → Further setup noted at (going_on made (engine.on_voter_mail made past now stop o ∷ past)) m
 voter_mail_further setup at made past m noted now stop None low same a =
     nothing_further setup at made past m noted (engine.Took sources.Voter None) now stop outcomes.Idle (λ n s o out. refl, refl) same a
@@ -164,7 +164,7 @@ voter_mail_further setup at made past m noted now stop (Some message) low same a
 
 step_further : (setup : Setup) (at : Node) (made : EngineMade) (past : List Did) (m : Member) (noted : Noted) (source : StepSource) (now : ℕ) (stop : Stop)
     → current_of (voter_in made past).rules (place_of (voter_in made past) (voter_past past)).standing.desk.known < greatest_view
-    → noted.entry.calls ≡ (engine.stepped made past source now stop).out.calls → IsAt setup at (Running made past) m
+    → (noted.entry.calls ≡ (engine.stepped made past source now stop).out.calls) × (noted.entry.handed ≡ (engine.stepped made past source now stop).out.handed) → IsAt setup at (Running made past) m
     → Further setup noted at (going_on made (engine.stepped made past source now stop ∷ past)) m
 unfolding engine.stepped
 step_further setup at made past m noted sources.Batcher now stop low same a = batcher_mail_further setup at made past m noted now stop (received (engine.batcher_mail made past)) same a
@@ -193,7 +193,7 @@ step_lives setup before at node source stop noted pos e b = cases (life_in setup
         subst (λ n. IsLivedBy setup (n ∷ before) node) same
         (each_node setup new before at node refl
         (goes_on setup pos before at new made past did f (same_self at) refl
-        (λ m a. step_further setup at made past m new source (clock_of before) stop low refl a)) b)
+        (λ m a. step_further setup at made past m new source (clock_of before) stop low (refl, refl) a)) b)
 
 -- ---- an answer
 
@@ -208,7 +208,7 @@ request_lives setup pos before at node ref answer noted made past (Some number) 
     subst (λ n. IsLivedBy setup (n ∷ before) node) same
     (each_node setup new before at node refl
     (goes_on setup pos before at new made past did f (same_self at) refl
-    (λ m a. answer_further setup at made past m new number answer (clock_of before) refl a)) b)
+    (λ m a. answer_further setup at made past m new number answer (clock_of before) (refl, refl) a)) b)
 
 answer_lives : (setup : Setup) → 0 < setup.term → (before : List Noted) (at node : Node) (ref : Ref) (answer : Answer) (noted : Noted)
     → on_answer setup before at ref answer (life_in setup before at) ≡ Ok noted → IsLivedBy setup before node → IsLivedBy setup (noted ∷ before) node
@@ -232,7 +232,7 @@ crash_lives setup pos before at node noted e b = cases (life_in setup before at)
         let m = run newborn x.calls in
         go_further setup new before at pos (same_self at) x
         (subst (λ l. Further setup new at (Stopped (crashed 0 (sections_in l))) m) (sym f)
-        (crash_further setup at made past m new refl (subst (λ l. IsAt setup at l m) f x.at)))
+        (crash_further setup at made past m new (refl, refl) (subst (λ l. IsAt setup at l m) f x.at)))
 
     cases : (l : Life) → life_in setup before at ≡ l → on_crash before at l ≡ Ok noted → IsLivedBy setup (noted ∷ before) node
     cases (Stopped js) f h = cc
@@ -242,7 +242,7 @@ crash_lives setup pos before at node noted e b = cases (life_in setup before at)
 
 -- ---- every event
 
-both_err : {E A : Type 0} (b : Bool) (x y : E) (a : A) → ◌≡◌ {A = Result A E} (if b then Err x else Err y) (Ok a) → ⊥
+pub both_err : {E A : Type 0} (b : Bool) (x y : E) (a : A) → ◌≡◌ {A = Result A E} (if b then Err x else Err y) (Ok a) → ⊥
 both_err true x y a e = cc
 both_err false x y a e = cc
 
@@ -263,7 +263,7 @@ event_lives setup before events.Later noted node pos above e b = cc
 -- ---- every run
 
 none_yet : (setup : Setup) (node : Node) → IsLivedBy setup [] node
-unfolding IsAt life_in calls_of AreStored conduct.taken conduct.AreSent conduct.journal_of numbers IsStrictlySortedBy replayed
+unfolding IsAt life_in calls_of AreStored AreConstructed conduct.taken conduct.AreSent conduct.journal_of numbers IsStrictlySortedBy replayed
 none_yet setup node =
     record {
       calls = [];
@@ -271,6 +271,7 @@ none_yet setup node =
       brought = λ c k. inl k;
       votes = refl;
       stored = tt;
+      constructed = tt;
       at = record { up = refl; blank = refl; journal = refl; stored = refl; rising = tt; own = λ v c. absurd (omega (arith, c.1)) };
     }
 

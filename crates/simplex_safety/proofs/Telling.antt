@@ -505,7 +505,7 @@ started_says Good made now floor records f r =
 
 -- ---- as it was made
 
-Each-take : {A : Type 0} (P : A → Type 0) (n : ℕ) (xs : List A) → Each P xs → Each P (take n xs)
+pub Each-take : {A : Type 0} (P : A → Type 0) (n : ℕ) (xs : List A) → Each P xs → Each P (take n xs)
 Each-take P zero xs h = tt
 Each-take P (suc n) [] h = tt
 Each-take P (suc n) (x ∷ xs) h = (h.0, Each-take P n xs h.1)

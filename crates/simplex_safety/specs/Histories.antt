@@ -21,7 +21,7 @@ use Rattle.simplex_agreement.specs.World.{Sent}
 use Rattle.simplex_lives.specs.Artifacts as member
 use Rattle.simplex_lives.specs.Member as life
 use Rattle.simplex_lives.specs.Member.{Member, newborn}
-use Rattle.simplex_conduct.specs.Life.{statement_of, memory_of, taken, AreSent, IsRunning, IsStopped}
+use Rattle.simplex_conduct.specs.Life.{statement_of, memory_of, taken, AreSent, AreVotesSent, IsRunning, IsStopped}
 use Rattle.simplex_conduct.specs.Storing.{AreStoredFirst}
 
 -- entries of a run, the newest first: each is what its event makes of those before it
@@ -71,8 +71,14 @@ AreStored setup node (noted ∷ before) =
     (is_of node noted.event ≡ true → AreStoredFirst (IsHeld (sections_in (life_in setup before node))) noted.entry.calls)
     × AreStored setup node before
 
+-- each vote that the node's voter handed to its batcher as constructed is on a subject of these votes
+unfoldable pub AreConstructed : Node → List Noted → List Sent → Type 0
+AreConstructed node [] sent = Unit {0}
+AreConstructed node (noted ∷ before) sent = (is_of node noted.event ≡ true → AreVotesSent sent noted.entry.handed) × AreConstructed node before sent
+
 -- What the node did is the life of an honest member: its calls are legal, certificates come to it only as records that
--- the node appended or as floors of its starts, it sent the votes that went out of the node, and it is where the node is. Each vote was stored before it was sent
+-- the node appended or as floors of its starts, it sent the votes that went out of the node, and it is where the node is. Each vote
+-- was stored before it was sent, and each that the batcher was handed was sent
 pub record IsLivedBy (setup : Setup) (noted : List Noted) (node : Node) : Type 0 where
   pub calls : List life.Call
   pub legal : life.IsLegal setup.term newborn calls
@@ -80,3 +86,4 @@ pub record IsLivedBy (setup : Setup) (noted : List Noted) (node : Node) : Type 0
   pub votes : AreSent (calls_of node noted) (map (λ (s : Sent). s.subject) (life.run newborn calls).sent)
   pub at : IsAt setup node (life_in setup noted node) (life.run newborn calls)
   pub stored : AreStored setup node noted
+  pub constructed : AreConstructed node noted (life.run newborn calls).sent

@@ -1,11 +1,14 @@
 //! What holds of every run of honest members.
 //!
 //! Each node of a run lives the life of an honest member, over all its starts, steps, stops and crashes; and a
-//! voter says no certificate that it was not given. These are laws over the definitions alone.
+//! voter says no certificate that it was not given. In a run of one member each certificate is backed by votes
+//! that the member sent, and no two conflict. These are laws over the definitions alone.
 #![tactic(auto)]
 
+mod alone;
 mod lives;
 mod sayings;
 
+pub use alone::{one_member_agrees, one_member_is_backed};
 pub use lives::nodes_live;
 pub use sayings::{starts_say_what_was_given, steps_say_what_was_given};

@@ -1,0 +1,453 @@
+-- In a run of one member each certificate that stands in it is on a subject that the member voted on.
+use Rattle.std.proofs.Common.{◌≡◌, ℕ, zero, suc, ◌+◌, ◌-◌, ◌^◌, ◌<◌, ◌==◌, ◌&&◌, ◌||◌, not, length, nat_lt, nat_le, Bool, true, false, List, [], ◌∷◌, map, filter, Contains, Option, Some, None, Ok, refl, sym, ap, ◌∙◌, subst, arith, eqb-true, if◌then◌else◌}
+use Rattle.std.specs.List.{list_any, list_all, slice_get, range_with_len}
+use Rattle.std.specs.Option.{option_and_then}
+use Rattle.std.proofs.lemmas.Bool.Decides.{nat_tests}
+use Rattle.std.proofs.lemmas.Grind.{common_steps}
+use Rattle.simplex_values.specs.declared.answer.Answer.{Answer}
+use Rattle.simplex_values.specs.declared.plan.Channel.TheVariants as channels
+use Rattle.simplex_values.specs.declared.plan.Recipients.TheVariants as recipients
+use Rattle.simplex_values.specs.Proposal.{is_same_proposal}
+use Rattle.simplex_values.specs.declared.proposal.Subject.TheVariants as subjects
+use Rattle.simplex_wire.specs.declared.certificate.Certificate.TheVariants as certificates
+use Rattle.simplex_wire.specs.declared.certificate.Finalization.{Finalization}
+use Rattle.simplex_types.specs.declared.activity.Activity.TheVariants as activities
+use Rattle.simplex_journal.specs.Journal.{Section, replayed}
+use Rattle.simplex_mailbox.specs.Mail.{received}
+use Rattle.simplex_messages.specs.declared.batcher.Message as batcher_message
+use Rattle.simplex_messages.specs.declared.batcher.BatcherInput.{BatcherInput}
+use Rattle.simplex_messages.specs.declared.batcher.BatcherInput.TheVariants as batcher_inputs
+use Rattle.simplex_messages.specs.declared.call.Call.{Call}
+use Rattle.simplex_messages.specs.declared.call.Call.TheVariants as calls
+use Rattle.simplex_messages.specs.declared.voter.Message as voter_message
+use Rattle.simplex_messages.specs.declared.voter.Message.TheVariants as voter_messages
+use Rattle.simplex_messages.specs.declared.voter.VoterInput.{VoterInput}
+use Rattle.simplex_messages.specs.declared.voter.VoterInput.TheVariants as voter_inputs
+use Rattle.simplex_messages.specs.declared.handed.Handed.TheVariants as handed
+use Rattle.simplex_messages.specs.declared.step.Stop.{Stop}
+use Rattle.simplex_messages.specs.Step.{no_out}
+use Rattle.simplex_transcript.specs.declared.event.Event.{Event}
+use Rattle.simplex_transcript.specs.declared.event.Event.TheVariants as events
+use Rattle.simplex_transcript.specs.declared.event.StepSource.{StepSource}
+use Rattle.simplex_transcript.specs.declared.event.StepSource.TheVariants as sources
+use Rattle.simplex_transcript.specs.declared.entry.Packet.{Packet}
+use Rattle.simplex_transcript.specs.declared.entry.Took.{Took}
+use Rattle.simplex_transcript.specs.declared.entry.Took.TheVariants as tooks
+use Rattle.simplex_transcript.specs.declared.node.Node.{Node}
+use Rattle.simplex_transcript.specs.declared.node.Ref.{Ref}
+use Rattle.simplex_transcript.specs.declared.setup.Setup.{Setup}
+use Rattle.simplex_steps.specs.Desk.{Doing}
+use Rattle.simplex_steps.specs.Performed.{Performed}
+use Rattle.simplex_steps.specs.Voter as voter
+use Rattle.simplex_steps.specs.VoterLife.{place_of, step_given}
+use Rattle.simplex_steps.specs.Engine as engine
+use Rattle.simplex_steps.specs.Engine.{EngineMade, Did, Taken, Began, voter_in, voter_past, input_of_batcher, by_voter, did_of, runs, sections_of}
+use Rattle.simplex_run.specs.Life.{Noted, Life, Stopped, Running, clock_of, is_of, going_on, sections_in, after, life_in}
+use Rattle.simplex_run.specs.Members.{is_node, members_of, is_same_node, floor_of, rules_of, batcher_of, engine_of}
+use Rattle.simplex_run.specs.Requests.{request_number, packet_at, if_for, packet_for}
+use Rattle.simplex_run.specs.Entries.{node_of, nodes_for, packets_of, noted_with, noted_blank, took_of, is_at_end, are_same_attestations, reports, was_reported, is_own_floor, on_start, on_packet, on_deliver, on_step, on_request, on_answer, on_crash, entry_of}
+use Rattle.simplex_batcher_laws.proofs.Schemes.{keyed_fits}
+use Rattle.simplex_agreement.specs.World.{Certificate, Sent}
+use Rattle.simplex_lives.specs.Member.{newborn, run}
+use Rattle.simplex_conduct.specs.Life.{statement_of, AreVotesSent}
+use Rattle.simplex_safety.specs.Sayings.{Each, InCall, InFloor, InKnown, InInput, AllSaid}
+use Rattle.simplex_safety.specs.Histories.{IsRun, AreFloors, IsAt, AreConstructed, IsLivedBy}
+use Rattle.simplex_safety.specs.Alone.{InStart, InNoted}
+use Rattle.simplex_safety.proofs.Events.{engine_at, given_start, begun_gives, step_gives}
+use Rattle.simplex_safety.proofs.Founded.{InOwnMail, IsFineInput, IsFineDid, IsOnly, batcher_mail_fine, voter_mail_fine, batcher_said, said_fine}
+use Rattle.simplex_safety.proofs.Further.{same_self, same_node, life_then, life_still}
+use Rattle.simplex_safety.proofs.Knowledge.{member_good, known_good, records_good}
+use Rattle.simplex_safety.proofs.Mails.{InMail, holds_received}
+use Rattle.simplex_safety.proofs.Nodes.{ok_is, if_ok, if_err, both_err, node_lives}
+use Rattle.simplex_safety.proofs.Single.{Good, both, proposals_same, signers_same}
+use Rattle.simplex_safety.proofs.Telling.{stepped_says, started_says, said, said_at_start}
+
+-- the one node
+abbrev pub only : Node
+only = node_of 0
+
+-- ---- what a run of the member's node is
+
+-- a packet for nobody
+abbrev IsForNobody : Packet → Type 0
+IsForNobody packet = packet.to ≡ []
+
+abbrev IsLifeFine : List Sent → Life → Type 0
+IsLifeFine sent (Stopped sections) = Unit {0}
+IsLifeFine sent (Running made past) = IsOnly made.batcher × Each (IsFineDid sent) past
+
+pub record IsFineRun (setup : Setup) (sent : List Sent) (noted : List Noted) : Type 0 where
+  pub said : Each (InNoted (Good sent)) noted
+  pub nobody : Each (λ (n : Noted). Each IsForNobody n.entry.packets) noted
+  pub life : IsLifeFine sent (life_in setup noted only)
+
+is_only : (setup : Setup) (at : Node) → members_of setup ≡ 1 → is_node setup at ≡ true → only ≡ at
+is_only setup at one e = same_node only at (grind (arith, nat_tests, common_steps, eqb-true, one, e))
+
+-- ---- packets: what is sent to all is sent to nobody
+
+nobody_else : (setup : Setup) → members_of setup ≡ 1 → nodes_for setup only recipients.All ≡ []
+nobody_else setup one = ap (λ n. map node_of (filter (λ m. not (m == 0)) (range_with_len 0 n))) one
+
+packets_none : (setup : Setup) (Good : Certificate → Type 0) (cs : List Call) → members_of setup ≡ 1 → Each (InCall Good) cs → Each IsForNobody (packets_of setup only cs)
+packets_none setup Good [] one g = tt
+packets_none setup Good (calls.Send channels.Vote to bytes ∷ rest) one g = (ap (nodes_for setup only) g.0 ∙ nobody_else setup one, packets_none setup Good rest one g.1)
+packets_none setup Good (calls.Send channels.Certificate to bytes ∷ rest) one g = (ap (nodes_for setup only) g.0.0 ∙ nobody_else setup one, packets_none setup Good rest one g.1)
+packets_none setup Good (calls.Send channels.Resolver to bytes ∷ rest) one g = absurd g.0
+packets_none setup Good (calls.Append n a ∷ rest) one g = packets_none setup Good rest one g.1
+packets_none setup Good (calls.Sync n ∷ rest) one g = packets_none setup Good rest one g.1
+packets_none setup Good (calls.Prune n ∷ rest) one g = packets_none setup Good rest one g.1
+packets_none setup Good (calls.Report activity ∷ rest) one g = packets_none setup Good rest one g.1
+packets_none setup Good (calls.Relay payload plan ∷ rest) one g = packets_none setup Good rest one g.1
+packets_none setup Good (calls.Block who ∷ rest) one g = packets_none setup Good rest one g.1
+
+one_of : {A : Type 0} (P : A → Type 0) (xs : List A) (i : ℕ) (x : A) → Each P xs → slice_get xs i ≡ Some x → P x
+one_of P [] i x h e = cc
+one_of P (y ∷ xs) zero x h e = let same : y ≡ x = cc in subst P same h.0
+one_of P (y ∷ xs) (suc i) x h e = one_of P xs i x h.1 e
+
+packet_nobody : (before : List Noted) (ref : Ref) (p : Packet) → Each (λ (n : Noted). Each IsForNobody n.entry.packets) before → packet_at before ref ≡ Some p → IsForNobody p
+unfolding packet_at
+packet_nobody [] ref p h e = cc
+packet_nobody (noted ∷ before) ref p h e = at (length before + 1 == ref.event) e (packet_nobody before ref p h.1)
+  where
+    at : (b : Bool) → (if b then slice_get noted.entry.packets ref.place else packet_at before ref) ≡ Some p → (packet_at before ref ≡ Some p → IsForNobody p) → IsForNobody p
+    at true f old = one_of IsForNobody noted.entry.packets ref.place p h.0 f
+    at false f old = old f
+
+if_nobody : (node : Node) (p : Packet) → IsForNobody p → if_for node p ≡ None
+if_nobody node p e = ap (λ to. if list_any (is_same_node node) to then Some p else None) e
+
+no_packet : (before : List Noted) (node : Node) (ref : Ref) → Each (λ (n : Noted). Each IsForNobody n.entry.packets) before → packet_for before node ref ≡ None
+unfolding packet_for
+no_packet before node ref h = at (packet_at before ref) refl
+  where
+    at : (o : Option Packet) → packet_at before ref ≡ o → option_and_then (if_for node) o ≡ None
+    at None e = refl
+    at (Some p) e = if_nobody node p (packet_nobody before ref p h e)
+
+-- ---- a floor was reported
+
+same_final : (sent : List Sent) (f g : Finalization) → (is_same_proposal f.proposal g.proposal && are_same_attestations f.certificate g.certificate) ≡ true
+    → Good sent (statement_of (certificates.Finalization g)) → Good sent (statement_of (certificates.Finalization f))
+same_final sent f g e good =
+    let parts = both (is_same_proposal f.proposal g.proposal) (are_same_attestations f.certificate g.certificate) e in (
+      signers_same f.certificate g.certificate parts.1 ∙ good.0,
+      subst (λ p. Contains (map (λ (s : Sent). s.subject) sent) (subjects.Finalize p)) (sym (proposals_same f.proposal g.proposal parts.0)) good.1,
+    )
+
+call_reports : (sent : List Sent) (f : Finalization) (c : Call) → reports f c ≡ true → InCall (Good sent) c → Good sent (statement_of (certificates.Finalization f))
+call_reports sent f (calls.Report (activities.Finalization g)) e good = same_final sent f g e good
+call_reports sent f (calls.Report (activities.Notarize v)) e good = cc
+call_reports sent f (calls.Report (activities.Notarization v)) e good = cc
+call_reports sent f (calls.Report (activities.Certification v)) e good = cc
+call_reports sent f (calls.Report (activities.Nullify v)) e good = cc
+call_reports sent f (calls.Report (activities.Nullification v)) e good = cc
+call_reports sent f (calls.Report (activities.Finalize v)) e good = cc
+call_reports sent f (calls.Report (activities.ConflictingNotarize v)) e good = cc
+call_reports sent f (calls.Report (activities.ConflictingFinalize v)) e good = cc
+call_reports sent f (calls.Report (activities.NullifyFinalize v)) e good = cc
+call_reports sent f (calls.Append n a) e good = cc
+call_reports sent f (calls.Sync n) e good = cc
+call_reports sent f (calls.Prune n) e good = cc
+call_reports sent f (calls.Send channel to bytes) e good = cc
+call_reports sent f (calls.Relay payload plan) e good = cc
+call_reports sent f (calls.Block who) e good = cc
+
+calls_report : (sent : List Sent) (f : Finalization) (cs : List Call) → list_any (reports f) cs ≡ true → Each (InCall (Good sent)) cs → Good sent (statement_of (certificates.Finalization f))
+calls_report sent f [] e good = cc
+calls_report sent f (c ∷ rest) e good = at (reports f c) refl (calls_report sent f rest)
+  where
+    at : (b : Bool) → reports f c ≡ b → (list_any (reports f) rest ≡ true → Each (InCall (Good sent)) rest → Good sent (statement_of (certificates.Finalization f)))
+        → Good sent (statement_of (certificates.Finalization f))
+    at true h old = call_reports sent f c h good.0
+    at false h old = old (subst (λ b. (b || list_any (reports f) rest) ≡ true) h e) good.1
+
+reported_good : (sent : List Sent) (f : Finalization) (before : List Noted) → was_reported before f ≡ true → Each (InNoted (Good sent)) before → Good sent (statement_of (certificates.Finalization f))
+unfolding was_reported
+reported_good sent f [] e good = cc
+reported_good sent f (noted ∷ before) e good = at (list_any (reports f) noted.entry.calls) refl (reported_good sent f before)
+  where
+    at : (b : Bool) → list_any (reports f) noted.entry.calls ≡ b → (was_reported before f ≡ true → Each (InNoted (Good sent)) before → Good sent (statement_of (certificates.Finalization f)))
+        → Good sent (statement_of (certificates.Finalization f))
+    at true h old = (let new = good.0 in calls_report sent f noted.entry.calls h new.calls)
+    at false h old = old (subst (λ b. (b || list_any (λ (n : Noted). list_any (reports f) n.entry.calls) before) ≡ true) h e) good.1
+
+pub floor_good : (sent : List Sent) (before : List Noted) (floor : Option Finalization) (node : Node) (stop : Stop) → is_own_floor before floor ≡ true → Each (InNoted (Good sent)) before
+    → InStart (Good sent) (events.Start node floor stop)
+floor_good sent before None node stop e good = tt
+floor_good sent before (Some f) node stop e good = reported_good sent f before e good
+
+-- ---- one more event of the node
+
+lives_on : (sent : List Sent) (made : EngineMade) (past : List Did) → IsOnly made.batcher → Each (IsFineDid sent) past → IsLifeFine sent (going_on made past)
+lives_on sent made past one h = at (runs past)
+  where
+    at : (b : Bool) → IsLifeFine sent (if b then Running made past else Stopped (sections_of made past))
+    at true = (one, h)
+    at false = tt
+
+advance : (setup : Setup) (sent : List Sent) (before : List Noted) (event : Event) (took : Option Took) (did : Did) → members_of setup ≡ 1 → is_of only event ≡ true
+    → InStart (Good sent) event → AllSaid (Good sent) did.out → IsLifeFine sent (after setup event (Some did) (life_in setup before only))
+    → IsFineRun setup sent before → IsFineRun setup sent (noted_with setup before event only took did ∷ before)
+advance setup sent before event took did one of floor said life fine =
+    let noted = noted_with setup before event only took did in
+    record {
+      said = (record { floor = floor; added = said.added; handed = said.handed; calls = said.calls }, fine.said);
+      nobody = (packets_none setup (Good sent) did.out.calls one said.calls, fine.nobody);
+      life = subst (IsLifeFine sent) (sym (life_then setup noted before only of)) life;
+    }
+
+did_fine : (sent : List Sent) (did : Did) → AllSaid (Good sent) did.out → AreVotesSent sent did.out.handed
+    → ((input : BatcherInput) → input_of_batcher did.taken ≡ Some input → IsFineInput sent input) → IsFineDid sent did
+did_fine sent did said votes taken = record { handed = said_fine sent did.out.calls did.out.handed said.handed votes; taken = taken }
+
+-- what an event of the node hands on was sent
+abbrev AreOwnSent : List Sent → Noted → Type 0
+AreOwnSent sent noted = is_of only noted.event ≡ true → AreVotesSent sent noted.entry.handed
+
+by_entry : (setup : Setup) (sent : List Sent) (before : List Noted) (new noted : Noted) → new ≡ noted → AreOwnSent sent noted
+    → (AreOwnSent sent new → IsFineRun setup sent (new ∷ before)) → IsFineRun setup sent (noted ∷ before)
+by_entry setup sent before new noted same votes f = subst (λ n. AreOwnSent sent n → IsFineRun setup sent (n ∷ before)) same f votes
+
+-- ---- a start
+
+only_batcher : (setup : Setup) (js : List Section) (floor : Option Finalization) → members_of setup ≡ 1 → IsOnly (engine_of setup 0 (floor_of setup floor) js).batcher
+unfolding engine_of batcher_of
+only_batcher setup js floor one =
+    record { scheme = keyed_fits (engine_of setup 0 (floor_of setup floor) js).batcher setup.key_base true refl; members = one }
+
+in_floor : (sent : List Sent) (setup : Setup) (floor : Option Finalization) (stop : Stop) → InStart (Good sent) (events.Start only floor stop) → InFloor (Good sent) (floor_of setup floor)
+in_floor sent setup None stop g = tt
+in_floor sent setup (Some f) stop g = g
+
+start_said : (setup : Setup) (sent : List Sent) (before : List Noted) (floor : Option Finalization) (stop : Stop) (js : List Section) → life_in setup before only ≡ Stopped js
+    → (b : IsLivedBy setup before only) → InStart (Good sent) (events.Start only floor stop) → Each (InNoted (Good sent)) before
+    → AllSaid (Good sent) (given_start setup only floor js (clock_of before) stop).out
+unfolding IsAt
+start_said setup sent before floor stop js e b g old =
+    let f = floor_of setup floor in
+    let now = clock_of before in
+    let rules = rules_of setup 0 now in
+    let at = subst (λ l. IsAt setup only l (run newborn b.calls)) e b.at in
+    let records = records_good (Good sent) (rules_of setup 0 0) js (run newborn b.calls) (member_good (Good sent) setup before only b old) at in
+    said_at_start (Good sent) stop f (voter.started rules now f (replayed js)) js
+    (started_says (Good sent) rules now f (replayed js) (in_floor sent setup floor stop g) records)
+
+start_fine : (setup : Setup) (sent : List Sent) (before : List Noted) (floor : Option Finalization) (stop : Stop) (noted : Noted) → members_of setup ≡ 1
+    → on_start setup before only floor stop (life_in setup before only) ≡ Ok noted → IsLivedBy setup before only → AreOwnSent sent noted
+    → IsFineRun setup sent before → IsFineRun setup sent (noted ∷ before)
+unfolding after
+start_fine setup sent before floor stop noted one e b votes fine = cases (life_in setup before only) refl e
+  where
+    cases : (l : Life) → life_in setup before only ≡ l → on_start setup before only floor stop l ≡ Ok noted → IsFineRun setup sent (noted ∷ before)
+    cases (Running made past) f h = cc
+    cases (Stopped js) f h =
+        let now = clock_of before in
+        let made = engine_at setup only floor js in
+        let did = engine.begun made now stop in
+        let event = events.Start only floor stop in
+        let new = noted_with setup before event only (Some tooks.Floor) did in
+        let parts = if_ok (is_own_floor before floor) _ _ noted h in
+        let g = floor_good sent before floor only stop parts.0 fine.said in
+        let by : Did = by_voter Began now stop (given_start setup only floor js now stop) in
+        let same : did ≡ by = begun_gives setup only floor js now stop in
+        let all : AllSaid (Good sent) did.out = subst (λ (d : Did). AllSaid (Good sent) d.out) (sym same) (start_said setup sent before floor stop js f b g fine.said) in
+        by_entry setup sent before new noted (ok_is new noted parts.1) votes
+        (λ v. advance setup sent before event (Some tooks.Floor) did one (same_self only) g all
+        (subst (λ l. IsLifeFine sent (going_on (engine_of setup 0 (floor_of setup floor) (sections_in l)) (did ∷ []))) (sym f)
+        (lives_on sent made (did ∷ []) (only_batcher setup js floor one)
+        (did_fine sent did all (v (same_self only)) (λ input t. (let k : input_of_batcher Began ≡ Some input = subst (λ (d : Did). input_of_batcher d.taken ≡ Some input) same t in cc)), tt))) fine)
+
+-- ---- a step
+
+nothing_said : (sent : List Sent) → AllSaid (Good sent) no_out
+nothing_said sent = record { calls = tt; handed = tt; added = tt }
+
+-- what is known where the engine runs
+knows : (setup : Setup) (sent : List Sent) (before : List Noted) (made : EngineMade) (past : List Did) → life_in setup before only ≡ Running made past
+    → (b : IsLivedBy setup before only) → Each (InNoted (Good sent)) before → InKnown (Good sent) (place_of (voter_in made past) (voter_past past)).standing.desk.known
+unfolding IsAt
+knows setup sent before made past e b old =
+    let place = place_of (voter_in made past) (voter_past past) in
+    let at = subst (λ l. IsAt setup only l (run newborn b.calls)) e b.at in
+    known_good (Good sent) (voter_in made past).rules place.standing.desk.known place.sections (run newborn b.calls) (member_good (Good sent) setup before only b old) at.1
+
+voter_said : (sent : List Sent) (made : EngineMade) (past : List Did) (input : VoterInput) (now : ℕ) (stop : Stop) → InInput (Good sent) input
+    → InKnown (Good sent) (place_of (voter_in made past) (voter_past past)).standing.desk.known
+    → AllSaid (Good sent) (step_given (voter_in made past) (voter_past past) input now stop).out
+voter_said sent made past input now stop given k =
+    at (voter.stepped (voter_in made past).rules now (place_of (voter_in made past) (voter_past past)).standing input) refl
+  where
+    at : (o : Option Doing) → voter.stepped (voter_in made past).rules now (place_of (voter_in made past) (voter_past past)).standing input ≡ o
+        → AllSaid (Good sent) (step_given (voter_in made past) (voter_past past) input now stop).out
+    at None e = subst (λ (x : Performed). AllSaid (Good sent) x.out) (sym (step_gives (voter_in made past) (voter_past past) input now stop None e)) (nothing_said sent)
+    at (Some d) e =
+        subst (λ (x : Performed). AllSaid (Good sent) x.out) (sym (step_gives (voter_in made past) (voter_past past) input now stop (Some d) e))
+        (said (Good sent) stop d (place_of (voter_in made past) (voter_past past)).sections
+        (stepped_says (Good sent) (voter_in made past).rules now (place_of (voter_in made past) (voter_past past)).standing input d given k e))
+
+-- all that the engine says in a step, and what its batcher takes in it
+pub record IsStepFine (sent : List Sent) (did : Did) : Type 0 where
+  pub said : AllSaid (Good sent) did.out
+  pub taken : (input : BatcherInput) → input_of_batcher did.taken ≡ Some input → IsFineInput sent input
+
+some_is : {A : Type 0} (a b : A) → Some a ≡ Some b → a ≡ b
+some_is a b e = cc
+
+batcher_step : (sent : List Sent) (made : EngineMade) (past : List Did) (now : ℕ) (stop : Stop) (o : Option batcher_message.Message) → received (engine.batcher_mail made past) ≡ o
+    → IsOnly made.batcher → Each (IsFineDid sent) past → IsStepFine sent (engine.on_batcher_mail made past now stop o)
+unfolding engine.by_batcher
+batcher_step sent made past now stop None e one h = record { said = nothing_said sent; taken = λ input t. cc }
+batcher_step sent made past now stop (Some message) e one h =
+    let own = holds_received (InOwnMail sent) (engine.batcher_mail made past) message (batcher_mail_fine sent made past h) e in
+    record {
+      said = batcher_said sent made past (engine.Took sources.Batcher (Some (handed.Batcher message))) (batcher_inputs.Mail message) now stop one h own;
+      taken = λ input t. subst (IsFineInput sent) (some_is (batcher_inputs.Mail message) input t) own;
+    }
+
+in_mail : (sent : List Sent) (message : voter_message.Message) → InMail (Good sent) message → InInput (Good sent) (voter_inputs.Mail message)
+in_mail sent (voter_messages.Verified c) g = g
+in_mail sent (voter_messages.Proposal p) g = tt
+in_mail sent (voter_messages.Timeout round reason) g = tt
+
+voter_step : (sent : List Sent) (made : EngineMade) (past : List Did) (now : ℕ) (stop : Stop) (o : Option voter_message.Message) → received (engine.voter_mail made past) ≡ o
+    → Each (IsFineDid sent) past → InKnown (Good sent) (place_of (voter_in made past) (voter_past past)).standing.desk.known
+    → IsStepFine sent (engine.on_voter_mail made past now stop o)
+voter_step sent made past now stop None e h k = record { said = nothing_said sent; taken = λ input t. cc }
+voter_step sent made past now stop (Some message) e h k =
+    let brought = holds_received (InMail (Good sent)) (engine.voter_mail made past) message (voter_mail_fine sent made past h) e in
+    record { said = voter_said sent made past (voter_inputs.Mail message) now stop (in_mail sent message brought) k; taken = λ input t. cc }
+
+any_step : (sent : List Sent) (made : EngineMade) (past : List Did) (source : StepSource) (now : ℕ) (stop : Stop)
+    → IsOnly made.batcher → Each (IsFineDid sent) past → InKnown (Good sent) (place_of (voter_in made past) (voter_past past)).standing.desk.known
+    → IsStepFine sent (engine.stepped made past source now stop)
+unfolding engine.stepped
+any_step sent made past sources.Batcher now stop one h k = batcher_step sent made past now stop (received (engine.batcher_mail made past)) refl one h
+any_step sent made past sources.Voter now stop one h k = voter_step sent made past now stop (received (engine.voter_mail made past)) refl h k
+any_step sent made past sources.Timer now stop one h k = record { said = voter_said sent made past voter_inputs.Timer now stop tt k; taken = λ input t. cc }
+any_step sent made past sources.Propose now stop one h k = record { said = voter_said sent made past voter_inputs.Propose now stop tt k; taken = λ input t. cc }
+any_step sent made past sources.Verify now stop one h k = record { said = voter_said sent made past voter_inputs.Verify now stop tt k; taken = λ input t. cc }
+any_step sent made past sources.Certify now stop one h k = record { said = voter_said sent made past voter_inputs.Certify now stop tt k; taken = λ input t. cc }
+any_step sent made past sources.Resolver now stop one h k = record { said = nothing_said sent; taken = λ input t. cc }
+any_step sent made past sources.Handler now stop one h k = record { said = nothing_said sent; taken = λ input t. cc }
+any_step sent made past sources.Fetch now stop one h k = record { said = nothing_said sent; taken = λ input t. cc }
+
+-- an event that the engine takes while it runs
+goes_on : (setup : Setup) (sent : List Sent) (before : List Noted) (event : Event) (took : Option Took) (did : Did) (made : EngineMade) (past : List Did) → members_of setup ≡ 1
+    → life_in setup before only ≡ Running made past → is_of only event ≡ true → InStart (Good sent) event
+    → after setup event (Some did) (Running made past) ≡ going_on made (did ∷ past) → IsStepFine sent did
+    → IsFineRun setup sent before → AreOwnSent sent (noted_with setup before event only took did) → IsFineRun setup sent (noted_with setup before event only took did ∷ before)
+goes_on setup sent before event took did made past one f of floor gone step fine votes =
+    let old : IsLifeFine sent (Running made past) = subst (IsLifeFine sent) f fine.life in
+    advance setup sent before event took did one of floor step.said
+    (subst (λ l. IsLifeFine sent (after setup event (Some did) l)) (sym f)
+    (subst (IsLifeFine sent) (sym gone)
+    (lives_on sent made (did ∷ past) old.0 (did_fine sent did step.said (votes of) step.taken, old.1)))) fine
+
+step_fine : (setup : Setup) (sent : List Sent) (before : List Noted) (source : StepSource) (stop : Stop) (noted : Noted) → members_of setup ≡ 1
+    → on_step setup before only source stop (life_in setup before only) ≡ Ok noted → IsLivedBy setup before only → AreOwnSent sent noted
+    → IsFineRun setup sent before → IsFineRun setup sent (noted ∷ before)
+unfolding after
+step_fine setup sent before source stop noted one e b votes fine = cases (life_in setup before only) refl e
+  where
+    cases : (l : Life) → life_in setup before only ≡ l → on_step setup before only source stop l ≡ Ok noted → IsFineRun setup sent (noted ∷ before)
+    cases (Stopped js) f h = cc
+    cases (Running made past) f h =
+        let did = engine.stepped made past source (clock_of before) stop in
+        let event = events.Step only source stop in
+        let took = took_of before only made past did in
+        let new = noted_with setup before event only took did in
+        let old : IsLifeFine sent (Running made past) = subst (IsLifeFine sent) f fine.life in
+        by_entry setup sent before new noted (ok_is new noted (if_err (is_at_end setup made past) _ _ noted h).1) votes
+        (goes_on setup sent before event took did made past one f (same_self only) tt refl
+        (any_step sent made past source (clock_of before) stop old.0 old.1 (knows setup sent before made past f b fine.said)) fine)
+
+-- ---- an answer, a crash, a tick, and a packet that is not there
+
+request_fine : (setup : Setup) (sent : List Sent) (before : List Noted) (ref : Ref) (answer : Answer) (noted : Noted) (made : EngineMade) (past : List Did) (o : Option ℕ) → members_of setup ≡ 1
+    → life_in setup before only ≡ Running made past → on_request setup before only ref answer o made past ≡ Ok noted → AreOwnSent sent noted
+    → IsFineRun setup sent before → IsFineRun setup sent (noted ∷ before)
+unfolding after
+request_fine setup sent before ref answer noted made past None one f e votes fine = cc
+request_fine setup sent before ref answer noted made past (Some number) one f e votes fine =
+    let did = engine.replied number answer (clock_of before) in
+    let event = events.Answer only ref answer in
+    let new = noted_with setup before event only None did in
+    by_entry setup sent before new noted (ok_is new noted (if_ok (engine.takes_reply made past number answer) _ _ noted e).1) votes
+    (goes_on setup sent before event None did made past one f (same_self only) tt refl (record { said = nothing_said sent; taken = λ input t. cc }) fine)
+
+answer_fine : (setup : Setup) (sent : List Sent) (before : List Noted) (ref : Ref) (answer : Answer) (noted : Noted) → members_of setup ≡ 1
+    → on_answer setup before only ref answer (life_in setup before only) ≡ Ok noted → AreOwnSent sent noted
+    → IsFineRun setup sent before → IsFineRun setup sent (noted ∷ before)
+answer_fine setup sent before ref answer noted one e votes fine = cases (life_in setup before only) refl e
+  where
+    cases : (l : Life) → life_in setup before only ≡ l → on_answer setup before only ref answer l ≡ Ok noted → IsFineRun setup sent (noted ∷ before)
+    cases (Stopped js) f h = cc
+    cases (Running made past) f h = request_fine setup sent before ref answer noted made past (request_number before only ref) one f h votes fine
+
+blank_fine : (setup : Setup) (sent : List Sent) (before : List Noted) (event : Event) (who : Option Node) → InStart (Good sent) event
+    → IsLifeFine sent (life_in setup (noted_blank before event who ∷ before) only)
+    → IsFineRun setup sent before → IsFineRun setup sent (noted_blank before event who ∷ before)
+blank_fine setup sent before event who floor life fine =
+    record { said = (record { floor = floor; added = tt; handed = tt; calls = tt }, fine.said); nobody = (tt, fine.nobody); life = life }
+
+crash_fine : (setup : Setup) (sent : List Sent) (before : List Noted) (noted : Noted)
+    → on_crash before only (life_in setup before only) ≡ Ok noted → IsFineRun setup sent before → IsFineRun setup sent (noted ∷ before)
+unfolding after
+crash_fine setup sent before noted e fine = cases (life_in setup before only) refl e
+  where
+    cases : (l : Life) → life_in setup before only ≡ l → on_crash before only l ≡ Ok noted → IsFineRun setup sent (noted ∷ before)
+    cases (Stopped js) f h = cc
+    cases (Running made past) f h =
+        let new = noted_blank before (events.Crash only) (Some only) in
+        subst (λ n. IsFineRun setup sent (n ∷ before)) (ok_is new noted h)
+        (blank_fine setup sent before (events.Crash only) (Some only) tt
+        (subst (IsLifeFine sent) (sym (life_then setup new before only (same_self only))) tt) fine)
+
+deliver_fine : (setup : Setup) (sent : List Sent) (before : List Noted) (ref : Ref) (noted : Noted)
+    → on_deliver setup before only ref (life_in setup before only) ≡ Ok noted → IsFineRun setup sent before → IsFineRun setup sent (noted ∷ before)
+deliver_fine setup sent before ref noted e fine = cases (life_in setup before only) e
+  where
+    cases : (l : Life) → on_deliver setup before only ref l ≡ Ok noted → IsFineRun setup sent (noted ∷ before)
+    cases (Stopped js) h = cc
+    cases (Running made past) h =
+        let k = subst (λ o. on_packet setup before only ref o made past ≡ Ok noted) (no_packet before only ref fine.nobody) h in cc
+
+event_fine : (setup : Setup) (sent : List Sent) (before : List Noted) (event : Event) (noted : Noted) → members_of setup ≡ 1 → entry_of setup before event ≡ Ok noted
+    → IsLivedBy setup before only → AreOwnSent sent noted → IsFineRun setup sent before → IsFineRun setup sent (noted ∷ before)
+unfolding entry_of
+event_fine setup sent before (events.Start at floor stop) noted one e b votes fine =
+    let parts = if_ok (is_node setup at) _ _ noted e in
+    start_fine setup sent before floor stop noted one
+    (subst (λ a. on_start setup before a floor stop (life_in setup before a) ≡ Ok noted) (sym (is_only setup at one parts.0)) parts.1) b votes fine
+event_fine setup sent before (events.Deliver at ref) noted one e b votes fine =
+    let parts = if_ok (is_node setup at) _ _ noted e in
+    deliver_fine setup sent before ref noted (subst (λ a. on_deliver setup before a ref (life_in setup before a) ≡ Ok noted) (sym (is_only setup at one parts.0)) parts.1) fine
+event_fine setup sent before (events.Step at source stop) noted one e b votes fine =
+    let parts = if_ok (is_node setup at) _ _ noted e in
+    step_fine setup sent before source stop noted one
+    (subst (λ a. on_step setup before a source stop (life_in setup before a) ≡ Ok noted) (sym (is_only setup at one parts.0)) parts.1) b votes fine
+event_fine setup sent before (events.Answer at ref answer) noted one e b votes fine =
+    let parts = if_ok (is_node setup at) _ _ noted e in
+    answer_fine setup sent before ref answer noted one
+    (subst (λ a. on_answer setup before a ref answer (life_in setup before a) ≡ Ok noted) (sym (is_only setup at one parts.0)) parts.1) votes fine
+event_fine setup sent before (events.Crash at) noted one e b votes fine =
+    let parts = if_ok (is_node setup at) _ _ noted e in
+    crash_fine setup sent before noted (subst (λ a. on_crash before a (life_in setup before a) ≡ Ok noted) (sym (is_only setup at one parts.0)) parts.1) fine
+event_fine setup sent before (events.Tick ms) noted one e b votes fine =
+    let new = noted_blank before (events.Tick ms) None in
+    subst (λ n. IsFineRun setup sent (n ∷ before)) (ok_is new noted (if_ok (nat_le (clock_of before + ms) (2 ^ 63 - 1)) _ _ noted e).1)
+    (blank_fine setup sent before (events.Tick ms) None tt (subst (IsLifeFine sent) (sym (life_still setup new before only refl)) fine.life) fine)
+event_fine setup sent before (events.Inject who channel to bytes) noted one e b votes fine = absurd (both_err (nat_lt who (members_of setup) && list_all (is_node setup) to) _ _ noted e)
+event_fine setup sent before events.Later noted one e b votes fine = cc
+
+-- ---- every run, by the votes that the member sent in all of it
+
+pub run_fine : (setup : Setup) (sent : List Sent) (noted : List Noted) → 0 < setup.term → members_of setup ≡ 1 → IsRun setup noted → AreFloors noted → AreConstructed only noted sent
+    → IsFineRun setup sent noted
+unfolding IsRun AreFloors AreConstructed life_in
+run_fine setup sent [] pos one ran floors votes = record { said = tt; nobody = tt; life = tt }
+run_fine setup sent (noted ∷ before) pos one ran floors votes =
+    event_fine setup sent before ran.0 noted one ran.1 (node_lives setup before only pos ran.2 floors.1) votes.0
+    (run_fine setup sent before pos one ran.2 floors.1 votes.1)
