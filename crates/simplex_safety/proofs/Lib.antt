@@ -8,6 +8,7 @@ mod Knowledge
 mod Mails
 mod Nodes
 mod Quiet
+mod Safely
 mod Single
 mod Speaking
 mod Telling

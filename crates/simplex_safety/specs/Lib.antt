@@ -1,3 +1,4 @@
 pub mod Alone
 pub mod Histories
+pub mod Safe
 pub mod Sayings

@@ -7,8 +7,10 @@
 
 mod alone;
 mod lives;
+mod safe;
 mod sayings;
 
 pub use alone::{one_member_agrees, one_member_is_backed};
 pub use lives::nodes_live;
+pub use safe::runs_are_safe;
 pub use sayings::{starts_say_what_was_given, steps_say_what_was_given};

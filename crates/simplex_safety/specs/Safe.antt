@@ -1,0 +1,21 @@
+-- What holds of a run.
+use Rattle.std.specs.Prelude.{◌≡◌, List, [], Contains, Ok}
+use Rattle.simplex_transcript.specs.declared.event.Event.{Event}
+use Rattle.simplex_transcript.specs.declared.node.Node.{Node}
+use Rattle.simplex_transcript.specs.declared.setup.Setup.{Setup}
+use Rattle.simplex_run.specs.Life.{Noted}
+use Rattle.simplex_run.specs.Run as runs
+use Rattle.simplex_agreement.specs.World.{Certificate, Conflict}
+use Rattle.simplex_safety.specs.Alone.{IsBackedByOne, standing}
+use Rattle.simplex_safety.specs.Histories.{AreStored}
+
+-- Each certificate that stands in the run is backed by votes that went out, no two of them conflict, and each vote
+-- that went out of a node was stored before
+pub record IsSafe (setup : Setup) (noted : List Noted) : Type 0 where
+  pub backed : IsBackedByOne setup noted
+  pub agrees : (a b : Certificate) → Contains (standing noted) a → Contains (standing noted) b → ¬ (Conflict setup.term a.subject b.subject)
+  pub stored : (node : Node) → AreStored setup node noted
+
+-- so it is with the entries that these events make
+abbrev pub RunsSafely : Setup → List Event → Type 0
+RunsSafely setup events = (noted : List Noted) → runs.run setup [] events ≡ Ok noted → IsSafe setup noted
