@@ -1,10 +1,10 @@
 #!/bin/bash
-# Times the work of crates/bench_wire, bench_mailbox, bench_fetch and bench_round, by the proved program and by plain
-# Rust, and that of crates/bench_batcher by a batcher and by the round alone.
-# Run it from anywhere, after `rt run` in the program's crate: bench/run.sh wire|mailbox|fetch|round|batcher [TIMES].
+# Times the work of crates/bench_wire, bench_mailbox, bench_fetch, bench_round, bench_state and bench_repair, by the
+# proved program and by plain Rust, and that of crates/bench_batcher by a batcher and by the round alone. Run it from
+# anywhere, after `rt run` in the program's crate: bench/run.sh wire|mailbox|fetch|round|batcher|state|repair [TIMES].
 set -euo pipefail
 cd "$(dirname "$0")"
-what=${1:?wire, mailbox, fetch, round or batcher}
+what=${1:?wire, mailbox, fetch, round, batcher, state or repair}
 proved=../crates/bench_$what/out/bench_$what
 
 # How often a program does the work in a second of user time: that of so many turns, less that of none,
@@ -87,5 +87,17 @@ round)
         line $((times * 10)) take $members
         line "$times" make $members
     done
+    ;;
+state)
+    times=${2:-200000}
+    line "$times" final
+    line "$times" given_up
+    ;;
+repair)
+    times=${2:-1000000}
+    line $((times / 1000)) jump 10000
+    line $((times / 10000)) jump 100000
+    line $((times / 10)) fill $((times / 10))
+    line "$times" fill "$times"
     ;;
 esac

@@ -2,4 +2,6 @@
 #![tactic(auto)]
 
 #[cfg(test)]
+mod terms;
+#[cfg(test)]
 mod tests;

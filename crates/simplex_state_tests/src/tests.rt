@@ -119,6 +119,28 @@ fn an_own_nullify_gates_the_rest_of_its_term(rt: HostRuntime) -> Result<(), Fail
     Ok(())
 }
 
+/// The own nullify of view 3 keeps view 4 from being finalized, and once view 3 is final it holds no later view back.
+#[test]
+fn finality_lifts_an_own_nullify(rt: HostRuntime) -> Result<(), Fail> {
+    let alloc = rt.alloc();
+    let mut member = start(alloc, 4, 10)?;
+    certify(alloc, &mut member, 1, 0, 110)?;
+    certify(alloc, &mut member, 2, 1, 110)?;
+    let view = member.current_view();
+    assert_eq!(rt; view, View(3));
+    let nullify = member.construct_nullify(view, TimeoutReason::LeaderTimeout, 120)?;
+    assert!(rt; nullify.is_some());
+    certify(alloc, &mut member, 3, 2, 130)?;
+    certify(alloc, &mut member, 4, 3, 130)?;
+    let gated = member.construct_finalize(View(4))?;
+    assert!(rt; gated.is_none());
+    let _added = member.add_finalization(finalization(alloc, 3, 2), 140)?;
+    certify(alloc, &mut member, 5, 4, 150)?;
+    let lifted = member.construct_finalize(View(5))?;
+    assert!(rt; lifted.is_some());
+    Ok(())
+}
+
 #[test]
 fn views_open_and_are_admitted_at_the_edges_of_terms(rt: HostRuntime) -> Result<(), Fail> {
     let alloc = rt.alloc();
