@@ -1,0 +1,24 @@
+use Rattle.std.proofs.Common.{◌∷◌, arith}
+use Rattle.std.proofs.lemmas.Grind.{common_steps}
+use Rattle.simplex_wire.specs.declared.certificate.Certificate.TheVariants as certificates
+use Rattle.simplex_rules.specs.Repair.{Updated}
+use Rattle.simplex_repair.specs.Stands.{StandsFor}
+use Rattle.simplex_repair.proofs.Leads.{finalization_effects}
+use Rattle.simplex_repair.proofs.repair.RepairState.take_finalization.Goals as goal
+
+pub returns-clause-effects : goal.returns-clause-effects
+unfolding StandsFor
+returns-clause-effects c = λ length calls s.
+    grind (
+      arith,
+      common_steps,
+      finalization_effects length calls c.args.it.now,
+      s.terms,
+      s.floor,
+      s.top,
+      s.top_fits,
+      c.is_final-is_new.ensures length calls s,
+      c.asked_to-behind.ensures length calls s,
+      (c.in_ok-note_finalization.ensures length calls s).floor,
+      c.in_ok-fetch.ensures length (Updated (certificates.Finalization c.args.it.now) ∷ calls) (c.in_ok-note_finalization.ensures length calls s),
+    )
