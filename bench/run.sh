@@ -53,7 +53,7 @@ fetch)
         for work in fetch answer serve expire; do
             line "$times" $work $views
         done
-        line $((times / views)) sweep $views
+        line $((times * 10)) sweep $views
     done
     ;;
 round)

@@ -1,12 +1,13 @@
 -- A list of views in rising order: what is at a view, puts and takes, and tests.
-use Rattle.std.proofs.Common.{◌≡◌, ◌<◌, ◌==◌, ℕ, Bool, true, false, refl, sym, ap, ◌∙◌, List, [], ◌∷◌, Option, Some, None, inl, inr, arith, rules}
+use Rattle.std.proofs.Common.{◌≡◌, ◌<◌, ◌==◌, ℕ, Bool, true, false, cond, refl, sym, ap, ◌∙◌, List, [], ◌∷◌, Option, Some, None, inl, inr, arith}
 use Rattle.std.specs.Prelude.{⊤, if◌then◌else◌}
 use Rattle.std.proofs.lemmas.Grind.{common_steps}
 use Rattle.std.proofs.lemmas.Bool.{cases_order}
 use Rattle.std.proofs.lemmas.Bool.Decides.{nat_tests}
 use Rattle.std.proofs.lemmas.Map.Keys.{sorted_head, sorted_tail}
-use Rattle.std.specs.declared.cmp.Ordering.TheVariants.{Less}
-use Rattle.std.specs.Ordering.{nat_cmp}
+use Rattle.std.specs.declared.cmp.Ordering.TheVariants.{Less, Equal, Greater}
+use Rattle.std.specs.Ordering.{nat_cmp, match_ordering}
+use Rattle.std.specs.BTreeMap.{is_at}
 use Rattle.std.specs.Cmp.{unsigned_tied}
 use Rattle.std.specs.Map.{keys_of}
 use Rattle.std.specs.List.{AllByRecursion}
@@ -119,3 +120,74 @@ first_view-none test (x ∷ es) q h =
       | false ↦ λ no. let later : first_view test es ≡ None = grind (arith, common_steps) in
           let found = rest later in grind (arith, common_steps, nat_tests, unsigned_tied q x.0)
     ] refl
+
+-- what is put at a view is there, and all others are where they were
+pub entry_at-put : (v : ℕ) (e : Entry) (es : List (ℕ × Entry)) (q : ℕ) → entry_at (with_entry v e es) q ≡ (if v == q then Some e else entry_at es q)
+unfolding with_entry entry_at
+entry_at-put v e [] q = grind (arith, common_steps, nat_tests, unsigned_tied q v)
+entry_at-put v e (x ∷ es) q =
+    let rest = entry_at-put v e es q in
+    elim (cases_order v x.0) [
+      | inl same ↦ grind (arith, common_steps, nat_tests, unsigned_tied q v, unsigned_tied q x.0)
+      | inr (inl below) ↦ grind (arith, common_steps, nat_tests, unsigned_tied q v, unsigned_tied q x.0)
+      | inr (inr above) ↦ grind (arith, common_steps, nat_tests, unsigned_tied q v, unsigned_tied q x.0, rest)
+    ]
+
+-- where a view is taken away all others are where they were
+pub entry_at-taken : (v : ℕ) (es : List (ℕ × Entry)) (q : ℕ) → (v == q) ≡ false → entry_at (without_entry v es) q ≡ entry_at es q
+unfolding without_entry entry_at
+entry_at-taken v [] q apart = refl
+entry_at-taken v (x ∷ es) q apart =
+    let rest = entry_at-taken v es q apart in
+    grind (arith, common_steps, nat_tests, unsigned_tied q x.0, unsigned_tied v x.0, rest)
+
+-- what is above stays above
+pub below_is_less : (v w : ℕ) → v < w → nat_cmp v w ≡ Less
+below_is_less v w h = grind (arith, nat_tests)
+
+pub above_keys : (v : ℕ) (es : List (ℕ × Entry)) → Above v es → AllByRecursion (λ y. nat_cmp v y ≡ Less) (keys_of es)
+above_keys v [] h = tt
+above_keys v (x ∷ es) h = (below_is_less v x.0 h.0, above_keys v es h.1)
+
+pub above_put : (v w : ℕ) (e : Entry) (es : List (ℕ × Entry)) → v < w → Above v es → Above v (with_entry w e es)
+unfolding with_entry
+above_put v w e [] less h = (less, tt)
+above_put v w e (x ∷ es) less h = elim (nat_cmp w x.0) as (λ o. Above v (match_ordering o ((w, e) ∷ x ∷ es) ((x.0, e) ∷ es) (x ∷ with_entry w e es))) [
+  | Less ↦ (less, h)
+  | Equal ↦ h
+  | Greater ↦ (h.0, above_put v w e es less h.1)
+]
+
+pub above_taken : (v w : ℕ) (es : List (ℕ × Entry)) → Above v es → Above v (without_entry w es)
+unfolding without_entry
+above_taken v w [] h = tt
+above_taken v w (x ∷ es) h = elim (is_at (nat_cmp w) x.0) as (λ b. Above v (cond b es (x ∷ without_entry w es))) [
+  | true ↦ h.1
+  | false ↦ (h.0, above_taken v w es h.1)
+]
+
+-- the views rise from the first
+pub rising_from : (x : ℕ × Entry) (es : List (ℕ × Entry)) → Above x.0 es → Rising es → Rising (x ∷ es)
+unfolding IsStrictlySortedBy
+rising_from x es high rises = (above_keys x.0 es high, rises)
+
+-- and still do with one more, and with one less
+pub rising_put : (v : ℕ) (e : Entry) (es : List (ℕ × Entry)) → Rising es → Rising (with_entry v e es)
+unfolding with_entry IsStrictlySortedBy
+rising_put v e [] s = (tt, tt)
+rising_put v e (x ∷ es) s =
+    let high = above_head x es s in
+    let rest = tail_rises x es s in
+    elim (nat_cmp v x.0) as (λ o. nat_cmp v x.0 ≡ o → Rising (match_ordering o ((v, e) ∷ x ∷ es) ((x.0, e) ∷ es) (x ∷ with_entry v e es))) [
+      | Less ↦ λ less. let below = less_is_below v x.0 less in rising_from (v, e) (x ∷ es) (below, above_lower v x.0 es below high) s
+      | Equal ↦ λ same. s
+      | Greater ↦ λ more. let above : x.0 < v = grind (arith, nat_tests) in rising_from x (with_entry v e es) (above_put x.0 v e es above high) (rising_put v e es rest)
+    ] refl
+
+pub rising_taken : (v : ℕ) (es : List (ℕ × Entry)) → Rising es → Rising (without_entry v es)
+unfolding without_entry
+rising_taken v [] s = s
+rising_taken v (x ∷ es) s = elim (is_at (nat_cmp v) x.0) as (λ b. Rising (cond b es (x ∷ without_entry v es))) [
+  | true ↦ tail_rises x es s
+  | false ↦ rising_from x (without_entry v es) (above_taken x.0 v es (above_head x es s)) (rising_taken v es (tail_rises x es s))
+]

@@ -1,5 +1,5 @@
 -- Deadlines and numbers beside the views, as entries come and go.
-use Rattle.std.proofs.Common.{◌≡◌, ◌==◌, ◌&&◌, ◌||◌, ℕ, Bool, true, false, not, refl, sym, ap, ◌∙◌, List, [], ◌∷◌, Option, Some, None, inl, inr, arith, rules}
+use Rattle.std.proofs.Common.{◌≡◌, ◌==◌, ◌&&◌, ◌||◌, ℕ, Bool, true, false, not, refl, sym, ap, ◌∙◌, List, Option, Some, None, inl, inr, arith}
 use Rattle.std.specs.Prelude.{if◌then◌else◌}
 use Rattle.std.proofs.lemmas.Grind.{common_steps}
 use Rattle.std.proofs.lemmas.Bool.{cases_eq}
@@ -12,7 +12,7 @@ use Rattle.simplex_fetch.specs.declared.entry.Entry.{Entry}
 use Rattle.simplex_fetch.specs.declared.entry.State.{State}
 use Rattle.simplex_fetch.specs.declared.entry.State.TheVariants.{Waiting, Asked, Judged}
 use Rattle.simplex_fetch.specs.Views.{entry_at, deadline_of, id_of, first_view, is_asked_as, is_judged_as, asked_view}
-use Rattle.simplex_fetch.specs.Index.{is_value, has_deadline, has_id, pair_cmp, IsIndexed, IsFree}
+use Rattle.simplex_fetch.specs.Index.{is_value, has_id, pair_cmp, IsIndexed, IsFree}
 use Rattle.simplex_fetch.proofs.Entries.{Rising, passes, first_view-some, first_view-none}
 
 -- a value that is there is the only one
@@ -107,6 +107,32 @@ inserted view e views views' timers timers' numbers numbers' ix at free rises pu
           | inl same ↦ let here : entry_at views v ≡ None = rw same at in grind (arith, common_steps, nat_tests)
           | inr apart ↦ grind (arith, common_steps, nat_tests)
         ]
+      ] refl;
+}
+
+-- where a view is taken back that was not put in whole, all is as before
+pub restored : (view : ℕ) (e : Entry) (views : List (ℕ × Entry)) (timers set cleared numbers opened closed : List (ℕ × ℕ))
+    → IsIndexed views timers numbers → entry_at views view ≡ None → IsFree (id_of e.state) views
+    → ((d v : ℕ) → list_any (is_at (pair_cmp (d, v))) set ≡ ((is_value d (deadline_of e.state) && v == view) || list_any (is_at (pair_cmp (d, v))) timers))
+    → ((d v : ℕ) → list_any (is_at (pair_cmp (d, v))) cleared ≡ (not (is_value d (deadline_of e.state) && v == view) && list_any (is_at (pair_cmp (d, v))) set))
+    → ((q : ℕ) → lookup (is_at (nat_cmp q)) opened ≡ (if is_value q (id_of e.state) then Some view else lookup (is_at (nat_cmp q)) numbers))
+    → ((q : ℕ) → lookup (is_at (nat_cmp q)) closed ≡ (if is_value q (id_of e.state) then None else lookup (is_at (nat_cmp q)) opened))
+    → IsIndexed views cleared closed
+restored view e views timers set cleared numbers opened closed ix at free comes goes opens closes = record {
+  rising = ix.rising;
+  timed = λ d v.
+      let was = ix.timed d v in let a = comes d v in let b = goes d v in
+      elim (cases_eq v view) [
+        | inl same ↦ let here : entry_at views v ≡ None = rw same at in grind (arith, common_steps, nat_tests)
+        | inr apart ↦ grind (arith, common_steps, nat_tests)
+      ];
+  numbered = λ id v.
+      let was = ix.numbered id v in let a = opens id in let b = closes id in
+      elim (is_value id (id_of e.state)) as (λ b. is_value id (id_of e.state) ≡ b → is_value v (lookup (is_at (nat_cmp id)) closed) ≡ has_id id (entry_at views v)) [
+        | true ↦ λ yes.
+            let other : has_id id (entry_at views v) ≡ false = free_of id (id_of e.state) views free yes v in
+            grind (arith, common_steps, nat_tests)
+        | false ↦ λ no. grind (arith, common_steps, nat_tests)
       ] refl;
 }
 

@@ -1,10 +1,13 @@
 pub mod Pairs
 pub mod Entries
 pub mod Indexing
+pub mod Holding
 pub mod Deadlines
 pub mod Listed
 pub mod Reached
+pub mod Touched
 pub mod Sums
 pub mod Taken
 pub mod Kept
 pub mod Visits
+pub mod Untouched

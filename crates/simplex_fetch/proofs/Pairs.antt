@@ -1,10 +1,9 @@
 -- Pairs of a deadline and a view.
-use Rattle.std.proofs.Common.{◌≡◌, ◌==◌, ℕ, Bool, true, false, ◌&&◌, arith, rules}
+use Rattle.std.proofs.Common.{◌≡◌, ◌==◌, ℕ, ◌&&◌, arith}
 use Rattle.std.proofs.lemmas.Grind.{common_steps}
-use Rattle.std.specs.Ordering.{is_eq, nat_cmp, ordering_then}
 use Rattle.std.specs.Cmp.{unsigned_tied}
 use Rattle.std.specs.BTreeMap.{is_at}
-use Rattle.simplex_fetch.specs.Index.{pair_cmp, is_value}
+use Rattle.simplex_fetch.specs.Index.{pair_cmp}
 
 -- two pairs are equal where their parts are
 pub pair_at : (d v : ℕ) (p : ℕ × ℕ) → is_at (pair_cmp (d, v)) p ≡ (p.0 == d && p.1 == v)

@@ -1,11 +1,10 @@
 -- The views whose deadline is reached, and the views of a range.
-use Rattle.std.proofs.Common.{◌≡◌, ◌<◌, ◌≤◌, ◌+◌, ◌==◌, ◌&&◌, ℕ, Bool, true, false, not, nat_le, nat_lt, refl, sym, ap, ◌∙◌, List, [], ◌∷◌, map, Option, Some, None, inl, inr, arith, rules}
+use Rattle.std.proofs.Common.{◌≡◌, ◌≤◌, ◌+◌, ◌==◌, ◌&&◌, ℕ, Bool, true, false, nat_le, refl, sym, ◌∙◌, List, [], ◌∷◌, map, Option, Some, None, arith}
 use Rattle.std.specs.Prelude.{filter}
 use Rattle.std.proofs.lemmas.Grind.{common_steps}
-use Rattle.std.proofs.lemmas.Bool.{cases_eq}
 use Rattle.std.proofs.lemmas.Bool.Decides.{nat_tests}
 use Rattle.std.specs.declared.ops.Bound.TheVariants.{Included, Excluded, Unbounded}
-use Rattle.std.specs.Ordering.{nat_cmp, eq_by_cmp}
+use Rattle.std.specs.Ordering.{nat_cmp}
 use Rattle.std.specs.Cmp.{unsigned_tied}
 use Rattle.std.specs.BTreeMap.{is_at}
 use Rattle.std.specs.BTreeMap.Range.{range_contains, entries_between}
@@ -94,13 +93,4 @@ between-is first last [] = refl
 between-is first last (x ∷ es) =
     let rest = between-is first last es in
     let is : range_contains nat_cmp (Included first) (Included last) x.0 ≡ (nat_le first x.0 && nat_le x.0 last) = grind (arith, common_steps, nat_tests) in
-    grind (arith, common_steps, rest, is)
-
--- no view is in an empty range
-pub between-none : (first last : ℕ) (es : List (ℕ × Entry)) → last < first → views_where (λ view entry. nat_le first view && nat_le view last) es ≡ []
-unfolding views_where
-between-none first last [] less = refl
-between-none first last (x ∷ es) less =
-    let rest = between-none first last es less in
-    let is : (nat_le first x.0 && nat_le x.0 last) ≡ false = grind (arith, common_steps, nat_tests) in
     grind (arith, common_steps, rest, is)

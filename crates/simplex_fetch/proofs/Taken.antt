@@ -1,5 +1,5 @@
 -- A change of an entry that was taken out, and put back, is a change where it stands.
-use Rattle.std.proofs.Common.{◌≡◌, ◌≤◌, ◌+◌, ◌==◌, ℕ, Bool, true, false, List, [], ◌∷◌, Option, Some, None, refl, sym, ap, ◌∙◌, arith, rules}
+use Rattle.std.proofs.Common.{◌≡◌, ◌≤◌, ◌+◌, ◌==◌, ℕ, true, false, List, [], ◌∷◌, Option, Some, None, refl, sym, ap, ◌∙◌, arith}
 use Rattle.std.specs.Prelude.{if◌then◌else◌}
 use Rattle.std.proofs.lemmas.Grind.{common_steps}
 use Rattle.std.specs.Ordering.{nat_cmp}
@@ -10,7 +10,7 @@ use Rattle.simplex_fetch.specs.declared.entry.Entry.{Entry}
 use Rattle.simplex_fetch.specs.declared.entry.State.{State}
 use Rattle.simplex_fetch.specs.declared.entry.State.TheVariants.{Waiting, Asked, Judged}
 use Rattle.simplex_fetch.specs.Views.{with_entry, without_entry, entry_at, judged_view}
-use Rattle.simplex_fetch.specs.Fetcher.{Machine, After, quiet, keeping, attempted, attempting, attempted_at, expiring, expired_at, expired_as, asking, retrying, peer_of, judged, judged_at, judged_entry, refused, retried, IsSoundAt, IsSoundEntry, judged_as, asked_on, without, delivered_of}
+use Rattle.simplex_fetch.specs.Fetcher.{Machine, quiet, attempted, attempting, attempted_at, expiring, expired_at, expired_as, asking, retrying, peer_of, judged, judged_at, judged_entry, refused, retried, IsSoundAt, IsSoundEntry, judged_as, asked_on, without, delivered_of}
 
 -- what is put there is put there
 abbrev pub PutsAlike : ℕ → List (ℕ × Entry) → List (ℕ × Entry) → Type 0

@@ -8,6 +8,7 @@ use Rattle.simplex_values.specs.declared.ask.Until.{Until}
 use Rattle.simplex_values.specs.declared.ask.Until.TheVariants as until
 use Rattle.simplex_values.specs.declared.ask.Ask.{Ask}
 use Rattle.simplex_fetch.specs.declared.arrivals.Arrival.{Arrival}
+use Rattle.simplex_fetch.specs.declared.held.Held.{Held}
 
 -- whether two kinds are one
 abbrev pub same_kind : Kind → Kind → Bool
@@ -76,3 +77,15 @@ targets_of arrivals = targets_behind [] arrivals
 -- whether every ask that is held is targeted: none of them ever came without a target
 abbrev pub is_targeted : List Arrival → Bool
 is_targeted arrivals = list_all (λ arrival. is_some arrival.target) arrivals
+
+-- whether one of the asks passes the test
+abbrev pub asks_any : (Ask → Bool) → List Arrival → Bool
+asks_any test arrivals = list_any (λ arrival. test arrival.ask) arrivals
+
+-- which asks a view has, of those that are done with at one time
+abbrev pub held_of : List Arrival → Held
+held_of arrivals = record {
+  nullification = asks_any (λ ask. same_kind ask.kind kind.Nullification) arrivals;
+  notarization = asks_any (λ ask. same_kind ask.kind kind.Notarization) arrivals;
+  floor = asks_any (λ ask. same_until ask.until until.Floor) arrivals;
+}

@@ -1,5 +1,5 @@
 -- The fetcher: a small machine, and what each call does to it.
-use Rattle.std.specs.Prelude.{◌≡◌, ℕ, ◌+◌, ◌-◌, ◌%◌, ◌==◌, ◌<◌, ◌≤◌, ◌^◌, nat_lt, Bool, true, false, not, if◌then◌else◌, List, [], ◌∷◌, ◌++◌, length, slice_get, Option, Some, None, Result, Ok, Err}
+use Rattle.std.specs.Prelude.{◌≡◌, ℕ, ◌+◌, ◌-◌, ◌%◌, ◌==◌, ◌<◌, ◌≤◌, ◌^◌, nat_lt, Bool, true, false, if◌then◌else◌, List, [], ◌∷◌, ◌++◌, length, slice_get, Option, Some, None, Result, Ok, Err}
 use Rattle.std.specs.Option.{is_some}
 use Rattle.std.specs.Ordering.{nat_cmp}
 use Rattle.std.specs.Map.{lookup, remove_entry, keys_of}
@@ -342,8 +342,9 @@ abbrev pub IsDrawn : ℕ → Option ℕ → Type 0
 IsDrawn next_id None = Unit {0}
 IsDrawn next_id (Some id) = id < next_id
 
--- each attempt drew a number
+-- something is asked for, and each attempt drew a number
 pub record IsSoundEntry (next_id : ℕ) (entry : Entry) : Type 0 where
+  pub wanted : is_empty entry ≡ false
   pub attempts : entry.attempts ≤ next_id
   pub drawn : IsDrawn next_id (id_of entry.state)
 

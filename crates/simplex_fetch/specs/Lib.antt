@@ -2,4 +2,5 @@ pub mod Asks
 pub mod Retirement
 pub mod Views
 pub mod Index
+pub mod Holders
 pub mod Fetcher

@@ -1,11 +1,13 @@
 //! The asks of a view, as they came.
 ghost use Rattle.std.specs.Prelude.{◌≡◌, [], filter, not, IfOk, OnOk, OnErr, length, ◌==◌};
 ghost use Rattle.std.specs.List.{list_any};
-ghost use Rattle.simplex_fetch.specs.Asks.{same_ask, same_arrival, holds_ask, asks_of, targets_of, is_targeted, with_arrival, without_asks, holds_member, with_target};
+ghost use Rattle.simplex_fetch.specs.Asks.{same_ask, same_arrival, holds_ask, asks_of, targets_of, is_targeted, with_arrival, without_asks, holds_member, with_target, same_kind, same_until, asks_any, held_of};
 ghost use Rattle.simplex_fetch.specs.Retirement.{retires};
+ghost use Rattle.simplex_values.specs.declared.ask.Until.TheVariants as untils;
 
+use crate::held::Held;
 use crate::retire::Retire;
-use simplex_types::{Ask, Participant};
+use simplex_types::{Ask, Kind, Participant, Until};
 use std::alloc::{AllocError, Global};
 use std::marker::Model;
 
@@ -51,6 +53,20 @@ fn is_same_arrival(one: &Arrival, other: &Arrival) -> bool
     ensures { result ≡ same_arrival one.now other.now }
 {
     is_same_ask(&one.ask, &other.ask) && one.target == other.target
+}
+
+/// Whether the ask is of this kind.
+fn is_of_kind(kind: Kind, arrival: &Arrival) -> bool
+    ensures { result ≡ same_kind arrival.now.ask.kind kind }
+{
+    arrival.ask.kind == kind
+}
+
+/// Whether the ask stands until the floor.
+fn is_until_floor(arrival: &Arrival) -> bool
+    ensures { result ≡ same_until arrival.now.ask.until untils.Floor }
+{
+    arrival.ask.until == Until::Floor
 }
 
 /// Whether the member is among these.
@@ -113,6 +129,31 @@ impl Arrivals {
         ensures { result ≡ is_targeted self.now }
     {
         self.items.iter().all(|arrival| arrival.target.is_some())
+    }
+
+    /// Whether one of the asks is of this kind.
+    fn has_kind(&self, kind: Kind) -> bool
+        ensures { result ≡ asks_any (λ ask. same_kind ask.kind kind) self.now }
+    {
+        self.items.iter().any(|arrival| is_of_kind(kind, arrival))
+    }
+
+    /// Whether one of the asks stands until the floor.
+    fn has_floor(&self) -> bool
+        ensures { result ≡ asks_any (λ ask. same_until ask.until untils.Floor) self.now }
+    {
+        self.items.iter().any(is_until_floor)
+    }
+
+    /// Which of the asks that are done with at one time are held.
+    pub(crate) fn held(&self) -> Held
+        ensures { result ≡ held_of self.now }
+    {
+        Held {
+            nullification: self.has_kind(Kind::Nullification),
+            notarization: self.has_kind(Kind::Notarization),
+            floor: self.has_floor(),
+        }
     }
 
     /// The asks, each once, in the order in which they came.

@@ -333,8 +333,7 @@ impl Fetcher {
         ensures fetcher { OnOk result (self.new ≡ (retained retire.now self.old).fetcher) }
         ensures outs { IfOk result (λ outs. outs.items ≡ (retained retire.now self.old).outs) }
     {
-        let (first, last) = retire.reach();
-        let views = self.views.between(alloc, first, last)?;
+        let views = self.views.touched(alloc, retire)?;
         let mut outs = Vec::new(alloc);
         for view in &views {
             self.retire_at(*view, retire, &mut outs)?;

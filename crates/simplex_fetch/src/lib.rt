@@ -8,6 +8,8 @@ mod arrivals;
 mod config;
 mod entry;
 mod fetcher;
+mod held;
+mod holders;
 mod numbers;
 mod out;
 mod retire;

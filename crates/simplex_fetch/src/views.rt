@@ -1,4 +1,4 @@
-//! The views that are asked for, and how they are found by deadline and by number.
+//! The views that are asked for, and how they are found by deadline, by number and by what they ask for.
 ghost use Rattle.std.specs.Prelude.{◌≡◌, ◌<◌, ◌≤◌, map, ◌^◌, ◌&&◌, ◌==◌, if◌then◌else◌, ℕ, nat_le, [], IfOk, IfSome, IfNone, OnOk, OnErr, None, Some};
 ghost use Rattle.std.specs.Option.{option_copied};
 ghost use Rattle.std.specs.Ordering.{nat_cmp};
@@ -9,9 +9,12 @@ ghost use Rattle.std.specs.List.Sorted.{IsStrictlySortedBy};
 ghost use Rattle.simplex_fetch.specs.declared.entry.Entry.{Entry};
 ghost use Rattle.simplex_fetch.specs.Views.{entry_at, with_entry, without_entry, views_where, id_of, next_deadline, asked_view, judged_view};
 ghost use Rattle.simplex_fetch.specs.Index.{IsFree, is_due};
+ghost use Rattle.simplex_fetch.specs.Retirement.{reaches, touches};
 
 use crate::entry::Entry;
+use crate::holders::{self, Holders};
 use crate::numbers::{self, Numbers};
+use crate::retire::Retire;
 use crate::timers::{self, Timers};
 use simplex_types::Participant;
 use std::alloc::{AllocError, Global};
@@ -19,12 +22,13 @@ use std::collections::{BTreeMap, BTreeSet};
 use std::marker::Model;
 
 /// The views that are asked for, in rising order, each with its entry. An entry is changed by being taken
-/// and put back, so that its deadline and its number stay where they are looked for.
+/// and put back, so that its deadline, its number and its asks stay where they are looked for.
 #[derive(Drop)]
 pub(crate) struct Views {
     entries: BTreeMap<u64, Entry>,
     timers: Timers,
     numbers: Numbers,
+    holders: Holders,
 }
 
 impl Model for Views {
@@ -35,9 +39,9 @@ impl Model for Views {
 
     ghost view = { λ views. views.entries.entries };
 
-    ghost use Rattle.simplex_fetch.specs.Index.{IsIndexed};
+    ghost use Rattle.simplex_fetch.specs.Index.{IsIndexed, IsHeld};
 
-    ghost invariant = { λ views. IsIndexed views.entries.entries views.timers.keys views.numbers.entries };
+    ghost invariant = { λ views. IsIndexed views.entries.entries views.timers.keys views.numbers.entries × IsHeld views.entries.entries views.holders.nullifications.keys views.holders.notarizations.keys views.holders.floors.keys };
 }
 
 /// The keys from the first of these to the last.
@@ -65,6 +69,7 @@ impl Views {
             entries: BTreeMap::new(alloc),
             timers: BTreeSet::new(alloc),
             numbers: BTreeMap::new(alloc),
+            holders: Holders::new(alloc),
         }
     }
 
@@ -93,6 +98,7 @@ impl Views {
         let entry = self.entries.remove(&view)?;
         timers::clear_timer(&mut self.timers, entry.state.deadline(), view);
         numbers::close(&mut self.numbers, entry.state.id());
+        self.holders.forget(view, &entry.arrivals.held());
         Some(entry)
     }
 
@@ -108,14 +114,21 @@ impl Views {
     {
         let deadline = entry.state.deadline();
         let id = entry.state.id();
+        let held = entry.arrivals.held();
         timers::set_timer(&mut self.timers, deadline, view)?;
         if numbers::open(&mut self.numbers, id, view).is_err() {
             timers::clear_timer(&mut self.timers, deadline, view);
             return Err(AllocError);
         }
+        if self.holders.note(view, &held).is_err() {
+            timers::clear_timer(&mut self.timers, deadline, view);
+            numbers::close(&mut self.numbers, id);
+            return Err(AllocError);
+        }
         if self.entries.insert(view, entry).is_err() {
             timers::clear_timer(&mut self.timers, deadline, view);
             numbers::close(&mut self.numbers, id);
+            self.holders.forget(view, &held);
             return Err(AllocError);
         }
         Ok(())
@@ -163,18 +176,21 @@ impl Views {
         timers::reached(alloc, &self.timers, now)
     }
 
-    /// The views from the first of these to the last.
-    pub(crate) fn between(
-        &self,
-        alloc: Global,
-        first: u64,
-        last: u64,
-    ) -> Result<Vec<u64>, AllocError>
-        ensures { IfOk result (λ views. views.items ≡ views_where (λ view entry. nat_le first view && nat_le view last) self.now) }
+    /// The views with an ask that is done with.
+    pub(crate) fn touched(&self, alloc: Global, retire: &Retire) -> Result<Vec<u64>, AllocError>
+        ensures { IfOk result (λ views. views.items ≡ views_where (λ view entry. reaches retire.now view && touches retire.now entry.arrivals) self.now) }
     {
+        let (first, last) = retire.reach();
         if last < first {
             return Ok(Vec::new(alloc));
         }
-        keys_between(alloc, &self.entries, first, last)
+        let holders = &self.holders;
+        match retire {
+            Retire::Settled { kind, .. } => {
+                holders::within(alloc, holders.of_kind(*kind), first, last)
+            }
+            Retire::Floor(_) => holders::within(alloc, &holders.floors, first, last),
+            Retire::Finalized(_) => keys_between(alloc, &self.entries, first, last),
+        }
     }
 }

@@ -2,7 +2,7 @@
 
 mod script;
 
-use script::{Call, Heard, run};
+use script::{Call, Heard, run, run_at_once};
 use simplex_fetch::Retire;
 use simplex_types::{Ask, Kind, Outcome, Resolution, View};
 use std::alloc::AllocError;
@@ -113,7 +113,7 @@ fn verdicts_end_or_delay_a_view(rt: HostRuntime) -> Result<(), AllocError> {
     for (verdict, told, due) in verdicts {
         let steps = [
             (0, Call::Fetch(7, gap()), "2 is asked for 7 as 0"),
-            (10, Call::Hear(2, Heard::Response(0)), "0 is of 7 for 1"),
+            (10, Call::Hear(2, Heard::Response(0)), "0 is of 7 for gap"),
             (10, Call::Due, "never"),
             (15, Call::Verdict(1, verdict), ""),
             (20, Call::Verdict(0, verdict), told),
@@ -124,14 +124,60 @@ fn verdicts_end_or_delay_a_view(rt: HostRuntime) -> Result<(), AllocError> {
     }
     let asked_beside = [
         (0, Call::Fetch(7, gap()), "2 is asked for 7 as 0"),
-        (10, Call::Hear(2, Heard::Response(0)), "0 is of 7 for 1"),
+        (10, Call::Hear(2, Heard::Response(0)), "0 is of 7 for gap"),
         (15, Call::Fetch(7, block()), ""),
         (20, Call::Verdict(0, complete), "3 is asked for 7 as 1"),
-        (30, Call::Hear(3, Heard::Response(1)), "1 is of 7 for 1"),
+        (30, Call::Hear(3, Heard::Response(1)), "1 is of 7 for block"),
         (40, Call::Verdict(1, complete), ""),
         (40, Call::Fetch(7, gap()), "2 is asked for 7 as 2"),
     ];
     run(&rt, alloc, 0, 4, &asked_beside)
+}
+
+/// A repeat of an ask keeps its place, also with another target. An ask that was done with and comes again is last.
+#[test]
+fn asks_are_delivered_in_their_order(rt: HostRuntime) -> Result<(), AllocError> {
+    let alloc = rt.alloc();
+    let steps = [
+        (0, Call::Fetch(7, block()), "2 is asked for 7 as 0"),
+        (1, Call::Fetch(7, gap()), ""),
+        (2, Call::Target(7, block(), 3), ""),
+        (3, Call::Fetch(7, void()), ""),
+        (
+            10,
+            Call::Hear(2, Heard::Response(0)),
+            "0 is of 7 for block and gap and void",
+        ),
+        (11, Call::Verdict(0, Some(Outcome::Unresolved)), ""),
+        (12, settled(Kind::Notarization, 7, 7), ""),
+        (13, Call::Fetch(7, block()), ""),
+        (111, Call::Expire, "3 is asked for 7 as 1"),
+        (
+            112,
+            Call::Hear(3, Heard::Response(1)),
+            "1 is of 7 for gap and void and block",
+        ),
+    ];
+    run(&rt, alloc, 0, 4, &steps)
+}
+
+/// Where a view waits for no time, its next attempt still takes a call of its own.
+#[test]
+fn a_call_changes_a_view_once(rt: HostRuntime) -> Result<(), AllocError> {
+    let alloc = rt.alloc();
+    let steps = [
+        (0, Call::Fetch(7, gap()), "2 is asked for 7 as 0"),
+        (0, Call::Fetch(4, gap()), "2 is asked for 4 as 1"),
+        (1000, Call::Expire, ""),
+        (1000, Call::Due, "at 1000"),
+        (
+            1000,
+            Call::Expire,
+            "3 is asked for 4 as 2, 3 is asked for 7 as 3",
+        ),
+        (1000, Call::Due, "at 2000"),
+    ];
+    run_at_once(&rt, alloc, &steps)
 }
 
 /// Answers count that come from the member that was asked, under the number of the open request, once.
@@ -149,7 +195,7 @@ fn answers_are_those_that_were_asked_for(rt: HostRuntime) -> Result<(), AllocErr
         (14, Call::Hear(2, Heard::Response(0)), ""),
         (113, Call::Expire, "3 is asked for 7 as 1"),
         (114, Call::Hear(2, Heard::Response(0)), ""),
-        (115, Call::Hear(3, Heard::Response(1)), "1 is of 7 for 1"),
+        (115, Call::Hear(3, Heard::Response(1)), "1 is of 7 for gap"),
         (116, Call::Hear(3, Heard::Response(1)), ""),
         (117, Call::Hear(3, Heard::Refusal(1)), ""),
         (117, Call::Due, "never"),
@@ -227,8 +273,8 @@ fn requesters_leave_with_the_last_ask(rt: HostRuntime) -> Result<(), AllocError>
     let left = [
         (0, Call::Fetch(8, gap()), "3 is asked for 8 as 0"),
         (1, Call::Fetch(7, gap()), "2 is asked for 7 as 1"),
-        (10, Call::Hear(3, Heard::Response(0)), "0 is of 8 for 1"),
-        (11, Call::Hear(2, Heard::Response(1)), "1 is of 7 for 1"),
+        (10, Call::Hear(3, Heard::Response(0)), "0 is of 8 for gap"),
+        (11, Call::Hear(2, Heard::Response(1)), "1 is of 7 for gap"),
         (
             12,
             Call::Retain(Retire::Finalized(View(8))),
@@ -242,7 +288,11 @@ fn requesters_leave_with_the_last_ask(rt: HostRuntime) -> Result<(), AllocError>
     let stayed = [
         (0, Call::Fetch(7, gap()), "2 is asked for 7 as 0"),
         (5, Call::Fetch(7, block()), ""),
-        (10, Call::Hear(2, Heard::Response(0)), "0 is of 7 for 2"),
+        (
+            10,
+            Call::Hear(2, Heard::Response(0)),
+            "0 is of 7 for gap and block",
+        ),
         (11, Call::Fetch(7, void()), ""),
         (12, Call::Retain(Retire::Floor(View(7))), ""),
         (13, Call::Verdict(0, None), "3 is asked for 7 as 1"),

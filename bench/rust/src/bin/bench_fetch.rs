@@ -180,6 +180,18 @@ struct Entry {
     state: State,
 }
 
+impl Entry {
+    fn has_kind(&self, kind: Kind) -> bool {
+        self.arrivals.iter().any(|(ask, _)| ask.kind == kind)
+    }
+
+    fn has_floor(&self) -> bool {
+        self.arrivals
+            .iter()
+            .any(|(ask, _)| ask.until == Until::Floor)
+    }
+}
+
 struct Fetcher {
     me: u32,
     n: u32,
@@ -188,6 +200,9 @@ struct Fetcher {
     views: BTreeMap<u64, Entry>,
     timers: BTreeSet<(u64, u64)>,
     numbers: BTreeMap<u64, u64>,
+    nullifications: BTreeSet<u64>,
+    notarizations: BTreeSet<u64>,
+    floors: BTreeSet<u64>,
     next_id: u64,
     serving: BTreeMap<u64, (u32, u64)>,
     next_serve: u64,
@@ -203,6 +218,9 @@ impl Fetcher {
             views: BTreeMap::new(),
             timers: BTreeSet::new(),
             numbers: BTreeMap::new(),
+            nullifications: BTreeSet::new(),
+            notarizations: BTreeSet::new(),
+            floors: BTreeSet::new(),
             next_id: 0,
             serving: BTreeMap::new(),
             next_serve: 0,
@@ -217,6 +235,15 @@ impl Fetcher {
         if let Some(id) = entry.state.id() {
             self.numbers.remove(&id);
         }
+        if entry.has_kind(Kind::Nullification) {
+            self.nullifications.remove(&view);
+        }
+        if entry.has_kind(Kind::Notarization) {
+            self.notarizations.remove(&view);
+        }
+        if entry.has_floor() {
+            self.floors.remove(&view);
+        }
         Some(entry)
     }
 
@@ -226,6 +253,15 @@ impl Fetcher {
         }
         if let Some(id) = entry.state.id() {
             self.numbers.insert(id, view);
+        }
+        if entry.has_kind(Kind::Nullification) {
+            self.nullifications.insert(view);
+        }
+        if entry.has_kind(Kind::Notarization) {
+            self.notarizations.insert(view);
+        }
+        if entry.has_floor() {
+            self.floors.insert(view);
         }
         self.views.insert(view, entry);
     }
@@ -294,20 +330,35 @@ impl Fetcher {
         outs
     }
 
-    fn retain(&mut self, retire: &Retire) -> Vec<Out> {
-        let mut outs = Vec::new();
+    fn touched(&self, retire: &Retire) -> Vec<u64> {
         let (first, last) = match retire {
             Retire::Settled { start, end, .. } => (*start, *end),
             Retire::Finalized(view) | Retire::Floor(view) => (0, *view),
         };
         if last < first {
-            return outs;
+            return Vec::new();
         }
-        let views: Vec<u64> = self
-            .views
-            .range(first..=last)
-            .map(|(view, _)| *view)
-            .collect();
+        let holders = match retire {
+            Retire::Settled {
+                kind: Kind::Nullification,
+                ..
+            } => &self.nullifications,
+            Retire::Settled {
+                kind: Kind::Notarization,
+                ..
+            } => &self.notarizations,
+            Retire::Floor(_) => &self.floors,
+            Retire::Finalized(_) => {
+                let views = self.views.range(first..=last);
+                return views.map(|(view, _)| *view).collect();
+            }
+        };
+        holders.range(first..=last).copied().collect()
+    }
+
+    fn retain(&mut self, retire: &Retire) -> Vec<Out> {
+        let mut outs = Vec::new();
+        let views = self.touched(retire);
         for view in views {
             let Some(mut entry) = self.take(view) else {
                 continue;

@@ -1,10 +1,10 @@
 //! A script: calls of one fetcher, each with its time and what it is to tell.
 ghost use Rattle.std.specs.Prelude.{◌≡◌, ◌<◌, ◌^◌};
-ghost use Rattle.simplex_fetch.specs.Fetcher.{no_fetches, IsSoundConfig};
+ghost use Rattle.simplex_fetch.specs.Fetcher.{IsSoundConfig};
 
 use simplex_fetch::{Fetch, FetchConfig, Fetcher, Out, Retire};
 use simplex_types::{
-    Ask, Bytes, Outcome, Participant, ResolverBody, ResolverMessage, Sequence, View,
+    Ask, Bytes, Kind, Outcome, Participant, ResolverBody, ResolverMessage, Sequence, Until, View,
 };
 use std::alloc::{AllocError, Global};
 use std::process::Abort;
@@ -45,20 +45,16 @@ pub(super) enum Heard {
 /// When the call is made, the call, and what it tells.
 pub(super) type Step = (u64, Call, &'static str);
 
-/// A fetcher of member `me` of `n`. Peers have a second to answer, and a view waits a tenth of one.
-fn fetcher(alloc: Global, me: u32, n: u32) -> Fetcher
-    requires { IsSoundConfig (record { me = me; n = n; fetch_timeout = 1000; fetch_retry_delay = 100 }) }
-    ensures { result ≡ no_fetches (record { me = me; n = n; fetch_timeout = 1000; fetch_retry_delay = 100 }) }
+/// The configuration of member `me` of `n`. Peers have a second to answer, and a view waits this long.
+fn config(me: u32, n: u32, delay: u64) -> FetchConfig
+    ensures { result ≡ record { me = me; n = n; fetch_timeout = 1000; fetch_retry_delay = delay } }
 {
-    Fetcher::new(
-        alloc,
-        FetchConfig {
-            me: Participant(me),
-            n,
-            fetch_timeout: 1000,
-            fetch_retry_delay: 100,
-        },
-    )
+    FetchConfig {
+        me: Participant(me),
+        n,
+        fetch_timeout: 1000,
+        fetch_retry_delay: delay,
+    }
 }
 
 /// The bytes of a certificate, which no fetcher reads.
@@ -95,13 +91,35 @@ fn sent(alloc: Global, to: &Participant, bytes: &[u8]) -> Result<String, AllocEr
     }
 }
 
+/// An ask, in a word.
+fn named(ask: &Ask) -> &'static str {
+    match (ask.kind, ask.until) {
+        (Kind::Nullification, Until::Floor) => "gap",
+        (Kind::Nullification, Until::Finalized) => "void",
+        (Kind::Notarization, Until::Floor) => "floor block",
+        (Kind::Notarization, Until::Finalized) => "block",
+    }
+}
+
+/// The asks, in words.
+fn named_all(alloc: Global, asks: &[Ask]) -> Result<String, AllocError> {
+    let mut text = String::new(alloc);
+    for ask in asks {
+        if !text.is_empty() {
+            text.push_str(" and ")?;
+        }
+        text.push_str(named(ask))?;
+    }
+    Ok(text)
+}
+
 /// What is wanted, in words.
 fn told(alloc: Global, out: &Out) -> Result<String, AllocError> {
     match out {
         Out::Send { to, bytes } => sent(alloc, to, bytes.as_slice()),
         Out::Deliver { id, view, asks, .. } => {
-            let count = asks.len();
-            format!(in alloc; "{id} is of {view} for {count}")
+            let asks = named_all(alloc, asks.as_slice())?;
+            format!(in alloc; "{id} is of {view} for {asks}")
         }
         Out::Produce { id, view } => format!(in alloc; "{view} is wanted as {id}"),
         Out::Block(member) => format!(in alloc; "{member} is blocked"),
@@ -191,7 +209,26 @@ fn said(alloc: Global, fetcher: &mut Fetcher, call: &Call, now: u64) -> Result<S
     told_all(alloc, &outs(alloc, fetcher, call, now)?)
 }
 
-/// Makes the calls of a fetcher of member `me` of `n`, and compares what they tell.
+/// Makes the calls of a fetcher, and compares what they tell.
+fn run_as(
+    rt: &impl Abort,
+    alloc: Global,
+    config: FetchConfig,
+    steps: &[Step],
+) -> Result<(), AllocError>
+    requires { IsSoundConfig config }
+{
+    let n = config.n;
+    let mut fetcher = Fetcher::new(alloc, config);
+    for (now, step, wanted) in steps {
+        assert!(rt; *now < 1 << 63 && fetcher.has_room());
+        let told = said(alloc, &mut fetcher, step, *now)?;
+        assert_eq!(rt; told.as_str(), *wanted, "at {now} of {n}");
+    }
+    Ok(())
+}
+
+/// The fetcher is that of member `me` of `n`, whose views wait a tenth of a second.
 pub(super) fn run(
     rt: &impl Abort,
     alloc: Global,
@@ -201,11 +238,14 @@ pub(super) fn run(
 ) -> Result<(), AllocError>
     requires { IsSoundConfig (record { me = me; n = n; fetch_timeout = 1000; fetch_retry_delay = 100 }) }
 {
-    let mut fetcher = fetcher(alloc, me, n);
-    for (now, step, wanted) in steps {
-        assert!(rt; *now < 1 << 63 && fetcher.has_room());
-        let told = said(alloc, &mut fetcher, step, *now)?;
-        assert_eq!(rt; told.as_str(), *wanted, "at {now} of {n}");
-    }
-    Ok(())
+    run_as(rt, alloc, config(me, n, 100), steps)
+}
+
+/// The fetcher is that of the first of four members, whose views wait for no time.
+pub(super) fn run_at_once(
+    rt: &impl Abort,
+    alloc: Global,
+    steps: &[Step],
+) -> Result<(), AllocError> {
+    run_as(rt, alloc, config(0, 4, 0), steps)
 }

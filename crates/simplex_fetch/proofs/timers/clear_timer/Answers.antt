@@ -1,4 +1,4 @@
-use Rattle.std.proofs.Common.{rules, arith}
+use Rattle.std.proofs.Common.{arith}
 use Rattle.std.proofs.lemmas.Grind.{common_steps}
 use Rattle.simplex_fetch.proofs.Pairs.{pair_at}
 use Rattle.simplex_fetch.proofs.timers.clear_timer.Goals as goal

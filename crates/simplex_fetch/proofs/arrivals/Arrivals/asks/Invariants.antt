@@ -1,4 +1,4 @@
-use Rattle.std.proofs.Common.{◌≡◌, [], drop}
+use Rattle.std.proofs.Common.{◌≡◌, drop}
 use Rattle.simplex_fetch.specs.Asks.{asks_behind, asks_of}
 use Rattle.simplex_fetch.proofs.arrivals.Arrivals.asks.Given as goal
 

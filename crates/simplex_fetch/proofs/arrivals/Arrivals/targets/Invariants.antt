@@ -1,4 +1,4 @@
-use Rattle.std.proofs.Common.{◌≡◌, [], drop}
+use Rattle.std.proofs.Common.{◌≡◌, drop}
 use Rattle.simplex_fetch.specs.Asks.{targets_behind, targets_of}
 use Rattle.simplex_fetch.proofs.arrivals.Arrivals.targets.Given as goal
 

@@ -1,6 +1,5 @@
-use Rattle.std.proofs.Common.{◌≡◌, ◌∷◌, [], ◌≤◌, ◌+◌, ap, ◌++◌, sym, ◌∙◌, rules, arith, length, suc}
+use Rattle.std.proofs.Common.{◌≡◌, ◌∷◌, [], ap, ◌++◌, ◌∙◌, rules, arith, length, suc}
 use Rattle.std.proofs.lemmas.List.{nil_from_length}
-use Rattle.std.proofs.lemmas.Grind.{common_steps}
 use Rattle.simplex_fetch.specs.Index.{is_due}
 use Rattle.simplex_fetch.specs.Views.{views_where}
 use Rattle.simplex_fetch.specs.Fetcher.{expiring, expired, visited}

@@ -1,5 +1,5 @@
-use Rattle.std.proofs.Common.{◌≡◌, Some, rules, arith, sym, ap}
-use Rattle.simplex_fetch.specs.Views.{entry_at, asked_view, id_of}
+use Rattle.std.proofs.Common.{◌≡◌, Some, rules}
+use Rattle.simplex_fetch.specs.Views.{entry_at, asked_view}
 use Rattle.simplex_fetch.specs.Fetcher.{IsSoundEntry, IsDrawn}
 use Rattle.simplex_fetch.proofs.Indexing.{asked_open}
 use Rattle.simplex_fetch.proofs.Taken.{drawn_put}
@@ -22,5 +22,5 @@ invariant_of-self-2 c =
     record {
       configured = c.self.invariant.configured;
       rising = c.in_ok-put.ensures.rising;
-      drawn = drawn_put c.self.inside.next_id c.in-Some.view _ c.self.inside.views c.take.new.self c.put.new.self c.take.ensures.at c.in_ok-put.ensures.at c.self.invariant.drawn (record { attempts = sound.attempts; drawn = drawn });
+      drawn = drawn_put c.self.inside.next_id c.in-Some.view _ c.self.inside.views c.take.new.self c.put.new.self c.take.ensures.at c.in_ok-put.ensures.at c.self.invariant.drawn (record { wanted = sound.wanted; attempts = sound.attempts; drawn = drawn });
     }

@@ -1,10 +1,8 @@
-use Rattle.std.proofs.Common.{◌≡◌, ◌<◌, ◌+◌, ◌∷◌, ◌++◌, ◌&&◌, [], ap, sym, ◌∙◌, refl, rules, arith, length, drop, get_or, nat_le, add-one, drop-cons}
-use Rattle.std.proofs.lemmas.Grind.{common_steps}
-use Rattle.std.proofs.lemmas.List.{nil_from_length}
-use Rattle.simplex_fetch.specs.Retirement.{reaches}
+use Rattle.std.proofs.Common.{◌≡◌, ◌<◌, ◌+◌, ◌∷◌, ◌++◌, ◌&&◌, ap, ◌∙◌, rules, length, drop, get_or, add-one, drop-cons}
+use Rattle.simplex_fetch.specs.Retirement.{reaches, touches}
 use Rattle.simplex_fetch.specs.Views.{views_where}
-use Rattle.simplex_fetch.specs.Fetcher.{retained, retiring, visited}
-use Rattle.simplex_fetch.proofs.Listed.{where_same}
+use Rattle.simplex_fetch.specs.Fetcher.{retained, retiring, visited, IsSound}
+use Rattle.simplex_fetch.proofs.Untouched.{retained_touched}
 use Rattle.simplex_fetch.proofs.Visits.{visit_more, visit_fetcher, visit_outs, dropped_all}
 use Rattle.simplex_fetch.proofs.fetcher.Fetcher.retain.Goals as goal
 
@@ -19,17 +17,19 @@ loop-view-preserved c =
 pub returns-clause-fetcher : goal.returns-clause-fetcher
 unfolding retained
 returns-clause-fetcher c =
-    let listed : c.deref-view-items.result.now ≡ views_where (λ view entry. nat_le c.reach-first.result.0 view && nat_le view c.reach-first.result.1) c.args.self.now.views = search rules in
-    let reached : c.deref-view-items.result.now ≡ views_where (λ view entry. reaches c.args.retire.now view) c.args.self.now.views = listed ∙ where_same _ _ (λ view entry. sym (c.reach-first.ensures view)) c.args.self.now.views in
+    let listed : c.deref-view-items.result.now ≡ views_where (λ view entry. reaches c.args.retire.now view && touches c.args.retire.now entry.arrivals) c.args.self.now.views = search rules in
+    let sound : IsSound c.args.self.now.config c.args.self.now.next_id c.args.self.now.views = search rules in
     let empty = dropped_all c.loop-view.view-index c.deref-view-items.result.now (search rules) in
     visit_fetcher (retiring c.args.retire.now) c.deref-view-items.result.now c.args.self.now (drop c.loop-view.view-index c.deref-view-items.result.now) c.loop-view.self c.loop-view.outs.items c.loop-view.invariant empty
-    ∙ ap (λ views. (visited (retiring c.args.retire.now) views c.args.self.now).fetcher) reached
+    ∙ ap (λ views. (visited (retiring c.args.retire.now) views c.args.self.now).fetcher) listed
+    ∙ ap (λ after. after.fetcher) (retained_touched c.args.retire.now c.args.self.now sound)
 
 pub returns-clause-outs : goal.returns-clause-outs
 unfolding retained
 returns-clause-outs c =
-    let listed : c.deref-view-items.result.now ≡ views_where (λ view entry. nat_le c.reach-first.result.0 view && nat_le view c.reach-first.result.1) c.args.self.now.views = search rules in
-    let reached : c.deref-view-items.result.now ≡ views_where (λ view entry. reaches c.args.retire.now view) c.args.self.now.views = listed ∙ where_same _ _ (λ view entry. sym (c.reach-first.ensures view)) c.args.self.now.views in
+    let listed : c.deref-view-items.result.now ≡ views_where (λ view entry. reaches c.args.retire.now view && touches c.args.retire.now entry.arrivals) c.args.self.now.views = search rules in
+    let sound : IsSound c.args.self.now.config c.args.self.now.next_id c.args.self.now.views = search rules in
     let empty = dropped_all c.loop-view.view-index c.deref-view-items.result.now (search rules) in
     visit_outs (retiring c.args.retire.now) c.deref-view-items.result.now c.args.self.now (drop c.loop-view.view-index c.deref-view-items.result.now) c.loop-view.self c.loop-view.outs.items c.loop-view.invariant empty
-    ∙ ap (λ views. (visited (retiring c.args.retire.now) views c.args.self.now).outs) reached
+    ∙ ap (λ views. (visited (retiring c.args.retire.now) views c.args.self.now).outs) listed
+    ∙ ap (λ after. after.outs) (retained_touched c.args.retire.now c.args.self.now sound)

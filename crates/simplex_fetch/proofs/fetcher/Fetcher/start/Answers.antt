@@ -1,6 +1,5 @@
-use Rattle.std.proofs.Common.{◌≡◌, ◌∷◌, [], ◌≤◌, ◌+◌, ap, ◌++◌, sym, ◌∙◌, rules, arith, length, suc}
+use Rattle.std.proofs.Common.{◌≡◌, ◌∷◌, [], ap, ◌++◌, rules, arith, length, suc}
 use Rattle.std.proofs.lemmas.List.{nil_from_length}
-use Rattle.std.proofs.lemmas.Grind.{common_steps}
 use Rattle.simplex_fetch.specs.Fetcher.{attempting}
 use Rattle.simplex_fetch.proofs.Taken.{attempting_ids}
 use Rattle.simplex_fetch.proofs.Visits.{visit_more, visit_fetcher, visit_outs}
