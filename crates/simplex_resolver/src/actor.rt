@@ -39,6 +39,7 @@ pub struct Actor<S> {
 
 impl<S: Scheme + Drop> Actor<S> {
     /// A resolver that was given nothing yet.
+    #[tactic(auto, unfolding(crate::specs::Stands::StandsFor, crate::specs::Stands::resolver_made, crate::specs::Resolver::standing_after, crate::specs::Resolver::at_first))]
     pub fn new(alloc: Global, config: Config<S>) -> Result<Actor<S>, AllocError>
         requires room { 0 < config.handler_size }
         requires timeout { config.fetch_timeout ≤ 2 ^ 62 }
@@ -63,6 +64,7 @@ impl<S: Scheme + Drop> Actor<S> {
     }
 
     /// Takes the first message of the handler's mailbox, for a step.
+    #[tactic(auto, unfolding(crate::specs::Stands::StandsFor, crate::specs::Resolver::standing_after, crate::specs::Resolver::after_taking, crate::specs::Resolver::handler_message, crate::specs::Resolver::holds_handled))]
     pub fn take_handler(&mut self) -> Option<HandlerMessage>
         ensures stands { Takes S.verifies S.members S.member self.old self.new HandlerTaken }
         ensures message { Answers S.verifies S.members S.member self.old (λ made past. handler_message made past) result }
@@ -72,6 +74,7 @@ impl<S: Scheme + Drop> Actor<S> {
     }
 
     /// Whether the handler's mailbox holds a message.
+    #[tactic(auto, unfolding(crate::specs::Stands::StandsFor, crate::specs::Resolver::holds_handled))]
     pub fn holds_handler(&self) -> bool
         ensures { Answers S.verifies S.members S.member self.now (λ made past. holds_handled made past) result }
     {
@@ -79,6 +82,7 @@ impl<S: Scheme + Drop> Actor<S> {
     }
 
     /// When a step of the timer is due.
+    #[tactic(auto, unfolding(crate::specs::Stands::StandsFor, crate::specs::Resolver::deadline_after))]
     pub fn next_deadline(&self) -> Option<u64>
         ensures { Answers S.verifies S.members S.member self.now (λ made past. deadline_after made past) result }
     {
@@ -116,6 +120,7 @@ impl<S: Scheme + Drop> Actor<S> {
 }
 
 /// How the fetcher is set up. That of no member asks as member 0.
+#[tactic(auto, unfolding(crate::specs::Stands::resolver_made))]
 fn fetch_config<S: Scheme>(config: &Config<S>) -> FetchConfig
     requires timeout { config.now.fetch_timeout ≤ 2 ^ 62 }
     requires delay { config.now.fetch_retry_delay ≤ 2 ^ 62 }

@@ -36,7 +36,8 @@ impl<S: Scheme + Drop> Actor<S> {
     {
         self.want_room()?;
         let outs = self.fetcher.verdict(self.alloc, id, verdict, now)?;
-        self.mind_each(outs, work)
+        self.mind_each(outs, work)?;
+        Ok(())
     }
 
     /// Bytes of a peer.
@@ -53,7 +54,8 @@ impl<S: Scheme + Drop> Actor<S> {
     {
         self.want_room()?;
         let outs = self.fetcher.hear(self.alloc, sender, bytes, now)?;
-        self.mind_each(outs, work)
+        self.mind_each(outs, work)?;
+        Ok(())
     }
 
     /// The fetcher's deadline may be reached.
@@ -64,7 +66,8 @@ impl<S: Scheme + Drop> Actor<S> {
     {
         self.want_room()?;
         let outs = self.fetcher.expire(self.alloc, now)?;
-        self.mind_each(outs, work)
+        self.mind_each(outs, work)?;
+        Ok(())
     }
 
     /// These asks are done with.
@@ -73,7 +76,8 @@ impl<S: Scheme + Drop> Actor<S> {
         ensures { OnOk result (Does S.verifies S.members S.member self.old work.old self.new work.new (λ made. retiring retire.now)) }
     {
         let outs = self.fetcher.retain(self.alloc, retire)?;
-        self.mind_each(outs, work)
+        self.mind_each(outs, work)?;
+        Ok(())
     }
 
     /// These are asked for, of any member.
@@ -89,7 +93,8 @@ impl<S: Scheme + Drop> Actor<S> {
     {
         self.want_room()?;
         let outs = self.fetcher.fetch_all(self.alloc, fetches, now)?;
-        self.mind_each(outs, work)
+        self.mind_each(outs, work)?;
+        Ok(())
     }
 
     /// A proposal's ancestry is asked for, of the target alone where there is one.
@@ -122,7 +127,8 @@ impl<S: Scheme + Drop> Actor<S> {
     {
         self.want_room()?;
         let outs = self.fetcher.fetch(self.alloc, fetch, now)?;
-        self.mind_each(outs, work)
+        self.mind_each(outs, work)?;
+        Ok(())
     }
 
     /// This is asked for, of the target alone.
@@ -141,6 +147,7 @@ impl<S: Scheme + Drop> Actor<S> {
         let outs = self
             .fetcher
             .fetch_targeted(self.alloc, fetch, target, now)?;
-        self.mind_each(outs, work)
+        self.mind_each(outs, work)?;
+        Ok(())
     }
 }

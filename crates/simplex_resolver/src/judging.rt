@@ -138,7 +138,8 @@ impl<S: Scheme + Drop> Actor<S> {
     {
         let count = self.count_settled(view, asks);
         let verdict = verdict_of(asks.len(), count, count);
-        self.judge(id, verdict, now, work)
+        self.judge(id, verdict, now, work)?;
+        Ok(())
     }
 
     /// A valid answer is recorded. The fetcher is given the verdict first, then the retiring and the fetches, and
@@ -161,8 +162,9 @@ impl<S: Scheme + Drop> Actor<S> {
         let after = self.count_settled(view, asks);
         let verdict = verdict_of(asks.len(), before, after);
         self.judge(id, verdict, now, work)?;
-        self.follow(&effects, now, work)?;
-        work.hand(Handed::Voter(voter::Message::Verified { certificate }))
+        self.follow(effects, now, work)?;
+        work.hand(Handed::Voter(voter::Message::Verified { certificate }))?;
+        Ok(())
     }
 
     /// An answer, with the certificate that it is, where it is one for the view.

@@ -1,5 +1,5 @@
 //! What becomes of what the fetcher wants.
-ghost use Rattle.std.specs.Prelude.{◌≡◌, OnOk, None};
+ghost use Rattle.std.specs.Prelude.{◌≡◌, IfOk, OnOk, None};
 ghost use Rattle.std.specs.Option.{option_map};
 ghost use Rattle.simplex_mailbox.specs.Mail.{feedback_of};
 ghost use Rattle.simplex_resolver.specs.Resolver.{Doing, called, called_all, putting, leaving, serving, requested, minded, minded_all};
@@ -59,7 +59,8 @@ impl<S: Scheme + Drop> Actor<S> {
         ensures { OnOk result (Does S.verifies S.members S.member self.old work.old self.new work.new (λ made. serving id (option_map (λ vector. vector.items) bytes))) }
     {
         let outs = self.fetcher.serve(self.alloc, id, bytes)?;
-        call_each(self.alloc, outs, work)
+        call_each(self.alloc, outs, work)?;
+        Ok(())
     }
 
     /// A peer's request goes to the handler, where no room means that it is answered with an error.
@@ -83,7 +84,7 @@ impl<S: Scheme + Drop> Actor<S> {
     }
 
     /// Deliveries and requests go to the handler, and the others outside.
-    #[tactic(auto, unfolding(crate::specs::Resolver::minded))]
+    #[tactic(auto, unfolding(crate::specs::Resolver::minded, crate::specs::Resolver::called))]
     fn mind(&mut self, out: Out, work: &mut Work) -> Result<(), AllocError>
         ensures { OnOk result (Does S.verifies S.members S.member self.old work.old self.new work.new (λ made. minded out)) }
     {
@@ -109,7 +110,14 @@ impl<S: Scheme + Drop> Actor<S> {
                 self.leave(id);
                 Ok(())
             }
-            Out::Send { .. } | Out::Block(_) => call(self.alloc, out, work),
+            Out::Send { to, bytes } => {
+                work.send(self.alloc, to, bytes)?;
+                Ok(())
+            }
+            Out::Block(member) => {
+                work.block(member)?;
+                Ok(())
+            }
         }
     }
 

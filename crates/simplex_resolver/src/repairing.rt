@@ -83,17 +83,18 @@ impl<S: Scheme + Drop> Actor<S> {
     #[tactic(auto, unfolding(crate::specs::Resolver::with_effects))]
     pub(crate) fn follow(
         &mut self,
-        effects: &[Effect],
+        effects: Vec<Effect>,
         now: u64,
         work: &mut Work,
     ) -> Result<(), AllocError>
         requires clock { now < 2 ^ 63 }
-        ensures { OnOk result (Does S.verifies S.members S.member self.old work.old self.new work.new (λ made. with_effects now effects.now)) }
+        ensures { OnOk result (Does S.verifies S.members S.member self.old work.old self.new work.new (λ made. with_effects now effects.items)) }
     {
-        let retires = retires_of(self.alloc, effects)?;
-        let fetches = fetches_of(self.alloc, effects)?;
-        self.retire_each(&retires, work)?;
-        self.fetch_all(fetches, now, work)
+        let retires = retires_of(self.alloc, effects.as_slice())?;
+        let fetches = fetches_of(self.alloc, effects.as_slice())?;
+        self.retire_each(retires.as_slice(), work)?;
+        self.fetch_all(fetches, now, work)?;
+        Ok(())
     }
 
     /// A certificate that the voter knows.
@@ -108,7 +109,8 @@ impl<S: Scheme + Drop> Actor<S> {
         ensures { OnOk result (Does S.verifies S.members S.member self.old work.old self.new work.new (λ made. repairing made now (calls.Updated certificate.now))) }
     {
         let effects = self.repair.updated(certificate)?;
-        self.follow(&effects, now, work)
+        self.follow(effects, now, work)?;
+        Ok(())
     }
 
     /// The application's verdict on a notarization.
@@ -124,7 +126,8 @@ impl<S: Scheme + Drop> Actor<S> {
         ensures { OnOk result (Does S.verifies S.members S.member self.old work.old self.new work.new (λ made. repairing made now (calls.Certified notarization success))) }
     {
         let effects = self.repair.certified(notarization, success)?;
-        self.follow(&effects, now, work)
+        self.follow(effects, now, work)?;
+        Ok(())
     }
 
     /// The voter's journal was read.
@@ -134,6 +137,7 @@ impl<S: Scheme + Drop> Actor<S> {
         ensures { OnOk result (Does S.verifies S.members S.member self.old work.old self.new work.new (λ made. repairing made now calls.Replayed)) }
     {
         let effects = self.repair.replayed()?;
-        self.follow(&effects, now, work)
+        self.follow(effects, now, work)?;
+        Ok(())
     }
 }

@@ -53,6 +53,7 @@ pub(crate) struct Sends {
 
 impl Model for Sends {
     ghost use Rattle.std.specs.Prelude.{List};
+    ghost use Rattle.simplex_resolver.specs.declared.sends.Sending.{Sending};
 
     ghost Value = { List Sending };
 

@@ -23,7 +23,8 @@ impl<S: Scheme + Drop> Actor<S> {
         ensures { OnOk result (Does S.verifies S.members S.member self.old work.old self.new work.new (λ made. produced made id view)) }
     {
         let bytes = self.repair.produce(view)?;
-        self.serve(id, bytes, work)
+        self.serve(id, bytes, work)?;
+        Ok(())
     }
 
     /// For the proposal of a view, a certificate of another view is missing.
@@ -87,14 +88,18 @@ impl<S: Scheme + Drop> Actor<S> {
         ensures { OnOk result (Does S.verifies S.members S.member self.old work.old self.new work.new (λ made. took_handled made message now)) }
     {
         match message {
-            HandlerMessage::Deliver { waiting: false, .. } => Ok(()),
             HandlerMessage::Deliver {
                 id,
                 view,
                 bytes,
                 asks,
-                ..
-            } => self.deliver(id, view, bytes.as_slice(), asks.as_slice(), now, work),
+                waiting,
+            } => {
+                if !waiting {
+                    return Ok(());
+                }
+                self.deliver(id, view, bytes.as_slice(), asks.as_slice(), now, work)
+            }
             HandlerMessage::Produce { id, view } => self.produce(id, view, work),
         }
     }
