@@ -144,9 +144,7 @@ impl<S: Scheme + Drop> Actor<S> {
         ensures { OnOk result (Does S.verifies S.members S.member self.old work.old self.new work.new (λ made. fetching (of_target fetch target ∷ []) now)) }
     {
         self.want_room()?;
-        let outs = self
-            .fetcher
-            .fetch_targeted(self.alloc, fetch, target, now)?;
+        let outs = self.fetcher.fetch_targeted(self.alloc, fetch, target, now)?;
         self.mind_each(outs, work)?;
         Ok(())
     }

@@ -9,9 +9,7 @@ ghost use Rattle.simplex_resolver.specs.Stands.{Does, Reads};
 use crate::actor::Actor;
 use crate::work::Work;
 use simplex_messages::{Handed, voter};
-use simplex_types::{
-    Ask, Certificate, DecodeError, Outcome, Resolution, Scheme, Signatures, View,
-};
+use simplex_types::{Ask, Certificate, DecodeError, Outcome, Resolution, Scheme, Signatures, View};
 use std::alloc::AllocError;
 
 /// The signatures of the certificate.

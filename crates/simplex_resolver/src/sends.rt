@@ -21,11 +21,7 @@ pub(crate) struct Sending {
 
 impl Sending {
     /// The bytes for the member.
-    pub(crate) fn new(
-        alloc: Global,
-        to: Participant,
-        bytes: Bytes,
-    ) -> Result<Sending, AllocError>
+    pub(crate) fn new(alloc: Global, to: Participant, bytes: Bytes) -> Result<Sending, AllocError>
         ensures { IfOk result (λ sent. sent ≡ sending to bytes) }
     {
         let view = asked_in(alloc, bytes.as_slice())?;

@@ -106,12 +106,7 @@ impl<S: Scheme + Drop> Actor<S> {
 
     /// What the step takes.
     #[tactic(auto, unfolding(crate::specs::Resolver::acted))]
-    fn act(
-        &mut self,
-        input: ResolverInput,
-        now: u64,
-        work: &mut Work,
-    ) -> Result<(), AllocError>
+    fn act(&mut self, input: ResolverInput, now: u64, work: &mut Work) -> Result<(), AllocError>
         requires clock { now < 2 ^ 63 }
         ensures { OnOk result (Does S.verifies S.members S.member self.old work.old self.new work.new (λ made. acted made input now)) }
     {
