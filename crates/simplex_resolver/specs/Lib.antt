@@ -1,3 +1,4 @@
 pub mod Sends
 pub mod Resolver
 pub mod Stands
+pub mod Laws

@@ -9,6 +9,7 @@ mod actor;
 mod config;
 mod fetching;
 mod judging;
+mod laws;
 mod minding;
 mod repairing;
 mod sends;
@@ -17,3 +18,6 @@ mod work;
 
 pub use actor::Actor;
 pub use config::Config;
+pub use laws::{
+    handed_certificates_verify, nullifications_answer_what_they_cover, sends_rise_by_view,
+};

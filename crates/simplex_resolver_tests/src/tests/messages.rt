@@ -45,9 +45,10 @@ fn attestation(alloc: Global, signer: u32, subject: &Subject) -> Result<Attestat
 {
     let scheme = Keyed::new(alloc, 7, 4, Some(Participant(signer)))?;
     let signed = scheme.sign(subject).ok_or("it signs")?;
+    let signature = signed.signature;
     Ok(Attestation {
         signer: Participant(signer),
-        signature: signed.signature,
+        signature,
     })
 }
 

@@ -43,12 +43,13 @@ pub(super) fn served(
     let Some((to, message)) = sent(alloc, call)? else {
         return Ok(None);
     };
-    match message.body {
+    let ResolverMessage { id, body } = message;
+    match body {
         ResolverBody::Response { bytes } => {
             let certificate = Certificate::decode(alloc, bytes.as_slice())?;
-            Ok(Some((to, message.id, Some(certificate))))
+            Ok(Some((to, id, Some(certificate))))
         }
-        ResolverBody::Error => Ok(Some((to, message.id, None))),
+        ResolverBody::Error => Ok(Some((to, id, None))),
         ResolverBody::Request { .. } => Ok(None),
     }
 }
