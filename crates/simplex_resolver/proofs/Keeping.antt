@@ -1,6 +1,5 @@
 -- What every part of a step keeps is kept by the step.
-use Rattle.std.proofs.Common.{◌≡◌, ◌++◌, ◌∷◌, ℕ, Bool, true, false, List, [], Option, Some, None, if◌then◌else◌, map, refl}
-use Rattle.std.specs.List.{filter_map}
+use Rattle.std.proofs.Common.{◌≡◌, ◌++◌, ◌∷◌, ℕ, Bool, true, false, List, [], Option, Some, None, if◌then◌else◌, refl}
 use Rattle.simplex_values.specs.declared.ask.Ask.{Ask}
 use Rattle.simplex_values.specs.declared.ask.Kind.{Kind}
 use Rattle.simplex_values.specs.declared.ask.Outcome.{Outcome}
@@ -19,7 +18,7 @@ use Rattle.simplex_fetch.specs.declared.out.Out.TheVariants as outs
 use Rattle.simplex_fetch.specs.declared.retire.Retire.{Retire}
 use Rattle.simplex_fetch.specs.Fetcher as fetch
 use Rattle.simplex_resolver.specs.Sends.{sending, placed}
-use Rattle.simplex_resolver.specs.Resolver.{Made, Doing, with_fetcher, recorded, handing, called, called_all, putting, leaving, serving, requested, minded, minded_all, after_fetcher, judging, hearing, expiring, retiring, retiring_all, fetching, with_effects, repairing, validated, is_excepted, passed_over, accepted, answered, delivered, produced, resolving, took_mail, took_handled, acted}
+use Rattle.simplex_resolver.specs.Resolver.{Made, Doing, with_fetcher, recorded, handing, called, called_all, putting, leaving, serving, requested, minded, minded_all, after_fetcher, judging, hearing, expiring, retiring, retiring_all, fetching, with_effects, repairing, validated, passed_over, accepted, answered, delivered, produced, resolving, took_mail, took_handled, acted}
 
 -- the smallest parts of a step keep it
 pub record Keeps (P : Doing → Type 0) : Type 0 where

@@ -4,3 +4,4 @@ pub mod Sending
 pub mod Keeping
 pub mod Valid
 pub mod Falling
+pub mod Opening

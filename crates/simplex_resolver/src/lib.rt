@@ -19,5 +19,6 @@ mod work;
 pub use actor::Actor;
 pub use config::Config;
 pub use laws::{
-    handed_certificates_verify, nullifications_answer_what_they_cover, sends_rise_by_view,
+    handed_certificates_verify, new_gaps_are_asked_for, nullifications_answer_what_they_cover,
+    sends_rise_by_view,
 };
