@@ -1,6 +1,6 @@
 //! What a step shows.
 use simplex_messages::{Call, Handed, StepOut, voter};
-use simplex_types::{Certificate, Recipients, ResolverBody, ResolverMessage};
+use simplex_types::{Certificate, CertificateKind, Recipients, ResolverBody, ResolverMessage};
 use std::alloc::Global;
 use std::test::Fail;
 
@@ -32,25 +32,31 @@ pub(super) fn requests(alloc: Global, out: &StepOut) -> Result<Vec<(u32, u64)>, 
     Ok(asked)
 }
 
-/// To whom the last call answers a request, the request's number, and the certificate.
-pub(super) fn served(
-    alloc: Global,
-    out: &StepOut,
-) -> Result<Option<(u32, u64, Option<Certificate>)>, Fail> {
-    let Some(call) = out.calls.as_slice().last() else {
-        return Ok(None);
-    };
-    let Some((to, message)) = sent(alloc, call)? else {
-        return Ok(None);
-    };
-    let ResolverMessage { id, body } = message;
+/// Which certificate the body holds, if any.
+fn answered(alloc: Global, body: &ResolverBody) -> Result<Option<CertificateKind>, Fail> {
     match body {
         ResolverBody::Response { bytes } => {
             let certificate = Certificate::decode(alloc, bytes.as_slice())?;
-            Ok(Some((to, id, Some(certificate))))
+            Ok(Some(certificate.kind()))
         }
-        ResolverBody::Error => Ok(Some((to, id, None))),
-        ResolverBody::Request { .. } => Ok(None),
+        ResolverBody::Error | ResolverBody::Request { .. } => Ok(None),
+    }
+}
+
+/// To whom the last call answers a request, the request's number, and which certificate is the answer.
+pub(super) fn served(
+    alloc: Global,
+    out: &StepOut,
+) -> Result<Option<(u32, u64, Option<CertificateKind>)>, Fail> {
+    let Some(call) = out.calls.as_slice().last() else {
+        return Ok(None);
+    };
+    match sent(alloc, call)? {
+        None => Ok(None),
+        Some((to, message)) => {
+            let kind = answered(alloc, &message.body)?;
+            Ok(Some((to, message.id, kind)))
+        }
     }
 }
 
