@@ -1,0 +1,13 @@
+use Rattle.std.proofs.Common.{rules}
+use Rattle.std.proofs.lemmas.List.{nil_from_length}
+use Rattle.std.specs.Vec.Iter.{into_iter_items}
+use Rattle.simplex_resolver.proofs.Leading.{minded-item, minded-end}
+use Rattle.simplex_resolver.proofs.actor.Actor.mind_each.Goals as goal
+
+pub loop-out-preserved : goal.loop-out-preserved
+loop-out-preserved g c = λ made doing s.
+    minded-item _ _ doing c.args.outs.items _ _ c.in-Some.out c.in-Some.ensures.steps.0 (c.in_ok-mind.ensures made) (c.loop-out.invariant made doing s)
+
+pub returns : goal.returns
+returns g c = λ made doing s.
+    minded-end _ doing c.args.outs.items _ (nil_from_length (into_iter_items c.loop-out.out-iterator) (search rules)) (c.loop-out.invariant made doing s)

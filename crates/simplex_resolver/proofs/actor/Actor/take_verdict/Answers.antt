@@ -1,0 +1,11 @@
+use Rattle.simplex_rules.specs.Repair as repair
+use Rattle.simplex_resolver.specs.Resolver.{repairing}
+use Rattle.simplex_resolver.proofs.Moving.{recorded-moves}
+use Rattle.simplex_resolver.proofs.actor.Actor.take_verdict.Goals as goal
+
+pub returns : goal.returns
+unfolding repairing
+returns g c = λ made doing s.
+    let held = c.in_ok-effects.ensures.stands made.term doing.standing.held s.stands.held_is in
+    let recorded = recorded-moves g.S.Scheme.verifies g.S.Scheme.members g.S.Scheme.member c.args.self.now _ _ (repair.Certified c.args.notarization c.args.success) made doing s held in
+    rw (c.in_ok-effects.ensures.effects made.term doing.standing.held s.stands.held_is) at (c.in_ok-follow.ensures made _ recorded)

@@ -1,0 +1,4 @@
+pub mod Sends
+pub mod Resolver
+pub mod Stands
+pub mod Laws

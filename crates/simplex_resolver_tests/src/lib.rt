@@ -1,0 +1,5 @@
+//! Tests of the resolver's actor.
+#![tactic(auto)]
+
+#[cfg(test)]
+mod tests;
