@@ -1,5 +1,5 @@
 //! A member alone takes view 1 from its proposal to its finalization.
-use super::script::{ALONE, Move, Step, life, run};
+use super::script::{ALONE, Move, Step, run};
 use simplex_types::{Answer, Digest};
 use std::test::Fail;
 
@@ -52,8 +52,5 @@ const SILENCE: [Step; 4] = [
 
 #[test]
 fn a_view_and_a_silent_one(rt: HostRuntime) -> Result<(), Fail> {
-    let alloc = rt.alloc();
-    let mut steps = Vec::from_slice(alloc, &VIEW)?;
-    steps.extend_from_slice(&SILENCE)?;
-    run(&rt, alloc, ALONE, &[life(&steps)])
+    run(&rt, rt.alloc(), ALONE, &VIEW, &SILENCE)
 }

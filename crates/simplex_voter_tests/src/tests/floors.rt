@@ -1,6 +1,6 @@
 //! Starts at a final view, with a journal that holds it and one that does not.
 use super::alone::VIEW;
-use super::script::{ALONE, Life, Move, Step, life, run};
+use super::script::{ALONE, Move, Stopped, again};
 use simplex_messages::Stop;
 use std::alloc::Global;
 use std::process::Abort;
@@ -8,33 +8,39 @@ use std::test::Fail;
 
 #[test]
 fn a_start_at_a_floor_that_is_kept(rt: HostRuntime) -> Result<(), Fail> {
+    let first = Stopped {
+        member: ALONE,
+        floor: None,
+        before: &VIEW,
+        last: Move::Timer,
+        stop: Stop::None,
+        does: "idle",
+    };
     let later = [(
         9,
         Move::Start,
         "report finalization 1, asks propose 2, updated 1, replayed, update 2",
     )];
-    let second = Life {
-        floor: Some(1),
-        steps: &later,
-        stop: Stop::None,
-    };
-    run(&rt, rt.alloc(), ALONE, &[life(&VIEW), second])
+    again(&rt, rt.alloc(), &first, Some(1), &later)
 }
 
-/// A first start at view 1 stops so, having done this; the next one is from genesis on.
-fn again(
+/// A first start, at view 1, stops so, having done this; the next one is from genesis on.
+fn starts(
     rt: &impl Abort,
     alloc: Global,
     stop: Stop,
-    wanted: &'static str,
+    does: &'static str,
     later: &'static str,
 ) -> Result<(), Fail> {
-    let first = Life {
+    let first = Stopped {
+        member: ALONE,
         floor: Some(1),
-        steps: &[(0, Move::Start, wanted)],
+        before: &[],
+        last: Move::Start,
         stop,
+        does,
     };
-    run(rt, alloc, ALONE, &[first, life(&[(9, Move::Start, later)])])
+    again(rt, alloc, &first, None, &[(9, Move::Start, later)])
 }
 
 /// What a start does that knows nothing.
@@ -48,9 +54,9 @@ fn a_start_at_a_floor_that_fails(rt: HostRuntime) -> Result<(), Fail> {
     let alloc = rt.alloc();
     let told = "report finalization 1, the journal failed";
     let kept = "report finalization 1, append finalization 1, the journal failed";
-    again(&rt, alloc, Stop::Cut { call: 1, keep: 2 }, "cut", NOTHING)?;
-    again(&rt, alloc, Stop::Fail { call: 1, keep: 2 }, told, NOTHING)?;
-    again(&rt, alloc, Stop::Fail { call: 2, keep: 2 }, told, NOTHING)?;
-    again(&rt, alloc, Stop::Fail { call: 3, keep: 0 }, kept, NOTHING)?;
-    again(&rt, alloc, Stop::Fail { call: 3, keep: 1 }, kept, FINAL)
+    starts(&rt, alloc, Stop::Cut { call: 1, keep: 2 }, "cut", NOTHING)?;
+    starts(&rt, alloc, Stop::Fail { call: 1, keep: 2 }, told, NOTHING)?;
+    starts(&rt, alloc, Stop::Fail { call: 2, keep: 2 }, told, NOTHING)?;
+    starts(&rt, alloc, Stop::Fail { call: 3, keep: 0 }, kept, NOTHING)?;
+    starts(&rt, alloc, Stop::Fail { call: 3, keep: 1 }, kept, FINAL)
 }

@@ -1,8 +1,6 @@
 //! A member that leads both terms is asked to prepare view 2 as soon as it votes in view 1.
-use super::script::{Member, Move, Step, life, run};
+use super::script::{Member, Move, Step, run};
 use simplex_types::{Answer, Digest, Handoff};
-use std::alloc::Global;
-use std::process::Abort;
 use std::test::Fail;
 
 const LEADER: Member = Member {
@@ -56,13 +54,6 @@ fn answer(answer: Answer) -> Step {
     (0, Move::Answer(1, answer), "taken")
 }
 
-/// What comes behind the request to prepare.
-fn behind(rt: &impl Abort, alloc: Global, steps: &[Step]) -> Result<(), Fail> {
-    let mut all = Vec::from_slice(alloc, &BEFORE)?;
-    all.extend_from_slice(steps)?;
-    run(rt, alloc, LEADER, &[life(&all)])
-}
-
 #[test]
 fn it_waits(rt: HostRuntime) -> Result<(), Fail> {
     let steps = [
@@ -76,7 +67,7 @@ fn it_waits(rt: HostRuntime) -> Result<(), Fail> {
             "append certification 1, append finalize 1, sync 1, report certification 1, send vote, asks propose 2, certified 1, own finalize, update 2",
         ),
     ];
-    behind(&rt, rt.alloc(), &steps)
+    run(&rt, rt.alloc(), LEADER, &BEFORE, &steps)
 }
 
 #[test]
@@ -94,7 +85,7 @@ fn a_staged_payload_is_held(rt: HostRuntime) -> Result<(), Fail> {
             "propose 34, append notarize 2 of 34, sync 2, send vote, asks prepare 3, own notarize",
         ),
     ];
-    behind(&rt, rt.alloc(), &steps)
+    run(&rt, rt.alloc(), LEADER, &BEFORE, &steps)
 }
 
 #[test]
@@ -107,7 +98,7 @@ fn a_payload_is_voted_for_at_once(rt: HostRuntime) -> Result<(), Fail> {
             "propose 34, append notarize 2 of 34, sync 2, send vote, own notarize",
         ),
     ];
-    behind(&rt, rt.alloc(), &steps)
+    run(&rt, rt.alloc(), LEADER, &BEFORE, &steps)
 }
 
 #[test]
@@ -125,7 +116,7 @@ fn a_closed_one_fails_its_view(rt: HostRuntime) -> Result<(), Fail> {
             "append nullify 2, sync 2, send vote, own nullify",
         ),
     ];
-    behind(&rt, rt.alloc(), &steps)
+    run(&rt, rt.alloc(), LEADER, &BEFORE, &steps)
 }
 
 /// The certification of view 1 takes too long.
@@ -141,7 +132,7 @@ fn an_open_one_is_abandoned(rt: HostRuntime) -> Result<(), Fail> {
             "refused",
         ),
     ];
-    behind(&rt, rt.alloc(), &steps)
+    run(&rt, rt.alloc(), LEADER, &BEFORE, &steps)
 }
 
 #[test]
@@ -160,5 +151,5 @@ fn an_answered_one_is_superseded(rt: HostRuntime) -> Result<(), Fail> {
         ),
         (2000, Move::Propose, "idle"),
     ];
-    behind(&rt, rt.alloc(), &steps)
+    run(&rt, rt.alloc(), LEADER, &BEFORE, &steps)
 }

@@ -1,6 +1,6 @@
-//! A member that leads view 1 is stopped while it proposes, or while it takes its verdict, and starts again.
+//! A member is stopped while it proposes, or while it takes its verdict, and starts again.
 use super::alone::VIEW;
-use super::script::{ALONE, Life, Member, Move, Step, life, run};
+use super::script::{ALONE, Member, Move, Step, Stopped, again};
 use simplex_messages::Stop;
 use simplex_types::{Answer, Digest};
 use std::alloc::Global;
@@ -15,18 +15,15 @@ const LEADER: Member = Member {
     handoff: false,
 };
 
-/// The leader proposes payload 17, and is cut off having done this.
-fn proposes(wanted: &'static str) -> [Step; 3] {
-    [
-        (0, Move::Start, "asks propose 1, replayed, update 1"),
-        (
-            0,
-            Move::Answer(0, Answer::Payload(Digest([17; 32]))),
-            "taken",
-        ),
-        (0, Move::Propose, wanted),
-    ]
-}
+/// It is asked to propose, and payload 17 is given.
+const PROPOSES: [Step; 2] = [
+    (0, Move::Start, "asks propose 1, replayed, update 1"),
+    (
+        0,
+        Move::Answer(0, Answer::Payload(Digest([17; 32]))),
+        "taken",
+    ),
+];
 
 /// It starts again having voted: it does not vote again, and proposes nothing else.
 const BOUND: [Step; 2] = [
@@ -53,19 +50,23 @@ const FREE: [Step; 3] = [
     ),
 ];
 
-fn again(
+/// The leader is cut off before this call, having done this, and starts again.
+fn proposes(
     rt: &impl Abort,
     alloc: Global,
-    wanted: &'static str,
     stop: Stop,
+    does: &'static str,
     later: &[Step],
 ) -> Result<(), Fail> {
-    let first = Life {
+    let first = Stopped {
+        member: LEADER,
         floor: None,
-        steps: &proposes(wanted),
+        before: &PROPOSES,
+        last: Move::Propose,
         stop,
+        does,
     };
-    run(rt, alloc, LEADER, &[first, life(later)])
+    again(rt, alloc, &first, None, later)
 }
 
 #[test]
@@ -73,42 +74,28 @@ fn a_leader_starts_again(rt: HostRuntime) -> Result<(), Fail> {
     let alloc = rt.alloc();
     let appended = "propose 17, append notarize 1 of 17, cut";
     let synced = "propose 17, append notarize 1 of 17, sync 1, cut";
-    again(&rt, alloc, appended, Stop::Cut { call: 3, keep: 0 }, &FREE)?;
-    again(&rt, alloc, appended, Stop::Cut { call: 3, keep: 1 }, &BOUND)?;
-    again(&rt, alloc, synced, Stop::Cut { call: 4, keep: 0 }, &BOUND)
+    proposes(&rt, alloc, Stop::Cut { call: 3, keep: 0 }, appended, &FREE)?;
+    proposes(&rt, alloc, Stop::Cut { call: 3, keep: 1 }, appended, &BOUND)?;
+    proposes(&rt, alloc, Stop::Cut { call: 4, keep: 0 }, synced, &BOUND)
 }
 
-/// The verdict on view 1 is taken, with a journal whose calls fail so.
+/// The verdict on view 1 is taken with a journal whose call of this number fails, and one pending record is kept.
 fn judges(
     rt: &impl Abort,
     alloc: Global,
-    wanted: &'static str,
     call: u64,
+    does: &'static str,
     later: &'static str,
 ) -> Result<(), Fail> {
-    let [
-        start,
-        payload,
-        propose,
-        notarized,
-        verdict,
-        (now, certify, _),
-        _,
-    ] = VIEW;
-    let steps = [
-        start,
-        payload,
-        propose,
-        notarized,
-        verdict,
-        (now, certify, wanted),
-    ];
-    let first = Life {
+    let first = Stopped {
+        member: ALONE,
         floor: None,
-        steps: &steps,
+        before: &VIEW[..5],
+        last: Move::Certify,
         stop: Stop::Fail { call, keep: 1 },
+        does,
     };
-    run(rt, alloc, ALONE, &[first, life(&[(9, Move::Start, later)])])
+    again(rt, alloc, &first, None, &[(9, Move::Start, later)])
 }
 
 #[test]
@@ -117,15 +104,15 @@ fn a_verdict_and_a_journal_that_fails(rt: HostRuntime) -> Result<(), Fail> {
     judges(
         &rt,
         alloc,
-        "append certification 1, append finalize 1, the journal failed",
         3,
+        "append certification 1, append finalize 1, the journal failed",
         "report notarize 1 of 17, report notarization 1, report certification 1, asks propose 2, updated 1, certified 1, replayed, update 2",
     )?;
     judges(
         &rt,
         alloc,
-        "the journal failed",
         1,
+        "the journal failed",
         "report notarize 1 of 17, report notarization 1, asks certify 1, updated 1, replayed, update 1",
     )
 }

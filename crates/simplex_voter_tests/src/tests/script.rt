@@ -51,22 +51,15 @@ pub(super) enum Move {
 /// When it is done, what, and what comes of it.
 pub(super) type Step = (u64, Move, &'static str);
 
-/// A life: what is final when it starts, its steps, and where the last of them stops.
+/// A life from a final view on, or from genesis on, whose last step, at clock 0, stops and does only so much.
 #[derive(Clone, Copy)]
-pub(super) struct Life<'a> {
-    /// A view, if it is not genesis.
+pub(super) struct Stopped<'a> {
+    pub(super) member: Member,
     pub(super) floor: Option<u64>,
-    pub(super) steps: &'a [Step],
+    pub(super) before: &'a [Step],
+    pub(super) last: Move,
     pub(super) stop: Stop,
-}
-
-/// A life from genesis on that is not stopped inside a step.
-pub(super) fn life(steps: &[Step]) -> Life {
-    Life {
-        floor: None,
-        steps,
-        stop: Stop::None,
-    }
+    pub(super) does: &'static str,
 }
 
 fn round(view: u64) -> Round {
@@ -158,7 +151,7 @@ struct Posts {
     resolver: Mailbox<resolver::MailboxMessage>,
 }
 
-fn posts(alloc: Global) -> Result<Posts, AllocError> {
+fn mailboxes(alloc: Global) -> Result<Posts, AllocError> {
     Ok(Posts {
         batcher: Mailbox::new(alloc, 16)?,
         resolver: Mailbox::new(alloc, 16)?,
@@ -168,7 +161,7 @@ fn posts(alloc: Global) -> Result<Posts, AllocError> {
 fn started(alloc: Global, voter: &mut Voter, now: u64, stop: &Stop) -> Result<String, AllocError>
     requires { now < 2 ^ 63 }
 {
-    let mut posts = posts(alloc)?;
+    let mut posts = mailboxes(alloc)?;
     let mut out = StepOut::new(alloc);
     let outcome = voter.start(now, stop, &mut posts.batcher, &mut posts.resolver, &mut out)?;
     told(alloc, &out, outcome)
@@ -183,7 +176,7 @@ fn stepped(
 ) -> Result<String, AllocError>
     requires { now < 2 ^ 63 }
 {
-    let mut posts = posts(alloc)?;
+    let mut posts = mailboxes(alloc)?;
     let mut out = StepOut::new(alloc);
     let outcome = voter.step(
         input,
@@ -233,48 +226,57 @@ fn said(
     stepped(alloc, voter, input, now, stop)
 }
 
-/// The steps are made over the journal, and do what they are to do. What is left in the journal.
-fn live(
-    rt: &impl Abort,
-    alloc: Global,
-    member: Member,
-    life: &Life,
-    journal: MemoryJournal,
-) -> Result<MemoryJournal, Fail> {
-    let mut voter = made(alloc, member, floor(alloc, life.floor), journal)?;
-    let mut left = life.steps.len();
-    for (now, next, wanted) in life.steps {
+/// The steps are made, and do what they are to do.
+fn go(rt: &impl Abort, alloc: Global, voter: &mut Voter, steps: &[Step]) -> Result<(), AllocError> {
+    for (now, next, wanted) in steps {
         assert!(rt; *now < 1 << 63);
-        left = left.saturating_sub(1);
-        let stop = if left == 0 { life.stop } else { Stop::None };
-        let text = said(alloc, &mut voter, *next, *now, &stop)?;
-        assert_eq!(rt; text.as_str(), *wanted, "at {now}, with {left} to come");
-    }
-    Ok(voter.into_journal())
-}
-
-/// The lives are lived one after the other, each over what the one before left in the journal.
-pub(super) fn run(
-    rt: &impl Abort,
-    alloc: Global,
-    member: Member,
-    lives: &[Life],
-) -> Result<(), Fail> {
-    let mut journal = MemoryJournal::new(alloc);
-    for life in lives {
-        journal = live(rt, alloc, member, life, journal)?;
+        let text = said(alloc, voter, *next, *now, &Stop::None)?;
+        assert_eq!(rt; text.as_str(), *wanted, "at {now}");
     }
     Ok(())
 }
 
-/// How many records a life leaves.
-pub(super) fn left_by(
+/// A life from genesis on that is not stopped: its first steps, and those behind them.
+pub(super) fn run(
     rt: &impl Abort,
     alloc: Global,
     member: Member,
-    life: &Life,
-) -> Result<usize, Fail> {
-    let mut journal = live(rt, alloc, member, life, MemoryJournal::new(alloc))?;
+    first: &[Step],
+    behind: &[Step],
+) -> Result<(), Fail> {
+    let mut voter = made(alloc, member, floor(alloc, None), MemoryJournal::new(alloc))?;
+    go(rt, alloc, &mut voter, first)?;
+    go(rt, alloc, &mut voter, behind)?;
+    Ok(())
+}
+
+/// What is left in the journal by the life.
+fn stopped(rt: &impl Abort, alloc: Global, life: &Stopped) -> Result<MemoryJournal, Fail> {
+    let stands = floor(alloc, life.floor);
+    let mut voter = made(alloc, life.member, stands, MemoryJournal::new(alloc))?;
+    go(rt, alloc, &mut voter, life.before)?;
+    let text = said(alloc, &mut voter, life.last, 0, &life.stop)?;
+    assert_eq!(rt; text.as_str(), life.does, "stopped");
+    Ok(voter.into_journal())
+}
+
+/// The life, and a later one of the same member over what it left, from this final view on.
+pub(super) fn again(
+    rt: &impl Abort,
+    alloc: Global,
+    life: &Stopped,
+    from: Option<u64>,
+    later: &[Step],
+) -> Result<(), Fail> {
+    let journal = stopped(rt, alloc, life)?;
+    let mut voter = made(alloc, life.member, floor(alloc, from), journal)?;
+    go(rt, alloc, &mut voter, later)?;
+    Ok(())
+}
+
+/// How many records the life leaves.
+pub(super) fn left_by(rt: &impl Abort, alloc: Global, life: &Stopped) -> Result<usize, Fail> {
+    let mut journal = stopped(rt, alloc, life)?;
     let Ok(records) = journal.replay(alloc) else {
         return Err("the journal is read".into());
     };

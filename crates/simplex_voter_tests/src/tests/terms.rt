@@ -1,5 +1,5 @@
 //! An own nullify bars the finalize of the later views of its term, until they are above a final one.
-use super::script::{Member, Move, Step, life, run};
+use super::script::{Member, Move, Step, run};
 use simplex_types::Answer;
 use std::test::Fail;
 
@@ -82,5 +82,5 @@ const TERM: [Step; 18] = [
 
 #[test]
 fn a_nullify_bars_finalizes_of_its_term(rt: HostRuntime) -> Result<(), Fail> {
-    run(&rt, rt.alloc(), MEMBER, &[life(&TERM)])
+    run(&rt, rt.alloc(), MEMBER, &TERM, &[])
 }
