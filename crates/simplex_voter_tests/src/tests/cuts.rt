@@ -63,27 +63,55 @@ const FINALIZED: [Cut; 4] = [
     ),
 ];
 
-/// The step behind these is cut off.
+/// The step behind these is stopped, does this till then, and so many records are left.
 fn check(
     rt: &impl Abort,
     alloc: Global,
     before: &[Step],
-    last: Move,
+    last: &Move,
+    stop: Stop,
+    does: &'static str,
+    left: usize,
+) -> Result<(), Fail> {
+    let life = Stopped {
+        member: ALONE,
+        floor: None,
+        before,
+        last: *last,
+        stop,
+        does,
+    };
+    let found = left_by(rt, alloc, &life)?;
+    assert_eq!(rt; found, left, "{does}");
+    Ok(())
+}
+
+/// The step behind these is cut off before the call.
+fn check_cut(
+    rt: &impl Abort,
+    alloc: Global,
+    before: &[Step],
+    last: &Move,
+    cut: &Cut,
+) -> Result<(), Fail> {
+    let call = cut.0;
+    for (keep, left) in (0u64..).zip(&cut.2) {
+        let stop = Stop::Cut { call, keep };
+        check(rt, alloc, before, last, stop, cut.1, *left)?;
+    }
+    Ok(())
+}
+
+/// The step behind these is cut off before each call.
+fn check_all(
+    rt: &impl Abort,
+    alloc: Global,
+    before: &[Step],
+    last: &Move,
     cuts: &[Cut],
 ) -> Result<(), Fail> {
-    for (call, does, left) in cuts {
-        for (keep, count) in (0u64..).zip(left) {
-            let life = Stopped {
-                member: ALONE,
-                floor: None,
-                before,
-                last,
-                stop: Stop::Cut { call: *call, keep },
-                does: *does,
-            };
-            let found = left_by(rt, alloc, &life)?;
-            assert_eq!(rt; found, *count, "before call {call}, where {keep} are kept");
-        }
+    for cut in cuts {
+        check_cut(rt, alloc, before, last, cut)?;
     }
     Ok(())
 }
@@ -91,8 +119,8 @@ fn check(
 #[test]
 fn a_stop_before_each_call(rt: HostRuntime) -> Result<(), Fail> {
     let alloc = rt.alloc();
-    check(&rt, alloc, &VIEW[..2], Move::Propose, &PROPOSE)?;
-    check(&rt, alloc, &VIEW[..3], Move::Notarized(1, 0), &NOTARIZED)?;
-    check(&rt, alloc, &VIEW[..5], Move::Certify, &CERTIFY)?;
-    check(&rt, alloc, &VIEW[..6], Move::Finalized(1, 0), &FINALIZED)
+    check_all(&rt, alloc, &VIEW[..2], &Move::Propose, &PROPOSE)?;
+    check_all(&rt, alloc, &VIEW[..3], &Move::Notarized(1, 0), &NOTARIZED)?;
+    check_all(&rt, alloc, &VIEW[..5], &Move::Certify, &CERTIFY)?;
+    check_all(&rt, alloc, &VIEW[..6], &Move::Finalized(1, 0), &FINALIZED)
 }

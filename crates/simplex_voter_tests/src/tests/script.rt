@@ -251,7 +251,7 @@ pub(super) fn run(
 }
 
 /// What is left in the journal by the life.
-fn stopped(rt: &impl Abort, alloc: Global, life: &Stopped) -> Result<MemoryJournal, Fail> {
+fn leave(rt: &impl Abort, alloc: Global, life: &Stopped) -> Result<MemoryJournal, Fail> {
     let stands = floor(alloc, life.floor);
     let mut voter = made(alloc, life.member, stands, MemoryJournal::new(alloc))?;
     go(rt, alloc, &mut voter, life.before)?;
@@ -268,7 +268,7 @@ pub(super) fn again(
     from: Option<u64>,
     later: &[Step],
 ) -> Result<(), Fail> {
-    let journal = stopped(rt, alloc, life)?;
+    let journal = leave(rt, alloc, life)?;
     let mut voter = made(alloc, life.member, floor(alloc, from), journal)?;
     go(rt, alloc, &mut voter, later)?;
     Ok(())
@@ -276,7 +276,7 @@ pub(super) fn again(
 
 /// How many records the life leaves.
 pub(super) fn left_by(rt: &impl Abort, alloc: Global, life: &Stopped) -> Result<usize, Fail> {
-    let mut journal = stopped(rt, alloc, life)?;
+    let mut journal = leave(rt, alloc, life)?;
     let Ok(records) = journal.replay(alloc) else {
         return Err("the journal is read".into());
     };
