@@ -1,4 +1,6 @@
 //! A voter, and what it was asked.
+ghost use Rattle.std.specs.Prelude.{◌≡◌};
+
 use crate::nowhere::Nowhere;
 use anyhow::{Result, bail};
 use simplex_journal::MemoryJournal;
@@ -32,24 +34,34 @@ pub struct Member {
     calls: u64,
 }
 
-/// The signatures of a quorum, which the voter does not look at.
-fn signatures(alloc: Global, is_alone: bool) -> Result<Signatures, AllocError> {
-    let mut attestations = Vec::new(alloc);
-    attestations.push(Attestation {
-        signer: Participant(0),
+/// A signature of the member.
+fn signature(signer: u32) -> Attestation
+    ensures { result.signer ≡ signer }
+{
+    Attestation {
+        signer: Participant(signer),
         signature: [1; 32],
-    })?;
-    if !is_alone {
-        attestations.push(Attestation {
-            signer: Participant(1),
-            signature: [2; 32],
-        })?;
-        attestations.push(Attestation {
-            signer: Participant(2),
-            signature: [3; 32],
-        })?;
     }
+}
+
+/// The signature of member 0.
+fn one(alloc: Global) -> Result<Signatures, AllocError> {
+    let attestations = vec![in alloc; signature(0)]?;
     Ok(Signatures::new(attestations))
+}
+
+/// The signatures of members 0, 1 and 2.
+fn three(alloc: Global) -> Result<Signatures, AllocError> {
+    let attestations = vec![in alloc; signature(0), signature(1), signature(2)]?;
+    Ok(Signatures::new(attestations))
+}
+
+/// The signatures of a quorum. The voter does not look at them.
+fn signatures(alloc: Global, is_alone: bool) -> Result<Signatures, AllocError> {
+    if is_alone {
+        return one(alloc);
+    }
+    three(alloc)
 }
 
 /// The proposal of the view, behind the view before.
