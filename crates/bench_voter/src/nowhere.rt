@@ -1,6 +1,4 @@
 //! A place for messages that nobody reads.
-ghost use Rattle.std.specs.Prelude.{Unit};
-
 use simplex_mailbox::Post;
 use simplex_types::Feedback;
 use std::alloc::AllocError;
