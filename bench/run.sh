@@ -1,10 +1,11 @@
 #!/bin/bash
 # Times the work of crates/bench_wire, bench_mailbox, bench_fetch, bench_round, bench_state and bench_repair, by the
-# proved program and by plain Rust, and that of crates/bench_batcher by a batcher and by the round alone. Run it from
-# anywhere, after `rt run` in the program's crate: bench/run.sh wire|mailbox|fetch|round|batcher|state|repair [TIMES].
+# proved program and by plain Rust, that of crates/bench_batcher by a batcher and by the round alone, and that of
+# crates/bench_voter by a voter. Run it from anywhere, after `rt run` in the program's crate:
+# bench/run.sh wire|mailbox|fetch|round|batcher|state|repair|voter [TIMES].
 set -euo pipefail
 cd "$(dirname "$0")"
-what=${1:?wire, mailbox, fetch, round, batcher, state or repair}
+what=${1:?wire, mailbox, fetch, round, batcher, state, repair or voter}
 proved=../crates/bench_$what/out/bench_$what
 
 # How often a program does the work in a second of user time: that of so many turns, less that of none,
@@ -43,6 +44,43 @@ if [ "$what" = batcher ]; then
     printf '%-14s %12s %12s %18s\n' 'members' 'round alone' 'batcher' 'times the round'
     beside_round $((times * 20)) 4
     beside_round "$times" 100
+    exit
+fi
+
+# A voter over more and more views, each time twice as many: its steps a second of user time over all of them and over
+# the later half, the least time of five runs, and the peak of memory.
+over_views() {
+    python3 - "$proved" "$@" <<'P'
+import os, subprocess, sys, time
+program, work, steps, *views = sys.argv[1:]
+def run(n):
+    child = subprocess.Popen([program, work, n], stdout=subprocess.DEVNULL)
+    peak = 0
+    while True:
+        ended, status, usage = os.wait4(child.pid, os.WNOHANG)
+        if ended:
+            assert status == 0
+            return usage.ru_utime, peak
+        for line in open(f"/proc/{child.pid}/status"):
+            if line.startswith("VmHWM"):
+                peak = int(line.split()[1])
+        time.sleep(0.002)
+half = min(run(str(int(views[0]) // 2)) for _ in range(5))[0]
+for n in views:
+    runs = [run(n) for _ in range(5)]
+    all = min(seconds for seconds, _ in runs)
+    count = int(steps) * int(n)
+    peak = max(peak for _, peak in runs)
+    print(f"{work:<10} {n:>8} {count / all:12.0f} {count / 2 / (all - half):14.0f} {peak:10}")
+    half = all
+P
+}
+
+if [ "$what" = voter ]; then
+    views=${2:-2500}
+    printf '%-10s %8s %12s %14s %10s\n' 'member' 'views' 'steps a s' 'later half' 'peak kB'
+    over_views alone 4 "$views" $((views * 2)) $((views * 4))
+    over_views follow 3 "$views" $((views * 2)) $((views * 4))
     exit
 fi
 

@@ -1,0 +1,5 @@
+//! Tests of the voter's actor.
+#![tactic(auto)]
+
+#[cfg(test)]
+mod tests;

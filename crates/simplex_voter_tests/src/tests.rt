@@ -1,0 +1,9 @@
+//! Scripts with what each step of a voter does, worked out by hand from the rules.
+mod alone;
+mod cuts;
+mod floors;
+mod handoffs;
+mod restarts;
+mod script;
+mod terms;
+mod words;
