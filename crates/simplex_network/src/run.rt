@@ -2,11 +2,13 @@
 ghost use Rattle.std.specs.Prelude.{◌≡◌, ◌++◌, ◌∷◌, [], Ok, Err, OnOk, IfOk, IfErr, true, false};
 ghost use Rattle.simplex_run.specs.Run as runs;
 ghost use Rattle.simplex_run.specs.Setups as setups;
+ghost use Rattle.simplex_safety.specs.Safe.{RunsSafely};
 ghost use Rattle.simplex_network.specs.Answer.{is_memory};
 ghost use Rattle.simplex_network.specs.Stands.{MadeBy};
 
 use crate::network::Network;
 use crate::setups::{are_few, is_taken};
+use simplex_safety::runs_are_safe;
 use simplex_transcript::{Entry, Event, Field, Refusal, RunError, Setup};
 use simplex_types::Sequence;
 use std::alloc::Global;
@@ -19,8 +21,20 @@ pub struct Transcript {
 }
 
 /// Runs the events, or tells the first refusal. Want of memory is a refusal of its own.
-#[tactic(auto, unfolding(simplex_run::specs::Run::Run))]
 pub fn run_network(alloc: Global, setup: &Setup, events: &[Event]) -> Result<Transcript, Refusal>
+    ensures done { IfOk result (λ transcript. runs.Run setup.now events.now ≡ Ok transcript.entries) }
+    ensures network { IfOk result (λ transcript. MadeBy transcript.network setup.now (runs.run setup.now [] events.now)) }
+    ensures refused { IfErr result (λ refusal. is_memory refusal.error ≡ false → runs.Run setup.now events.now ≡ Err refusal) }
+    // Each certificate that stands in the transcript is backed, no two of them conflict, and each vote was stored first.
+    ensures safe { IfOk result (λ transcript. RunsSafely setup.now events.now) }
+{
+    runs_are_safe();
+    run_taken(alloc, setup, events)
+}
+
+// Runs the events where setup and events are taken, and tells the first refusal else.
+#[tactic(auto, unfolding(simplex_run::specs::Run::Run))]
+fn run_taken(alloc: Global, setup: &Setup, events: &[Event]) -> Result<Transcript, Refusal>
     ensures done { IfOk result (λ transcript. runs.Run setup.now events.now ≡ Ok transcript.entries) }
     ensures network { IfOk result (λ transcript. MadeBy transcript.network setup.now (runs.run setup.now [] events.now)) }
     ensures refused { IfErr result (λ refusal. is_memory refusal.error ≡ false → runs.Run setup.now events.now ≡ Err refusal) }
