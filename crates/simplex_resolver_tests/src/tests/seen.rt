@@ -19,14 +19,23 @@ fn sent(alloc: Global, call: &Call) -> Result<Option<(u32, ResolverMessage)>, Fa
     }
 }
 
+/// The view that the body asks for, if any.
+fn asked_for(body: &ResolverBody) -> Option<u64> {
+    match body {
+        ResolverBody::Request { view } => Some(view.0),
+        ResolverBody::Error | ResolverBody::Response { .. } => None,
+    }
+}
+
 /// Whom the step asks for which views.
 pub(super) fn requests(alloc: Global, out: &StepOut) -> Result<Vec<(u32, u64)>, Fail> {
     let mut asked = Vec::new(alloc);
     for call in out.calls.as_slice() {
-        if let Some((to, message)) = sent(alloc, call)?
-            && let ResolverBody::Request { view } = message.body
-        {
-            asked.push((to, view.0))?;
+        let Some((to, message)) = sent(alloc, call)? else {
+            continue;
+        };
+        if let Some(view) = asked_for(&message.body) {
+            asked.push((to, view))?;
         }
     }
     Ok(asked)
