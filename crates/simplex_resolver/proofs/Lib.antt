@@ -5,3 +5,7 @@ pub mod Keeping
 pub mod Valid
 pub mod Falling
 pub mod Opening
+pub mod Numbers
+pub mod Mailed
+pub mod Settling
+pub mod Gaps

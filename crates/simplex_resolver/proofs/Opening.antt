@@ -63,7 +63,7 @@ arrival-held : (arrival : Arrival) (arrivals : List Arrival) → same_ask arriva
 arrival-held arrival arrivals same =
     grind (arith, common_steps, same, alike-asks arrival arrivals, list_any-append (λ a. same_ask arrival.ask a.ask) arrivals (arrival ∷ []))
 
-entry-kept : (test : Ask → Bool) (arrival : Arrival) (o : Option Entry) → has_ask test o ≡ true → has_ask test (Some (entry_with arrival o)) ≡ true
+pub entry-kept : (test : Ask → Bool) (arrival : Arrival) (o : Option Entry) → has_ask test o ≡ true → has_ask test (Some (entry_with arrival o)) ≡ true
 entry-kept test arrival None held = grind (arith, common_steps, held)
 entry-kept test arrival (Some entry) held = arrival-kept test arrival entry.arrivals held
 

@@ -19,6 +19,6 @@ mod work;
 pub use actor::Actor;
 pub use config::Config;
 pub use laws::{
-    handed_certificates_verify, new_gaps_are_asked_for, nullifications_answer_what_they_cover,
-    sends_rise_by_view,
+    each_gap_has_an_open_ask, handed_certificates_verify, new_gaps_are_asked_for,
+    nullifications_answer_what_they_cover, sends_rise_by_view,
 };
