@@ -1,4 +1,4 @@
--- What a member's votes say of what it knew. Agreement rests on these alone.
+-- What a member's notarizes and finalizes say of what it knew.
 use Rattle.std.specs.Prelude.{◌≡◌, ℕ, ◌<◌, ◌≤◌, true, false, List, None}
 use Rattle.simplex_values.specs.declared.proposal.Proposal.{Proposal}
 use Rattle.simplex_rules.specs.Known.{Made, Fact, view_of, own_notarize, has_nullified, has_finalized}

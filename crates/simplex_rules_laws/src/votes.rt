@@ -9,19 +9,21 @@ ghost use Rattle.simplex_rules.specs.Votes.{notarize_at, finalize_at};
 ghost use Rattle.simplex_rules.specs.Calls.{construct_nullify_answer};
 ghost use Rattle.simplex_rules_laws.specs.Votes.{IsUntouched, IsOpen, IsGivenUp};
 
-/// A member votes for a proposal once in a view, not where it gave the view up, and not in one that is past.
+/// A member votes for a proposal once in a view, not where it gave the view up, and not where a view from it on is final.
 pub fn notarizes_are_untouched()
     ensures { (made : Made) (known : List Fact) (view : ℕ) (vote : Notarize) → notarize_at made known view ≡ Some vote
         → (view_of vote.proposal ≡ view) × IsUntouched known view }
 {}
 
-/// A member votes for the finality of a certified view, and not behind a view of its term that it gave up.
+/// A member votes for the finality of a certified view, and not behind a view of its term that it gave up since the
+/// last final one.
 pub fn finalizes_are_open()
     ensures { (made : Made) (known : List Fact) (view : ℕ) (vote : Finalize) → finalize_at made known view ≡ Some vote
         → (view_of vote.proposal ≡ view) × IsOpen made known view }
 {}
 
-/// A member gives up the view that it is in.
+/// The nullify of the view that the member is in gives that view up, which is above each final one and each with a
+/// true verdict.
 pub fn nullifies_are_current()
     ensures { (made : Made) (known : List Fact) (repeated : Bool) (vote : Nullify)
         → construct_nullify_answer made known (current_of made known) ≡ Some (repeated, vote)
