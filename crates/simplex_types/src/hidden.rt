@@ -2,7 +2,7 @@
 ghost use Rattle.std.specs.Prelude.{◌≡◌, ◌<◌, IfOk, IfSome, IsTrue, false};
 ghost use Rattle.std.specs.Option.{ForSome};
 ghost use Rattle.simplex_types.specs.Keyed.{keyed_attests, keyed_verifies};
-ghost use Rattle.simplex_types.specs.KeyedLaws.{below_if_some, signs_as_member};
+ghost use Rattle.simplex_types.specs.KeyedLaws.{below_if_some, signer_below, signs_as_member};
 
 use crate::keyed::Keyed;
 use simplex_values::{Keep, Participant, Subject};
@@ -52,6 +52,8 @@ impl Scheme for Hidden {
     ghost me_is_below = { λ s. below_if_some s.inner.me s.inner.participants s.inner.below };
 
     ghost signs_as_me = { λ s. signs_as_member s.inner.key_base s.inner.me };
+
+    ghost signer_is_below = { λ s. signer_below s.inner.key_base s.inner.participants };
 
     fn me(&self) -> Option<Participant> {
         self.inner.me()

@@ -8,7 +8,7 @@ ghost use Rattle.simplex_values.specs.declared.proposal.Subject.{Subject};
 ghost use Rattle.simplex_wire.specs.declared.attestation.Attestation.{Attestation};
 ghost use Rattle.simplex_wire.specs.Certified.{assembled, IsAssembled, is_certified};
 ghost use Rattle.simplex_types.specs.Keyed.{keyed_attests, keyed_verifies, keys_of};
-ghost use Rattle.simplex_types.specs.KeyedLaws.{below_if_some, signs_as_member};
+ghost use Rattle.simplex_types.specs.KeyedLaws.{below_if_some, signer_below, signs_as_member};
 
 use crate::keys::{Keys, is_same};
 use simplex_values::{Keep, Participant, Subject, quorum};
@@ -71,6 +71,8 @@ impl Scheme for Keyed {
     ghost me_is_below = { λ s. below_if_some s.me s.participants s.below };
 
     ghost signs_as_me = { λ s. signs_as_member s.key_base s.me };
+
+    ghost signer_is_below = { λ s. signer_below s.key_base s.participants };
 
     fn me(&self) -> Option<Participant> {
         self.me

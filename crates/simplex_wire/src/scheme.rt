@@ -112,6 +112,9 @@ pub trait Scheme {
 
     // what is signed names the member that signs
     ghost signs_as_me: { (s : Self) (subject : Subject) → IfSome (attests s subject) (λ a. member s ≡ Some a.signer) };
+
+    // an attestation that verifies is a member's
+    ghost signer_is_below: { (s : Self) (subject : Subject) (a : Attestation) → verifies s subject a ≡ true → a.signer < members s };
 }
 
 /// Whether each signer is one of the `n` members and signed the subject.
