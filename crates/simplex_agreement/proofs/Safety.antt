@@ -8,7 +8,8 @@ use Rattle.simplex_values.specs.declared.proposal.Subject.{Subject}
 use Rattle.simplex_values.specs.declared.proposal.Subject.TheVariants.{Notarize, Nullify, Finalize}
 use Rattle.simplex_values.specs.declared.round.Round.{Round}
 use Rattle.simplex_agreement.specs.Terms.{Covers}
-use Rattle.simplex_agreement.specs.World.{World, Certificate, Sent, HasSent, IsBacked, Knows, KnowsFinalized, KnowsNullified, MayStand, MayFollow, IsHonest, IsLawful, AreRivals, IsSkipped, Conflict, view_of}
+use Rattle.simplex_agreement.specs.World.{World, Certificate, Sent, HasSent, IsBacked, Knows, KnowsFinalized, KnowsNullified, MayStand, MayFollow, IsHonest, IsLawful, view_of}
+use Rattle.simplex_agreement.specs.Conflict.{AreRivals, IsSkipped, Conflict}
 use Rattle.simplex_agreement.proofs.TermFacts.{Covers-front}
 use Rattle.simplex_agreement.proofs.Meeting.{Meets, quorums_meet}
 

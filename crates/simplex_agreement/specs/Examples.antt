@@ -5,7 +5,8 @@ use Rattle.simplex_values.specs.declared.proposal.Subject.{Subject}
 use Rattle.simplex_values.specs.declared.proposal.Subject.TheVariants.{Notarize, Nullify, Finalize}
 use Rattle.simplex_values.specs.declared.round.Round.{Round}
 use Rattle.simplex_values.specs.Quorum.{max_faulty}
-use Rattle.simplex_agreement.specs.World.{Certificate, Sent, World, IsBacked, MayStand, MayFollow, Conflict}
+use Rattle.simplex_agreement.specs.World.{Certificate, Sent, World, IsBacked, MayStand, MayFollow}
+use Rattle.simplex_agreement.specs.Conflict.{Conflict}
 
 -- the five properties of a member's votes, that what a member knows is backed, and that few are faulty
 pub data Property : Type 0 where

@@ -1,3 +1,4 @@
+pub mod Conflict
 pub mod Examples
 pub mod Quorums
 pub mod Terms

@@ -1,7 +1,8 @@
 //! No two certificates conflict.
 ghost use Rattle.std.specs.Prelude.{ℕ, ◌≡◌, List, All, Contains};
 ghost use Rattle.simplex_values.specs.declared.proposal.Subject.{Subject};
-ghost use Rattle.simplex_agreement.specs.World.{World, Certificate, HasSent, IsLawful, IsBacked, Conflict};
+ghost use Rattle.simplex_agreement.specs.World.{World, Certificate, HasSent, IsLawful, IsBacked};
+ghost use Rattle.simplex_agreement.specs.Conflict.{Conflict};
 
 /// In a lawful world no two backed certificates conflict.
 pub fn no_conflict()

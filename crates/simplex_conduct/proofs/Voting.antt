@@ -8,7 +8,8 @@ use Rattle.simplex_values.specs.declared.proposal.Proposal.{Proposal}
 use Rattle.simplex_values.specs.declared.proposal.Subject.{Subject}
 use Rattle.simplex_values.specs.declared.proposal.Subject.TheVariants as subjects
 use Rattle.simplex_values.specs.declared.round.Round.{Round}
-use Rattle.simplex_values.specs.Terms.{greatest_view, next_of, covers, term_index}
+use Rattle.simplex_values.specs.Terms.{greatest_view, next_of, term_index}
+use Rattle.simplex_values.specs.Covers.{covers}
 use Rattle.simplex_wire.specs.declared.vote.Vote.{Vote}
 use Rattle.simplex_wire.specs.declared.vote.Vote.TheVariants as votes
 use Rattle.simplex_wire.specs.declared.vote.Notarize.{Notarize}

@@ -1,7 +1,8 @@
 //! The votes of a member over all its lives.
 ghost use Rattle.std.specs.Prelude.{ℕ, ◌≡◌, ◌<◌, ◌≤◌, List, length, All, AllPairs, Contains};
 ghost use Rattle.simplex_values.specs.Quorum.{max_faulty};
-ghost use Rattle.simplex_agreement.specs.World.{Certificate, World, MayFollow, MayStand, IsBacked, IsHonest, IsLawful, Conflict};
+ghost use Rattle.simplex_agreement.specs.World.{Certificate, World, MayFollow, MayStand, IsBacked, IsHonest, IsLawful};
+ghost use Rattle.simplex_agreement.specs.Conflict.{Conflict};
 ghost use Rattle.simplex_lives.specs.Member.{Call, newborn, run, IsLegal, brought};
 
 /// Whatever calls come, the votes that a member sent over all its lives have the five properties.

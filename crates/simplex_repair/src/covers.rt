@@ -1,9 +1,10 @@
 //! The nullifications that cover views: of each term the one of the least view.
-#![tactic(auto, unfolding(crate::specs::Maps::found, crate::specs::Maps::reaching, simplex_values::specs::Terms::covers))]
+#![tactic(auto, unfolding(crate::specs::Maps::found, crate::specs::Maps::reaching, simplex_values::specs::Covers::covers))]
 
 ghost use Rattle.std.specs.Prelude.{◌≡◌, ℕ, ◌&&◌, nat_lt, true, Some, if◌then◌else◌, OnOk, IfOk};
 ghost use Rattle.std.specs.Option.{is_some, option_map_or};
-ghost use Rattle.simplex_values.specs.Terms.{term_index, covers};
+ghost use Rattle.simplex_values.specs.Terms.{term_index};
+ghost use Rattle.simplex_values.specs.Covers.{covers};
 ghost use Rattle.simplex_repair.specs.Maps.{found, reaching};
 
 use crate::maps::{copy_at, put};

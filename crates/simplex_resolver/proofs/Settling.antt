@@ -12,7 +12,8 @@ use Rattle.std.specs.Option.{option_map_or, is_none}
 use Rattle.simplex_values.specs.declared.ask.Ask.{Ask}
 use Rattle.simplex_values.specs.declared.ask.Kind.{Kind}
 use Rattle.simplex_values.specs.declared.ask.Kind.TheVariants as kinds
-use Rattle.simplex_values.specs.Terms.{covers, term_end, term_index}
+use Rattle.simplex_values.specs.Terms.{term_end, term_index}
+use Rattle.simplex_values.specs.Covers.{covers}
 use Rattle.simplex_wire.specs.declared.certificate.Finalization.{Finalization}
 use Rattle.simplex_wire.specs.declared.certificate.Nullification.{Nullification}
 use Rattle.simplex_wire.specs.declared.certificate.Certificate.TheVariants as certificates

@@ -12,7 +12,7 @@ use Rattle.simplex_values.specs.declared.ask.Outcome.TheVariants as outcomes
 use Rattle.simplex_values.specs.declared.ask.Resolution.TheVariants as resolutions
 use Rattle.simplex_values.specs.declared.feedback.Feedback.{Feedback}
 use Rattle.simplex_values.specs.declared.feedback.Feedback.TheVariants as feedback
-use Rattle.simplex_values.specs.Terms.{covers}
+use Rattle.simplex_values.specs.Covers.{covers}
 use Rattle.simplex_wire.specs.declared.attestation.Attestation.{Attestation}
 use Rattle.simplex_wire.specs.declared.error.DecodeError.{DecodeError}
 use Rattle.simplex_wire.specs.declared.certificate.Certificate.{Certificate}

@@ -1,7 +1,7 @@
 //! What follows from the definitions alone.
 ghost use Rattle.std.specs.Prelude.{◌≡◌, ◌∷◌, ℕ, true, false, List, Some};
 ghost use Rattle.std.specs.List.{All};
-ghost use Rattle.simplex_values.specs.Terms.{covers};
+ghost use Rattle.simplex_values.specs.Covers.{covers};
 ghost use Rattle.simplex_wire.specs.declared.certificate.Nullification.{Nullification};
 ghost use Rattle.simplex_wire.specs.declared.certificate.Certificate.TheVariants as certificates;
 ghost use Rattle.simplex_rules.specs.Repair.{RepairCall, is_gap, effects_of};

@@ -5,7 +5,7 @@ use Rattle.std.specs.Option.{option_or, option_map, is_some, is_none}
 use Rattle.simplex_values.specs.declared.proposal.Proposal.{Proposal}
 use Rattle.simplex_wire.specs.declared.certificate.Certificate.TheVariants as certificates
 use Rattle.simplex_rules.specs.Lists.{first_of, greatest_below}
-use Rattle.simplex_values.specs.Terms.{covers}
+use Rattle.simplex_values.specs.Covers.{covers}
 use Rattle.simplex_rules.specs.Known.{Made, Fact, FloorAt, Added, verdict_of, finalization_of, own_notarize, has_nullified}
 use Rattle.simplex_rules.specs.Views.{last_finalized}
 use Rattle.simplex_rules.specs.Slot.{slot_of}

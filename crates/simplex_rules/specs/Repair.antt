@@ -12,7 +12,8 @@ use Rattle.simplex_values.specs.declared.ask.Kind.TheVariants as kinds
 use Rattle.simplex_rules.specs.declared.effect.Effect.{Effect}
 use Rattle.simplex_rules.specs.declared.effect.Effect.TheVariants as effects
 use Rattle.simplex_rules.specs.Lists.{first_of, greatest_of}
-use Rattle.simplex_values.specs.Terms.{covers, next_of, term_start, term_end, next_term_start}
+use Rattle.simplex_values.specs.Terms.{next_of, term_start, term_end, next_term_start}
+use Rattle.simplex_values.specs.Covers.{covers}
 use Rattle.simplex_rules.specs.Known.{view_of}
 
 -- a call that changes a repair state. A history is a list of calls, the newest first

@@ -9,7 +9,8 @@ use Rattle.simplex_wire.specs.declared.vote.Nullify.{Nullify}
 use Rattle.simplex_wire.specs.declared.vote.Finalize.{Finalize}
 use Rattle.simplex_values.specs.declared.proposal.Subject.TheVariants as subjects
 use Rattle.simplex_wire.specs.declared.vote.Vote.TheVariants as votes
-use Rattle.simplex_values.specs.Terms.{next_term_start, covers}
+use Rattle.simplex_values.specs.Terms.{next_term_start}
+use Rattle.simplex_values.specs.Covers.{covers}
 use Rattle.simplex_values.specs.Proposal.{is_same_proposal}
 use Rattle.simplex_rules.specs.Known.{Made, Fact, Voted, view_of, notarization_of, finalization_of, own_notarize, has_nullified, has_finalized, was_answered, was_approved}
 use Rattle.simplex_rules.specs.Views.{last_finalized, current_of, is_ahead}

@@ -3,7 +3,8 @@ use Rattle.std.proofs.Common.{◌≡◌, ℕ, ◌<◌, ◌==◌, ◌&&◌, ◌�
 use Rattle.std.specs.Option.{option_map}
 use Rattle.std.proofs.lemmas.Grind.{common_steps}
 use Rattle.simplex_values.specs.declared.proposal.Proposal.{Proposal}
-use Rattle.simplex_values.specs.Terms.{greatest_view, next_of, covers, term_index}
+use Rattle.simplex_values.specs.Terms.{greatest_view, next_of, term_index}
+use Rattle.simplex_values.specs.Covers.{covers}
 use Rattle.simplex_wire.specs.declared.vote.Vote.TheVariants as votes
 use Rattle.simplex_wire.specs.declared.vote.Notarize.{Notarize}
 use Rattle.simplex_wire.specs.declared.vote.Nullify.{Nullify}

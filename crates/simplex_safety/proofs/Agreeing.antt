@@ -36,7 +36,8 @@ use Rattle.simplex_run.specs.Members.{is_node, members_of, floor_of, engine_of}
 use Rattle.simplex_run.specs.Requests.{request_number, packet_for}
 use Rattle.simplex_run.specs.Entries.{noted_with, noted_blank, took_of, is_at_end, was_reported, is_own_floor, on_start, on_packet, on_deliver, on_step, on_request, on_answer, on_crash, entry_of}
 use Rattle.simplex_agreement.specs.World as agreement
-use Rattle.simplex_agreement.specs.World.{Sent, World, IsBacked, IsHonest, IsLawful, Conflict}
+use Rattle.simplex_agreement.specs.World.{Sent, World, IsBacked, IsHonest, IsLawful}
+use Rattle.simplex_agreement.specs.Conflict.{Conflict}
 use Rattle.simplex_agreement.proofs.ListFacts.{not_in_empty, Contains-cons_cases}
 use Rattle.simplex_agreement.proofs.Safety.{no_conflict}
 use Rattle.simplex_lives.specs.Member.{newborn, run}

@@ -5,7 +5,8 @@ use Rattle.simplex_transcript.specs.declared.node.Node.{Node}
 use Rattle.simplex_transcript.specs.declared.setup.Setup.{Setup}
 use Rattle.simplex_run.specs.Life.{Noted}
 use Rattle.simplex_run.specs.Run as runs
-use Rattle.simplex_agreement.specs.World.{Certificate, Conflict}
+use Rattle.simplex_agreement.specs.World.{Certificate}
+use Rattle.simplex_agreement.specs.Conflict.{Conflict}
 use Rattle.simplex_safety.specs.Alone.{IsBackedByOne, standing}
 use Rattle.simplex_safety.specs.Histories.{AreStored}
 

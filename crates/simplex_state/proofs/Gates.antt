@@ -2,7 +2,8 @@
 use Rattle.std.proofs.Common.{◌≡◌, ℕ, ◌<◌, ◌≤◌, ◌&&◌, nat_lt, Bool, true, false, List, [], ◌∷◌, Some, refl, arith}
 use Rattle.std.proofs.lemmas.Grind.{common_steps}
 use Rattle.std.specs.List.{list_any}
-use Rattle.simplex_values.specs.Terms.{covers, term_index}
+use Rattle.simplex_values.specs.Terms.{term_index}
+use Rattle.simplex_values.specs.Covers.{covers}
 use Rattle.simplex_wire.specs.declared.vote.Finalize.{Finalize}
 use Rattle.simplex_wire.specs.declared.vote.Nullify.{Nullify}
 use Rattle.simplex_wire.specs.declared.vote.Vote.TheVariants as votes

@@ -1,3 +1,4 @@
+pub mod Covers
 pub mod Handoff
 pub mod Policy
 pub mod Proposal

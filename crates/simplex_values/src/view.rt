@@ -4,7 +4,8 @@
 //! A view that would pass the greatest u64 stops there.
 ghost use Rattle.std.specs.Prelude.{◌≡◌, ◌+◌, ◌-◌, IsTrue};
 ghost use Rattle.std.specs.Prelude.{◌<◌, IsNone, IfSome, ◌↔◌};
-ghost use Rattle.simplex_values.specs.Terms.{next_of, term_index, term_start, term_end, next_term_start, covers};
+ghost use Rattle.simplex_values.specs.Terms.{next_of, term_index, term_start, term_end, next_term_start};
+ghost use Rattle.simplex_values.specs.Covers.{covers};
 
 use crate::term::TermLength;
 use std::fmt;
@@ -114,7 +115,7 @@ impl View {
     }
 
     /// Whether the other view is of the same term, and not before this one.
-    #[tactic(auto, unfolding(crate::specs::Terms::covers))]
+    #[tactic(auto, unfolding(crate::specs::Covers::covers))]
     pub fn covers(self, other: View, length: TermLength) -> bool
         ensures { result ≡ covers length self other }
     {
