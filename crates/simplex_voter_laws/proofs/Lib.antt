@@ -1,0 +1,5 @@
+pub mod Quiet
+pub mod Tallies
+pub mod Ending
+pub mod Acting
+pub mod Stepping

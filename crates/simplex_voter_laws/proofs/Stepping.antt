@@ -1,0 +1,96 @@
+-- A whole step.
+use Rattle.std.proofs.Common.{◌≡◌, ℕ, List, [], ◌++◌, map, All, Option, Some, None, refl, sym, ap, ◌∙◌, subst, append-nil}
+use Rattle.std.specs.Option.{option_map, option_map_or, option_and_then}
+use Rattle.std.proofs.lemmas.List.Elements.{filter_map-append}
+use Rattle.simplex_wire.specs.declared.vote.Notarize.{Notarize}
+use Rattle.simplex_wire.specs.declared.vote.Finalize.{Finalize}
+use Rattle.simplex_wire.specs.declared.vote.Vote.{Vote}
+use Rattle.simplex_wire.specs.declared.vote.Vote.TheVariants as votes
+use Rattle.simplex_messages.specs.declared.voter.VoterInput.{VoterInput}
+use Rattle.simplex_rules.specs.Known.{Made, Voted}
+use Rattle.simplex_rules.specs.Views.{current_of}
+use Rattle.simplex_rules.specs.Votes.{notarize_at, finalize_at}
+use Rattle.simplex_steps.specs.Desk.{Doing}
+use Rattle.simplex_steps.specs.Voter.{Standing, acted, finished, stepped}
+use Rattle.simplex_voter_laws.specs.Sections.{touched_view, IsOfSection}
+use Rattle.simplex_voter_laws.specs.Votes.{vote_packets, packet_of, constructed_votes, votes_of, votes_on, nullifies, votes_at_end, votes_by_rule}
+use Rattle.simplex_voter_laws.specs.Learned.{lasting, facts_of_step, additions, added_at, publications, publication_of, publications_of}
+use Rattle.simplex_voter_laws.proofs.Tallies.{Tallied}
+use Rattle.simplex_voter_laws.proofs.Ending.{step_finishes}
+use Rattle.simplex_voter_laws.proofs.Acting.{some_is, step_acts}
+
+-- ---- which votes are publications
+
+no_notarize : (now : ℕ) (o : Option Notarize) → publications_of now (votes_of votes.Notarize o) ≡ []
+no_notarize now None = refl
+no_notarize now (Some n) = refl
+
+no_finalize : (now : ℕ) (o : Option Finalize) → publications_of now (votes_of votes.Finalize o) ≡ []
+no_finalize now None = refl
+no_finalize now (Some f) = refl
+
+both_none : (now : ℕ) (xs ys : List Vote) → publications_of now xs ≡ [] → publications_of now ys ≡ [] → publications_of now (xs ++ ys) ≡ []
+both_none now xs ys p q = filter_map-append (publication_of now) xs ys ∙ ap (λ facts. facts ++ publications_of now ys) p ∙ q
+
+no_nullify_at_end : (now : ℕ) (made : Made) (outcome : Doing × Option ℕ) → publications_of now (votes_at_end made outcome) ≡ []
+unfolding votes_on
+no_nullify_at_end now made (d, None) = refl
+no_nullify_at_end now made (d, Some view) =
+    let notarizes = votes_of votes.Notarize (notarize_at made d.desk.known view) in
+    both_none now notarizes (votes_of votes.Finalize (finalize_at made (map Voted notarizes ++ d.desk.known) view))
+    (no_notarize now (notarize_at made d.desk.known view)) (no_finalize now (finalize_at made (map Voted notarizes ++ d.desk.known) view))
+
+due_alone : (now : ℕ) (made : Made) (due : List Vote) (outcome : Doing × Option ℕ) → publications_of now (due ++ votes_at_end made outcome) ≡ publications_of now due
+due_alone now made due outcome =
+    filter_map-append (publication_of now) due (votes_at_end made outcome)
+    ∙ ap (λ facts. publications_of now due ++ facts) (no_nullify_at_end now made outcome)
+    ∙ append-nil (publications_of now due)
+
+-- ---- the laws
+
+pub record Tells (made : Made) (now : ℕ) (input : VoterInput) (s : Standing) (d : Doing) : Type 0 where
+  pub sections : All (IsOfSection (touched_view made now s input)) d.calls
+  pub written : lasting d.desk.known ≡ facts_of_step now d.calls ++ lasting s.desk.known
+  pub new : additions d.desk.known ≡ map (added_at now) d.added ++ additions s.desk.known
+  pub published : publications d.desk.known ≡ publications_of now (constructed_votes d.handed) ++ publications s.desk.known
+  pub packets : vote_packets d.calls ≡ map packet_of (votes_by_rule made now s input)
+  pub constructed : constructed_votes d.handed ≡ votes_by_rule made now s input
+
+touched_is : (made : Made) (now : ℕ) (s : Standing) (input : VoterInput) (outcome : Doing × Option ℕ) → acted made now s input ≡ Some outcome → touched_view made now s input ≡ outcome.1
+unfolding touched_view
+touched_is made now s input outcome e = ap (λ (o : Option (Doing × Option ℕ)). option_and_then (λ x. x.1) o) e
+
+votes_are : (made : Made) (now : ℕ) (s : Standing) (input : VoterInput) (outcome : Doing × Option ℕ) → acted made now s input ≡ Some outcome
+    → votes_by_rule made now s input ≡ nullifies made s.desk.known input ++ votes_at_end made outcome
+unfolding votes_by_rule
+votes_are made now s input outcome e =
+    ap (λ (o : Option (Doing × Option ℕ)). option_map_or (λ x. nullifies made s.desk.known input ++ votes_at_end made x) o []) e
+
+pub step_tells : (made : Made) (now : ℕ) (input : VoterInput) (s : Standing) (d : Doing) → stepped made now s input ≡ Some d → Tells made now input s d
+unfolding stepped
+step_tells made now input s d e = at (acted made now s input) refl e
+  where
+    one : (after : Doing) (o : Option ℕ) → acted made now s input ≡ Some (after, o) → finished made now (current_of made s.desk.known) (after, o) ≡ d → Tells made now input s d
+    one after o f same =
+        let known = s.desk.known in
+        let due = nullifies made known input in
+        let acts = step_acts now made s input (after, o) f in
+        let t : Tallied now known o due (due ++ votes_at_end made (after, o)) d =
+        subst (Tallied now known o due (due ++ votes_at_end made (after, o))) same
+        (step_finishes now known made (current_of made known) after o due acts.tally acts.waits acts.ends) in
+        let all = sym (votes_are made now s input (after, o) f) in
+        record {
+          sections = subst (λ touched. All (IsOfSection touched) d.calls) (sym (touched_is made now s input (after, o) f)) t.sections;
+          written = t.written;
+          new = t.new;
+          published = t.published ∙ ap (λ facts. facts ++ publications known) (sym (ap (publications_of now) t.constructed ∙ due_alone now made due (after, o)));
+          packets = t.packets ∙ ap (map packet_of) all;
+          constructed = t.constructed ∙ all;
+        }
+
+    at : (o : Option (Doing × Option ℕ)) → acted made now s input ≡ o → option_map (finished made now (current_of made s.desk.known)) o ≡ Some d → Tells made now input s d
+    at None f h = cc
+    at (Some outcome) f h = one outcome.0 outcome.1 f (some_is _ d h)
+
+pub step_sections : (made : Made) (now : ℕ) (input : VoterInput) (s : Standing) (d : Doing) → stepped made now s input ≡ Some d → All (IsOfSection (touched_view made now s input)) d.calls
+step_sections made now input s d e = let t = step_tells made now input s d e in t.sections

@@ -1,0 +1,133 @@
+-- What a step has done so far, read from its calls and its messages.
+use Rattle.std.proofs.Common.{◌≡◌, ℕ, false, cond, List, [], ◌∷◌, ◌++◌, map, filter_map, reverse, All, Option, Some, None, refl, sym, ap, ◌∙◌, append-nil}
+use Rattle.std.proofs.lemmas.List.{reverse-append, map-append}
+use Rattle.std.proofs.lemmas.List.Elements.{All-push, filter-append, filter_map-append}
+use Rattle.simplex_wire.specs.declared.vote.Vote.{Vote}
+use Rattle.simplex_wire.specs.declared.certificate.Certificate.{Certificate}
+use Rattle.simplex_wire.specs.declared.artifact.Artifact.{Artifact}
+use Rattle.simplex_wire.specs.Fields.{artifact_round}
+use Rattle.simplex_messages.specs.declared.call.Call.{Call}
+use Rattle.simplex_messages.specs.declared.call.Call.TheVariants as calls
+use Rattle.simplex_messages.specs.declared.handed.Handed.{Handed}
+use Rattle.simplex_messages.specs.declared.handed.Handed.TheVariants as handed
+use Rattle.simplex_messages.specs.declared.batcher.Message.TheVariants as batcher
+use Rattle.simplex_rules.specs.Known.{Fact}
+use Rattle.simplex_rules.specs.Pending.{Sought}
+use Rattle.simplex_steps.specs.Desk.{Doing, resolve_of}
+use Rattle.simplex_voter_laws.specs.Sections.{IsOfSection}
+use Rattle.simplex_voter_laws.specs.Votes.{is_vote_packet, vote_packets, packet_of, constructed_vote, constructed_votes}
+use Rattle.simplex_voter_laws.specs.Learned.{lasting, fact_of_record, appended_fact, facts_of_step, additions, added_at, publications, publications_of}
+use Rattle.simplex_voter_laws.proofs.Quiet.{Same}
+
+-- where these votes went out, and these are due to go out as a step has acted
+pub record Tally (now : ℕ) (before : List Fact) (touched : Option ℕ) (due sent : List Vote) (cs : List Call) (hs : List Handed) (added : List Certificate) (known : List Fact) : Type 0 where
+  pub sections : All (IsOfSection touched) cs
+  pub written : lasting known ≡ facts_of_step now cs ++ lasting before
+  pub new : additions known ≡ map (added_at now) added ++ additions before
+  pub published : publications known ≡ publications_of now due ++ publications before
+  pub packets : vote_packets cs ≡ map packet_of sent
+  pub constructed : constructed_votes hs ≡ sent
+
+abbrev pub Tallied : ℕ → List Fact → Option ℕ → List Vote → List Vote → Doing → Type 0
+Tallied now before touched due sent d = Tally now before touched due sent d.calls d.handed d.added d.desk.known
+
+-- ---- one more call, and one more message
+
+fact_last : (now : ℕ) (cs : List Call) (c : Call) → facts_of_step now (cs ++ c ∷ []) ≡ facts_of_step now (c ∷ []) ++ facts_of_step now cs
+fact_last now cs c =
+    ap reverse (filter_map-append (appended_fact now) cs (c ∷ []))
+    ∙ reverse-append (filter_map (appended_fact now) cs) (filter_map (appended_fact now) (c ∷ []))
+
+no_fact : (now : ℕ) (c : Call) → appended_fact now c ≡ None → facts_of_step now (c ∷ []) ≡ []
+no_fact now c e = cc
+
+packet_last : (cs : List Call) (c : Call) → vote_packets (cs ++ c ∷ []) ≡ vote_packets cs ++ vote_packets (c ∷ [])
+packet_last cs c = filter-append is_vote_packet cs (c ∷ [])
+
+no_packet : (c : Call) → is_vote_packet c ≡ false → vote_packets (c ∷ []) ≡ []
+no_packet c e = ap (λ b. cond b (c ∷ []) []) e
+
+message_last : (hs ms : List Handed) → constructed_votes (hs ++ ms) ≡ constructed_votes hs ++ constructed_votes ms
+message_last hs ms = filter_map-append constructed_vote hs ms
+
+-- ---- what is done next
+
+pub tally_known : (now : ℕ) (before : List Fact) (touched : Option ℕ) (due sent : List Vote) (cs : List Call) (hs : List Handed) (added : List Certificate) (known later : List Fact)
+    → Same known later → Tally now before touched due sent cs hs added known → Tally now before touched due sent cs hs added later
+tally_known now before touched due sent cs hs added known later same t =
+    record {
+      sections = t.sections;
+      written = same.lasts ∙ t.written;
+      new = same.adds ∙ t.new;
+      published = same.publishes ∙ t.published;
+      packets = t.packets;
+      constructed = t.constructed;
+    }
+
+-- a call that appends nothing and sends no vote; a sync is one
+abbrev pub IsPlain : ℕ → Option ℕ → Call → Type 0
+IsPlain now touched c = IsOfSection touched c × (appended_fact now c ≡ None) × (is_vote_packet c ≡ false)
+
+pub tally_plain : (now : ℕ) (before : List Fact) (touched : Option ℕ) (due sent : List Vote) (cs : List Call) (hs : List Handed) (added : List Certificate) (known : List Fact) (c : Call)
+    → IsPlain now touched c → Tally now before touched due sent cs hs added known → Tally now before touched due sent (cs ++ c ∷ []) hs added known
+tally_plain now before touched due sent cs hs added known c plain t =
+    record {
+      sections = All-push (IsOfSection touched) cs c t.sections plain.0;
+      written = t.written ∙ ap (λ facts. facts ++ lasting before) (sym (fact_last now cs c ∙ ap (λ facts. facts ++ facts_of_step now cs) (no_fact now c plain.1)));
+      new = t.new;
+      published = t.published;
+      packets = packet_last cs c ∙ ap (λ ps. vote_packets cs ++ ps) (no_packet c plain.2) ∙ append-nil (vote_packets cs) ∙ t.packets;
+      constructed = t.constructed;
+    }
+
+-- a record of the touched view is appended, and the fact that it tells is known
+pub record Notes (now : ℕ) (known later : List Fact) (artifact : Artifact) : Type 0 where
+  pub lasts : lasting later ≡ fact_of_record now artifact ∷ lasting known
+  pub adds : additions later ≡ additions known
+  pub publishes : publications later ≡ publications known
+
+pub tally_note : (now : ℕ) (before : List Fact) (touched : Option ℕ) (due sent : List Vote) (cs : List Call) (hs : List Handed) (added : List Certificate) (known later : List Fact) (artifact : Artifact)
+    → touched ≡ Some (artifact_round artifact).view → Notes now known later artifact → Tally now before touched due sent cs hs added known
+    → Tally now before touched due sent (cs ++ calls.Append (artifact_round artifact).view artifact ∷ []) hs added later
+tally_note now before touched due sent cs hs added known later artifact here noted t =
+    let c = calls.Append (artifact_round artifact).view artifact in
+    record {
+      sections = All-push (IsOfSection touched) cs c t.sections (here, refl);
+      written = noted.lasts ∙ ap (λ facts. fact_of_record now artifact ∷ facts) t.written ∙ ap (λ facts. facts ++ lasting before) (sym (fact_last now cs c));
+      new = noted.adds ∙ t.new;
+      published = noted.publishes ∙ t.published;
+      packets = packet_last cs c ∙ append-nil (vote_packets cs) ∙ t.packets;
+      constructed = t.constructed;
+    }
+
+-- messages with no own vote are handed on
+pub tally_hands : (now : ℕ) (before : List Fact) (touched : Option ℕ) (due sent : List Vote) (cs : List Call) (hs ms : List Handed) (added : List Certificate) (known : List Fact)
+    → constructed_votes ms ≡ [] → Tally now before touched due sent cs hs added known → Tally now before touched due sent cs (hs ++ ms) added known
+tally_hands now before touched due sent cs hs ms added known silent t =
+    record {
+      sections = t.sections;
+      written = t.written;
+      new = t.new;
+      published = t.published;
+      packets = t.packets;
+      constructed = message_last hs ms ∙ ap (λ vs. constructed_votes hs ++ vs) silent ∙ append-nil (constructed_votes hs) ∙ t.constructed;
+    }
+
+pub sought_silent : (sought : List Sought) → constructed_votes (map (λ s. handed.Resolver (resolve_of s)) sought) ≡ []
+sought_silent [] = refl
+sought_silent (s ∷ rest) = sought_silent rest
+
+-- a vote goes out
+pub tally_send : (now : ℕ) (before : List Fact) (touched : Option ℕ) (due sent : List Vote) (cs : List Call) (hs : List Handed) (added : List Certificate) (known : List Fact) (v : Vote)
+    → Tally now before touched due sent cs hs added known
+    → Tally now before touched due (sent ++ v ∷ []) (cs ++ packet_of v ∷ []) (hs ++ handed.Batcher (batcher.Constructed v) ∷ []) added known
+tally_send now before touched due sent cs hs added known v t =
+    let c = packet_of v in
+    record {
+      sections = All-push (IsOfSection touched) cs c t.sections tt;
+      written = t.written ∙ ap (λ facts. facts ++ lasting before) (sym (fact_last now cs c));
+      new = t.new;
+      published = t.published;
+      packets = packet_last cs c ∙ ap (λ ps. ps ++ c ∷ []) t.packets ∙ sym (map-append packet_of sent (v ∷ []));
+      constructed = message_last hs (handed.Batcher (batcher.Constructed v) ∷ []) ∙ ap (λ vs. vs ++ v ∷ []) t.constructed;
+    }

@@ -1,0 +1,13 @@
+//! What a step of a voter does can be read from what it gives.
+//!
+//! Each law is the contract of a function below, and is about the definition of a voter's step alone. No code is
+//! named here; an actor that makes such steps has these laws.
+#![tactic(auto)]
+
+mod knowledge;
+mod sections;
+mod votes;
+
+pub use knowledge::{certificates_are_handed_on, knowledge_is_written, publications_are_handed_on};
+pub use sections::steps_write_to_one_section;
+pub use votes::{own_votes_are_by_rule, sent_votes_are_by_rule};
