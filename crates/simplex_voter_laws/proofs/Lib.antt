@@ -3,3 +3,5 @@ pub mod Tallies
 pub mod Ending
 pub mod Acting
 pub mod Stepping
+pub mod Going
+pub mod Wholly

@@ -55,6 +55,8 @@ pub record Tells (made : Made) (now : ℕ) (input : VoterInput) (s : Standing) (
   pub published : publications d.desk.known ≡ publications_of now (constructed_votes d.handed) ++ publications s.desk.known
   pub packets : vote_packets d.calls ≡ map packet_of (votes_by_rule made now s input)
   pub constructed : constructed_votes d.handed ≡ votes_by_rule made now s input
+  pub outcome : Doing × Option ℕ
+  pub votes : votes_by_rule made now s input ≡ nullifies made s.desk.known input ++ votes_at_end made outcome
 
 touched_is : (made : Made) (now : ℕ) (s : Standing) (input : VoterInput) (outcome : Doing × Option ℕ) → acted made now s input ≡ Some outcome → touched_view made now s input ≡ outcome.1
 unfolding touched_view
@@ -78,7 +80,8 @@ step_tells made now input s d e = at (acted made now s input) refl e
         let t : Tallied now known o due (due ++ votes_at_end made (after, o)) d =
         subst (Tallied now known o due (due ++ votes_at_end made (after, o))) same
         (step_finishes now known made (current_of made known) after o due acts.tally acts.waits acts.ends) in
-        let all = sym (votes_are made now s input (after, o) f) in
+        let ruled = votes_are made now s input (after, o) f in
+        let all = sym ruled in
         record {
           sections = subst (λ touched. All (IsOfSection touched) d.calls) (sym (touched_is made now s input (after, o) f)) t.sections;
           written = t.written;
@@ -86,11 +89,10 @@ step_tells made now input s d e = at (acted made now s input) refl e
           published = t.published ∙ ap (λ facts. facts ++ publications known) (sym (ap (publications_of now) t.constructed ∙ due_alone now made due (after, o)));
           packets = t.packets ∙ ap (map packet_of) all;
           constructed = t.constructed ∙ all;
+          outcome = (after, o);
+          votes = ruled;
         }
 
     at : (o : Option (Doing × Option ℕ)) → acted made now s input ≡ o → option_map (finished made now (current_of made s.desk.known)) o ≡ Some d → Tells made now input s d
     at None f h = cc
     at (Some outcome) f h = one outcome.0 outcome.1 f (some_is _ d h)
-
-pub step_sections : (made : Made) (now : ℕ) (input : VoterInput) (s : Standing) (d : Doing) → stepped made now s input ≡ Some d → All (IsOfSection (touched_view made now s input)) d.calls
-step_sections made now input s d e = let t = step_tells made now input s d e in t.sections

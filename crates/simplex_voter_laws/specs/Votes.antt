@@ -41,6 +41,10 @@ constructed_vote _ = None
 abbrev pub constructed_votes : List Handed → List Vote
 constructed_votes messages = filter_map constructed_vote messages
 
+abbrev pub is_nullify : Vote → Bool
+is_nullify (votes.Nullify v) = true
+is_nullify _ = false
+
 -- ---- what the rules give
 
 -- a vote of this kind, where the rule gives one

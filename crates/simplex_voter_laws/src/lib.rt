@@ -5,9 +5,14 @@
 #![tactic(auto)]
 
 mod knowledge;
+mod performed;
 mod sections;
 mod votes;
 
 pub use knowledge::{certificates_are_handed_on, knowledge_is_written, publications_are_handed_on};
+pub use performed::done_steps_give_all;
 pub use sections::steps_write_to_one_section;
-pub use votes::{own_votes_are_by_rule, sent_votes_are_by_rule};
+pub use votes::{
+    nullifies_are_of_timer_steps, one_nullify_at_most, own_votes_are_by_rule,
+    sent_votes_are_by_rule,
+};
