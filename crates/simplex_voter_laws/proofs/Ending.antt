@@ -32,8 +32,9 @@ use Rattle.simplex_steps.specs.Desk.{Doing, tell, make, hand, append, seek, send
 use Rattle.simplex_steps.specs.Voter.{vote_notarize, vote_finalize, open_requests, sync, publish_verdict, publish_nullify, publish_notarization, publish_nullification, publish_finalization, with_certificate, update_message, update_batcher, end_of_step, prune_at, prune, begin_iteration, finished}
 use Rattle.simplex_voter_laws.specs.Votes.{votes_of, votes_on, votes_at_end}
 use Rattle.simplex_voter_laws.specs.Learned.{lasting, additions, publications}
+use Rattle.simplex_voter_laws.specs.Tidings.{of_proposals}
 use Rattle.simplex_voter_laws.proofs.Quiet.{IsQuiet, told_quiet, reconciled_same, iterated_same}
-use Rattle.simplex_voter_laws.proofs.Tallies.{Tally, Tallied, tally_known, tally_plain, tally_note, tally_hands, tally_send, sought_silent}
+use Rattle.simplex_voter_laws.proofs.Tallies.{Due, Tally, Tallied, tally_known, tally_plain, tally_note, tally_hands, tally_send, sought_silent}
 
 -- the nullify that waits to go out
 abbrev pub nullify_waiting : Option (Nullify × Option Certificate) → List Vote
@@ -58,7 +59,7 @@ notarize_view made known view n e = slot_view known view n.proposal (notarize_pa
 finalize_view : (made : Made) (known : List Fact) (view : ℕ) (f : Finalize) → finalize_at made known view ≡ Some f → view_of f.proposal ≡ view
 finalize_view made known view f e = slot_view known view f.proposal (finalize_parts made known view f e).0
 
-notarize_written : (now : ℕ) (before : List Fact) (made : Made) (view : ℕ) (due sent : List Vote) (d : Doing) → Tallied now before (Some view) due sent d
+notarize_written : (now : ℕ) (before : List Fact) (made : Made) (view : ℕ) (due : Due) (sent : List Vote) (d : Doing) → Tallied now before (Some view) due sent d
     → Tallied now before (Some view) due sent (vote_notarize made view d)
 unfolding vote_notarize
 notarize_written now before made view due sent d t = at (notarize_at made d.desk.known view) refl
@@ -71,9 +72,9 @@ notarize_written now before made view due sent d t = at (notarize_at made d.desk
         let same = ap (λ facts. facts ++ d.desk.known) (notarizing_facts made d.desk.known view (Some n) e) in
         tally_note now before (Some view) due sent d.calls d.handed d.added d.desk.known (tell made (state.ConstructNotarize view) d).desk.known (artifacts.Notarize n)
         (ap (λ v. Some v) (sym (notarize_view made d.desk.known view n e)))
-        (record { lasts = ap lasting same; adds = ap additions same; publishes = ap publications same }) t
+        (record { lasts = ap lasting same; adds = ap additions same; publishes = ap publications same; learns = ap of_proposals same }) t
 
-finalize_written : (now : ℕ) (before : List Fact) (made : Made) (view : ℕ) (due sent : List Vote) (d : Doing) → Tallied now before (Some view) due sent d
+finalize_written : (now : ℕ) (before : List Fact) (made : Made) (view : ℕ) (due : Due) (sent : List Vote) (d : Doing) → Tallied now before (Some view) due sent d
     → Tallied now before (Some view) due sent (vote_finalize made view d)
 unfolding vote_finalize
 finalize_written now before made view due sent d t = at (finalize_at made d.desk.known view) refl
@@ -86,7 +87,7 @@ finalize_written now before made view due sent d t = at (finalize_at made d.desk
         let same = ap (λ facts. facts ++ d.desk.known) (finalizing_facts made d.desk.known view (Some f) e) in
         tally_note now before (Some view) due sent d.calls d.handed d.added d.desk.known (tell made (state.ConstructFinalize view) d).desk.known (artifacts.Finalize f)
         (ap (λ v. Some v) (sym (finalize_view made d.desk.known view f e)))
-        (record { lasts = ap lasting same; adds = ap additions same; publishes = ap publications same }) t
+        (record { lasts = ap lasting same; adds = ap additions same; publishes = ap publications same; learns = ap of_proposals same }) t
 
 -- the notarize counts at once
 notarize_counts : (made : Made) (view : ℕ) (d : Doing)
@@ -118,10 +119,10 @@ finalize_keeps made view d = at (finalize_at made d.desk.known view)
 
 -- ---- the requests, and the sync
 
-sought_out : (now : ℕ) (before : List Fact) (touched : Option ℕ) (due sent : List Vote) (d : Doing) → Tallied now before touched due sent d → Tallied now before touched due sent (seek d)
+sought_out : (now : ℕ) (before : List Fact) (touched : Option ℕ) (due : Due) (sent : List Vote) (d : Doing) → Tallied now before touched due sent d → Tallied now before touched due sent (seek d)
 sought_out now before touched due sent d t = tally_hands now before touched due sent d.calls d.handed _ d.added d.desk.known (sought_silent d.desk.sought) t
 
-requests_open : (now : ℕ) (before : List Fact) (touched : Option ℕ) (due sent : List Vote) (made : Made) (d : Doing) → Tallied now before touched due sent d
+requests_open : (now : ℕ) (before : List Fact) (touched : Option ℕ) (due : Due) (sent : List Vote) (made : Made) (d : Doing) → Tallied now before touched due sent d
     → Tallied now before touched due sent (open_requests made now d)
 unfolding open_requests
 requests_open now before touched due sent made d t =
@@ -132,7 +133,7 @@ requests_keep : (made : Made) (now : ℕ) (d : Doing) → (open_requests made no
 unfolding open_requests
 requests_keep made now d = refl
 
-synced : (now : ℕ) (before : List Fact) (view : ℕ) (due sent : List Vote) (d : Doing) → Tallied now before (Some view) due sent d → Tallied now before (Some view) due sent (sync view d)
+synced : (now : ℕ) (before : List Fact) (view : ℕ) (due : Due) (sent : List Vote) (d : Doing) → Tallied now before (Some view) due sent d → Tallied now before (Some view) due sent (sync view d)
 synced now before view due sent d t = at d.wrote
   where
     at : (b : Bool) → Tallied now before (Some view) due sent (if b then make (calls.Sync view) d else d)
@@ -148,7 +149,7 @@ sync_keeps view d = at d.wrote
 
 -- ---- what is published
 
-verdict_out : (now : ℕ) (before : List Fact) (touched : Option ℕ) (due sent : List Vote) (d : Doing) → Tallied now before touched due sent d → Tallied now before touched due sent (publish_verdict d)
+verdict_out : (now : ℕ) (before : List Fact) (touched : Option ℕ) (due : Due) (sent : List Vote) (d : Doing) → Tallied now before touched due sent d → Tallied now before touched due sent (publish_verdict d)
 unfolding publish_verdict
 verdict_out now before touched due sent d t = at d.verdict
   where
@@ -180,21 +181,21 @@ verdict_keeps d = at d.verdict
     at None = refl
     at (Some v) = one v.0 v.1 v.1
 
-certificate_out : (now : ℕ) (before : List Fact) (touched : Option ℕ) (due sent : List Vote) (d : Doing) (c : Certificate) → Tallied now before touched due sent d → Tallied now before touched due sent (send_certificate c d)
+certificate_out : (now : ℕ) (before : List Fact) (touched : Option ℕ) (due : Due) (sent : List Vote) (d : Doing) (c : Certificate) → Tallied now before touched due sent d → Tallied now before touched due sent (send_certificate c d)
 certificate_out now before touched due sent d c t =
     tally_plain now before touched due sent d.calls d.handed d.added d.desk.known (calls.Send channels.Certificate recipients.All (format.certificate.spelling c)) (tt, refl, refl) t
 
-certificate_along : (now : ℕ) (before : List Fact) (touched : Option ℕ) (due sent : List Vote) (d : Doing) (o : Option Certificate) → Tallied now before touched due sent d → Tallied now before touched due sent (with_certificate o d)
+certificate_along : (now : ℕ) (before : List Fact) (touched : Option ℕ) (due : Due) (sent : List Vote) (d : Doing) (o : Option Certificate) → Tallied now before touched due sent d → Tallied now before touched due sent (with_certificate o d)
 certificate_along now before touched due sent d None t = t
 certificate_along now before touched due sent d (Some c) t = certificate_out now before touched due sent d c t
 
-vote_out : (now : ℕ) (before : List Fact) (touched : Option ℕ) (due sent : List Vote) (d : Doing) (v : Vote) → Tallied now before touched due sent d → Tallied now before touched due (sent ++ v ∷ []) (send_vote v d)
+vote_out : (now : ℕ) (before : List Fact) (touched : Option ℕ) (due : Due) (sent : List Vote) (d : Doing) (v : Vote) → Tallied now before touched due sent d → Tallied now before touched due (sent ++ v ∷ []) (send_vote v d)
 vote_out now before touched due sent d v t = tally_send now before touched due sent d.calls d.handed d.added d.desk.known v t
 
-nothing_out : (now : ℕ) (before : List Fact) (touched : Option ℕ) (due sent : List Vote) (d : Doing) → Tallied now before touched due sent d → Tallied now before touched due (sent ++ []) d
+nothing_out : (now : ℕ) (before : List Fact) (touched : Option ℕ) (due : Due) (sent : List Vote) (d : Doing) → Tallied now before touched due sent d → Tallied now before touched due (sent ++ []) d
 nothing_out now before touched due sent d t = subst (λ vs. Tallied now before touched due vs d) (sym (append-nil sent)) t
 
-nullify_out : (now : ℕ) (before : List Fact) (touched : Option ℕ) (due sent : List Vote) (d : Doing) → Tallied now before touched due sent d
+nullify_out : (now : ℕ) (before : List Fact) (touched : Option ℕ) (due : Due) (sent : List Vote) (d : Doing) → Tallied now before touched due sent d
     → Tallied now before touched due (sent ++ nullify_waiting d.nullify) (publish_nullify d)
 unfolding publish_nullify
 nullify_out now before touched due sent d t = at d.nullify
@@ -205,28 +206,28 @@ nullify_out now before touched due sent d t = at d.nullify
     at (Some n) =
         certificate_along now before touched due (sent ++ votes.Nullify n.0 ∷ []) (send_vote (votes.Nullify n.0) d) n.1 (vote_out now before touched due sent d (votes.Nullify n.0) t)
 
-notarize_out : (now : ℕ) (before : List Fact) (touched : Option ℕ) (due sent : List Vote) (d : Doing) (o : Option Notarize) → Tallied now before touched due sent d
+notarize_out : (now : ℕ) (before : List Fact) (touched : Option ℕ) (due : Due) (sent : List Vote) (d : Doing) (o : Option Notarize) → Tallied now before touched due sent d
     → Tallied now before touched due (sent ++ votes_of votes.Notarize o) (option_map_or (λ n. send_vote (votes.Notarize n) d) o d)
 notarize_out now before touched due sent d None t = nothing_out now before touched due sent d t
 notarize_out now before touched due sent d (Some n) t = vote_out now before touched due sent d (votes.Notarize n) t
 
-finalize_out : (now : ℕ) (before : List Fact) (touched : Option ℕ) (due sent : List Vote) (d : Doing) (o : Option Finalize) → Tallied now before touched due sent d
+finalize_out : (now : ℕ) (before : List Fact) (touched : Option ℕ) (due : Due) (sent : List Vote) (d : Doing) (o : Option Finalize) → Tallied now before touched due sent d
     → Tallied now before touched due (sent ++ votes_of votes.Finalize o) (option_map_or (λ f. send_vote (votes.Finalize f) d) o d)
 finalize_out now before touched due sent d None t = nothing_out now before touched due sent d t
 finalize_out now before touched due sent d (Some f) t = vote_out now before touched due sent d (votes.Finalize f) t
 
-pub told_quietly : (now : ℕ) (before : List Fact) (touched : Option ℕ) (due sent : List Vote) (made : Made) (d : Doing) (call : state.Call) → IsQuiet call → Tallied now before touched due sent d
+pub told_quietly : (now : ℕ) (before : List Fact) (touched : Option ℕ) (due : Due) (sent : List Vote) (made : Made) (d : Doing) (call : state.Call) → IsQuiet call → Tallied now before touched due sent d
     → Tallied now before touched due sent (tell made call d)
 told_quietly now before touched due sent made d call q t =
     tally_known now before touched due sent d.calls d.handed d.added d.desk.known (facts_of made d.desk.known call ++ d.desk.known) (told_quiet made d.desk.known call q) t
 
 -- a certificate is sent and reported
-both_out : (now : ℕ) (before : List Fact) (touched : Option ℕ) (due sent : List Vote) (d : Doing) (c : Certificate) (a : Activity) → Tallied now before touched due sent d
+both_out : (now : ℕ) (before : List Fact) (touched : Option ℕ) (due : Due) (sent : List Vote) (d : Doing) (c : Certificate) (a : Activity) → Tallied now before touched due sent d
     → Tallied now before touched due sent (report a (send_certificate c d))
 both_out now before touched due sent d c a t =
     tally_plain now before touched due sent (send_certificate c d).calls d.handed d.added d.desk.known (calls.Report a) (tt, refl, refl) (certificate_out now before touched due sent d c t)
 
-notarization_out : (now : ℕ) (before : List Fact) (touched : Option ℕ) (due sent : List Vote) (made : Made) (view : ℕ) (d : Doing) → Tallied now before touched due sent d
+notarization_out : (now : ℕ) (before : List Fact) (touched : Option ℕ) (due : Due) (sent : List Vote) (made : Made) (view : ℕ) (d : Doing) → Tallied now before touched due sent d
     → Tallied now before touched due sent (publish_notarization made view d)
 unfolding publish_notarization
 notarization_out now before touched due sent made view d t = at (unsent_notarization d.desk.known view)
@@ -238,7 +239,7 @@ notarization_out now before touched due sent made view d t = at (unsent_notariza
     at None = told
     at (Some n) = both_out now before touched due sent (tell made (state.BroadcastNotarization view) d) _ _ told
 
-nullification_out : (now : ℕ) (before : List Fact) (touched : Option ℕ) (due sent : List Vote) (made : Made) (view : ℕ) (d : Doing) → Tallied now before touched due sent d
+nullification_out : (now : ℕ) (before : List Fact) (touched : Option ℕ) (due : Due) (sent : List Vote) (made : Made) (view : ℕ) (d : Doing) → Tallied now before touched due sent d
     → Tallied now before touched due sent (publish_nullification made view d)
 unfolding publish_nullification
 nullification_out now before touched due sent made view d t = at (unsent_nullification d.desk.known view)
@@ -250,7 +251,7 @@ nullification_out now before touched due sent made view d t = at (unsent_nullifi
     at None = told
     at (Some n) = both_out now before touched due sent (tell made (state.BroadcastNullification view) d) _ _ told
 
-finalization_out : (now : ℕ) (before : List Fact) (touched : Option ℕ) (due sent : List Vote) (made : Made) (view : ℕ) (d : Doing) → Tallied now before touched due sent d
+finalization_out : (now : ℕ) (before : List Fact) (touched : Option ℕ) (due : Due) (sent : List Vote) (made : Made) (view : ℕ) (d : Doing) → Tallied now before touched due sent d
     → Tallied now before touched due sent (publish_finalization made view d)
 unfolding publish_finalization
 finalization_out now before touched due sent made view d t = at (unsent_finalization d.desk.known view)
@@ -262,7 +263,7 @@ finalization_out now before touched due sent made view d t = at (unsent_finaliza
     at None = told
     at (Some n) = both_out now before touched due sent (tell made (state.BroadcastFinalization view) d) _ _ told
 
-update_out : (now : ℕ) (before : List Fact) (touched : Option ℕ) (due sent : List Vote) (made : Made) (first : ℕ) (d : Doing) → Tallied now before touched due sent d
+update_out : (now : ℕ) (before : List Fact) (touched : Option ℕ) (due : Due) (sent : List Vote) (made : Made) (first : ℕ) (d : Doing) → Tallied now before touched due sent d
     → Tallied now before touched due sent (update_batcher made first d)
 unfolding update_batcher
 update_out now before touched due sent made first d t = at (nat_lt first (current_of made d.desk.known))
@@ -273,8 +274,8 @@ update_out now before touched due sent made first d t = at (nat_lt first (curren
 
 -- ---- the end of a step
 
-pub step_ends : (now : ℕ) (before : List Fact) (made : Made) (first view : ℕ) (d : Doing) (due : List Vote) → Tallied now before (Some view) due [] d → nullify_waiting d.nullify ≡ due
-    → Tallied now before (Some view) due (due ++ votes_on made d.desk.known view) (end_of_step made now first view d)
+pub step_ends : (now : ℕ) (before : List Fact) (made : Made) (first view : ℕ) (d : Doing) (due : Due) → Tallied now before (Some view) due [] d → nullify_waiting d.nullify ≡ due.votes
+    → Tallied now before (Some view) due (due.votes ++ votes_on made d.desk.known view) (end_of_step made now first view d)
 unfolding end_of_step votes_on
 step_ends now before made first view d due t waits =
     let touched = Some view in
@@ -293,7 +294,7 @@ step_ends now before made first view d due t waits =
     (requests_open now before touched due [] made finalized
     (finalize_written now before made view due [] voted (notarize_written now before made view due [] d t)))) in
     let out1 = publish_nullify judged in
-    let nullified : Tallied now before touched due due out1 =
+    let nullified : Tallied now before touched due due.votes out1 =
     subst (λ vs. Tallied now before touched due vs out1) (ap nullify_waiting kept ∙ waits) (nullify_out now before touched due [] judged stored) in
     let out2 = option_map_or (λ n. send_vote (votes.Notarize n) out1) notarize out1 in
     let out3 = publish_notarization made view out2 in
@@ -301,20 +302,20 @@ step_ends now before made first view d due t waits =
     let out5 = option_map_or (λ f. send_vote (votes.Finalize f) out4) finalize out4 in
     let out6 = publish_finalization made view out5 in
     let notarizes = votes_of votes.Notarize notarize in
-    let some = due ++ notarizes in
+    let some = due.votes ++ notarizes in
     let all = some ++ votes_of votes.Finalize finalize in
     let given_up : Tallied now before touched due some out4 =
     nullification_out now before touched due some made view out3
-    (notarization_out now before touched due some made view out2 (notarize_out now before touched due due out1 notarize nullified)) in
+    (notarization_out now before touched due some made view out2 (notarize_out now before touched due due.votes out1 notarize nullified)) in
     subst (λ vs. Tallied now before touched due vs (update_batcher made first out6))
-    (append_assoc due notarizes (votes_of votes.Finalize finalize)
-    ∙ ap (λ known. due ++ (notarizes ++ votes_of votes.Finalize (finalize_at made known view))) (notarize_counts made view d))
+    (append_assoc due.votes notarizes (votes_of votes.Finalize finalize)
+    ∙ ap (λ known. due.votes ++ (notarizes ++ votes_of votes.Finalize (finalize_at made known view))) (notarize_counts made view d))
     (update_out now before touched due all made first out6
     (finalization_out now before touched due all made view out5 (finalize_out now before touched due some out4 finalize given_up)))
 
 -- ---- the start of the next iteration
 
-iteration_begins : (now : ℕ) (before : List Fact) (touched : Option ℕ) (due sent : List Vote) (made : Made) (d : Doing) → Tallied now before touched due sent d
+iteration_begins : (now : ℕ) (before : List Fact) (touched : Option ℕ) (due : Due) (sent : List Vote) (made : Made) (d : Doing) → Tallied now before touched due sent d
     → Tallied now before touched due sent (begin_iteration made now d)
 unfolding begin_iteration prune
 iteration_begins now before touched due sent made d t =
@@ -332,10 +333,10 @@ iteration_begins now before touched due sent made d t =
         tally_plain now before touched due sent b.calls b.handed b.added (tell made state.Prune b).desk.known (calls.Prune least) (tt, refl, refl)
         (told_quietly now before touched due sent made b state.Prune tt ready)
 
-pub step_finishes : (now : ℕ) (before : List Fact) (made : Made) (first : ℕ) (d : Doing) (o : Option ℕ) (due : List Vote) → Tallied now before o due [] d → nullify_waiting d.nullify ≡ due → (o ≡ None → due ≡ [])
-    → Tallied now before o due (due ++ votes_at_end made (d, o)) (finished made now first (d, o))
+pub step_finishes : (now : ℕ) (before : List Fact) (made : Made) (first : ℕ) (d : Doing) (o : Option ℕ) (due : Due) → Tallied now before o due [] d → nullify_waiting d.nullify ≡ due.votes → (o ≡ None → due.votes ≡ [])
+    → Tallied now before o due (due.votes ++ votes_at_end made (d, o)) (finished made now first (d, o))
 unfolding finished
 step_finishes now before made first d None due t waits ends =
-    iteration_begins now before None due (due ++ []) made d (subst (λ vs. Tallied now before None due (vs ++ []) d) (sym (ends refl)) t)
+    iteration_begins now before None due (due.votes ++ []) made d (subst (λ vs. Tallied now before None due (vs ++ []) d) (sym (ends refl)) t)
 step_finishes now before made first d (Some view) due t waits ends =
-    iteration_begins now before (Some view) due (due ++ votes_on made d.desk.known view) made (end_of_step made now first view d) (step_ends now before made first view d due t waits)
+    iteration_begins now before (Some view) due (due.votes ++ votes_on made d.desk.known view) made (end_of_step made now first view d) (step_ends now before made first view d due t waits)

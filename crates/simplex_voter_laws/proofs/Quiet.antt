@@ -18,30 +18,32 @@ use Rattle.simplex_rules.specs.Pending.{Desk, Pending, Opened, told, is_open, is
 use Rattle.simplex_rules.specs.Ancestry.{is_certified}
 use Rattle.simplex_rules.specs.Views.{current_of}
 use Rattle.simplex_voter_laws.specs.Learned.{is_lasting, lasting, is_addition, additions, is_publication, publications}
+use Rattle.simplex_voter_laws.specs.Tidings.{is_of_proposal, of_proposals}
 
--- ---- what is known later, with the same certificates, verdicts, own votes and publications
+-- ---- what is known later, with the same certificates, verdicts, own votes, publications and proposals
 
 pub record Same (before after : List Fact) : Type 0 where
   pub lasts : lasting after ≡ lasting before
   pub adds : additions after ≡ additions before
   pub publishes : publications after ≡ publications before
+  pub learns : of_proposals after ≡ of_proposals before
 
 pub same_itself : (known : List Fact) → Same known known
-same_itself known = record { lasts = refl; adds = refl; publishes = refl }
+same_itself known = record { lasts = refl; adds = refl; publishes = refl; learns = refl }
 
 pub same_then : (a b c : List Fact) → Same a b → Same b c → Same a c
-same_then a b c p q = record { lasts = q.lasts ∙ p.lasts; adds = q.adds ∙ p.adds; publishes = q.publishes ∙ p.publishes }
+same_then a b c p q = record { lasts = q.lasts ∙ p.lasts; adds = q.adds ∙ p.adds; publishes = q.publishes ∙ p.publishes; learns = q.learns ∙ p.learns }
 
 -- ---- facts of none of these kinds
 
 abbrev pub IsQuietFact : Fact → Type 0
-IsQuietFact fact = (is_lasting fact ≡ false) × (is_addition fact ≡ false) × (is_publication fact ≡ false)
+IsQuietFact fact = (is_lasting fact ≡ false) × (is_addition fact ≡ false) × (is_publication fact ≡ false) × (is_of_proposal fact ≡ false)
 
 abbrev pub Quiet : List Fact → Type 0
 Quiet [] = Unit {0}
 Quiet (fact ∷ rest) = IsQuietFact fact × Quiet rest
 
-left_out : (test : Fact → Bool) (fact : Fact) (known : List Fact) → test fact ≡ false → filter test (fact ∷ known) ≡ filter test known
+pub left_out : (test : Fact → Bool) (fact : Fact) (known : List Fact) → test fact ≡ false → filter test (fact ∷ known) ≡ filter test known
 left_out test fact known e = ap (λ b. cond b (fact ∷ filter test known) (filter test known)) e
 
 pub quiet_same : (facts known : List Fact) → Quiet facts → Same known (facts ++ known)
@@ -52,6 +54,7 @@ quiet_same (fact ∷ rest) known q =
       lasts = left_out is_lasting fact (rest ++ known) q.0.0 ∙ s.lasts;
       adds = left_out is_addition fact (rest ++ known) q.0.1 ∙ s.adds;
       publishes = left_out is_publication fact (rest ++ known) q.0.2 ∙ s.publishes;
+      learns = left_out is_of_proposal fact (rest ++ known) q.0.3 ∙ s.learns;
     }
 
 Quiet-append : (xs ys : List Fact) → Quiet xs → Quiet ys → Quiet (xs ++ ys)
@@ -75,13 +78,13 @@ unfolding triggered
 Quiet-triggered made known view reason now = at (expires made known view reason) (fails made known view reason)
   where
     at : (a b : Bool) → Quiet (if a then Expired view reason now ∷ [] else if b then Failed view reason ∷ [] else [])
-    at true b = ((refl, refl, refl), tt)
-    at false true = ((refl, refl, refl), tt)
+    at true b = ((refl, refl, refl, refl), tt)
+    at false true = ((refl, refl, refl, refl), tt)
     at false false = tt
 
 Quiet-verify : (v : Verify) → Quiet (verify_facts v)
-Quiet-verify (Ready context proposal) = ((refl, refl, refl), tt)
-Quiet-verify (Resolve proposal view kind target) = ((refl, refl, refl), tt)
+Quiet-verify (Ready context proposal) = ((refl, refl, refl, refl), tt)
+Quiet-verify (Resolve proposal view kind target) = ((refl, refl, refl, refl), tt)
 Quiet-verify Wait = tt
 
 -- ---- the calls that add nothing else
@@ -89,6 +92,9 @@ Quiet-verify Wait = tt
 abbrev pub IsQuiet : Call → Type 0
 IsQuiet (SetFloor floor now) = ⊥
 IsQuiet (Replay artifact now) = ⊥
+IsQuiet (SetProposal view proposal) = ⊥
+IsQuiet (Proposed context payload) = ⊥
+IsQuiet (Verified view) = ⊥
 IsQuiet (Certified view good now) = ⊥
 IsQuiet (AddNotarization n now) = ⊥
 IsQuiet (AddNullification n now) = ⊥
@@ -100,20 +106,20 @@ IsQuiet _ = Unit {0}
 
 quiet_facts : (made : Made) (known : List Fact) (call : Call) → IsQuiet call → Quiet (facts_of made known call)
 unfolding facts_of
-quiet_facts made known (SetProposal view proposal) q = Quiet-only_if _ _ (refl, refl, refl)
-quiet_facts made known (Proposed context payload) q = Quiet-only_if _ _ (refl, refl, refl)
-quiet_facts made known (Verified view) q = Quiet-fact_of _ _ (λ a. (refl, refl, refl))
+quiet_facts made known (SetProposal view proposal) q = absurd q
+quiet_facts made known (Proposed context payload) q = absurd q
+quiet_facts made known (Verified view) q = absurd q
 quiet_facts made known (VerificationFailed view reason now) q = Quiet-triggered made known view reason now
 quiet_facts made known (TriggerTimeout view reason now) q = Quiet-triggered made known view reason now
-quiet_facts made known (BroadcastNotarization view) q = Quiet-only_if _ _ (refl, refl, refl)
-quiet_facts made known (BroadcastNullification view) q = Quiet-only_if _ _ (refl, refl, refl)
-quiet_facts made known (BroadcastFinalization view) q = Quiet-only_if _ _ (refl, refl, refl)
-quiet_facts made known TryPropose q = Quiet-fact_of _ _ (λ a. (refl, refl, refl))
+quiet_facts made known (BroadcastNotarization view) q = Quiet-only_if _ _ (refl, refl, refl, refl)
+quiet_facts made known (BroadcastNullification view) q = Quiet-only_if _ _ (refl, refl, refl, refl)
+quiet_facts made known (BroadcastFinalization view) q = Quiet-only_if _ _ (refl, refl, refl, refl)
+quiet_facts made known TryPropose q = Quiet-fact_of _ _ (λ a. (refl, refl, refl, refl))
 quiet_facts made known TryVerify q = Quiet-verify (verify_request made known)
 quiet_facts made known CertifyCandidates q =
-    Quiet-append _ _ (Quiet-map _ (parent_fetches known) (λ a. (refl, refl, refl))) (Quiet-map _ (certify_requests known) (λ a. (refl, refl, refl)))
-quiet_facts made known (ReleaseProposalRequest view) q = ((refl, refl, refl), tt)
-quiet_facts made known Prune q = Quiet-fact_of _ _ (λ a. (refl, refl, refl))
+    Quiet-append _ _ (Quiet-map _ (parent_fetches known) (λ a. (refl, refl, refl, refl))) (Quiet-map _ (certify_requests known) (λ a. (refl, refl, refl, refl)))
+quiet_facts made known (ReleaseProposalRequest view) q = ((refl, refl, refl, refl), tt)
+quiet_facts made known Prune q = Quiet-fact_of _ _ (λ a. (refl, refl, refl, refl))
 quiet_facts made known (SetFloor floor now) q = absurd q
 quiet_facts made known (Replay artifact now) q = absurd q
 quiet_facts made known (Certified view good now) q = absurd q

@@ -1,5 +1,5 @@
 -- A whole step.
-use Rattle.std.proofs.Common.{◌≡◌, ℕ, List, [], ◌++◌, map, All, Option, Some, None, refl, sym, ap, ◌∙◌, subst, append-nil}
+use Rattle.std.proofs.Common.{◌≡◌, ℕ, List, [], ◌++◌, map, All, Option, Some, None, refl, inl, inr, ◌⊎◌, option_to_list, sym, ap, ◌∙◌, subst, append-nil}
 use Rattle.std.specs.Option.{option_map, option_map_or, option_and_then}
 use Rattle.std.proofs.lemmas.List.Elements.{filter_map-append}
 use Rattle.simplex_wire.specs.declared.vote.Notarize.{Notarize}
@@ -7,7 +7,7 @@ use Rattle.simplex_wire.specs.declared.vote.Finalize.{Finalize}
 use Rattle.simplex_wire.specs.declared.vote.Vote.{Vote}
 use Rattle.simplex_wire.specs.declared.vote.Vote.TheVariants as votes
 use Rattle.simplex_messages.specs.declared.voter.VoterInput.{VoterInput}
-use Rattle.simplex_rules.specs.Known.{Made, Voted}
+use Rattle.simplex_rules.specs.Known.{Made, Fact, Voted}
 use Rattle.simplex_rules.specs.Views.{current_of}
 use Rattle.simplex_rules.specs.Votes.{notarize_at, finalize_at}
 use Rattle.simplex_steps.specs.Desk.{Doing}
@@ -15,7 +15,8 @@ use Rattle.simplex_steps.specs.Voter.{Standing, acted, finished, stepped}
 use Rattle.simplex_voter_laws.specs.Sections.{touched_view, IsOfSection}
 use Rattle.simplex_voter_laws.specs.Votes.{vote_packets, packet_of, constructed_votes, votes_of, votes_on, nullifies, votes_at_end, votes_by_rule}
 use Rattle.simplex_voter_laws.specs.Learned.{lasting, facts_of_step, additions, added_at, publications, publication_of, publications_of}
-use Rattle.simplex_voter_laws.proofs.Tallies.{Tallied}
+use Rattle.simplex_voter_laws.specs.Tidings.{of_proposals, tidings, MayLearn}
+use Rattle.simplex_voter_laws.proofs.Tallies.{Due, Tallied}
 use Rattle.simplex_voter_laws.proofs.Ending.{step_finishes}
 use Rattle.simplex_voter_laws.proofs.Acting.{some_is, step_acts}
 
@@ -48,11 +49,16 @@ due_alone now made due outcome =
 
 -- ---- the laws
 
+may_learn : (learned news : Option Fact) (before after : List Fact) → (learned ≡ None) ⊎ (learned ≡ news) → after ≡ option_to_list learned ++ before → MayLearn news before after
+may_learn learned news before after (inl none) e = inl (e ∙ ap (λ o. option_to_list o ++ before) none)
+may_learn learned news before after (inr same) e = inr (e ∙ ap (λ o. option_to_list o ++ before) same)
+
 pub record Tells (made : Made) (now : ℕ) (input : VoterInput) (s : Standing) (d : Doing) : Type 0 where
   pub sections : All (IsOfSection (touched_view made now s input)) d.calls
   pub written : lasting d.desk.known ≡ facts_of_step now d.calls ++ lasting s.desk.known
   pub new : additions d.desk.known ≡ map (added_at now) d.added ++ additions s.desk.known
   pub published : publications d.desk.known ≡ publications_of now (constructed_votes d.handed) ++ publications s.desk.known
+  pub learned : MayLearn (tidings s input) (of_proposals s.desk.known) (of_proposals d.desk.known)
   pub packets : vote_packets d.calls ≡ map packet_of (votes_by_rule made now s input)
   pub constructed : constructed_votes d.handed ≡ votes_by_rule made now s input
   pub outcome : Doing × Option ℕ
@@ -77,9 +83,10 @@ step_tells made now input s d e = at (acted made now s input) refl e
         let known = s.desk.known in
         let due = nullifies made known input in
         let acts = step_acts now made s input (after, o) f in
-        let t : Tallied now known o due (due ++ votes_at_end made (after, o)) d =
-        subst (Tallied now known o due (due ++ votes_at_end made (after, o))) same
-        (step_finishes now known made (current_of made known) after o due acts.tally acts.waits acts.ends) in
+        let had : Due = record { votes = due; learned = acts.learned } in
+        let t : Tallied now known o had (due ++ votes_at_end made (after, o)) d =
+        subst (Tallied now known o had (due ++ votes_at_end made (after, o))) same
+        (step_finishes now known made (current_of made known) after o had acts.tally acts.waits acts.ends) in
         let ruled = votes_are made now s input (after, o) f in
         let all = sym ruled in
         record {
@@ -87,6 +94,7 @@ step_tells made now input s d e = at (acted made now s input) refl e
           written = t.written;
           new = t.new;
           published = t.published ∙ ap (λ facts. facts ++ publications known) (sym (ap (publications_of now) t.constructed ∙ due_alone now made due (after, o)));
+          learned = may_learn acts.learned (tidings s input) (of_proposals known) (of_proposals d.desk.known) acts.told t.learned;
           packets = t.packets ∙ ap (map packet_of) all;
           constructed = t.constructed ∙ all;
           outcome = (after, o);

@@ -1,5 +1,5 @@
 -- What a step has done so far, read from its calls and its messages.
-use Rattle.std.proofs.Common.{◌≡◌, ℕ, false, cond, List, [], ◌∷◌, ◌++◌, map, filter_map, reverse, All, Option, Some, None, refl, sym, ap, ◌∙◌, append-nil}
+use Rattle.std.proofs.Common.{◌≡◌, ℕ, false, cond, option_to_list, List, [], ◌∷◌, ◌++◌, map, filter_map, reverse, All, Option, Some, None, refl, sym, ap, ◌∙◌, append-nil}
 use Rattle.std.proofs.lemmas.List.{reverse-append, map-append}
 use Rattle.std.proofs.lemmas.List.Elements.{All-push, filter-append, filter_map-append}
 use Rattle.simplex_wire.specs.declared.vote.Vote.{Vote}
@@ -17,18 +17,29 @@ use Rattle.simplex_steps.specs.Desk.{Doing, resolve_of}
 use Rattle.simplex_voter_laws.specs.Sections.{IsOfSection}
 use Rattle.simplex_voter_laws.specs.Votes.{is_vote_packet, vote_packets, packet_of, constructed_vote, constructed_votes}
 use Rattle.simplex_voter_laws.specs.Learned.{lasting, fact_of_record, appended_fact, facts_of_step, additions, added_at, publications, publications_of}
+use Rattle.simplex_voter_laws.specs.Tidings.{of_proposals}
 use Rattle.simplex_voter_laws.proofs.Quiet.{Same}
 
--- where these votes went out, and these are due to go out as a step has acted
-pub record Tally (now : ℕ) (before : List Fact) (touched : Option ℕ) (due sent : List Vote) (cs : List Call) (hs : List Handed) (added : List Certificate) (known : List Fact) : Type 0 where
+-- as a step has acted: the votes that are due to go out, and what it learned of a proposal
+pub record Due : Type 0 where
+  pub votes : List Vote
+  pub learned : Option Fact
+
+-- nothing is
+abbrev pub nothing : Due
+nothing = record { votes = []; learned = None }
+
+-- so far these votes went out
+pub record Tally (now : ℕ) (before : List Fact) (touched : Option ℕ) (due : Due) (sent : List Vote) (cs : List Call) (hs : List Handed) (added : List Certificate) (known : List Fact) : Type 0 where
   pub sections : All (IsOfSection touched) cs
   pub written : lasting known ≡ facts_of_step now cs ++ lasting before
   pub new : additions known ≡ map (added_at now) added ++ additions before
-  pub published : publications known ≡ publications_of now due ++ publications before
+  pub published : publications known ≡ publications_of now due.votes ++ publications before
+  pub learned : of_proposals known ≡ option_to_list due.learned ++ of_proposals before
   pub packets : vote_packets cs ≡ map packet_of sent
   pub constructed : constructed_votes hs ≡ sent
 
-abbrev pub Tallied : ℕ → List Fact → Option ℕ → List Vote → List Vote → Doing → Type 0
+abbrev pub Tallied : ℕ → List Fact → Option ℕ → Due → List Vote → Doing → Type 0
 Tallied now before touched due sent d = Tally now before touched due sent d.calls d.handed d.added d.desk.known
 
 -- ---- one more call, and one more message
@@ -52,7 +63,7 @@ message_last hs ms = filter_map-append constructed_vote hs ms
 
 -- ---- what is done next
 
-pub tally_known : (now : ℕ) (before : List Fact) (touched : Option ℕ) (due sent : List Vote) (cs : List Call) (hs : List Handed) (added : List Certificate) (known later : List Fact)
+pub tally_known : (now : ℕ) (before : List Fact) (touched : Option ℕ) (due : Due) (sent : List Vote) (cs : List Call) (hs : List Handed) (added : List Certificate) (known later : List Fact)
     → Same known later → Tally now before touched due sent cs hs added known → Tally now before touched due sent cs hs added later
 tally_known now before touched due sent cs hs added known later same t =
     record {
@@ -60,6 +71,7 @@ tally_known now before touched due sent cs hs added known later same t =
       written = same.lasts ∙ t.written;
       new = same.adds ∙ t.new;
       published = same.publishes ∙ t.published;
+      learned = same.learns ∙ t.learned;
       packets = t.packets;
       constructed = t.constructed;
     }
@@ -68,7 +80,7 @@ tally_known now before touched due sent cs hs added known later same t =
 abbrev pub IsPlain : ℕ → Option ℕ → Call → Type 0
 IsPlain now touched c = IsOfSection touched c × (appended_fact now c ≡ None) × (is_vote_packet c ≡ false)
 
-pub tally_plain : (now : ℕ) (before : List Fact) (touched : Option ℕ) (due sent : List Vote) (cs : List Call) (hs : List Handed) (added : List Certificate) (known : List Fact) (c : Call)
+pub tally_plain : (now : ℕ) (before : List Fact) (touched : Option ℕ) (due : Due) (sent : List Vote) (cs : List Call) (hs : List Handed) (added : List Certificate) (known : List Fact) (c : Call)
     → IsPlain now touched c → Tally now before touched due sent cs hs added known → Tally now before touched due sent (cs ++ c ∷ []) hs added known
 tally_plain now before touched due sent cs hs added known c plain t =
     record {
@@ -76,6 +88,7 @@ tally_plain now before touched due sent cs hs added known c plain t =
       written = t.written ∙ ap (λ facts. facts ++ lasting before) (sym (fact_last now cs c ∙ ap (λ facts. facts ++ facts_of_step now cs) (no_fact now c plain.1)));
       new = t.new;
       published = t.published;
+      learned = t.learned;
       packets = packet_last cs c ∙ ap (λ ps. vote_packets cs ++ ps) (no_packet c plain.2) ∙ append-nil (vote_packets cs) ∙ t.packets;
       constructed = t.constructed;
     }
@@ -85,8 +98,9 @@ pub record Notes (now : ℕ) (known later : List Fact) (artifact : Artifact) : T
   pub lasts : lasting later ≡ fact_of_record now artifact ∷ lasting known
   pub adds : additions later ≡ additions known
   pub publishes : publications later ≡ publications known
+  pub learns : of_proposals later ≡ of_proposals known
 
-pub tally_note : (now : ℕ) (before : List Fact) (touched : Option ℕ) (due sent : List Vote) (cs : List Call) (hs : List Handed) (added : List Certificate) (known later : List Fact) (artifact : Artifact)
+pub tally_note : (now : ℕ) (before : List Fact) (touched : Option ℕ) (due : Due) (sent : List Vote) (cs : List Call) (hs : List Handed) (added : List Certificate) (known later : List Fact) (artifact : Artifact)
     → touched ≡ Some (artifact_round artifact).view → Notes now known later artifact → Tally now before touched due sent cs hs added known
     → Tally now before touched due sent (cs ++ calls.Append (artifact_round artifact).view artifact ∷ []) hs added later
 tally_note now before touched due sent cs hs added known later artifact here noted t =
@@ -96,12 +110,13 @@ tally_note now before touched due sent cs hs added known later artifact here not
       written = noted.lasts ∙ ap (λ facts. fact_of_record now artifact ∷ facts) t.written ∙ ap (λ facts. facts ++ lasting before) (sym (fact_last now cs c));
       new = noted.adds ∙ t.new;
       published = noted.publishes ∙ t.published;
+      learned = noted.learns ∙ t.learned;
       packets = packet_last cs c ∙ append-nil (vote_packets cs) ∙ t.packets;
       constructed = t.constructed;
     }
 
 -- messages with no own vote are handed on
-pub tally_hands : (now : ℕ) (before : List Fact) (touched : Option ℕ) (due sent : List Vote) (cs : List Call) (hs ms : List Handed) (added : List Certificate) (known : List Fact)
+pub tally_hands : (now : ℕ) (before : List Fact) (touched : Option ℕ) (due : Due) (sent : List Vote) (cs : List Call) (hs ms : List Handed) (added : List Certificate) (known : List Fact)
     → constructed_votes ms ≡ [] → Tally now before touched due sent cs hs added known → Tally now before touched due sent cs (hs ++ ms) added known
 tally_hands now before touched due sent cs hs ms added known silent t =
     record {
@@ -109,6 +124,7 @@ tally_hands now before touched due sent cs hs ms added known silent t =
       written = t.written;
       new = t.new;
       published = t.published;
+      learned = t.learned;
       packets = t.packets;
       constructed = message_last hs ms ∙ ap (λ vs. constructed_votes hs ++ vs) silent ∙ append-nil (constructed_votes hs) ∙ t.constructed;
     }
@@ -118,7 +134,7 @@ sought_silent [] = refl
 sought_silent (s ∷ rest) = sought_silent rest
 
 -- a vote goes out
-pub tally_send : (now : ℕ) (before : List Fact) (touched : Option ℕ) (due sent : List Vote) (cs : List Call) (hs : List Handed) (added : List Certificate) (known : List Fact) (v : Vote)
+pub tally_send : (now : ℕ) (before : List Fact) (touched : Option ℕ) (due : Due) (sent : List Vote) (cs : List Call) (hs : List Handed) (added : List Certificate) (known : List Fact) (v : Vote)
     → Tally now before touched due sent cs hs added known
     → Tally now before touched due (sent ++ v ∷ []) (cs ++ packet_of v ∷ []) (hs ++ handed.Batcher (batcher.Constructed v) ∷ []) added known
 tally_send now before touched due sent cs hs added known v t =
@@ -128,6 +144,7 @@ tally_send now before touched due sent cs hs added known v t =
       written = t.written ∙ ap (λ facts. facts ++ lasting before) (sym (fact_last now cs c));
       new = t.new;
       published = t.published;
+      learned = t.learned;
       packets = packet_last cs c ∙ ap (λ ps. ps ++ c ∷ []) t.packets ∙ sym (map-append packet_of sent (v ∷ []));
       constructed = message_last hs (handed.Batcher (batcher.Constructed v) ∷ []) ∙ ap (λ vs. vs ++ v ∷ []) t.constructed;
     }

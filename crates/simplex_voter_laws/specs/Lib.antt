@@ -1,3 +1,4 @@
 pub mod Sections
 pub mod Votes
 pub mod Learned
+pub mod Tidings

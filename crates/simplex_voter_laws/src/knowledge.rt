@@ -6,6 +6,7 @@ ghost use Rattle.simplex_steps.specs.Desk.{Doing};
 ghost use Rattle.simplex_steps.specs.Voter.{Standing, stepped};
 ghost use Rattle.simplex_voter_laws.specs.Votes.{constructed_votes};
 ghost use Rattle.simplex_voter_laws.specs.Learned.{lasting, facts_of_step, additions, added_at, publications, publications_of};
+ghost use Rattle.simplex_voter_laws.specs.Tidings.{of_proposals, tidings, MayLearn};
 
 /// The certificates, verdicts and own votes that a step adds to what is known are those whose records it appends.
 pub fn knowledge_is_written()
@@ -23,4 +24,11 @@ pub fn certificates_are_handed_on()
 pub fn publications_are_handed_on()
     ensures { (made : Made) (now : ℕ) (input : VoterInput) (standing : Standing) (doing : Doing) → stepped made now standing input ≡ Some doing
         → publications doing.desk.known ≡ publications_of now (constructed_votes doing.handed) ++ publications standing.desk.known }
+{}
+
+/// Of proposals a step learns nothing, or the one fact that what it took tells: the leader's proposal, or the member's
+/// own, or that the application approves the one that it was to verify.
+pub fn proposals_are_taken()
+    ensures { (made : Made) (now : ℕ) (input : VoterInput) (standing : Standing) (doing : Doing) → stepped made now standing input ≡ Some doing
+        → MayLearn (tidings standing input) (of_proposals standing.desk.known) (of_proposals doing.desk.known) }
 {}

@@ -6,11 +6,16 @@
 
 mod knowledge;
 mod performed;
+mod samples;
 mod sections;
 mod votes;
 
-pub use knowledge::{certificates_are_handed_on, knowledge_is_written, publications_are_handed_on};
+pub use knowledge::{
+    certificates_are_handed_on, knowledge_is_written, proposals_are_taken,
+    publications_are_handed_on,
+};
 pub use performed::done_steps_give_all;
+pub use samples::a_step_is_read;
 pub use sections::steps_write_to_one_section;
 pub use votes::{
     nullifies_are_of_timer_steps, one_nullify_at_most, own_votes_are_by_rule,
