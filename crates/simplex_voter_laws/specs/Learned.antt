@@ -36,7 +36,7 @@ abbrev pub appended_fact : ℕ → Call → Option Fact
 appended_fact now (calls.Append section artifact) = Some (fact_of_record now artifact)
 appended_fact now _ = None
 
--- the facts that the records tell which a step appends, the newest first
+-- what the records tell that a step appends: the later one tells the newer fact
 abbrev pub facts_of_step : ℕ → List Call → List Fact
 facts_of_step now made = reverse (filter_map (appended_fact now) made)
 
