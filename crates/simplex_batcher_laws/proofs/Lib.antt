@@ -7,3 +7,4 @@ pub mod Doings
 pub mod Working
 pub mod Steps
 pub mod Schemes
+pub mod Handing

@@ -1,5 +1,5 @@
 -- Where a certificate comes from that is handed to the voter.
-use Rattle.std.specs.Prelude.{◌≡◌, ◌≤◌, ◌<◌, ◌⊎◌, true, false, length, Ok, All}
+use Rattle.std.specs.Prelude.{◌≡◌, ◌≤◌, ◌<◌, ◌⊎◌, true, false, length, Ok, All, Contains}
 use Rattle.simplex_values.specs.Quorum.{quorum_of}
 use Rattle.simplex_values.specs.declared.proposal.Subject.{Subject}
 use Rattle.simplex_wire.specs.declared.attestation.Attestation.{Attestation}
@@ -14,7 +14,8 @@ use Rattle.simplex_messages.specs.declared.batcher.BatcherInput.TheVariants as i
 use Rattle.simplex_messages.specs.declared.handed.Handed.{Handed}
 use Rattle.simplex_messages.specs.declared.handed.Handed.TheVariants as handed
 use Rattle.simplex_messages.specs.declared.voter.Message.TheVariants as voter
-use Rattle.simplex_steps.specs.Batcher.{Made, Standing, holds_kind}
+use Rattle.simplex_messages.specs.declared.step.StepOut.{StepOut}
+use Rattle.simplex_steps.specs.Batcher.{Made, Standing, holds_kind, retains_view, certificate_view, certificate_epoch}
 
 -- the scheme is that of the batcher's members, and no signature of another verifies
 pub record IsSchemeOfMembers (made : Made) : Type 0 where
@@ -49,3 +50,14 @@ pub record IsFoundedCertificate (made : Made) (accepted : Vote → Type 0) (is_n
 abbrev pub IsFoundedMessage : Made → (Vote → Type 0) → (Certificate → Type 0) → Handed → Type 0
 IsFoundedMessage made accepted is_new (handed.Voter (voter.Verified certificate)) = IsFoundedCertificate made accepted is_new certificate
 IsFoundedMessage made accepted is_new _ = Unit {0}
+
+-- the input brings it anew, and it is of the batcher's epoch and of a view that is retained, and verifies
+pub record BringsVerified (made : Made) (standing : Standing) (given : BatcherInput) (certificate : Certificate) : Type 0 where
+  pub brings : BringsNew standing given certificate
+  pub epoch : certificate_epoch certificate ≡ made.epoch
+  pub retained : retains_view made standing (certificate_view certificate) ≡ true
+  pub verifies : is_certified (made.scheme.verifies (certificate_subject certificate)) made.members (certificate_signatures certificate) ≡ true
+
+-- the step hands it to the voter
+abbrev pub HandsOn : StepOut → Certificate → Type 0
+HandsOn out certificate = Contains out.handed (handed.Voter (voter.Verified certificate))

@@ -1,10 +1,13 @@
 //! Certificates that are handed to the voter.
 ghost use Rattle.std.specs.Prelude.{ℕ, ◌≡◌, Bool, List, ◌∷◌, All};
+ghost use Rattle.simplex_wire.specs.declared.certificate.Certificate.{Certificate};
 ghost use Rattle.simplex_types.specs.Keyed.{keyed_verifies};
 ghost use Rattle.simplex_round.specs.Assembly.{as_scheme};
 ghost use Rattle.simplex_steps.specs.Batcher.{Made, Timed, standing_after, step_out};
 ghost use Rattle.simplex_batcher_laws.specs.Votes.{Accepted};
-ghost use Rattle.simplex_batcher_laws.specs.Certificates.{IsSchemeOfMembers, BringsNew, IsFoundedMessage};
+ghost use Rattle.simplex_batcher_laws.specs.Certificates.{IsSchemeOfMembers, BringsNew, IsFoundedMessage, BringsVerified, HandsOn};
+
+use simplex_wire::Scheme;
 
 /// A certificate that a step hands to the voter verifies. Either the step took it from the network, and the round
 /// of its view held none of its kind; or it lists a quorum of signers, each with a vote on the certificate's
@@ -12,6 +15,20 @@ ghost use Rattle.simplex_batcher_laws.specs.Certificates.{IsSchemeOfMembers, Bri
 pub fn handed_certificates_are_founded()
     ensures { (made : Made) (past : List Timed) (given : Timed) → IsSchemeOfMembers made
         → All (IsFoundedMessage made (Accepted made (given ∷ past)) (BringsNew (standing_after made past) given.input)) (step_out made past given).handed }
+{}
+
+/// And the other way: a certificate that verifies is handed to the voter by the step that takes it from the network,
+/// where it is of the batcher's epoch, its view is retained, and the round of its view held none of its kind.
+pub fn new_certificates_are_handed_on()
+    ensures { (made : Made) (past : List Timed) (given : Timed) (certificate : Certificate) → BringsVerified made (standing_after made past) given.input certificate
+        → HandsOn (step_out made past given) certificate }
+{}
+
+/// Where the scheme of these laws comes from: a batcher that is made with a lawful scheme, and as many members as the
+/// scheme has, knows its members' signatures alone.
+pub fn lawful_scheme_is_of_its_members<S: Scheme>()
+    ensures { (made : Made) (scheme : S) → made.scheme ≡ as_scheme (S.verifies scheme) (S.recovers scheme) (S.members scheme) → made.members ≡ S.members scheme
+        → IsSchemeOfMembers made }
 {}
 
 /// The keyed scheme of a batcher's members is one by which no signature of another verifies.

@@ -1,3 +1,2 @@
-pub mod Certified
 pub mod KeyLists
 pub mod Spellings

@@ -1,12 +1,6 @@
 //! A scheme whose signatures are digests.
-ghost use Rattle.std.specs.Prelude.{◌≡◌, ◌<◌, ◌≤◌, ℕ, List, length, IfOk, IfSome, true, IsTrue};
-ghost use Rattle.std.specs.List.{AllPass};
+ghost use Rattle.std.specs.Prelude.{◌≡◌, ◌<◌, IfOk, IfSome, true, IsTrue};
 ghost use Rattle.std.specs.Option.{ForSome};
-ghost use Rattle.simplex_wire.specs.Signatures.{IsSignatures};
-ghost use Rattle.simplex_values.specs.Quorum.{quorum_of};
-ghost use Rattle.simplex_values.specs.declared.proposal.Subject.{Subject};
-ghost use Rattle.simplex_wire.specs.declared.attestation.Attestation.{Attestation};
-ghost use Rattle.simplex_wire.specs.Certified.{assembled, IsAssembled, is_certified};
 ghost use Rattle.simplex_types.specs.Keyed.{keyed_attests, keyed_verifies, keys_of};
 ghost use Rattle.simplex_types.specs.KeyedLaws.{below_if_some, signer_below, signs_as_member};
 
@@ -131,8 +125,3 @@ impl Keep for Keyed {
         })
     }
 }
-
-/// Attestations of a quorum that each verify make a certificate that verifies.
-pub fn a_verifying_quorum_certifies()
-    ensures { (base n : ℕ) (subject : Subject) (list : List Attestation) → IsSignatures list → quorum_of n ≤ length list → AllPass (keyed_verifies base n subject) list → IsTrue (is_certified (keyed_verifies base n subject) n list) }
-{}

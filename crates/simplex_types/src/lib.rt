@@ -23,7 +23,7 @@ pub use floor::Floor;
 pub use hashing::genesis;
 pub use hidden::Hidden;
 pub use interface::{Automaton, Blocker, CertifiableAutomaton, Monitor, Relay, Reporter};
-pub use keyed::{Keyed, a_verifying_quorum_certifies};
+pub use keyed::Keyed;
 pub use round_robin::{RoundRobin, RoundRobinElector};
 pub use simplex_values::{
     Answer, Ask, Bytes, Channel, Context, Digest, Epoch, Feedback, ForwardPolicy, Handoff, Keep,
@@ -34,7 +34,7 @@ pub use simplex_values::{
 pub use simplex_wire::{
     Artifact, AssemblyError, Attestation, Certificate, CertificateKind, DecodeCause, DecodeError,
     Finalization, Finalize, Notarization, Notarize, Nullification, Nullify, ResolverBody,
-    ResolverMessage, Scheme, Signatures, Vote,
+    ResolverMessage, Scheme, Signatures, Vote, a_verifying_quorum_certifies,
 };
 
 #[cfg(test)]

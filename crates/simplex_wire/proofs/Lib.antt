@@ -6,3 +6,4 @@ pub mod Lists
 pub mod Certificates
 pub mod Artifacts
 pub mod Resolvers
+pub mod Quorums

@@ -25,7 +25,7 @@ pub use codec::{
 };
 pub use error::{DecodeCause, DecodeError};
 pub use resolver::{ResolverBody, ResolverMessage};
-pub use scheme::{AssemblyError, Scheme};
+pub use scheme::{AssemblyError, Scheme, a_verifying_quorum_certifies};
 pub use signatures::Signatures;
 pub use vote::{Finalize, Notarize, Nullify, Vote};
 

@@ -1,6 +1,7 @@
 //! What signs and verifies.
-ghost use Rattle.std.specs.Prelude.{◌≡◌, ◌<◌, ◌+◌, ◌*◌, ℕ, Bool, true, Option, Some, IfSome, ◌&&◌, nat_lt};
-ghost use Rattle.std.specs.List.{list_all};
+ghost use Rattle.std.specs.Prelude.{◌≡◌, ◌<◌, ◌≤◌, ◌+◌, ◌*◌, ℕ, Bool, true, IsTrue, Option, Some, IfSome, List, length, ◌&&◌, nat_lt};
+ghost use Rattle.std.specs.List.{list_all, AllPass};
+ghost use Rattle.simplex_values.specs.Quorum.{quorum_of};
 ghost use Rattle.simplex_values.specs.declared.proposal.Subject.{Subject};
 ghost use Rattle.simplex_wire.specs.declared.attestation.Attestation.{Attestation};
 ghost use Rattle.simplex_wire.specs.declared.scheme.AssemblyError.TheVariants.{Memory};
@@ -128,3 +129,8 @@ fn all_verify<S: Scheme>(
 {
     attestations.iter().all(|a| a.signer.0 < n && scheme.verify_attestation(subject, a))
 }
+
+/// By every scheme, attestations of a quorum that each verify make a certificate that verifies.
+pub fn a_verifying_quorum_certifies<S: Scheme>()
+    ensures { (scheme : S) (subject : Subject) (list : List Attestation) → IsSignatures list → quorum_of (S.members scheme) ≤ length list → AllPass (S.verifies scheme subject) list → IsTrue (is_certified (S.verifies scheme subject) (S.members scheme) list) }
+{}
