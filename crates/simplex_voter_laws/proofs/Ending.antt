@@ -34,7 +34,8 @@ use Rattle.simplex_voter_laws.specs.Votes.{votes_of, votes_on, votes_at_end}
 use Rattle.simplex_voter_laws.specs.Learned.{lasting, additions, publications}
 use Rattle.simplex_voter_laws.specs.Tidings.{of_proposals}
 use Rattle.simplex_voter_laws.proofs.Quiet.{IsQuiet, told_quiet, reconciled_same, iterated_same}
-use Rattle.simplex_voter_laws.proofs.Tallies.{Due, Tally, Tallied, tally_known, tally_plain, tally_note, tally_hands, tally_send, sought_silent}
+use Rattle.simplex_voter_laws.proofs.Tallies.{Due, Tally, Tallied, tally_known, tally_plain, tally_note, tally_hands, tally_send, tally_synced, once_synced, sought_silent}
+use Rattle.simplex_voter_laws.proofs.Syncing.{sync_ends, untouched, Flagged}
 
 -- the nullify that waits to go out
 abbrev pub nullify_waiting : Option (Nullify × Option Certificate) → List Vote
@@ -59,10 +60,10 @@ notarize_view made known view n e = slot_view known view n.proposal (notarize_pa
 finalize_view : (made : Made) (known : List Fact) (view : ℕ) (f : Finalize) → finalize_at made known view ≡ Some f → view_of f.proposal ≡ view
 finalize_view made known view f e = slot_view known view f.proposal (finalize_parts made known view f e).0
 
-notarize_written : (now : ℕ) (before : List Fact) (made : Made) (view : ℕ) (due : Due) (sent : List Vote) (d : Doing) → Tallied now before (Some view) due sent d
+notarize_written : (now : ℕ) (before : List Fact) (made : Made) (view : ℕ) (due : Due) (sent : List Vote) (d : Doing) → due.synced ≡ false → Tallied now before (Some view) due sent d
     → Tallied now before (Some view) due sent (vote_notarize made view d)
 unfolding vote_notarize
-notarize_written now before made view due sent d t = at (notarize_at made d.desk.known view) refl
+notarize_written now before made view due sent d unsaved t = at (notarize_at made d.desk.known view) refl
   where
     at : (o : Option Notarize) → notarize_at made d.desk.known view ≡ o
         → Tallied now before (Some view) due sent (option_map_or (λ n. append (artifacts.Notarize n) (tell made (state.ConstructNotarize view) d)) o (tell made (state.ConstructNotarize view) d))
@@ -70,14 +71,14 @@ notarize_written now before made view due sent d t = at (notarize_at made d.desk
         subst (λ facts. Tally now before (Some view) due sent d.calls d.handed d.added (facts ++ d.desk.known)) (sym (notarizing_facts made d.desk.known view None e)) t
     at (Some n) e =
         let same = ap (λ facts. facts ++ d.desk.known) (notarizing_facts made d.desk.known view (Some n) e) in
-        tally_note now before (Some view) due sent d.calls d.handed d.added d.desk.known (tell made (state.ConstructNotarize view) d).desk.known (artifacts.Notarize n)
+        tally_note now before (Some view) due sent d.calls d.handed d.added d.desk.known (tell made (state.ConstructNotarize view) d).desk.known (artifacts.Notarize n) unsaved
         (ap (λ v. Some v) (sym (notarize_view made d.desk.known view n e)))
         (record { lasts = ap lasting same; adds = ap additions same; publishes = ap publications same; learns = ap of_proposals same }) t
 
-finalize_written : (now : ℕ) (before : List Fact) (made : Made) (view : ℕ) (due : Due) (sent : List Vote) (d : Doing) → Tallied now before (Some view) due sent d
+finalize_written : (now : ℕ) (before : List Fact) (made : Made) (view : ℕ) (due : Due) (sent : List Vote) (d : Doing) → due.synced ≡ false → Tallied now before (Some view) due sent d
     → Tallied now before (Some view) due sent (vote_finalize made view d)
 unfolding vote_finalize
-finalize_written now before made view due sent d t = at (finalize_at made d.desk.known view) refl
+finalize_written now before made view due sent d unsaved t = at (finalize_at made d.desk.known view) refl
   where
     at : (o : Option Finalize) → finalize_at made d.desk.known view ≡ o
         → Tallied now before (Some view) due sent (option_map_or (λ f. append (artifacts.Finalize f) (tell made (state.ConstructFinalize view) d)) o (tell made (state.ConstructFinalize view) d))
@@ -85,7 +86,7 @@ finalize_written now before made view due sent d t = at (finalize_at made d.desk
         subst (λ facts. Tally now before (Some view) due sent d.calls d.handed d.added (facts ++ d.desk.known)) (sym (finalizing_facts made d.desk.known view None e)) t
     at (Some f) e =
         let same = ap (λ facts. facts ++ d.desk.known) (finalizing_facts made d.desk.known view (Some f) e) in
-        tally_note now before (Some view) due sent d.calls d.handed d.added d.desk.known (tell made (state.ConstructFinalize view) d).desk.known (artifacts.Finalize f)
+        tally_note now before (Some view) due sent d.calls d.handed d.added d.desk.known (tell made (state.ConstructFinalize view) d).desk.known (artifacts.Finalize f) unsaved
         (ap (λ v. Some v) (sym (finalize_view made d.desk.known view f e)))
         (record { lasts = ap lasting same; adds = ap additions same; publishes = ap publications same; learns = ap of_proposals same }) t
 
@@ -101,6 +102,14 @@ notarize_counts made view d = at (notarize_at made d.desk.known view) refl
     at None e = ap (λ facts. facts ++ d.desk.known) (notarizing_facts made d.desk.known view None e)
     at (Some n) e = ap (λ facts. facts ++ d.desk.known) (notarizing_facts made d.desk.known view (Some n) e)
 
+notarize_flags : (made : Made) (view : ℕ) (d : Doing) → Flagged d → Flagged (vote_notarize made view d)
+unfolding vote_notarize
+notarize_flags made view d flag = at (notarize_at made d.desk.known view)
+  where
+    at : (o : Option Notarize) → Flagged (option_map_or (λ n. append (artifacts.Notarize n) (tell made (state.ConstructNotarize view) d)) o (tell made (state.ConstructNotarize view) d))
+    at None = flag
+    at (Some n) = λ e. cc
+
 notarize_keeps : (made : Made) (view : ℕ) (d : Doing) → (vote_notarize made view d).nullify ≡ d.nullify
 unfolding vote_notarize
 notarize_keeps made view d = at (notarize_at made d.desk.known view)
@@ -108,6 +117,14 @@ notarize_keeps made view d = at (notarize_at made d.desk.known view)
     at : (o : Option Notarize) → (option_map_or (λ n. append (artifacts.Notarize n) (tell made (state.ConstructNotarize view) d)) o (tell made (state.ConstructNotarize view) d)).nullify ≡ d.nullify
     at None = refl
     at (Some n) = refl
+
+finalize_flags : (made : Made) (view : ℕ) (d : Doing) → Flagged d → Flagged (vote_finalize made view d)
+unfolding vote_finalize
+finalize_flags made view d flag = at (finalize_at made d.desk.known view)
+  where
+    at : (o : Option Finalize) → Flagged (option_map_or (λ f. append (artifacts.Finalize f) (tell made (state.ConstructFinalize view) d)) o (tell made (state.ConstructFinalize view) d))
+    at None = flag
+    at (Some f) = λ e. cc
 
 finalize_keeps : (made : Made) (view : ℕ) (d : Doing) → (vote_finalize made view d).nullify ≡ d.nullify
 unfolding vote_finalize
@@ -129,16 +146,23 @@ requests_open now before touched due sent made d t =
     sought_out now before touched due sent (record d { desk = reconciled made now d.desk })
     (tally_known now before touched due sent d.calls d.handed d.added d.desk.known (reconciled made now d.desk).known (reconciled_same made now d.desk) t)
 
+requests_flag : (made : Made) (now : ℕ) (d : Doing) → Flagged d → Flagged (open_requests made now d)
+unfolding open_requests
+requests_flag made now d flag = flag
+
 requests_keep : (made : Made) (now : ℕ) (d : Doing) → (open_requests made now d).nullify ≡ d.nullify
 unfolding open_requests
 requests_keep made now d = refl
 
-synced : (now : ℕ) (before : List Fact) (view : ℕ) (due : Due) (sent : List Vote) (d : Doing) → Tallied now before (Some view) due sent d → Tallied now before (Some view) due sent (sync view d)
-synced now before view due sent d t = at d.wrote
+synced : (now : ℕ) (before : List Fact) (view : ℕ) (due : Due) (sent : List Vote) (d : Doing) → Flagged d → Tallied now before (Some view) due sent d
+    → Tallied now before (Some view) (once_synced due) sent (sync view d)
+synced now before view due sent d flag t = at d.wrote refl
   where
-    at : (b : Bool) → Tallied now before (Some view) due sent (if b then make (calls.Sync view) d else d)
-    at true = tally_plain now before (Some view) due sent d.calls d.handed d.added d.desk.known (calls.Sync view) (refl, refl, refl) t
-    at false = t
+    at : (b : Bool) → d.wrote ≡ b → Tallied now before (Some view) (once_synced due) sent (if b then make (calls.Sync view) d else d)
+    at true e =
+        tally_synced now before (Some view) due sent (d.calls ++ calls.Sync view ∷ []) d.handed d.added d.desk.known (sync_ends view d.calls t.sections)
+        (tally_plain now before (Some view) due sent d.calls d.handed d.added d.desk.known (calls.Sync view) (refl, refl, refl, λ out. cc) t)
+    at false e = tally_synced now before (Some view) due sent d.calls d.handed d.added d.desk.known (flag e) t
 
 sync_keeps : (view : ℕ) (d : Doing) → (sync view d).nullify ≡ d.nullify
 sync_keeps view d = at d.wrote
@@ -149,14 +173,14 @@ sync_keeps view d = at d.wrote
 
 -- ---- what is published
 
-verdict_out : (now : ℕ) (before : List Fact) (touched : Option ℕ) (due : Due) (sent : List Vote) (d : Doing) → Tallied now before touched due sent d → Tallied now before touched due sent (publish_verdict d)
+verdict_out : (now : ℕ) (before : List Fact) (touched : Option ℕ) (due : Due) (sent : List Vote) (d : Doing) → due.synced ≡ true → Tallied now before touched due sent d → Tallied now before touched due sent (publish_verdict d)
 unfolding publish_verdict
-verdict_out now before touched due sent d t = at d.verdict
+verdict_out now before touched due sent d done t = at d.verdict
   where
     one : (n : Notarization) (good b : Bool) → (let told = hand (handed.Resolver (resolver.Certified n good)) d in
         Tallied now before touched due sent (if b then report (activities.Certification n) told else told))
     one n good true =
-        tally_plain now before touched due sent d.calls (hand (handed.Resolver (resolver.Certified n good)) d).handed d.added d.desk.known (calls.Report (activities.Certification n)) (tt, refl, refl)
+        tally_plain now before touched due sent d.calls (hand (handed.Resolver (resolver.Certified n good)) d).handed d.added d.desk.known (calls.Report (activities.Certification n)) (tt, refl, refl, λ out. done)
         (tally_hands now before touched due sent d.calls d.handed (handed.Resolver (resolver.Certified n good) ∷ []) d.added d.desk.known refl t)
     one n good false = tally_hands now before touched due sent d.calls d.handed (handed.Resolver (resolver.Certified n good) ∷ []) d.added d.desk.known refl t
 
@@ -181,40 +205,40 @@ verdict_keeps d = at d.verdict
     at None = refl
     at (Some v) = one v.0 v.1 v.1
 
-certificate_out : (now : ℕ) (before : List Fact) (touched : Option ℕ) (due : Due) (sent : List Vote) (d : Doing) (c : Certificate) → Tallied now before touched due sent d → Tallied now before touched due sent (send_certificate c d)
-certificate_out now before touched due sent d c t =
-    tally_plain now before touched due sent d.calls d.handed d.added d.desk.known (calls.Send channels.Certificate recipients.All (format.certificate.spelling c)) (tt, refl, refl) t
+certificate_out : (now : ℕ) (before : List Fact) (touched : Option ℕ) (due : Due) (sent : List Vote) (d : Doing) (c : Certificate) → due.synced ≡ true → Tallied now before touched due sent d → Tallied now before touched due sent (send_certificate c d)
+certificate_out now before touched due sent d c done t =
+    tally_plain now before touched due sent d.calls d.handed d.added d.desk.known (calls.Send channels.Certificate recipients.All (format.certificate.spelling c)) (tt, refl, refl, λ out. done) t
 
-certificate_along : (now : ℕ) (before : List Fact) (touched : Option ℕ) (due : Due) (sent : List Vote) (d : Doing) (o : Option Certificate) → Tallied now before touched due sent d → Tallied now before touched due sent (with_certificate o d)
-certificate_along now before touched due sent d None t = t
-certificate_along now before touched due sent d (Some c) t = certificate_out now before touched due sent d c t
+certificate_along : (now : ℕ) (before : List Fact) (touched : Option ℕ) (due : Due) (sent : List Vote) (d : Doing) (o : Option Certificate) → due.synced ≡ true → Tallied now before touched due sent d → Tallied now before touched due sent (with_certificate o d)
+certificate_along now before touched due sent d None done t = t
+certificate_along now before touched due sent d (Some c) done t = certificate_out now before touched due sent d c done t
 
-vote_out : (now : ℕ) (before : List Fact) (touched : Option ℕ) (due : Due) (sent : List Vote) (d : Doing) (v : Vote) → Tallied now before touched due sent d → Tallied now before touched due (sent ++ v ∷ []) (send_vote v d)
-vote_out now before touched due sent d v t = tally_send now before touched due sent d.calls d.handed d.added d.desk.known v t
+vote_out : (now : ℕ) (before : List Fact) (touched : Option ℕ) (due : Due) (sent : List Vote) (d : Doing) (v : Vote) → due.synced ≡ true → Tallied now before touched due sent d → Tallied now before touched due (sent ++ v ∷ []) (send_vote v d)
+vote_out now before touched due sent d v done t = tally_send now before touched due sent d.calls d.handed d.added d.desk.known v done t
 
 nothing_out : (now : ℕ) (before : List Fact) (touched : Option ℕ) (due : Due) (sent : List Vote) (d : Doing) → Tallied now before touched due sent d → Tallied now before touched due (sent ++ []) d
 nothing_out now before touched due sent d t = subst (λ vs. Tallied now before touched due vs d) (sym (append-nil sent)) t
 
-nullify_out : (now : ℕ) (before : List Fact) (touched : Option ℕ) (due : Due) (sent : List Vote) (d : Doing) → Tallied now before touched due sent d
+nullify_out : (now : ℕ) (before : List Fact) (touched : Option ℕ) (due : Due) (sent : List Vote) (d : Doing) → due.synced ≡ true → Tallied now before touched due sent d
     → Tallied now before touched due (sent ++ nullify_waiting d.nullify) (publish_nullify d)
 unfolding publish_nullify
-nullify_out now before touched due sent d t = at d.nullify
+nullify_out now before touched due sent d done t = at d.nullify
   where
     at : (o : Option (Nullify × Option Certificate))
         → Tallied now before touched due (sent ++ nullify_waiting o) (option_map_or (λ n. with_certificate n.1 (send_vote (votes.Nullify n.0) d)) o d)
     at None = nothing_out now before touched due sent d t
     at (Some n) =
-        certificate_along now before touched due (sent ++ votes.Nullify n.0 ∷ []) (send_vote (votes.Nullify n.0) d) n.1 (vote_out now before touched due sent d (votes.Nullify n.0) t)
+        certificate_along now before touched due (sent ++ votes.Nullify n.0 ∷ []) (send_vote (votes.Nullify n.0) d) n.1 done (vote_out now before touched due sent d (votes.Nullify n.0) done t)
 
-notarize_out : (now : ℕ) (before : List Fact) (touched : Option ℕ) (due : Due) (sent : List Vote) (d : Doing) (o : Option Notarize) → Tallied now before touched due sent d
+notarize_out : (now : ℕ) (before : List Fact) (touched : Option ℕ) (due : Due) (sent : List Vote) (d : Doing) (o : Option Notarize) → due.synced ≡ true → Tallied now before touched due sent d
     → Tallied now before touched due (sent ++ votes_of votes.Notarize o) (option_map_or (λ n. send_vote (votes.Notarize n) d) o d)
-notarize_out now before touched due sent d None t = nothing_out now before touched due sent d t
-notarize_out now before touched due sent d (Some n) t = vote_out now before touched due sent d (votes.Notarize n) t
+notarize_out now before touched due sent d None done t = nothing_out now before touched due sent d t
+notarize_out now before touched due sent d (Some n) done t = vote_out now before touched due sent d (votes.Notarize n) done t
 
-finalize_out : (now : ℕ) (before : List Fact) (touched : Option ℕ) (due : Due) (sent : List Vote) (d : Doing) (o : Option Finalize) → Tallied now before touched due sent d
+finalize_out : (now : ℕ) (before : List Fact) (touched : Option ℕ) (due : Due) (sent : List Vote) (d : Doing) (o : Option Finalize) → due.synced ≡ true → Tallied now before touched due sent d
     → Tallied now before touched due (sent ++ votes_of votes.Finalize o) (option_map_or (λ f. send_vote (votes.Finalize f) d) o d)
-finalize_out now before touched due sent d None t = nothing_out now before touched due sent d t
-finalize_out now before touched due sent d (Some f) t = vote_out now before touched due sent d (votes.Finalize f) t
+finalize_out now before touched due sent d None done t = nothing_out now before touched due sent d t
+finalize_out now before touched due sent d (Some f) done t = vote_out now before touched due sent d (votes.Finalize f) done t
 
 pub told_quietly : (now : ℕ) (before : List Fact) (touched : Option ℕ) (due : Due) (sent : List Vote) (made : Made) (d : Doing) (call : state.Call) → IsQuiet call → Tallied now before touched due sent d
     → Tallied now before touched due sent (tell made call d)
@@ -222,46 +246,46 @@ told_quietly now before touched due sent made d call q t =
     tally_known now before touched due sent d.calls d.handed d.added d.desk.known (facts_of made d.desk.known call ++ d.desk.known) (told_quiet made d.desk.known call q) t
 
 -- a certificate is sent and reported
-both_out : (now : ℕ) (before : List Fact) (touched : Option ℕ) (due : Due) (sent : List Vote) (d : Doing) (c : Certificate) (a : Activity) → Tallied now before touched due sent d
+both_out : (now : ℕ) (before : List Fact) (touched : Option ℕ) (due : Due) (sent : List Vote) (d : Doing) (c : Certificate) (a : Activity) → due.synced ≡ true → Tallied now before touched due sent d
     → Tallied now before touched due sent (report a (send_certificate c d))
-both_out now before touched due sent d c a t =
-    tally_plain now before touched due sent (send_certificate c d).calls d.handed d.added d.desk.known (calls.Report a) (tt, refl, refl) (certificate_out now before touched due sent d c t)
+both_out now before touched due sent d c a done t =
+    tally_plain now before touched due sent (send_certificate c d).calls d.handed d.added d.desk.known (calls.Report a) (tt, refl, refl, λ out. done) (certificate_out now before touched due sent d c done t)
 
-notarization_out : (now : ℕ) (before : List Fact) (touched : Option ℕ) (due : Due) (sent : List Vote) (made : Made) (view : ℕ) (d : Doing) → Tallied now before touched due sent d
+notarization_out : (now : ℕ) (before : List Fact) (touched : Option ℕ) (due : Due) (sent : List Vote) (made : Made) (view : ℕ) (d : Doing) → due.synced ≡ true → Tallied now before touched due sent d
     → Tallied now before touched due sent (publish_notarization made view d)
 unfolding publish_notarization
-notarization_out now before touched due sent made view d t = at (unsent_notarization d.desk.known view)
+notarization_out now before touched due sent made view d done t = at (unsent_notarization d.desk.known view)
   where
     told : Tallied now before touched due sent (tell made (state.BroadcastNotarization view) d)
     told = told_quietly now before touched due sent made d (state.BroadcastNotarization view) tt t
 
     at : (o : Option Notarization) → Tallied now before touched due sent (option_map_or (λ n. report (activities.Notarization n) (send_certificate (certificates.Notarization n) (tell made (state.BroadcastNotarization view) d))) o (tell made (state.BroadcastNotarization view) d))
     at None = told
-    at (Some n) = both_out now before touched due sent (tell made (state.BroadcastNotarization view) d) _ _ told
+    at (Some n) = both_out now before touched due sent (tell made (state.BroadcastNotarization view) d) _ _ done told
 
-nullification_out : (now : ℕ) (before : List Fact) (touched : Option ℕ) (due : Due) (sent : List Vote) (made : Made) (view : ℕ) (d : Doing) → Tallied now before touched due sent d
+nullification_out : (now : ℕ) (before : List Fact) (touched : Option ℕ) (due : Due) (sent : List Vote) (made : Made) (view : ℕ) (d : Doing) → due.synced ≡ true → Tallied now before touched due sent d
     → Tallied now before touched due sent (publish_nullification made view d)
 unfolding publish_nullification
-nullification_out now before touched due sent made view d t = at (unsent_nullification d.desk.known view)
+nullification_out now before touched due sent made view d done t = at (unsent_nullification d.desk.known view)
   where
     told : Tallied now before touched due sent (tell made (state.BroadcastNullification view) d)
     told = told_quietly now before touched due sent made d (state.BroadcastNullification view) tt t
 
     at : (o : Option Nullification) → Tallied now before touched due sent (option_map_or (λ n. report (activities.Nullification n) (send_certificate (certificates.Nullification n) (tell made (state.BroadcastNullification view) d))) o (tell made (state.BroadcastNullification view) d))
     at None = told
-    at (Some n) = both_out now before touched due sent (tell made (state.BroadcastNullification view) d) _ _ told
+    at (Some n) = both_out now before touched due sent (tell made (state.BroadcastNullification view) d) _ _ done told
 
-finalization_out : (now : ℕ) (before : List Fact) (touched : Option ℕ) (due : Due) (sent : List Vote) (made : Made) (view : ℕ) (d : Doing) → Tallied now before touched due sent d
+finalization_out : (now : ℕ) (before : List Fact) (touched : Option ℕ) (due : Due) (sent : List Vote) (made : Made) (view : ℕ) (d : Doing) → due.synced ≡ true → Tallied now before touched due sent d
     → Tallied now before touched due sent (publish_finalization made view d)
 unfolding publish_finalization
-finalization_out now before touched due sent made view d t = at (unsent_finalization d.desk.known view)
+finalization_out now before touched due sent made view d done t = at (unsent_finalization d.desk.known view)
   where
     told : Tallied now before touched due sent (tell made (state.BroadcastFinalization view) d)
     told = told_quietly now before touched due sent made d (state.BroadcastFinalization view) tt t
 
     at : (o : Option Finalization) → Tallied now before touched due sent (option_map_or (λ f. report (activities.Finalization f) (send_certificate (certificates.Finalization f) (tell made (state.BroadcastFinalization view) d))) o (tell made (state.BroadcastFinalization view) d))
     at None = told
-    at (Some n) = both_out now before touched due sent (tell made (state.BroadcastFinalization view) d) _ _ told
+    at (Some n) = both_out now before touched due sent (tell made (state.BroadcastFinalization view) d) _ _ done told
 
 update_out : (now : ℕ) (before : List Fact) (touched : Option ℕ) (due : Due) (sent : List Vote) (made : Made) (first : ℕ) (d : Doing) → Tallied now before touched due sent d
     → Tallied now before touched due sent (update_batcher made first d)
@@ -274,11 +298,12 @@ update_out now before touched due sent made first d t = at (nat_lt first (curren
 
 -- ---- the end of a step
 
-pub step_ends : (now : ℕ) (before : List Fact) (made : Made) (first view : ℕ) (d : Doing) (due : Due) → Tallied now before (Some view) due [] d → nullify_waiting d.nullify ≡ due.votes
-    → Tallied now before (Some view) due (due.votes ++ votes_on made d.desk.known view) (end_of_step made now first view d)
+pub step_ends : (now : ℕ) (before : List Fact) (made : Made) (first view : ℕ) (d : Doing) (due : Due) → due.synced ≡ false → Flagged d → Tallied now before (Some view) due [] d → nullify_waiting d.nullify ≡ due.votes
+    → Tallied now before (Some view) (once_synced due) (due.votes ++ votes_on made d.desk.known view) (end_of_step made now first view d)
 unfolding end_of_step votes_on
-step_ends now before made first view d due t waits =
+step_ends now before made first view d due unsaved flag t waits =
     let touched = Some view in
+    let safe = once_synced due in
     let notarize = notarize_at made d.desk.known view in
     let voted = vote_notarize made view d in
     let finalize = finalize_at made voted.desk.known view in
@@ -288,14 +313,14 @@ step_ends now before made first view d due t waits =
     let judged = publish_verdict opened in
     let kept : judged.nullify ≡ d.nullify =
     verdict_keeps opened ∙ sync_keeps view asked ∙ requests_keep made now finalized ∙ finalize_keeps made view voted ∙ notarize_keeps made view d in
-    let stored : Tallied now before touched due [] judged =
-    verdict_out now before touched due [] opened
-    (synced now before view due [] asked
+    let stored : Tallied now before touched safe [] judged =
+    verdict_out now before touched safe [] opened refl
+    (synced now before view due [] asked (requests_flag made now finalized (finalize_flags made view voted (notarize_flags made view d flag)))
     (requests_open now before touched due [] made finalized
-    (finalize_written now before made view due [] voted (notarize_written now before made view due [] d t)))) in
+    (finalize_written now before made view due [] voted unsaved (notarize_written now before made view due [] d unsaved t)))) in
     let out1 = publish_nullify judged in
-    let nullified : Tallied now before touched due due.votes out1 =
-    subst (λ vs. Tallied now before touched due vs out1) (ap nullify_waiting kept ∙ waits) (nullify_out now before touched due [] judged stored) in
+    let nullified : Tallied now before touched safe due.votes out1 =
+    subst (λ vs. Tallied now before touched safe vs out1) (ap nullify_waiting kept ∙ waits) (nullify_out now before touched safe [] judged refl stored) in
     let out2 = option_map_or (λ n. send_vote (votes.Notarize n) out1) notarize out1 in
     let out3 = publish_notarization made view out2 in
     let out4 = publish_nullification made view out3 in
@@ -304,21 +329,21 @@ step_ends now before made first view d due t waits =
     let notarizes = votes_of votes.Notarize notarize in
     let some = due.votes ++ notarizes in
     let all = some ++ votes_of votes.Finalize finalize in
-    let given_up : Tallied now before touched due some out4 =
-    nullification_out now before touched due some made view out3
-    (notarization_out now before touched due some made view out2 (notarize_out now before touched due due.votes out1 notarize nullified)) in
-    subst (λ vs. Tallied now before touched due vs (update_batcher made first out6))
+    let given_up : Tallied now before touched safe some out4 =
+    nullification_out now before touched safe some made view out3 refl
+    (notarization_out now before touched safe some made view out2 refl (notarize_out now before touched safe due.votes out1 notarize refl nullified)) in
+    subst (λ vs. Tallied now before touched safe vs (update_batcher made first out6))
     (append_assoc due.votes notarizes (votes_of votes.Finalize finalize)
     ∙ ap (λ known. due.votes ++ (notarizes ++ votes_of votes.Finalize (finalize_at made known view))) (notarize_counts made view d))
-    (update_out now before touched due all made first out6
-    (finalization_out now before touched due all made view out5 (finalize_out now before touched due some out4 finalize given_up)))
+    (update_out now before touched safe all made first out6
+    (finalization_out now before touched safe all made view out5 refl (finalize_out now before touched safe some out4 finalize refl given_up)))
 
 -- ---- the start of the next iteration
 
-iteration_begins : (now : ℕ) (before : List Fact) (touched : Option ℕ) (due : Due) (sent : List Vote) (made : Made) (d : Doing) → Tallied now before touched due sent d
+iteration_begins : (now : ℕ) (before : List Fact) (touched : Option ℕ) (due : Due) (sent : List Vote) (made : Made) (d : Doing) → due.synced ≡ true → Tallied now before touched due sent d
     → Tallied now before touched due sent (begin_iteration made now d)
 unfolding begin_iteration prune
-iteration_begins now before touched due sent made d t =
+iteration_begins now before touched due sent made d done t =
     let asked = record d { desk = iterated made now d.desk } in
     let known = asked.desk.known in
     let begun = seek asked in
@@ -330,13 +355,16 @@ iteration_begins now before touched due sent made d t =
     at : (b : Doing) → Tallied now before touched due sent b → (o : Option ℕ) → Tallied now before touched due sent (prune_at o (tell made state.Prune b))
     at b ready None = told_quietly now before touched due sent made b state.Prune tt ready
     at b ready (Some least) =
-        tally_plain now before touched due sent b.calls b.handed b.added (tell made state.Prune b).desk.known (calls.Prune least) (tt, refl, refl)
+        tally_plain now before touched due sent b.calls b.handed b.added (tell made state.Prune b).desk.known (calls.Prune least) (tt, refl, refl, λ out. done)
         (told_quietly now before touched due sent made b state.Prune tt ready)
 
-pub step_finishes : (now : ℕ) (before : List Fact) (made : Made) (first : ℕ) (d : Doing) (o : Option ℕ) (due : Due) → Tallied now before o due [] d → nullify_waiting d.nullify ≡ due.votes → (o ≡ None → due.votes ≡ [])
-    → Tallied now before o due (due.votes ++ votes_at_end made (d, o)) (finished made now first (d, o))
+pub step_finishes : (now : ℕ) (before : List Fact) (made : Made) (first : ℕ) (d : Doing) (o : Option ℕ) (due : Due) → due.synced ≡ false → Flagged d → Tallied now before o due [] d → nullify_waiting d.nullify ≡ due.votes → (o ≡ None → due.votes ≡ [])
+    → Tallied now before o (once_synced due) (due.votes ++ votes_at_end made (d, o)) (finished made now first (d, o))
 unfolding finished
-step_finishes now before made first d None due t waits ends =
-    iteration_begins now before None due (due.votes ++ []) made d (subst (λ vs. Tallied now before None due (vs ++ []) d) (sym (ends refl)) t)
-step_finishes now before made first d (Some view) due t waits ends =
-    iteration_begins now before (Some view) due (due.votes ++ votes_on made d.desk.known view) made (end_of_step made now first view d) (step_ends now before made first view d due t waits)
+step_finishes now before made first d None due unsaved flag t waits ends =
+    let none : Tallied now before None due (due.votes ++ []) d = subst (λ vs. Tallied now before None due (vs ++ []) d) (sym (ends refl)) t in
+    iteration_begins now before None (once_synced due) (due.votes ++ []) made d refl
+    (tally_synced now before None due (due.votes ++ []) d.calls d.handed d.added d.desk.known (untouched d.calls t.sections) none)
+step_finishes now before made first d (Some view) due unsaved flag t waits ends =
+    iteration_begins now before (Some view) (once_synced due) (due.votes ++ votes_on made d.desk.known view) made (end_of_step made now first view d) refl
+    (step_ends now before made first view d due unsaved flag t waits)

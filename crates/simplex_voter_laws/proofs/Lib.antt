@@ -1,7 +1,9 @@
 pub mod Quiet
+pub mod Syncing
 pub mod Tallies
 pub mod Ending
 pub mod Acting
 pub mod Stepping
 pub mod Going
 pub mod Wholly
+pub mod Starting

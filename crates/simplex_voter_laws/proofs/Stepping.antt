@@ -1,5 +1,5 @@
 -- A whole step.
-use Rattle.std.proofs.Common.{◌≡◌, ℕ, List, [], ◌++◌, map, All, Option, Some, None, refl, inl, inr, ◌⊎◌, option_to_list, sym, ap, ◌∙◌, subst, append-nil}
+use Rattle.std.proofs.Common.{◌≡◌, ℕ, false, List, [], ◌++◌, map, All, Option, Some, None, refl, inl, inr, ◌⊎◌, option_to_list, sym, ap, ◌∙◌, subst, append-nil}
 use Rattle.std.specs.Option.{option_map, option_map_or, option_and_then}
 use Rattle.std.proofs.lemmas.List.Elements.{filter_map-append}
 use Rattle.simplex_wire.specs.declared.vote.Notarize.{Notarize}
@@ -16,7 +16,9 @@ use Rattle.simplex_voter_laws.specs.Sections.{touched_view, IsOfSection}
 use Rattle.simplex_voter_laws.specs.Votes.{vote_packets, packet_of, constructed_votes, votes_of, votes_on, nullifies, votes_at_end, votes_by_rule}
 use Rattle.simplex_voter_laws.specs.Learned.{lasting, facts_of_step, additions, added_at, publications, publication_of, publications_of}
 use Rattle.simplex_voter_laws.specs.Tidings.{of_proposals, tidings, MayLearn}
-use Rattle.simplex_voter_laws.proofs.Tallies.{Due, Tallied}
+use Rattle.simplex_voter_laws.specs.Syncs.{unsynced}
+use Rattle.simplex_voter_laws.proofs.Tallies.{Due, once_synced, Tallied}
+use Rattle.simplex_voter_laws.proofs.Syncing.{Guarded}
 use Rattle.simplex_voter_laws.proofs.Ending.{step_finishes}
 use Rattle.simplex_voter_laws.proofs.Acting.{some_is, step_acts}
 
@@ -61,6 +63,8 @@ pub record Tells (made : Made) (now : ℕ) (input : VoterInput) (s : Standing) (
   pub learned : MayLearn (tidings s input) (of_proposals s.desk.known) (of_proposals d.desk.known)
   pub packets : vote_packets d.calls ≡ map packet_of (votes_by_rule made now s input)
   pub constructed : constructed_votes d.handed ≡ votes_by_rule made now s input
+  pub guarded : Guarded [] d.calls
+  pub stored : unsynced d.calls ≡ []
   pub outcome : Doing × Option ℕ
   pub votes : votes_by_rule made now s input ≡ nullifies made s.desk.known input ++ votes_at_end made outcome
 
@@ -83,10 +87,10 @@ step_tells made now input s d e = at (acted made now s input) refl e
         let known = s.desk.known in
         let due = nullifies made known input in
         let acts = step_acts now made s input (after, o) f in
-        let had : Due = record { votes = due; learned = acts.learned } in
-        let t : Tallied now known o had (due ++ votes_at_end made (after, o)) d =
-        subst (Tallied now known o had (due ++ votes_at_end made (after, o))) same
-        (step_finishes now known made (current_of made known) after o had acts.tally acts.waits acts.ends) in
+        let had : Due = record { votes = due; learned = acts.learned; synced = false } in
+        let t : Tallied now known o (once_synced had) (due ++ votes_at_end made (after, o)) d =
+        subst (Tallied now known o (once_synced had) (due ++ votes_at_end made (after, o))) same
+        (step_finishes now known made (current_of made known) after o had refl acts.flag acts.tally acts.waits acts.ends) in
         let ruled = votes_are made now s input (after, o) f in
         let all = sym ruled in
         record {
@@ -97,6 +101,8 @@ step_tells made now input s d e = at (acted made now s input) refl e
           learned = may_learn acts.learned (tidings s input) (of_proposals known) (of_proposals d.desk.known) acts.told t.learned;
           packets = t.packets ∙ ap (map packet_of) all;
           constructed = t.constructed ∙ all;
+          guarded = t.guarded;
+          stored = t.stored refl;
           outcome = (after, o);
           votes = ruled;
         }

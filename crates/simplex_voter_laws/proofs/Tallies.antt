@@ -1,5 +1,5 @@
 -- What a step has done so far, read from its calls and its messages.
-use Rattle.std.proofs.Common.{◌≡◌, ℕ, false, cond, option_to_list, List, [], ◌∷◌, ◌++◌, map, filter_map, reverse, All, Option, Some, None, refl, sym, ap, ◌∙◌, append-nil}
+use Rattle.std.proofs.Common.{◌≡◌, ℕ, Bool, true, false, cond, option_to_list, List, [], ◌∷◌, ◌++◌, map, filter_map, reverse, All, Option, Some, None, refl, sym, ap, ◌∙◌, append-nil}
 use Rattle.std.proofs.lemmas.List.{reverse-append, map-append}
 use Rattle.std.proofs.lemmas.List.Elements.{All-push, filter-append, filter_map-append}
 use Rattle.simplex_wire.specs.declared.vote.Vote.{Vote}
@@ -18,16 +18,23 @@ use Rattle.simplex_voter_laws.specs.Sections.{IsOfSection}
 use Rattle.simplex_voter_laws.specs.Votes.{is_vote_packet, vote_packets, packet_of, constructed_vote, constructed_votes}
 use Rattle.simplex_voter_laws.specs.Learned.{lasting, fact_of_record, appended_fact, facts_of_step, additions, added_at, publications, publications_of}
 use Rattle.simplex_voter_laws.specs.Tidings.{of_proposals}
+use Rattle.simplex_voter_laws.specs.Syncs.{unsynced}
 use Rattle.simplex_voter_laws.proofs.Quiet.{Same}
+use Rattle.simplex_voter_laws.proofs.Syncing.{is_outward, Guarded, guards_push, synced_push}
 
--- as a step has acted: the votes that are due to go out, and what it learned of a proposal
+-- as a step has acted: the votes that are due to go out, and what it learned of a proposal; and whether it has synced
 pub record Due : Type 0 where
   pub votes : List Vote
   pub learned : Option Fact
+  pub synced : Bool
 
 -- nothing is
 abbrev pub nothing : Due
-nothing = record { votes = []; learned = None }
+nothing = record { votes = []; learned = None; synced = false }
+
+-- from now on it has synced
+abbrev pub once_synced : Due → Due
+once_synced due = record due { synced = true }
 
 -- so far these votes went out
 pub record Tally (now : ℕ) (before : List Fact) (touched : Option ℕ) (due : Due) (sent : List Vote) (cs : List Call) (hs : List Handed) (added : List Certificate) (known : List Fact) : Type 0 where
@@ -38,6 +45,8 @@ pub record Tally (now : ℕ) (before : List Fact) (touched : Option ℕ) (due : 
   pub learned : of_proposals known ≡ option_to_list due.learned ++ of_proposals before
   pub packets : vote_packets cs ≡ map packet_of sent
   pub constructed : constructed_votes hs ≡ sent
+  pub guarded : Guarded [] cs
+  pub stored : due.synced ≡ true → unsynced cs ≡ []
 
 abbrev pub Tallied : ℕ → List Fact → Option ℕ → Due → List Vote → Doing → Type 0
 Tallied now before touched due sent d = Tally now before touched due sent d.calls d.handed d.added d.desk.known
@@ -74,14 +83,16 @@ tally_known now before touched due sent cs hs added known later same t =
       learned = same.learns ∙ t.learned;
       packets = t.packets;
       constructed = t.constructed;
+      guarded = t.guarded;
+      stored = t.stored;
     }
 
--- a call that appends nothing and sends no vote; a sync is one
-abbrev pub IsPlain : ℕ → Option ℕ → Call → Type 0
-IsPlain now touched c = IsOfSection touched c × (appended_fact now c ≡ None) × (is_vote_packet c ≡ false)
+-- a call that appends nothing and sends no vote; a sync is one. What goes out waits for the sync
+abbrev pub IsPlain : ℕ → Option ℕ → Due → Call → Type 0
+IsPlain now touched due c = IsOfSection touched c × (appended_fact now c ≡ None) × (is_vote_packet c ≡ false) × (is_outward c ≡ true → due.synced ≡ true)
 
 pub tally_plain : (now : ℕ) (before : List Fact) (touched : Option ℕ) (due : Due) (sent : List Vote) (cs : List Call) (hs : List Handed) (added : List Certificate) (known : List Fact) (c : Call)
-    → IsPlain now touched c → Tally now before touched due sent cs hs added known → Tally now before touched due sent (cs ++ c ∷ []) hs added known
+    → IsPlain now touched due c → Tally now before touched due sent cs hs added known → Tally now before touched due sent (cs ++ c ∷ []) hs added known
 tally_plain now before touched due sent cs hs added known c plain t =
     record {
       sections = All-push (IsOfSection touched) cs c t.sections plain.0;
@@ -91,6 +102,8 @@ tally_plain now before touched due sent cs hs added known c plain t =
       learned = t.learned;
       packets = packet_last cs c ∙ ap (λ ps. vote_packets cs ++ ps) (no_packet c plain.2) ∙ append-nil (vote_packets cs) ∙ t.packets;
       constructed = t.constructed;
+      guarded = guards_push cs c t.guarded (λ out. t.stored (plain.3 out));
+      stored = λ e. synced_push now cs c plain.1 (t.stored e);
     }
 
 -- a record of the touched view is appended, and the fact that it tells is known
@@ -101,9 +114,9 @@ pub record Notes (now : ℕ) (known later : List Fact) (artifact : Artifact) : T
   pub learns : of_proposals later ≡ of_proposals known
 
 pub tally_note : (now : ℕ) (before : List Fact) (touched : Option ℕ) (due : Due) (sent : List Vote) (cs : List Call) (hs : List Handed) (added : List Certificate) (known later : List Fact) (artifact : Artifact)
-    → touched ≡ Some (artifact_round artifact).view → Notes now known later artifact → Tally now before touched due sent cs hs added known
+    → due.synced ≡ false → touched ≡ Some (artifact_round artifact).view → Notes now known later artifact → Tally now before touched due sent cs hs added known
     → Tally now before touched due sent (cs ++ calls.Append (artifact_round artifact).view artifact ∷ []) hs added later
-tally_note now before touched due sent cs hs added known later artifact here noted t =
+tally_note now before touched due sent cs hs added known later artifact unsaved here noted t =
     let c = calls.Append (artifact_round artifact).view artifact in
     record {
       sections = All-push (IsOfSection touched) cs c t.sections (here, refl);
@@ -113,6 +126,8 @@ tally_note now before touched due sent cs hs added known later artifact here not
       learned = noted.learns ∙ t.learned;
       packets = packet_last cs c ∙ append-nil (vote_packets cs) ∙ t.packets;
       constructed = t.constructed;
+      guarded = guards_push cs c t.guarded (λ out. cc);
+      stored = λ e. cc (e, unsaved);
     }
 
 -- messages with no own vote are handed on
@@ -127,6 +142,8 @@ tally_hands now before touched due sent cs hs ms added known silent t =
       learned = t.learned;
       packets = t.packets;
       constructed = message_last hs ms ∙ ap (λ vs. constructed_votes hs ++ vs) silent ∙ append-nil (constructed_votes hs) ∙ t.constructed;
+      guarded = t.guarded;
+      stored = t.stored;
     }
 
 pub sought_silent : (sought : List Sought) → constructed_votes (map (λ s. handed.Resolver (resolve_of s)) sought) ≡ []
@@ -135,9 +152,9 @@ sought_silent (s ∷ rest) = sought_silent rest
 
 -- a vote goes out
 pub tally_send : (now : ℕ) (before : List Fact) (touched : Option ℕ) (due : Due) (sent : List Vote) (cs : List Call) (hs : List Handed) (added : List Certificate) (known : List Fact) (v : Vote)
-    → Tally now before touched due sent cs hs added known
+    → due.synced ≡ true → Tally now before touched due sent cs hs added known
     → Tally now before touched due (sent ++ v ∷ []) (cs ++ packet_of v ∷ []) (hs ++ handed.Batcher (batcher.Constructed v) ∷ []) added known
-tally_send now before touched due sent cs hs added known v t =
+tally_send now before touched due sent cs hs added known v synced t =
     let c = packet_of v in
     record {
       sections = All-push (IsOfSection touched) cs c t.sections tt;
@@ -147,4 +164,22 @@ tally_send now before touched due sent cs hs added known v t =
       learned = t.learned;
       packets = packet_last cs c ∙ ap (λ ps. ps ++ c ∷ []) t.packets ∙ sym (map-append packet_of sent (v ∷ []));
       constructed = message_last hs (handed.Batcher (batcher.Constructed v) ∷ []) ∙ ap (λ vs. vs ++ v ∷ []) t.constructed;
+      guarded = guards_push cs c t.guarded (λ out. t.stored synced);
+      stored = λ e. synced_push now cs c refl (t.stored e);
+    }
+
+-- what was appended is synced
+pub tally_synced : (now : ℕ) (before : List Fact) (touched : Option ℕ) (due : Due) (sent : List Vote) (cs : List Call) (hs : List Handed) (added : List Certificate) (known : List Fact)
+    → unsynced cs ≡ [] → Tally now before touched due sent cs hs added known → Tally now before touched (once_synced due) sent cs hs added known
+tally_synced now before touched due sent cs hs added known none t =
+    record {
+      sections = t.sections;
+      written = t.written;
+      new = t.new;
+      published = t.published;
+      learned = t.learned;
+      packets = t.packets;
+      constructed = t.constructed;
+      guarded = t.guarded;
+      stored = λ e. none;
     }

@@ -2,3 +2,4 @@ pub mod Sections
 pub mod Votes
 pub mod Learned
 pub mod Tidings
+pub mod Syncs

@@ -8,6 +8,7 @@ mod knowledge;
 mod performed;
 mod samples;
 mod sections;
+mod syncs;
 mod votes;
 
 pub use knowledge::{
@@ -17,6 +18,10 @@ pub use knowledge::{
 pub use performed::done_steps_give_all;
 pub use samples::a_step_is_read;
 pub use sections::steps_write_to_one_section;
+pub use syncs::{
+    prunes_follow_syncs, reports_follow_syncs, sends_follow_syncs, starts_send_nothing,
+    steps_end_synced,
+};
 pub use votes::{
     nullifies_are_of_timer_steps, one_nullify_at_most, own_votes_are_by_rule,
     sent_votes_are_by_rule,
