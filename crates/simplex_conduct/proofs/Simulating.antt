@@ -7,6 +7,7 @@ use Rattle.simplex_values.specs.declared.plan.Recipients.{Recipients}
 use Rattle.simplex_values.specs.declared.plan.Recipients.TheVariants as recipients
 use Rattle.simplex_values.specs.declared.proposal.Subject.{Subject}
 use Rattle.simplex_values.specs.declared.proposal.Subject.TheVariants as subjects
+use Rattle.simplex_wire.specs.declared.vote.Nullify.{Nullify}
 use Rattle.simplex_wire.specs.declared.vote.Vote.{Vote}
 use Rattle.simplex_wire.specs.declared.vote.Vote.TheVariants as votes
 use Rattle.simplex_wire.specs.declared.artifact.Artifact.{Artifact}
@@ -26,7 +27,7 @@ use Rattle.simplex_lives.specs.Votes.{MayVote}
 use Rattle.simplex_lives.proofs.CallFacts.{IsLegal-append}
 use Rattle.simplex_lives.proofs.JournalFacts.{prune_waiting}
 use Rattle.simplex_conduct.specs.Life.{memory_of, remembered, IsInOrder, IsEarlier}
-use Rattle.simplex_conduct.specs.Storing.{record_of_vote, IsStored, AreStoredFirst}
+use Rattle.simplex_conduct.specs.Storing.{record_of_vote, IsStored, IsRepeated, AreStoredFirst}
 use Rattle.simplex_conduct.proofs.Facts.{SameMemory}
 use Rattle.simplex_conduct.proofs.Journals.{memory_view}
 use Rattle.simplex_conduct.proofs.Living.{noting, doing_of, doings, doings-append, behind, behind-append, IsFit, AreFit, AreFit-append, subjects_of, SendsNext, Sends, Sends-append}
@@ -76,12 +77,12 @@ pub record IsAppended (v : Vote) (cs : List Call) : Type 0 where
   pub behind : List Call
   pub place : cs ≡ before ++ (calls.Append (artifact_round (record_of_vote v)).view (record_of_vote v) ∷ behind)
 
--- it is so in this view's section, or the vote was made before
+-- it is so in this view's section, or the vote is a nullify that was made before
 abbrev pub IsNoted : Member → ℕ → List Call → Vote → Type 0
-IsNoted m view cs v = IsEarlier m v ⊎ (IsAppended v cs × ((artifact_round (record_of_vote v)).view ≡ view))
+IsNoted m view cs v = IsRepeated (IsEarlier m) v ⊎ (IsAppended v cs × ((artifact_round (record_of_vote v)).view ≡ view))
 
 abbrev pub IsKept : Member → List Call → Vote → Type 0
-IsKept m cs v = IsStored (record_of_vote v) cs ⊎ IsEarlier m v
+IsKept m cs v = IsStored (record_of_vote v) cs ⊎ IsRepeated (IsEarlier m) v
 
 abbrev pub AllNoted : Member → ℕ → List Call → List Vote → Type 0
 AllNoted m view cs [] = Unit {0}
@@ -174,7 +175,7 @@ first_push m cs c stored may before behind to bytes e =
 in_all : (cs before : List Call) (x : Call) (behind : List Call) (k : ℕ) → take k cs ≡ before ++ (x ∷ behind) → cs ≡ before ++ (x ∷ (behind ++ drop k cs))
 in_all cs before x behind k e = sym (take-append-drop k cs) ∙ ap (λ xs. xs ++ drop k cs) e ∙ append_assoc before (x ∷ behind) (drop k cs)
 
-pub first_take : (Earlier : Vote → Type 0) (k : ℕ) (cs : List Call) → AreStoredFirst Earlier cs → AreStoredFirst Earlier (take k cs)
+pub first_take : (Earlier : Nullify → Type 0) (k : ℕ) (cs : List Call) → AreStoredFirst Earlier cs → AreStoredFirst Earlier (take k cs)
 first_take Earlier k cs stored before behind to bytes e =
     stored before (behind ++ drop k cs) to bytes (in_all cs before (calls.Send channels.Vote to bytes) behind k e)
 

@@ -17,7 +17,7 @@ use Rattle.simplex_rules.specs.Known as rules
 use Rattle.simplex_steps.specs.Desk.{Doing}
 use Rattle.simplex_steps.specs.Performed.{stop_place, after_calls, after_failing, failing_at, whole, broken, performed}
 use Rattle.simplex_agreement.specs.World.{Sent}
-use Rattle.simplex_wire.specs.Fields.{vote_subject}
+use Rattle.simplex_values.specs.declared.proposal.Subject.TheVariants as subjects
 use Rattle.simplex_lives.specs.Artifacts as member
 use Rattle.simplex_lives.specs.Journal as kept
 use Rattle.simplex_lives.specs.Member as life
@@ -218,7 +218,7 @@ ended_at made m first stop keep cs place facts js legal quiet ready sim =
     }
 
 earlier_is : (m n : Member) (cs : List Call) → n.known ≡ m.known → AreStoredFirst (IsEarlier n) cs → AreStoredFirst (IsEarlier m) cs
-earlier_is m n cs e = subst (λ known. AreStoredFirst (λ v. Contains known (member.Own (vote_subject v)) × (member.last_finalized known < member.subject_view (vote_subject v))) cs) e
+earlier_is m n cs e = subst (λ known. AreStoredFirst (λ v. Contains known (member.Own (subjects.Nullify v.round)) × (member.last_finalized known < v.round.view)) cs) e
 
 broken_by : (made : rules.Made) (m : Member) (first : List life.Call) (stop : Stop) (d : Doing) (js : List Section) (place : ℕ)
     → IsLegal made.term_length m first → life.brought first ≡ [] → (run m first).known ≡ m.known → (run m first).sent ≡ m.sent → Ready made js (run m first)

@@ -126,9 +126,9 @@ abbrev pub AreVotesSent : List Sent → List Handed → Type 0
 AreVotesSent sent [] = Unit {0}
 AreVotesSent sent (h ∷ rest) = IsVoteSent sent h × AreVotesSent sent rest
 
--- a vote that the member made before, for a view above all that is final
-abbrev pub IsEarlier : Member → Vote → Type 0
-IsEarlier m v = Contains m.known (member.Own (vote_subject v)) × (member.last_finalized m.known < member.subject_view (vote_subject v))
+-- a nullify that the member made before, for a view above all that is final
+abbrev pub IsEarlier : Member → Nullify → Type 0
+IsEarlier m v = Contains m.known (member.Own (subjects.Nullify v.round)) × (member.last_finalized m.known < v.round.view)
 
 -- where the member is behind a step: it runs where the step was made whole, and does not where a stop ended it
 abbrev pub IsLeft : Made → List Fact → Outcome → List Section → Member → Type 0

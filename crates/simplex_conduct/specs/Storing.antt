@@ -4,6 +4,7 @@ use Rattle.simplex_values.specs.declared.plan.Channel.TheVariants as channels
 use Rattle.simplex_values.specs.declared.plan.Recipients.{Recipients}
 use Rattle.simplex_wire.specs.declared.artifact.Artifact.{Artifact}
 use Rattle.simplex_wire.specs.declared.artifact.Artifact.TheVariants as artifacts
+use Rattle.simplex_wire.specs.declared.vote.Nullify.{Nullify}
 use Rattle.simplex_wire.specs.declared.vote.Vote.{Vote}
 use Rattle.simplex_wire.specs.declared.vote.Vote.TheVariants as votes
 use Rattle.simplex_wire.specs.Fields.{artifact_round}
@@ -24,9 +25,15 @@ pub record IsStored (artifact : Artifact) (made : List Call) : Type 0 where
   pub behind : List Call
   pub place : made ≡ before ++ (calls.Append (artifact_round artifact).view artifact ∷ (between ++ (calls.Sync (artifact_round artifact).view ∷ behind)))
 
--- Whatever goes out on the vote channel is a vote that was appended and synced before it among these calls, or one of
--- those that were made in an earlier step
-abbrev pub AreStoredFirst : (Vote → Type 0) → List Call → Type 0
+-- the vote is a nullify, and one of these
+abbrev pub IsRepeated : (Nullify → Type 0) → Vote → Type 0
+IsRepeated Earlier (votes.Notarize v) = ⊥
+IsRepeated Earlier (votes.Nullify v) = Earlier v
+IsRepeated Earlier (votes.Finalize v) = ⊥
+
+-- Whatever goes out on the vote channel is a vote that was appended and synced before it among these calls, or a
+-- nullify that was made in an earlier step
+abbrev pub AreStoredFirst : (Nullify → Type 0) → List Call → Type 0
 AreStoredFirst Earlier made =
     (before behind : List Call) (to : Recipients) (bytes : List ℕ) → made ≡ before ++ (calls.Send channels.Vote to bytes ∷ behind)
-    → (v : Vote) × (bytes ≡ format.vote.spelling v) × (IsStored (record_of_vote v) before ⊎ Earlier v)
+    → (v : Vote) × (bytes ≡ format.vote.spelling v) × (IsStored (record_of_vote v) before ⊎ IsRepeated Earlier v)

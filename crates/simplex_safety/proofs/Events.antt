@@ -1,6 +1,6 @@
 -- What the member lives in each kind of event of its node.
 use Rattle.simplex_values.specs.declared.plan.Channel.TheVariants as channels
-use Rattle.std.proofs.Common.{◌≡◌, ℕ, zero, suc, ◌-◌, ◌<◌, ◌==◌, ◌&&◌, nat_lt, nat_le, Bool, true, false, List, [], ◌∷◌, ◌++◌, length, map, take, Contains, Option, Some, None, refl, sym, ap, ◌∙◌, subst, inl, inr, arith, append-nil, if◌then◌else◌}
+use Rattle.std.proofs.Common.{◌≡◌, ℕ, zero, suc, ◌-◌, ◌<◌, ◌==◌, ◌&&◌, nat_lt, nat_le, Bool, true, false, List, [], ◌∷◌, ◌++◌, length, take, Contains, Option, Some, None, refl, sym, ap, ◌∙◌, subst, inl, inr, arith, append-nil, if◌then◌else◌}
 use Rattle.std.specs.Option.{option_map, option_map_or}
 use Rattle.std.specs.List.{filter_map}
 use Rattle.std.proofs.lemmas.Grind.{common_steps}
@@ -11,10 +11,9 @@ use Rattle.simplex_types.specs.declared.floor.Floor.{Floor}
 use Rattle.simplex_rules.specs.Known.{Made, Fact}
 use Rattle.simplex_rules.specs.Views.{current_of}
 use Rattle.simplex_journal.specs.Journal.{Section, replayed, crashed}
-use Rattle.simplex_journal.specs.Contents as journal
 use Rattle.simplex_journal.proofs.Contents.{crashed-rested}
 use Rattle.simplex_values.specs.declared.plan.Recipients.{Recipients}
-use Rattle.simplex_wire.specs.declared.vote.Vote.{Vote}
+use Rattle.simplex_wire.specs.declared.vote.Nullify.{Nullify}
 use Rattle.simplex_messages.specs.declared.call.Call.{Call}
 use Rattle.simplex_messages.specs.declared.call.Call.TheVariants as calls
 use Rattle.simplex_messages.specs.declared.batcher.BatcherInput.{BatcherInput}
@@ -63,7 +62,7 @@ use Rattle.simplex_safety.specs.Sayings.{Each, InMessage, InRecord, InFloor}
 use Rattle.simplex_safety.proofs.Telling.{started_says, said_at_start}
 use Rattle.simplex_safety.specs.Histories.{IsAt, floor_in}
 use Rattle.simplex_safety.proofs.Quiet.{batcher_hush, batcher_plain, for_voter_silent}
-use Rattle.simplex_safety.proofs.Further.{Further, subjects_of, same_self, stopped_any}
+use Rattle.simplex_safety.proofs.Further.{Further, subjects_of, same_self, stopped_any, at_rest}
 
 -- ---- what an outcome is
 
@@ -102,7 +101,7 @@ start_reads (stops.Fail call keep) floor d js e = at (call == 1) e
 
 -- ---- where no vote goes out
 
-no_vote : (Earlier : Vote → Type 0) (cs before behind : List Call) (to : Recipients) (bytes : List ℕ) → AreSent cs [] → cs ≡ before ++ (calls.Send channels.Vote to bytes ∷ behind) → ⊥
+no_vote : (Earlier : Nullify → Type 0) (cs before behind : List Call) (to : Recipients) (bytes : List ℕ) → AreSent cs [] → cs ≡ before ++ (calls.Send channels.Vote to bytes ∷ behind) → ⊥
 unfolding AreSent
 no_vote Earlier cs before behind to bytes h e = at before (subst (λ xs. AreSent xs []) e h)
   where
@@ -118,7 +117,7 @@ no_vote Earlier cs before behind to bytes h e = at before (subst (λ xs. AreSent
     at (calls.Relay payload plan ∷ xs) k = at xs k
     at (calls.Block who ∷ xs) k = at xs k
 
-voteless_first : (Earlier : Vote → Type 0) (cs : List Call) → AreSent cs [] → AreStoredFirst Earlier cs
+voteless_first : (Earlier : Nullify → Type 0) (cs : List Call) → AreSent cs [] → AreStoredFirst Earlier cs
 voteless_first Earlier cs h before behind to bytes e = absurd (no_vote Earlier cs before behind to bytes h e)
 
 -- ---- a start
@@ -275,21 +274,6 @@ quiet_at setup node made did past m e f a =
       subst (λ v. IsRunning v.rules (place_of v (voter_past (did ∷ past))).standing.desk.known (place_of v (voter_past (did ∷ past))).sections m) (sym p.0)
           (subst (λ given. IsRunning (voter_in made past).rules (place_of (voter_in made past) given).standing.desk.known (place_of (voter_in made past) given).sections m) (sym p.1) a.1),
     )
-
-none_left : {X : Type 0} (xs ys : List X) → xs ++ ys ≡ [] → (xs ≡ []) × (ys ≡ [])
-none_left [] ys e = (refl, e)
-none_left (x ∷ xs) ys e = cc
-
-map_none : {A B : Type 0} (f : A → B) (xs : List A) → map f xs ≡ [] → xs ≡ []
-map_none f [] e = refl
-map_none f (x ∷ xs) e = cc
-
-at_rest : (js : List Section) → kept.waiting (journal_of js) ≡ [] → journal.waiting js ≡ []
-unfolding journal_of journal.waiting
-at_rest [] e = refl
-at_rest (s ∷ rest) e =
-    let p = none_left (map memory_of s.pending) (kept.waiting (map section_of rest)) e in
-    ap (λ xs. xs ++ journal.waiting rest) (map_none memory_of s.pending p.0) ∙ at_rest rest p.1
 
 -- a member that stops between two steps keeps its journal
 pub rest_stopped : (made : Made) (facts : List Fact) (js : List Section) (m : Member) → IsRunning made facts js m → IsStopped made js (happens m (life.Crash (λ view. 0)))

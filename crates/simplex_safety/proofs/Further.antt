@@ -1,17 +1,20 @@
 -- One more event of a node, and what its member lives in it.
-use Rattle.std.proofs.Common.{◌<◌}
 use Rattle.simplex_run.specs.Life.{Stopped, Running, sections_in}
 use Rattle.simplex_steps.specs.VoterLife.{place_of}
 use Rattle.simplex_steps.specs.Engine.{voter_in, voter_past, sections_of}
-use Rattle.simplex_wire.specs.Fields.{vote_subject}
+use Rattle.simplex_wire.specs.declared.vote.Nullify.{Nullify}
 use Rattle.simplex_wire.specs.declared.vote.Vote.{Vote}
+use Rattle.simplex_wire.specs.declared.vote.Vote.TheVariants as votes
 use Rattle.simplex_wire.specs.declared.artifact.Artifact.{Artifact}
-use Rattle.std.proofs.Common.{◌≡◌, ℕ, ◌==◌, ◌&&◌, Bool, true, false, List, [], ◌∷◌, ◌++◌, map, Contains, refl, sym, ap, ◌∙◌, subst, inl, inr, ◌⊎◌, arith, append_assoc, eqb-true, eq-eqb, if◌then◌else◌}
+use Rattle.simplex_wire.specs.declared.artifact.Artifact.TheVariants as artifacts
+use Rattle.std.proofs.Common.{◌≡◌, ℕ, ◌<◌, ◌==◌, ◌&&◌, Bool, true, false, List, [], ◌∷◌, ◌++◌, map, Contains, refl, sym, ap, ◌∙◌, subst, inl, inr, ◌⊎◌, arith, append_assoc, eqb-true, eq-eqb, if◌then◌else◌}
 use Rattle.std.proofs.lemmas.Grind.{common_steps}
 use Rattle.std.proofs.lemmas.List.{map-append}
 use Rattle.std.proofs.lemmas.List.Elements.{Contains-append_left, Contains-append_right, Contains-append_cases}
 use Rattle.simplex_values.specs.declared.plan.Channel.TheVariants as channels
 use Rattle.simplex_values.specs.declared.proposal.Subject.{Subject}
+use Rattle.simplex_values.specs.declared.proposal.Subject.TheVariants as subjects
+use Rattle.simplex_values.specs.declared.round.Round.{Round}
 use Rattle.simplex_transcript.specs.declared.node.Node.{Node}
 use Rattle.simplex_transcript.specs.declared.setup.Setup.{Setup}
 use Rattle.simplex_messages.specs.declared.call.Call.{Call}
@@ -19,6 +22,8 @@ use Rattle.simplex_messages.specs.declared.call.Call.TheVariants as calls
 use Rattle.simplex_run.specs.Life.{Noted, Life, is_of, after, life_in}
 use Rattle.simplex_run.specs.Members.{is_same_node, rules_of}
 use Rattle.simplex_journal.specs.Journal.{Section, replayed}
+use Rattle.simplex_journal.specs.Contents as journal
+use Rattle.simplex_journal.proofs.Contents.{kept-rested}
 use Rattle.simplex_agreement.specs.World as agreement
 use Rattle.simplex_agreement.specs.World.{Sent}
 use Rattle.simplex_lives.specs.Artifacts as member
@@ -29,8 +34,8 @@ use Rattle.simplex_lives.proofs.Invariant.{Lives, Lives-run, Lives-newborn}
 use Rattle.simplex_lives.proofs.JournalFacts.{held_kept}
 use Rattle.simplex_agreement.proofs.ListFacts.{not_in_empty, Contains-here, Contains-there, Contains-cons_cases}
 use Rattle.simplex_lives.proofs.CallFacts.{run-append, IsLegal-append, brought-append}
-use Rattle.simplex_conduct.specs.Life.{memory_of, journal_of, certificate_in, taken, AreSent, AreVotesSent, IsEarlier, IsStopped}
-use Rattle.simplex_conduct.specs.Storing.{AreStoredFirst}
+use Rattle.simplex_conduct.specs.Life.{memory_of, section_of, journal_of, certificate_in, taken, AreSent, AreVotesSent, IsEarlier, IsStopped}
+use Rattle.simplex_conduct.specs.Storing.{IsRepeated, AreStoredFirst}
 use Rattle.simplex_conduct.proofs.Constructing.{AreVotesSent-more}
 use Rattle.simplex_conduct.proofs.Replaying.{kept_is}
 use Rattle.simplex_safety.specs.Histories.{calls_of, floor_in, floors_of, IsAt, IsHeld, AreStored, AreConstructed, IsLivedBy}
@@ -128,11 +133,44 @@ from_map (y ∷ ys) x c =
       | inr r ↦ (let p = from_map ys x r in (p.0, Contains-there y ys p.0 p.1, p.2))
     ]
 
-held_vote : (length : ℕ) (js : List Section) (m : Member) (v : Vote) → Lives length m → m.up ≡ true → m.journal ≡ journal_of js → kept.waiting m.journal ≡ [] → IsEarlier m v → IsHeld js v
+-- the record of an own nullify
+own_nullify : (a : Artifact) (round : Round) → memory_of a ≡ member.Own (subjects.Nullify round) → (w : Nullify) × (a ≡ artifacts.Nullify w) × (w.round ≡ round)
+own_nullify (artifacts.Nullify w) round e = (w, refl, cc)
+own_nullify (artifacts.Notarize v) round e = cc
+own_nullify (artifacts.Finalize v) round e = cc
+own_nullify (artifacts.Notarization c) round e = cc
+own_nullify (artifacts.Nullification c) round e = cc
+own_nullify (artifacts.Finalization c) round e = cc
+own_nullify (artifacts.Certification r good) round e = cc
+
+none_left : {X : Type 0} (xs ys : List X) → xs ++ ys ≡ [] → (xs ≡ []) × (ys ≡ [])
+none_left [] ys e = (refl, e)
+none_left (x ∷ xs) ys e = cc
+
+map_none : {A B : Type 0} (f : A → B) (xs : List A) → map f xs ≡ [] → xs ≡ []
+map_none f [] e = refl
+map_none f (x ∷ xs) e = cc
+
+pub at_rest : (js : List Section) → kept.waiting (journal_of js) ≡ [] → journal.waiting js ≡ []
+unfolding journal_of journal.waiting
+at_rest [] e = refl
+at_rest (s ∷ rest) e =
+    let p = none_left (map memory_of s.pending) (kept.waiting (map section_of rest)) e in
+    ap (λ xs. xs ++ journal.waiting rest) (map_none memory_of s.pending p.0) ∙ at_rest rest p.1
+
+held_vote : (length : ℕ) (js : List Section) (m : Member) (v : Nullify) → Lives length m → m.up ≡ true → m.journal ≡ journal_of js → kept.waiting m.journal ≡ [] → IsEarlier m v → IsHeld js v
 held_vote length js m v l up journal rest e =
-    let stands = (l.running up).knowing.stands (member.Own (vote_subject v)) e.0 e.1 in
-    from_map (replayed js) (member.Own (vote_subject v))
-    (kept_in js (member.Own (vote_subject v)) (ap kept.waiting (sym journal) ∙ rest) (subst (λ j. Contains (kept.held j) (member.Own (vote_subject v))) journal stands))
+    let own = member.Own (subjects.Nullify v.round) in
+    let still = ap kept.waiting (sym journal) ∙ rest in
+    let stands = subst (λ j. Contains (kept.held j) own) journal ((l.running up).knowing.stands own e.0 e.1) in
+    let found = from_map (replayed js) own (kept_in js own still stands) in
+    let w = own_nullify found.0 v.round found.2 in
+    (w.0, w.2, subst (λ xs. Contains xs (artifacts.Nullify w.0)) (sym (kept-rested js (at_rest js still))) (subst (Contains (replayed js)) w.1 found.1))
+
+repeated_weaker : (P Q : Nullify → Type 0) → ((v : Nullify) → P v → Q v) → (v : Vote) → IsRepeated P v → IsRepeated Q v
+repeated_weaker P Q f (votes.Nullify v) h = f v h
+repeated_weaker P Q f (votes.Notarize v) h = absurd h
+repeated_weaker P Q f (votes.Finalize v) h = absurd h
 
 -- a member that is down knows nothing that it made
 first_held : (setup : Setup) (node : Node) (l : Life) (m : Member) (length : ℕ) (cs : List Call) → Lives length m → IsAt setup node l m → AreStoredFirst (IsEarlier m) cs
@@ -140,14 +178,18 @@ first_held : (setup : Setup) (node : Node) (l : Life) (m : Member) (length : ℕ
 unfolding IsAt sections_of
 first_held setup node (Stopped sections) m length cs lives at first before behind to bytes e =
     let x = first before behind to bytes e in
-    (x.0, x.1, elim x.2 [ inl s ↦ inl s | inr k ↦ absurd (not_in_empty _ (subst (λ xs. Contains xs (member.Own (vote_subject x.0))) at.blank k.0)) ])
+    (x.0, x.1, elim x.2 [ inl s ↦ inl s | inr k ↦ inr (repeated_weaker (IsEarlier m) (IsHeld sections) nothing x.0 k) ])
+  where
+    nothing : (v : Nullify) → IsEarlier m v → IsHeld sections v
+    nothing v k = absurd (not_in_empty _ (subst (λ xs. Contains xs (member.Own (subjects.Nullify v.round))) at.blank k.0))
 first_held setup node (Running made past) m length cs lives at first before behind to bytes e =
+    let js = (place_of (voter_in made past) (voter_past past)).sections in
     let x = first before behind to bytes e in (
       x.0,
       x.1,
       elim x.2 [
         | inl s ↦ inl s
-        | inr k ↦ inr (held_vote length (place_of (voter_in made past) (voter_past past)).sections m x.0 lives at.1.up at.1.journal at.1.stored k)
+        | inr k ↦ inr (repeated_weaker (IsEarlier m) (IsHeld js) (λ v. held_vote length js m v lives at.1.up at.1.journal at.1.stored) x.0 k)
       ],
     )
 

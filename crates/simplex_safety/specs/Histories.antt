@@ -1,6 +1,6 @@
 -- What a node did in a run, and the member whose life that is.
-use Rattle.simplex_wire.specs.declared.artifact.Artifact.{Artifact}
-use Rattle.simplex_wire.specs.declared.vote.Vote.{Vote}
+use Rattle.simplex_wire.specs.declared.artifact.Artifact.TheVariants as artifacts
+use Rattle.simplex_wire.specs.declared.vote.Nullify.{Nullify}
 use Rattle.std.specs.Prelude.{true, ℕ, ◌≡◌, ◌<◌, ◌++◌, ◌⊎◌, List, [], ◌∷◌, map, Contains, Ok, Some, if◌then◌else◌}
 use Rattle.simplex_wire.specs.declared.certificate.Certificate.TheVariants as certificates
 use Rattle.simplex_transcript.specs.declared.event.Event.{Event}
@@ -10,18 +10,17 @@ use Rattle.simplex_transcript.specs.declared.setup.Setup.{Setup}
 use Rattle.simplex_messages.specs.declared.call.Call.{Call}
 use Rattle.simplex_steps.specs.VoterLife.{place_of}
 use Rattle.simplex_steps.specs.Engine.{voter_in, voter_past}
-use Rattle.simplex_wire.specs.Fields.{vote_subject}
-use Rattle.simplex_journal.specs.Journal.{Section, replayed}
+use Rattle.simplex_journal.specs.Journal.{Section}
+use Rattle.simplex_journal.specs.Contents as journal
 use Rattle.simplex_rules.specs.Known.{view_of}
 use Rattle.simplex_run.specs.Life.{Noted, Life, Stopped, Running, is_of, life_in, sections_in}
 use Rattle.simplex_run.specs.Members.{is_same_node, rules_of}
 use Rattle.simplex_run.specs.Entries.{entry_of}
 use Rattle.simplex_agreement.specs.World as agreement
 use Rattle.simplex_agreement.specs.World.{Sent}
-use Rattle.simplex_lives.specs.Artifacts as member
 use Rattle.simplex_lives.specs.Member as life
 use Rattle.simplex_lives.specs.Member.{Member, newborn}
-use Rattle.simplex_conduct.specs.Life.{statement_of, memory_of, taken, AreSent, AreVotesSent, IsRunning, IsStopped}
+use Rattle.simplex_conduct.specs.Life.{statement_of, taken, AreSent, AreVotesSent, IsRunning, IsStopped}
 use Rattle.simplex_conduct.specs.Storing.{AreStoredFirst}
 
 -- entries of a run, the newest first: each is what its event makes of those before it
@@ -59,12 +58,12 @@ IsAt setup node (Running made past) m =
     ((start : ℕ) → (made.voter start).rules ≡ rules_of setup node.member start)
     × IsRunning (voter_in made past).rules (place_of (voter_in made past) (voter_past past)).standing.desk.known (place_of (voter_in made past) (voter_past past)).sections m
 
--- the node's journal holds an own vote like this
-abbrev pub IsHeld : List Section → Vote → Type 0
-IsHeld sections v = (a : Artifact) × Contains (replayed sections) a × (memory_of a ≡ member.Own (vote_subject v))
+-- a nullify of this round stands in the journal, synced
+abbrev pub IsHeld : List Section → Nullify → Type 0
+IsHeld sections v = (w : Nullify) × (w.round ≡ v.round) × Contains (journal.kept sections) (artifacts.Nullify w)
 
 -- In each event of the node whatever went out on the vote channel is a vote that was appended and synced before it in
--- this event, or one that its journal held, synced, before the event
+-- this event, or a nullify again: one of its round stood in the node's journal, synced, before the event
 unfoldable pub AreStored : Setup → Node → List Noted → Type 0
 AreStored setup node [] = Unit {0}
 AreStored setup node (noted ∷ before) =
