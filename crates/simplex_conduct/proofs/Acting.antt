@@ -45,7 +45,7 @@ use Rattle.simplex_journal.specs.Journal.{Section}
 use Rattle.simplex_conduct.specs.Life.{statement_of, memory_of, remembered, IsInOrder, IsRunning}
 use Rattle.simplex_conduct.proofs.Remembering.{in_memory, one_passes}
 use Rattle.simplex_conduct.proofs.Voting.{may_nullify, taken_is, notarization_view_of}
-use Rattle.simplex_conduct.proofs.Facts.{told_quiet, IsQuiet, Quiet, Quiet-triggered, quiet_memory, quiet_order, one_more}
+use Rattle.simplex_conduct.proofs.Facts.{told_quiet, IsQuiet, Quiet, Quiet-triggered, quiet_memory, quiet_order, one_more, quiet_same}
 use Rattle.simplex_conduct.proofs.Living.{subjects_of}
 use Rattle.simplex_conduct.proofs.Simulating.{Writes, Stores, IsPlain, nothing_first, only_from, writes_known, writes_plain, writes_note}
 use Rattle.simplex_conduct.proofs.Publishing.{Writing, Storing, nullify_waiting, remembered_push}
@@ -396,7 +396,7 @@ repeat_touches made m now desk sections n low r e f =
       journal = refl;
       touched = subst (λ facts. Writes made again view [] false (facts ++ known) (votes.Nullify n ∷ [])) (sym same)
           (writes_known made again view [] false known (Published view now ∷ known) (votes.Nullify n ∷ [])
-          (record { memory = quiet_memory (Published view now ∷ []) known (refl, tt); order = quiet_order made (Published view now ∷ []) known (refl, tt) })
+          (quiet_same made (Published view now ∷ []) known (refl, tt))
           (record {
             sim = record { legal = tt; up = r.up; memory = r.memory; order = r.order; box = ap (λ box. subjects_of (box ++ record { subject = subjects.Nullify n.round; known = member.certificates m.known } ∷ [])) r.outbox; fit = tt; sends = tt; first = nothing_first again };
             only = only_from view m.journal r.stored;

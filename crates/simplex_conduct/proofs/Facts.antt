@@ -1,5 +1,5 @@
 -- What a call on the state adds to what is remembered.
-use Rattle.std.proofs.Common.{◌≡◌, ℕ, ◌||◌, not, Bool, true, false, nat_lt, option_to_list, List, [], ◌∷◌, ◌++◌, map, fold, Option, Some, None, refl, sym, ap, ◌∙◌, subst, inl, inr, arith, append-nil, if◌then◌else◌}
+use Rattle.std.proofs.Common.{◌≡◌, ℕ, ◌||◌, not, Bool, true, false, nat_lt, option_to_list, List, [], ◌∷◌, ◌++◌, map, fold, Contains, Option, Some, None, refl, sym, ap, ◌∙◌, subst, inl, inr, arith, append-nil, if◌then◌else◌}
 use Rattle.std.specs.Option.{is_some, is_none, option_or, option_map_or}
 use Rattle.std.proofs.lemmas.Grind.{common_steps}
 use Rattle.simplex_values.specs.declared.proposal.Proposal.{Proposal}
@@ -7,6 +7,7 @@ use Rattle.simplex_values.specs.declared.timeout.TimeoutReason.{TimeoutReason}
 use Rattle.simplex_values.specs.declared.timeout.TimeoutReason.TheVariants.{MissingProposal}
 use Rattle.simplex_wire.specs.declared.vote.Vote.TheVariants as votes
 use Rattle.simplex_wire.specs.declared.vote.Nullify.{Nullify}
+use Rattle.simplex_wire.specs.declared.certificate.Certificate.{Certificate}
 use Rattle.simplex_wire.specs.declared.certificate.Notarization.{Notarization}
 use Rattle.simplex_rules.specs.declared.request.Verify.{Verify}
 use Rattle.simplex_rules.specs.declared.request.Verify.TheVariants.{Ready, Resolve, Wait}
@@ -84,6 +85,14 @@ pub quiet_order : (made : Made) (facts known : List Fact) → Quiet facts → Is
 quiet_order made [] known q order = order
 quiet_order made (fact ∷ rest) known q order = one_more made (rest ++ known) fact (quiet_fits made (rest ++ known) fact q.0) (quiet_order made rest known q.1 order)
 
+quiet_added : (facts known : List Fact) → Quiet facts → (c : Certificate) (now : ℕ) → Contains (facts ++ known) (Added c now) → Contains known (Added c now)
+quiet_added [] known q c now h = h
+quiet_added (fact ∷ rest) known q c now h =
+    elim (Contains-cons_cases fact (rest ++ known) (Added c now) h) [
+      | inl same ↦ (let is = ap noted same in cc (q.0, is))
+      | inr there ↦ quiet_added rest known q.1 c now there
+    ]
+
 Quiet-append : (xs ys : List Fact) → Quiet xs → Quiet ys → Quiet (xs ++ ys)
 Quiet-append [] ys p q = q
 Quiet-append (x ∷ xs) ys p q = (p.0, Quiet-append xs ys p.1 q)
@@ -157,16 +166,20 @@ quiet_facts made known (ConstructFinalize view) q = absurd q
 pub record SameMemory (made : Made) (before after : List Fact) : Type 0 where
   pub memory : remembered after ≡ remembered before
   pub order : IsInOrder made before → IsInOrder made after
+  pub added : (c : Certificate) (now : ℕ) → Contains after (Added c now) → Contains before (Added c now)
 
 pub same_memory : (made : Made) (known : List Fact) → SameMemory made known known
-same_memory made known = record { memory = refl; order = λ o. o }
+same_memory made known = record { memory = refl; order = λ o. o; added = λ c now h. h }
 
 pub same_then : (made : Made) (a b c : List Fact) → SameMemory made a b → SameMemory made b c → SameMemory made a c
-same_then made a b c p q = record { memory = q.memory ∙ p.memory; order = λ o. q.order (p.order o) }
+same_then made a b c p q = record { memory = q.memory ∙ p.memory; order = λ o. q.order (p.order o); added = λ c now h. p.added c now (q.added c now h) }
+
+pub quiet_same : (made : Made) (facts known : List Fact) → Quiet facts → SameMemory made known (facts ++ known)
+quiet_same made facts known q = record { memory = quiet_memory facts known q; order = quiet_order made facts known q; added = quiet_added facts known q }
 
 pub told_quiet : (made : Made) (known : List Fact) (call : Call) → IsQuiet call → SameMemory made known (facts_of made known call ++ known)
 told_quiet made known call q =
-    record { memory = quiet_memory (facts_of made known call) known (quiet_facts made known call q); order = quiet_order made (facts_of made known call) known (quiet_facts made known call q) }
+    quiet_same made (facts_of made known call) known (quiet_facts made known call q)
 
 -- ---- the open requests
 

@@ -1,5 +1,5 @@
 -- A run of one honest member: its certificates are backed, and no two of them conflict.
-use Rattle.std.proofs.Common.{◌≡◌, ℕ, ◌+◌, ◌-◌, ◌^◌, ◌<◌, ◌&&◌, nat_lt, nat_le, true, List, [], ◌∷◌, ◌++◌, map, Contains, Option, Some, None, Ok, refl, sym, ap, subst, inl, inr, arith}
+use Rattle.std.proofs.Common.{◌≡◌, ℕ, ◌+◌, ◌-◌, ◌^◌, ◌<◌, ◌&&◌, nat_lt, nat_le, true, List, [], ◌∷◌, ◌++◌, map, Contains, Option, Some, None, Result, Ok, Err, refl, sym, ap, ◌∙◌, subst, inl, inr, arith}
 use Rattle.std.specs.List.{flat_map, list_all}
 use Rattle.std.proofs.lemmas.List.Elements.{Contains-append_cases}
 use Rattle.simplex_values.specs.declared.answer.Answer.{Answer}
@@ -8,6 +8,9 @@ use Rattle.simplex_values.specs.declared.proposal.Subject.TheVariants as subject
 use Rattle.simplex_wire.specs.declared.artifact.Artifact.{Artifact}
 use Rattle.simplex_wire.specs.declared.artifact.Artifact.TheVariants as artifacts
 use Rattle.simplex_wire.specs.declared.certificate.Certificate.{Certificate}
+use Rattle.simplex_wire.specs.declared.error.DecodeError.{DecodeError}
+use Rattle.simplex_wire.specs.Format.{whole}
+use Rattle.simplex_wire.specs.Message as format
 use Rattle.simplex_wire.specs.declared.certificate.Finalization.{Finalization}
 use Rattle.simplex_types.specs.declared.activity.Activity.{Activity}
 use Rattle.simplex_types.specs.declared.activity.Activity.TheVariants as activities
@@ -45,10 +48,11 @@ use Rattle.simplex_lives.proofs.Invariant.{sent_honest}
 use Rattle.simplex_conduct.specs.Life.{statement_of, certificate_in}
 use Rattle.simplex_safety.specs.Sayings.{Each, InRecord, InReport, InCall, InMessage}
 use Rattle.simplex_safety.specs.Histories.{IsRun, IsStartAbove, AreFloors}
-use Rattle.simplex_safety.specs.Alone.{InStart, InNoted, alone, IsBackedByOne, in_report, in_call, in_message, in_entry, standing}
+use Rattle.simplex_safety.specs.Alone.{InStart, InNoted, alone, IsBackedByOne, in_report, in_packet, in_call, in_message, in_entry, standing}
 use Rattle.simplex_safety.proofs.Above.{sent_above}
 use Rattle.simplex_safety.proofs.Backing.{only, floor_good, run_fine}
 use Rattle.simplex_safety.proofs.Knowledge.{brought_good}
+use Rattle.simplex_safety.proofs.Reading.{read_again}
 use Rattle.simplex_safety.proofs.Nodes.{ok_is, if_ok, if_err, both_err, node_lives}
 use Rattle.simplex_safety.proofs.Single.{Good, good_backed}
 use Rattle.simplex_safety.proofs.Speaking.{Each-weaker}
@@ -143,7 +147,7 @@ floors_hold setup (noted ∷ before) pos one ran =
 
 -- ---- what holds of good certificates
 
-module _ (P Q : agreement.Certificate → Type 0) (f : (c : agreement.Certificate) → P c → Q c) where
+module _ (P Q : Certificate → Type 0) (f : (c : Certificate) → P c → Q c) where
   in_start : (event : Event) → InStart P event → InStart Q event
   in_start (events.Start node (Some floor) stop) h = f _ h
   in_start (events.Start node None stop) h = tt
@@ -203,22 +207,111 @@ module _ (P Q : agreement.Certificate → Type 0) (f : (c : agreement.Certificat
   noted_more noted h =
       record {
         floor = in_start noted.event h.floor;
-        added = Each-weaker (λ c. P (statement_of c)) (λ c. Q (statement_of c)) (λ c. f (statement_of c)) noted.entry.added h.added;
+        added = Each-weaker P Q f noted.entry.added h.added;
         handed = Each-weaker (InMessage P noted.entry.calls) (InMessage Q noted.entry.calls) (message_more noted.entry.calls) noted.entry.handed h.handed;
         calls = Each-weaker (InCall P) (InCall Q) call_more noted.entry.calls h.calls;
       }
+
+-- ---- a certificate that stands in a run is one of those of which something holds, or is read from one
+module _ (P : Certificate → Type 0) (Q : agreement.Certificate → Type 0) (f : (c : Certificate) → P c → Q (statement_of c))
+    (reads : (c x : Certificate) → P c → whole format.certificate (format.certificate.spelling c) ≡ Ok x → P x) where
+  alone_in : (x c : agreement.Certificate) → Q x → Contains (x ∷ []) c → Q c
+  alone_in x c p k = elim (Contains-cons_cases x [] c k) [ inl e ↦ subst Q e p | inr r ↦ absurd (not_in_empty c r) ]
+
+  of_record : (a : Artifact) (c : agreement.Certificate) → InRecord P a → Contains (certificate_in a) c → Q c
+  of_record (artifacts.Notarization n) c p k = alone_in _ c (f _ p) k
+  of_record (artifacts.Nullification n) c p k = alone_in _ c (f _ p) k
+  of_record (artifacts.Finalization n) c p k = alone_in _ c (f _ p) k
+  of_record (artifacts.Notarize v) c p k = absurd (not_in_empty c k)
+  of_record (artifacts.Nullify v) c p k = absurd (not_in_empty c k)
+  of_record (artifacts.Finalize v) c p k = absurd (not_in_empty c k)
+  of_record (artifacts.Certification r good) c p k = absurd (not_in_empty c k)
+
+  of_report : (a : Activity) (c : agreement.Certificate) → InReport P a → Contains (in_report a) c → Q c
+  of_report (activities.Notarization n) c p k = alone_in _ c (f _ p) k
+  of_report (activities.Certification n) c p k = alone_in _ c (f _ p) k
+  of_report (activities.Nullification n) c p k = alone_in _ c (f _ p) k
+  of_report (activities.Finalization n) c p k = alone_in _ c (f _ p) k
+  of_report (activities.Notarize v) c p k = absurd (not_in_empty c k)
+  of_report (activities.Nullify v) c p k = absurd (not_in_empty c k)
+  of_report (activities.Finalize v) c p k = absurd (not_in_empty c k)
+  of_report (activities.ConflictingNotarize v) c p k = absurd (not_in_empty c k)
+  of_report (activities.ConflictingFinalize v) c p k = absurd (not_in_empty c k)
+  of_report (activities.NullifyFinalize v) c p k = absurd (not_in_empty c k)
+
+  of_packet : (bytes : List ℕ) (x : Certificate) (c : agreement.Certificate) → bytes ≡ format.certificate.spelling x → P x
+      → (r : Result Certificate DecodeError) → whole format.certificate bytes ≡ r → Contains (in_packet r) c → Q c
+  of_packet bytes x c spelled p (Ok y) e k = alone_in (statement_of y) c (f y (reads x y p (ap (whole format.certificate) (sym spelled) ∙ e))) k
+  of_packet bytes x c spelled p (Err error) e k = absurd (not_in_empty c k)
+
+  of_call : (x : Call) (c : agreement.Certificate) → InCall P x → Contains (in_call x) c → Q c
+  of_call (calls.Append n a) c p k = of_record a c p k
+  of_call (calls.Report a) c p k = of_report a c p k
+  of_call (calls.Send channels.Certificate to bytes) c p k = of_packet bytes p.1 c p.2 p.3 (whole format.certificate bytes) refl k
+  of_call (calls.Send channels.Vote to bytes) c p k = absurd (not_in_empty c k)
+  of_call (calls.Send channels.Resolver to bytes) c p k = absurd (not_in_empty c k)
+  of_call (calls.Sync n) c p k = absurd (not_in_empty c k)
+  of_call (calls.Prune n) c p k = absurd (not_in_empty c k)
+  of_call (calls.Relay payload plan) c p k = absurd (not_in_empty c k)
+  of_call (calls.Block who) c p k = absurd (not_in_empty c k)
+
+  of_message : (cs : List Call) (x : Handed) (c : agreement.Certificate) → InMessage P cs x → Contains (in_message x) c → Q c
+  of_message cs (handed.Voter (voter.Verified n)) c p k = alone_in _ c (f _ p) k
+  of_message cs (handed.Voter (voter.Proposal q)) c p k = absurd (not_in_empty c k)
+  of_message cs (handed.Voter (voter.Timeout round reason)) c p k = absurd (not_in_empty c k)
+  of_message cs (handed.Batcher message) c p k = absurd (not_in_empty c k)
+  of_message cs (handed.Resolver (resolver.Updated n)) c p k = alone_in _ c (f _ p) k
+  of_message cs (handed.Resolver (resolver.Certified n success)) c p k = alone_in _ c (f _ p) k
+  of_message cs (handed.Resolver (resolver.Resolve proposal view kind target)) c p k = absurd (not_in_empty c k)
+  of_message cs (handed.Resolver resolver.Replayed) c p k = absurd (not_in_empty c k)
+  of_message cs (handed.Handler message) c p k = absurd (not_in_empty c k)
+
+  of_calls : (xs : List Call) (c : agreement.Certificate) → Each (InCall P) xs → Contains (flat_map in_call xs) c → Q c
+  of_calls [] c p k = absurd (not_in_empty c k)
+  of_calls (x ∷ xs) c p k = elim (Contains-append_cases (in_call x) (flat_map in_call xs) c k) [ inl here ↦ of_call x c p.0 here | inr r ↦ of_calls xs c p.1 r ]
+
+  of_messages : (cs : List Call) (xs : List Handed) (c : agreement.Certificate) → Each (InMessage P cs) xs → Contains (flat_map in_message xs) c → Q c
+  of_messages cs [] c p k = absurd (not_in_empty c k)
+  of_messages cs (x ∷ xs) c p k =
+      elim (Contains-append_cases (in_message x) (flat_map in_message xs) c k) [ inl here ↦ of_message cs x c p.0 here | inr r ↦ of_messages cs xs c p.1 r ]
+
+  of_added : (xs : List Certificate) (c : agreement.Certificate) → Each P xs → Contains (map statement_of xs) c → Q c
+  of_added [] c p k = absurd (not_in_empty c k)
+  of_added (x ∷ xs) c p k = elim (Contains-cons_cases (statement_of x) (map statement_of xs) c k) [ inl e ↦ subst Q e (f x p.0) | inr r ↦ of_added xs c p.1 r ]
+
+  of_noted : (noted : Noted) (c : agreement.Certificate) → InNoted P noted → Contains (in_entry noted.entry) c → Q c
+  of_noted noted c p k =
+      let entry = noted.entry in
+      elim (Contains-append_cases (map statement_of entry.added ++ flat_map in_message entry.handed) (flat_map in_call entry.calls) c k) [
+        | inl first ↦ elim (Contains-append_cases (map statement_of entry.added) (flat_map in_message entry.handed) c first) [
+          | inl added ↦ of_added entry.added c p.added added
+          | inr message ↦ of_messages entry.calls entry.handed c p.handed message
+        ]
+        | inr call ↦ of_calls entry.calls c p.calls call
+      ]
+
+  of_run : (noted : List Noted) (c : agreement.Certificate) → Each (InNoted P) noted → Contains (standing noted) c → Q c
+  unfolding standing
+  of_run [] c p k = absurd (not_in_empty c k)
+  of_run (noted ∷ before) c p k =
+      elim (Contains-append_cases (in_entry noted.entry) (flat_map (λ (n : Noted). in_entry n.entry) before) c k) [ inl here ↦ of_noted noted c p.0 here | inr r ↦ of_run before c p.1 r ]
+
+-- what is read of a good certificate is that one
+good_read : (sent : List Sent) (c x : Certificate) → Good sent c → whole format.certificate (format.certificate.spelling c) ≡ Ok x → Good sent x
+good_read sent c x g e = subst (Good sent) (sym (read_again c x g.0 e)) g
 
 pub backed_by_one : (setup : Setup) (noted : List Noted) → 0 < setup.term → members_of setup ≡ 1 → IsRun setup noted → IsBackedByOne setup noted
 backed_by_one setup noted pos one ran =
     let floors = floors_hold setup noted pos one ran in
     let b = node_lives setup noted only pos ran floors in
     let sent = (run newborn b.calls).sent in
+    let w = alone setup.term sent in
     let fine = run_fine setup sent noted pos one ran floors b.constructed in
     record {
       floors = floors;
       lived = b;
-      backed = Each-weaker (InNoted (Good sent)) (InNoted (IsBacked (alone setup.term sent)))
-          (noted_more (Good sent) (IsBacked (alone setup.term sent)) (good_backed setup.term sent)) noted fine.said;
+      backed = Each-weaker (InNoted (Good sent)) (InNoted (λ c. IsBacked w (statement_of c))) (noted_more (Good sent) (λ c. IsBacked w (statement_of c)) (good_backed setup.term sent)) noted fine.said;
+      stands = λ c k. of_run (Good sent) (IsBacked w) (good_backed setup.term sent) (good_read sent) noted c fine.said k;
     }
 
 -- ---- no two conflict
@@ -237,85 +330,8 @@ one_agrees setup noted a b pos one ba bb =
     } in
     no_conflict w lawful a.subject b.subject a.signers b.signers ba bb
 
--- a certificate that stands in a run is one of those of which something holds
-module _ (P : agreement.Certificate → Type 0) where
-  alone_in : (x c : agreement.Certificate) → P x → Contains (x ∷ []) c → P c
-  alone_in x c p k = elim (Contains-cons_cases x [] c k) [ inl e ↦ subst P e p | inr r ↦ absurd (not_in_empty c r) ]
-
-  of_record : (a : Artifact) (c : agreement.Certificate) → InRecord P a → Contains (certificate_in a) c → P c
-  of_record (artifacts.Notarization n) c p k = alone_in _ c p k
-  of_record (artifacts.Nullification n) c p k = alone_in _ c p k
-  of_record (artifacts.Finalization n) c p k = alone_in _ c p k
-  of_record (artifacts.Notarize v) c p k = absurd (not_in_empty c k)
-  of_record (artifacts.Nullify v) c p k = absurd (not_in_empty c k)
-  of_record (artifacts.Finalize v) c p k = absurd (not_in_empty c k)
-  of_record (artifacts.Certification r good) c p k = absurd (not_in_empty c k)
-
-  of_report : (a : Activity) (c : agreement.Certificate) → InReport P a → Contains (in_report a) c → P c
-  of_report (activities.Notarization n) c p k = alone_in _ c p k
-  of_report (activities.Certification n) c p k = alone_in _ c p k
-  of_report (activities.Nullification n) c p k = alone_in _ c p k
-  of_report (activities.Finalization n) c p k = alone_in _ c p k
-  of_report (activities.Notarize v) c p k = absurd (not_in_empty c k)
-  of_report (activities.Nullify v) c p k = absurd (not_in_empty c k)
-  of_report (activities.Finalize v) c p k = absurd (not_in_empty c k)
-  of_report (activities.ConflictingNotarize v) c p k = absurd (not_in_empty c k)
-  of_report (activities.ConflictingFinalize v) c p k = absurd (not_in_empty c k)
-  of_report (activities.NullifyFinalize v) c p k = absurd (not_in_empty c k)
-
-  of_call : (x : Call) (c : agreement.Certificate) → InCall P x → Contains (in_call x) c → P c
-  of_call (calls.Append n a) c p k = of_record a c p k
-  of_call (calls.Report a) c p k = of_report a c p k
-  of_call (calls.Send channel to bytes) c p k = absurd (not_in_empty c k)
-  of_call (calls.Sync n) c p k = absurd (not_in_empty c k)
-  of_call (calls.Prune n) c p k = absurd (not_in_empty c k)
-  of_call (calls.Relay payload plan) c p k = absurd (not_in_empty c k)
-  of_call (calls.Block who) c p k = absurd (not_in_empty c k)
-
-  of_message : (cs : List Call) (x : Handed) (c : agreement.Certificate) → InMessage P cs x → Contains (in_message x) c → P c
-  of_message cs (handed.Voter (voter.Verified n)) c p k = alone_in _ c p k
-  of_message cs (handed.Voter (voter.Proposal q)) c p k = absurd (not_in_empty c k)
-  of_message cs (handed.Voter (voter.Timeout round reason)) c p k = absurd (not_in_empty c k)
-  of_message cs (handed.Batcher message) c p k = absurd (not_in_empty c k)
-  of_message cs (handed.Resolver (resolver.Updated n)) c p k = alone_in _ c p k
-  of_message cs (handed.Resolver (resolver.Certified n success)) c p k = alone_in _ c p k
-  of_message cs (handed.Resolver (resolver.Resolve proposal view kind target)) c p k = absurd (not_in_empty c k)
-  of_message cs (handed.Resolver resolver.Replayed) c p k = absurd (not_in_empty c k)
-  of_message cs (handed.Handler message) c p k = absurd (not_in_empty c k)
-
-  of_calls : (xs : List Call) (c : agreement.Certificate) → Each (InCall P) xs → Contains (flat_map in_call xs) c → P c
-  of_calls [] c p k = absurd (not_in_empty c k)
-  of_calls (x ∷ xs) c p k = elim (Contains-append_cases (in_call x) (flat_map in_call xs) c k) [ inl here ↦ of_call x c p.0 here | inr r ↦ of_calls xs c p.1 r ]
-
-  of_messages : (cs : List Call) (xs : List Handed) (c : agreement.Certificate) → Each (InMessage P cs) xs → Contains (flat_map in_message xs) c → P c
-  of_messages cs [] c p k = absurd (not_in_empty c k)
-  of_messages cs (x ∷ xs) c p k =
-      elim (Contains-append_cases (in_message x) (flat_map in_message xs) c k) [ inl here ↦ of_message cs x c p.0 here | inr r ↦ of_messages cs xs c p.1 r ]
-
-  of_added : (xs : List Certificate) (c : agreement.Certificate) → Each (λ x. P (statement_of x)) xs → Contains (map statement_of xs) c → P c
-  of_added [] c p k = absurd (not_in_empty c k)
-  of_added (x ∷ xs) c p k = elim (Contains-cons_cases (statement_of x) (map statement_of xs) c k) [ inl e ↦ subst P e p.0 | inr r ↦ of_added xs c p.1 r ]
-
-  of_noted : (noted : Noted) (c : agreement.Certificate) → InNoted P noted → Contains (in_entry noted.entry) c → P c
-  of_noted noted c p k =
-      let entry = noted.entry in
-      elim (Contains-append_cases (map statement_of entry.added ++ flat_map in_message entry.handed) (flat_map in_call entry.calls) c k) [
-        | inl first ↦ elim (Contains-append_cases (map statement_of entry.added) (flat_map in_message entry.handed) c first) [
-          | inl added ↦ of_added entry.added c p.added added
-          | inr message ↦ of_messages entry.calls entry.handed c p.handed message
-        ]
-        | inr call ↦ of_calls entry.calls c p.calls call
-      ]
-
-  of_run : (noted : List Noted) (c : agreement.Certificate) → Each (InNoted P) noted → Contains (standing noted) c → P c
-  unfolding standing
-  of_run [] c p k = absurd (not_in_empty c k)
-  of_run (noted ∷ before) c p k =
-      elim (Contains-append_cases (in_entry noted.entry) (flat_map (λ (n : Noted). in_entry n.entry) before) c k) [ inl here ↦ of_noted noted c p.0 here | inr r ↦ of_run before c p.1 r ]
-
 pub standing_agree : (setup : Setup) (noted : List Noted) (a b : agreement.Certificate) → 0 < setup.term → members_of setup ≡ 1 → IsRun setup noted
     → Contains (standing noted) a → Contains (standing noted) b → ¬ (Conflict setup.term a.subject b.subject)
 standing_agree setup noted a b pos single ran ka kb =
     let one = backed_by_one setup noted pos single ran in
-    let w = alone setup.term (run newborn one.lived.calls).sent in
-    one_agrees setup noted a b pos one (of_run (IsBacked w) noted a one.backed ka) (of_run (IsBacked w) noted b one.backed kb)
+    one_agrees setup noted a b pos one (one.stands a ka) (one.stands b kb)

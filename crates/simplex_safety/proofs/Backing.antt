@@ -1,5 +1,5 @@
 -- In a run of one member each certificate that stands in it is on a subject that the member voted on.
-use Rattle.std.proofs.Common.{◌≡◌, ℕ, zero, suc, ◌+◌, ◌-◌, ◌^◌, ◌<◌, ◌==◌, ◌&&◌, ◌||◌, not, length, nat_lt, nat_le, Bool, true, false, List, [], ◌∷◌, map, filter, Contains, Option, Some, None, Ok, refl, sym, ap, ◌∙◌, subst, arith, eqb-true, if◌then◌else◌}
+use Rattle.std.proofs.Common.{◌≡◌, ℕ, zero, suc, ◌+◌, ◌-◌, ◌^◌, ◌<◌, ◌==◌, ◌&&◌, ◌||◌, not, length, nat_lt, nat_le, Bool, true, false, List, [], ◌∷◌, map, filter, Option, Some, None, Ok, refl, sym, ap, ◌∙◌, subst, arith, eqb-true, if◌then◌else◌}
 use Rattle.std.specs.List.{list_any, list_all, slice_get, range_with_len}
 use Rattle.std.specs.Option.{option_and_then}
 use Rattle.std.proofs.lemmas.Bool.Decides.{nat_tests}
@@ -7,8 +7,7 @@ use Rattle.std.proofs.lemmas.Grind.{common_steps}
 use Rattle.simplex_values.specs.declared.answer.Answer.{Answer}
 use Rattle.simplex_values.specs.declared.plan.Channel.TheVariants as channels
 use Rattle.simplex_values.specs.declared.plan.Recipients.TheVariants as recipients
-use Rattle.simplex_values.specs.Proposal.{is_same_proposal}
-use Rattle.simplex_values.specs.declared.proposal.Subject.TheVariants as subjects
+use Rattle.simplex_wire.specs.declared.certificate.Certificate.{Certificate}
 use Rattle.simplex_wire.specs.declared.certificate.Certificate.TheVariants as certificates
 use Rattle.simplex_wire.specs.declared.certificate.Finalization.{Finalization}
 use Rattle.simplex_types.specs.declared.activity.Activity.TheVariants as activities
@@ -39,28 +38,29 @@ use Rattle.simplex_transcript.specs.declared.setup.Setup.{Setup}
 use Rattle.simplex_steps.specs.Desk.{Doing}
 use Rattle.simplex_steps.specs.Performed.{Performed}
 use Rattle.simplex_steps.specs.Voter as voter
-use Rattle.simplex_steps.specs.VoterLife.{place_of, step_given}
+use Rattle.simplex_steps.specs.VoterLife.{VoterMade, Place, Started, Stepped, Answered, place_of, start_at, rest, unreadable, step_given}
 use Rattle.simplex_steps.specs.Engine as engine
-use Rattle.simplex_steps.specs.Engine.{EngineMade, Did, Taken, Began, voter_in, voter_past, input_of_batcher, by_voter, did_of, runs, sections_of}
+use Rattle.simplex_steps.specs.Engine.{EngineMade, Did, Began, started_at, is_start, given_to_voter, voter_in, voter_past, input_of_batcher, by_voter, runs, sections_of}
 use Rattle.simplex_run.specs.Life.{Noted, Life, Stopped, Running, clock_of, is_of, going_on, sections_in, after, life_in}
 use Rattle.simplex_run.specs.Members.{is_node, members_of, is_same_node, floor_of, rules_of, batcher_of, engine_of}
 use Rattle.simplex_run.specs.Requests.{request_number, packet_at, if_for, packet_for}
-use Rattle.simplex_run.specs.Entries.{node_of, nodes_for, packets_of, noted_with, noted_blank, took_of, is_at_end, are_same_attestations, reports, was_reported, is_own_floor, on_start, on_packet, on_deliver, on_step, on_request, on_answer, on_crash, entry_of}
+use Rattle.simplex_run.specs.Entries.{node_of, nodes_for, packets_of, noted_with, noted_blank, took_of, is_at_end, reports, was_reported, is_own_floor, on_start, on_packet, on_deliver, on_step, on_request, on_answer, on_crash, entry_of}
 use Rattle.simplex_batcher_laws.proofs.Schemes.{keyed_fits}
-use Rattle.simplex_agreement.specs.World.{Certificate, Sent}
-use Rattle.simplex_lives.specs.Member.{newborn, run}
-use Rattle.simplex_conduct.specs.Life.{statement_of, AreVotesSent}
+use Rattle.simplex_agreement.specs.World.{Sent}
+use Rattle.simplex_agreement.proofs.ListFacts.{not_in_empty}
+use Rattle.simplex_conduct.specs.Life.{AreVotesSent}
 use Rattle.simplex_safety.specs.Sayings.{Each, InCall, InFloor, InKnown, InInput, AllSaid}
-use Rattle.simplex_safety.specs.Histories.{IsRun, AreFloors, IsAt, AreConstructed, IsLivedBy}
+use Rattle.simplex_safety.specs.Histories.{IsRun, AreFloors, AreConstructed}
 use Rattle.simplex_safety.specs.Alone.{InStart, InNoted}
-use Rattle.simplex_safety.proofs.Events.{engine_at, given_start, begun_gives, step_gives}
+use Rattle.simplex_safety.proofs.Events.{engine_at, given_start, begun_gives, step_gives, place_same, place_then, step_place, idle_place, answered_known}
 use Rattle.simplex_safety.proofs.Founded.{InOwnMail, IsFineInput, IsFineDid, IsOnly, batcher_mail_fine, voter_mail_fine, batcher_said, said_fine}
 use Rattle.simplex_safety.proofs.Further.{same_self, same_node, life_then, life_still}
-use Rattle.simplex_safety.proofs.Knowledge.{member_good, known_good, records_good}
+use Rattle.simplex_safety.proofs.Keeping.{InJournal, crash_keeps, step_keeps, start_keeps}
 use Rattle.simplex_safety.proofs.Mails.{InMail, holds_received}
-use Rattle.simplex_safety.proofs.Nodes.{ok_is, if_ok, if_err, both_err, node_lives}
-use Rattle.simplex_safety.proofs.Single.{Good, both, proposals_same, signers_same}
-use Rattle.simplex_safety.proofs.Telling.{stepped_says, started_says, said, said_at_start}
+use Rattle.simplex_safety.proofs.Nodes.{ok_is, if_ok, if_err, both_err}
+use Rattle.simplex_safety.proofs.Single.{Good, finals_same, verified_long}
+use Rattle.simplex_safety.proofs.Speaking.{SaysGood}
+use Rattle.simplex_safety.proofs.Telling.{nothing_known, stepped_says, started_says, said, said_at_start}
 
 -- the one node
 abbrev pub only : Node
@@ -72,9 +72,28 @@ only = node_of 0
 abbrev IsForNobody : Packet → Type 0
 IsForNobody packet = packet.to ≡ []
 
+-- where the engine's voter is
+abbrev pub place_in : EngineMade → List Did → Place
+place_in made past = place_of (voter_in made past) (voter_past past)
+
+-- each certificate that is known there is good, and each that the journal holds
+pub record IsPlaceFine (sent : List Sent) (place : Place) : Type 0 where
+  pub known : InKnown (Good sent) place.standing.desk.known
+  pub records : InJournal (Good sent) place.sections
+
+pub record IsFineEngine (sent : List Sent) (made : EngineMade) (past : List Did) : Type 0 where
+  pub only : IsOnly made.batcher
+  pub history : Each (IsFineDid sent) past
+  pub place : IsPlaceFine sent (place_in made past)
+
 abbrev IsLifeFine : List Sent → Life → Type 0
-IsLifeFine sent (Stopped sections) = Unit {0}
-IsLifeFine sent (Running made past) = IsOnly made.batcher × Each (IsFineDid sent) past
+IsLifeFine sent (Stopped sections) = InJournal (Good sent) sections
+IsLifeFine sent (Running made past) = IsFineEngine sent made past
+
+life_records : (sent : List Sent) (l : Life) → IsLifeFine sent l → InJournal (Good sent) (sections_in l)
+unfolding sections_of
+life_records sent (Stopped sections) h = h
+life_records sent (Running made past) h = h.place.records
 
 pub record IsFineRun (setup : Setup) (sent : List Sent) (noted : List Noted) : Type 0 where
   pub said : Each (InNoted (Good sent)) noted
@@ -128,16 +147,8 @@ no_packet before node ref h = at (packet_at before ref) refl
 
 -- ---- a floor was reported
 
-same_final : (sent : List Sent) (f g : Finalization) → (is_same_proposal f.proposal g.proposal && are_same_attestations f.certificate g.certificate) ≡ true
-    → Good sent (statement_of (certificates.Finalization g)) → Good sent (statement_of (certificates.Finalization f))
-same_final sent f g e good =
-    let parts = both (is_same_proposal f.proposal g.proposal) (are_same_attestations f.certificate g.certificate) e in (
-      signers_same f.certificate g.certificate parts.1 ∙ good.0,
-      subst (λ p. Contains (map (λ (s : Sent). s.subject) sent) (subjects.Finalize p)) (sym (proposals_same f.proposal g.proposal parts.0)) good.1,
-    )
-
-call_reports : (sent : List Sent) (f : Finalization) (c : Call) → reports f c ≡ true → InCall (Good sent) c → Good sent (statement_of (certificates.Finalization f))
-call_reports sent f (calls.Report (activities.Finalization g)) e good = same_final sent f g e good
+call_reports : (sent : List Sent) (f : Finalization) (c : Call) → reports f c ≡ true → InCall (Good sent) c → Good sent (certificates.Finalization f)
+call_reports sent f (calls.Report (activities.Finalization g)) e good = subst (λ x. Good sent (certificates.Finalization x)) (sym (finals_same f g e)) good
 call_reports sent f (calls.Report (activities.Notarize v)) e good = cc
 call_reports sent f (calls.Report (activities.Notarization v)) e good = cc
 call_reports sent f (calls.Report (activities.Certification v)) e good = cc
@@ -154,22 +165,22 @@ call_reports sent f (calls.Send channel to bytes) e good = cc
 call_reports sent f (calls.Relay payload plan) e good = cc
 call_reports sent f (calls.Block who) e good = cc
 
-calls_report : (sent : List Sent) (f : Finalization) (cs : List Call) → list_any (reports f) cs ≡ true → Each (InCall (Good sent)) cs → Good sent (statement_of (certificates.Finalization f))
+calls_report : (sent : List Sent) (f : Finalization) (cs : List Call) → list_any (reports f) cs ≡ true → Each (InCall (Good sent)) cs → Good sent (certificates.Finalization f)
 calls_report sent f [] e good = cc
 calls_report sent f (c ∷ rest) e good = at (reports f c) refl (calls_report sent f rest)
   where
-    at : (b : Bool) → reports f c ≡ b → (list_any (reports f) rest ≡ true → Each (InCall (Good sent)) rest → Good sent (statement_of (certificates.Finalization f)))
-        → Good sent (statement_of (certificates.Finalization f))
+    at : (b : Bool) → reports f c ≡ b → (list_any (reports f) rest ≡ true → Each (InCall (Good sent)) rest → Good sent (certificates.Finalization f))
+        → Good sent (certificates.Finalization f)
     at true h old = call_reports sent f c h good.0
     at false h old = old (subst (λ b. (b || list_any (reports f) rest) ≡ true) h e) good.1
 
-reported_good : (sent : List Sent) (f : Finalization) (before : List Noted) → was_reported before f ≡ true → Each (InNoted (Good sent)) before → Good sent (statement_of (certificates.Finalization f))
+reported_good : (sent : List Sent) (f : Finalization) (before : List Noted) → was_reported before f ≡ true → Each (InNoted (Good sent)) before → Good sent (certificates.Finalization f)
 unfolding was_reported
 reported_good sent f [] e good = cc
 reported_good sent f (noted ∷ before) e good = at (list_any (reports f) noted.entry.calls) refl (reported_good sent f before)
   where
-    at : (b : Bool) → list_any (reports f) noted.entry.calls ≡ b → (was_reported before f ≡ true → Each (InNoted (Good sent)) before → Good sent (statement_of (certificates.Finalization f)))
-        → Good sent (statement_of (certificates.Finalization f))
+    at : (b : Bool) → list_any (reports f) noted.entry.calls ≡ b → (was_reported before f ≡ true → Each (InNoted (Good sent)) before → Good sent (certificates.Finalization f))
+        → Good sent (certificates.Finalization f)
     at true h old = (let new = good.0 in calls_report sent f noted.entry.calls h new.calls)
     at false h old = old (subst (λ b. (b || list_any (λ (n : Noted). list_any (reports f) n.entry.calls) before) ≡ true) h e) good.1
 
@@ -180,12 +191,13 @@ floor_good sent before (Some f) node stop e good = reported_good sent f before e
 
 -- ---- one more event of the node
 
-lives_on : (sent : List Sent) (made : EngineMade) (past : List Did) → IsOnly made.batcher → Each (IsFineDid sent) past → IsLifeFine sent (going_on made past)
-lives_on sent made past one h = at (runs past)
+lives_on : (sent : List Sent) (made : EngineMade) (past : List Did) → IsFineEngine sent made past → IsLifeFine sent (going_on made past)
+unfolding sections_of
+lives_on sent made past h = at (runs past)
   where
     at : (b : Bool) → IsLifeFine sent (if b then Running made past else Stopped (sections_of made past))
-    at true = (one, h)
-    at false = tt
+    at true = h
+    at false = h.place.records
 
 advance : (setup : Setup) (sent : List Sent) (before : List Noted) (event : Event) (took : Option Took) (did : Did) → members_of setup ≡ 1 → is_of only event ≡ true
     → InStart (Good sent) event → AllSaid (Good sent) did.out → IsLifeFine sent (after setup event (Some did) (life_in setup before only))
@@ -215,30 +227,43 @@ by_entry setup sent before new noted same votes f = subst (λ n. AreOwnSent sent
 only_batcher : (setup : Setup) (js : List Section) (floor : Option Finalization) → members_of setup ≡ 1 → IsOnly (engine_of setup 0 (floor_of setup floor) js).batcher
 unfolding engine_of batcher_of
 only_batcher setup js floor one =
-    record { scheme = keyed_fits (engine_of setup 0 (floor_of setup floor) js).batcher setup.key_base true refl; members = one }
+    record {
+      scheme = keyed_fits (engine_of setup 0 (floor_of setup floor) js).batcher setup.key_base true refl;
+      signed = λ subject a e. verified_long setup.key_base (members_of setup) subject a e;
+      members = one;
+    }
 
 in_floor : (sent : List Sent) (setup : Setup) (floor : Option Finalization) (stop : Stop) → InStart (Good sent) (events.Start only floor stop) → InFloor (Good sent) (floor_of setup floor)
 in_floor sent setup None stop g = tt
 in_floor sent setup (Some f) stop g = g
 
-start_said : (setup : Setup) (sent : List Sent) (before : List Noted) (floor : Option Finalization) (stop : Stop) (js : List Section) → life_in setup before only ≡ Stopped js
-    → (b : IsLivedBy setup before only) → InStart (Good sent) (events.Start only floor stop) → Each (InNoted (Good sent)) before
-    → AllSaid (Good sent) (given_start setup only floor js (clock_of before) stop).out
-unfolding IsAt
-start_said setup sent before floor stop js e b g old =
-    let f = floor_of setup floor in
-    let now = clock_of before in
-    let rules = rules_of setup 0 now in
-    let at = subst (λ l. IsAt setup only l (run newborn b.calls)) e b.at in
-    let records = records_good (Good sent) (rules_of setup 0 0) js (run newborn b.calls) (member_good (Good sent) setup before only b old) at in
-    said_at_start (Good sent) stop f (voter.started rules now f (replayed js)) js
-    (started_says (Good sent) rules now f (replayed js) (in_floor sent setup floor stop g) records)
+-- what the start does
+start_says : (setup : Setup) (sent : List Sent) (floor : Option Finalization) (stop : Stop) (js : List Section) (now : ℕ) → InStart (Good sent) (events.Start only floor stop) → InJournal (Good sent) js
+    → SaysGood (Good sent) (voter.started (rules_of setup 0 now) now (floor_of setup floor) (replayed js))
+start_says setup sent floor stop js now g records =
+    started_says (Good sent) (rules_of setup 0 now) now (floor_of setup floor) (replayed js) (in_floor sent setup floor stop g) records
+
+start_place_fine : (sent : List Sent) (made : VoterMade) (now : ℕ) (stop : Stop) → SaysGood (Good sent) (start_at made now made.sections) → InJournal (Good sent) made.sections
+    → IsPlaceFine sent (place_of made (Started now stop ∷ []))
+unfolding place_of
+start_place_fine sent made now stop says records =
+    record { known = at (unreadable stop); records = start_keeps (Good sent) stop made.floor (start_at made now made.sections) made.sections says.in_calls records }
+  where
+    at : (b : Bool) → InKnown (Good sent) (if b then (place_of made []).standing else rest (start_at made now made.sections) []).desk.known
+    at true = nothing_known (Good sent)
+    at false = says.in_known
+
+start_engine : (setup : Setup) (sent : List Sent) (floor : Option Finalization) (stop : Stop) (js : List Section) (now : ℕ) → InStart (Good sent) (events.Start only floor stop) → InJournal (Good sent) js
+    → IsPlaceFine sent (place_in (engine_at setup only floor js) (by_voter Began now stop (given_start setup only floor js now stop) ∷ []))
+unfolding started_at voter_past engine_of
+start_engine setup sent floor stop js now g records =
+    start_place_fine sent ((engine_at setup only floor js).voter now) now stop (start_says setup sent floor stop js now g records) records
 
 start_fine : (setup : Setup) (sent : List Sent) (before : List Noted) (floor : Option Finalization) (stop : Stop) (noted : Noted) → members_of setup ≡ 1
-    → on_start setup before only floor stop (life_in setup before only) ≡ Ok noted → IsLivedBy setup before only → AreOwnSent sent noted
+    → on_start setup before only floor stop (life_in setup before only) ≡ Ok noted → AreOwnSent sent noted
     → IsFineRun setup sent before → IsFineRun setup sent (noted ∷ before)
 unfolding after
-start_fine setup sent before floor stop noted one e b votes fine = cases (life_in setup before only) refl e
+start_fine setup sent before floor stop noted one e votes fine = cases (life_in setup before only) refl e
   where
     cases : (l : Life) → life_in setup before only ≡ l → on_start setup before only floor stop l ≡ Ok noted → IsFineRun setup sent (noted ∷ before)
     cases (Running made past) f h = cc
@@ -252,26 +277,51 @@ start_fine setup sent before floor stop noted one e b votes fine = cases (life_i
         let g = floor_good sent before floor only stop parts.0 fine.said in
         let by : Did = by_voter Began now stop (given_start setup only floor js now stop) in
         let same : did ≡ by = begun_gives setup only floor js now stop in
-        let all : AllSaid (Good sent) did.out = subst (λ (d : Did). AllSaid (Good sent) d.out) (sym same) (start_said setup sent before floor stop js f b g fine.said) in
+        let records : InJournal (Good sent) js = subst (IsLifeFine sent) f fine.life in
+        let says = start_says setup sent floor stop js now g records in
+        let all : AllSaid (Good sent) did.out =
+        subst (λ (d : Did). AllSaid (Good sent) d.out) (sym same) (said_at_start (Good sent) stop (floor_of setup floor) (voter.started (rules_of setup 0 now) now (floor_of setup floor) (replayed js)) js says) in
         by_entry setup sent before new noted (ok_is new noted parts.1) votes
         (λ v. advance setup sent before event (Some tooks.Floor) did one (same_self only) g all
         (subst (λ l. IsLifeFine sent (going_on (engine_of setup 0 (floor_of setup floor) (sections_in l)) (did ∷ []))) (sym f)
-        (lives_on sent made (did ∷ []) (only_batcher setup js floor one)
-        (did_fine sent did all (v (same_self only)) (λ input t. (let k : input_of_batcher Began ≡ Some input = subst (λ (d : Did). input_of_batcher d.taken ≡ Some input) same t in cc)), tt))) fine)
+        (lives_on sent made (did ∷ []) (record {
+          only = only_batcher setup js floor one;
+          history = (did_fine sent did all (v (same_self only)) (λ input t. (let k : input_of_batcher Began ≡ Some input = subst (λ (d : Did). input_of_batcher d.taken ≡ Some input) same t in cc)), tt);
+          place = subst (λ (d : Did). IsPlaceFine sent (place_in made (d ∷ []))) (sym same) (start_engine setup sent floor stop js now g records);
+        }))) fine)
 
 -- ---- a step
 
 nothing_said : (sent : List Sent) → AllSaid (Good sent) no_out
 nothing_said sent = record { calls = tt; handed = tt; added = tt }
 
--- what is known where the engine runs
-knows : (setup : Setup) (sent : List Sent) (before : List Noted) (made : EngineMade) (past : List Did) → life_in setup before only ≡ Running made past
-    → (b : IsLivedBy setup before only) → Each (InNoted (Good sent)) before → InKnown (Good sent) (place_of (voter_in made past) (voter_past past)).standing.desk.known
-unfolding IsAt
-knows setup sent before made past e b old =
-    let place = place_of (voter_in made past) (voter_past past) in
-    let at = subst (λ l. IsAt setup only l (run newborn b.calls)) e b.at in
-    known_good (Good sent) (voter_in made past).rules place.standing.desk.known place.sections (run newborn b.calls) (member_good (Good sent) setup before only b old) at.1
+unseen_place : (sent : List Sent) (made : EngineMade) (did : Did) (past : List Did) → given_to_voter did ≡ None → is_start did.taken ≡ false
+    → IsPlaceFine sent (place_in made past) → IsPlaceFine sent (place_in made (did ∷ past))
+unseen_place sent made did past e f h =
+    let p = place_same made did past e f in
+    subst (IsPlaceFine sent) (sym (ap (λ v. place_of v (voter_past (did ∷ past))) p.0 ∙ ap (place_of (voter_in made past)) p.1)) h
+
+voter_place : (sent : List Sent) (made : EngineMade) (past : List Did) (did : Did) (input : VoterInput) (now : ℕ) (stop : Stop) → given_to_voter did ≡ Some (Stepped input now stop) → is_start did.taken ≡ false
+    → InInput (Good sent) input → IsPlaceFine sent (place_in made past) → IsPlaceFine sent (place_in made (did ∷ past))
+voter_place sent made past did input now stop e f given h =
+    let p = place_then made did past (Stepped input now stop) e f in
+    subst (IsPlaceFine sent) (sym (ap (λ v. place_of v (voter_past (did ∷ past))) p.0 ∙ ap (place_of (voter_in made past)) p.1))
+    (at (voter.stepped (voter_in made past).rules now (place_in made past).standing input) refl)
+  where
+    at : (o : Option Doing) → voter.stepped (voter_in made past).rules now (place_in made past).standing input ≡ o → IsPlaceFine sent (place_of (voter_in made past) (Stepped input now stop ∷ voter_past past))
+    at None g = subst (IsPlaceFine sent) (sym (idle_place (voter_in made past) (voter_past past) input now stop g)) h
+    at (Some d) g =
+        let says = stepped_says (Good sent) (voter_in made past).rules now (place_in made past).standing input d given h.known g in
+        subst (IsPlaceFine sent) (sym (step_place (voter_in made past) (voter_past past) input now stop d g))
+        (record { known = says.in_known; records = step_keeps (Good sent) stop d (place_in made past).sections says.in_calls h.records })
+
+answered_place : (sent : List Sent) (made : EngineMade) (past : List Did) (did : Did) (number : ℕ) (answer : Answer) → given_to_voter did ≡ Some (Answered number answer) → is_start did.taken ≡ false
+    → IsPlaceFine sent (place_in made past) → IsPlaceFine sent (place_in made (did ∷ past))
+unfolding place_of
+answered_place sent made past did number answer e f h =
+    let p = place_then made did past (Answered number answer) e f in
+    subst (IsPlaceFine sent) (sym (ap (λ v. place_of v (voter_past (did ∷ past))) p.0 ∙ ap (place_of (voter_in made past)) p.1))
+    (record { known = subst (InKnown (Good sent)) (sym (answered_known number answer (place_in made past).standing)) h.known; records = h.records })
 
 voter_said : (sent : List Sent) (made : EngineMade) (past : List Did) (input : VoterInput) (now : ℕ) (stop : Stop) → InInput (Good sent) input
     → InKnown (Good sent) (place_of (voter_in made past) (voter_past past)).standing.desk.known
@@ -288,22 +338,25 @@ voter_said sent made past input now stop given k =
         (stepped_says (Good sent) (voter_in made past).rules now (place_of (voter_in made past) (voter_past past)).standing input d given k e))
 
 -- all that the engine says in a step, and what its batcher takes in it
-pub record IsStepFine (sent : List Sent) (did : Did) : Type 0 where
+record IsStepFine (sent : List Sent) (made : EngineMade) (past : List Did) (did : Did) : Type 0 where
   pub said : AllSaid (Good sent) did.out
   pub taken : (input : BatcherInput) → input_of_batcher did.taken ≡ Some input → IsFineInput sent input
+  pub place : IsPlaceFine sent (place_in made (did ∷ past))
 
 some_is : {A : Type 0} (a b : A) → Some a ≡ Some b → a ≡ b
 some_is a b e = cc
 
 batcher_step : (sent : List Sent) (made : EngineMade) (past : List Did) (now : ℕ) (stop : Stop) (o : Option batcher_message.Message) → received (engine.batcher_mail made past) ≡ o
-    → IsOnly made.batcher → Each (IsFineDid sent) past → IsStepFine sent (engine.on_batcher_mail made past now stop o)
+    → IsFineEngine sent made past → IsStepFine sent made past (engine.on_batcher_mail made past now stop o)
 unfolding engine.by_batcher
-batcher_step sent made past now stop None e one h = record { said = nothing_said sent; taken = λ input t. cc }
-batcher_step sent made past now stop (Some message) e one h =
-    let own = holds_received (InOwnMail sent) (engine.batcher_mail made past) message (batcher_mail_fine sent made past h) e in
+batcher_step sent made past now stop None e h =
+    record { said = nothing_said sent; taken = λ input t. cc; place = unseen_place sent made (engine.nothing_held sources.Batcher now stop) past refl refl h.place }
+batcher_step sent made past now stop (Some message) e h =
+    let own = holds_received (InOwnMail sent) (engine.batcher_mail made past) message (batcher_mail_fine sent made past h.history) e in
     record {
-      said = batcher_said sent made past (engine.Took sources.Batcher (Some (handed.Batcher message))) (batcher_inputs.Mail message) now stop one h own;
+      said = batcher_said sent made past (engine.Took sources.Batcher (Some (handed.Batcher message))) (batcher_inputs.Mail message) now stop h.only h.history own;
       taken = λ input t. subst (IsFineInput sent) (some_is (batcher_inputs.Mail message) input t) own;
+      place = unseen_place sent made (engine.on_batcher_mail made past now stop (Some message)) past refl refl h.place;
     }
 
 in_mail : (sent : List Sent) (message : voter_message.Message) → InMail (Good sent) message → InInput (Good sent) (voter_inputs.Mail message)
@@ -312,44 +365,62 @@ in_mail sent (voter_messages.Proposal p) g = tt
 in_mail sent (voter_messages.Timeout round reason) g = tt
 
 voter_step : (sent : List Sent) (made : EngineMade) (past : List Did) (now : ℕ) (stop : Stop) (o : Option voter_message.Message) → received (engine.voter_mail made past) ≡ o
-    → Each (IsFineDid sent) past → InKnown (Good sent) (place_of (voter_in made past) (voter_past past)).standing.desk.known
-    → IsStepFine sent (engine.on_voter_mail made past now stop o)
-voter_step sent made past now stop None e h k = record { said = nothing_said sent; taken = λ input t. cc }
-voter_step sent made past now stop (Some message) e h k =
-    let brought = holds_received (InMail (Good sent)) (engine.voter_mail made past) message (voter_mail_fine sent made past h) e in
-    record { said = voter_said sent made past (voter_inputs.Mail message) now stop (in_mail sent message brought) k; taken = λ input t. cc }
+    → IsFineEngine sent made past → IsStepFine sent made past (engine.on_voter_mail made past now stop o)
+voter_step sent made past now stop None e h =
+    record { said = nothing_said sent; taken = λ input t. cc; place = unseen_place sent made (engine.nothing_held sources.Voter now stop) past refl refl h.place }
+voter_step sent made past now stop (Some message) e h =
+    let brought = in_mail sent message (holds_received (InMail (Good sent)) (engine.voter_mail made past) message (voter_mail_fine sent made past h.history) e) in
+    record {
+      said = voter_said sent made past (voter_inputs.Mail message) now stop brought h.place.known;
+      taken = λ input t. cc;
+      place = voter_place sent made past (engine.on_voter_mail made past now stop (Some message)) (voter_inputs.Mail message) now stop refl refl brought h.place;
+    }
 
-any_step : (sent : List Sent) (made : EngineMade) (past : List Did) (source : StepSource) (now : ℕ) (stop : Stop)
-    → IsOnly made.batcher → Each (IsFineDid sent) past → InKnown (Good sent) (place_of (voter_in made past) (voter_past past)).standing.desk.known
-    → IsStepFine sent (engine.stepped made past source now stop)
+own_step : (sent : List Sent) (made : EngineMade) (past : List Did) (source : StepSource) (input : VoterInput) (now : ℕ) (stop : Stop)
+    → given_to_voter (engine.on_voter made past source input now stop) ≡ Some (Stepped input now stop) → ((i : BatcherInput) → input_of_batcher (engine.Took source None) ≡ Some i → IsFineInput sent i)
+    → InInput (Good sent) input → IsFineEngine sent made past → IsStepFine sent made past (engine.on_voter made past source input now stop)
+own_step sent made past source input now stop e none given h = record {
+  said = voter_said sent made past input now stop given h.place.known;
+  taken = none;
+  place = voter_place sent made past (engine.on_voter made past source input now stop) input now stop e refl given h.place;
+}
+
+held_nothing : (sent : List Sent) (made : EngineMade) (past : List Did) (source : StepSource) (now : ℕ) (stop : Stop)
+    → given_to_voter (engine.nothing_held source now stop) ≡ None → ((i : BatcherInput) → input_of_batcher (engine.Took source None) ≡ Some i → IsFineInput sent i)
+    → IsFineEngine sent made past → IsStepFine sent made past (engine.nothing_held source now stop)
+held_nothing sent made past source now stop e none h =
+    record { said = nothing_said sent; taken = none; place = unseen_place sent made (engine.nothing_held source now stop) past e refl h.place }
+
+any_step : (sent : List Sent) (made : EngineMade) (past : List Did) (source : StepSource) (now : ℕ) (stop : Stop) → IsFineEngine sent made past
+    → IsStepFine sent made past (engine.stepped made past source now stop)
 unfolding engine.stepped
-any_step sent made past sources.Batcher now stop one h k = batcher_step sent made past now stop (received (engine.batcher_mail made past)) refl one h
-any_step sent made past sources.Voter now stop one h k = voter_step sent made past now stop (received (engine.voter_mail made past)) refl h k
-any_step sent made past sources.Timer now stop one h k = record { said = voter_said sent made past voter_inputs.Timer now stop tt k; taken = λ input t. cc }
-any_step sent made past sources.Propose now stop one h k = record { said = voter_said sent made past voter_inputs.Propose now stop tt k; taken = λ input t. cc }
-any_step sent made past sources.Verify now stop one h k = record { said = voter_said sent made past voter_inputs.Verify now stop tt k; taken = λ input t. cc }
-any_step sent made past sources.Certify now stop one h k = record { said = voter_said sent made past voter_inputs.Certify now stop tt k; taken = λ input t. cc }
-any_step sent made past sources.Resolver now stop one h k = record { said = nothing_said sent; taken = λ input t. cc }
-any_step sent made past sources.Handler now stop one h k = record { said = nothing_said sent; taken = λ input t. cc }
-any_step sent made past sources.Fetch now stop one h k = record { said = nothing_said sent; taken = λ input t. cc }
+any_step sent made past sources.Batcher now stop h = batcher_step sent made past now stop (received (engine.batcher_mail made past)) refl h
+any_step sent made past sources.Voter now stop h = voter_step sent made past now stop (received (engine.voter_mail made past)) refl h
+any_step sent made past sources.Timer now stop h = own_step sent made past sources.Timer voter_inputs.Timer now stop refl (λ input t. cc) tt h
+any_step sent made past sources.Propose now stop h = own_step sent made past sources.Propose voter_inputs.Propose now stop refl (λ input t. cc) tt h
+any_step sent made past sources.Verify now stop h = own_step sent made past sources.Verify voter_inputs.Verify now stop refl (λ input t. cc) tt h
+any_step sent made past sources.Certify now stop h = own_step sent made past sources.Certify voter_inputs.Certify now stop refl (λ input t. cc) tt h
+any_step sent made past sources.Resolver now stop h = held_nothing sent made past sources.Resolver now stop refl (λ input t. cc) h
+any_step sent made past sources.Handler now stop h = held_nothing sent made past sources.Handler now stop refl (λ input t. cc) h
+any_step sent made past sources.Fetch now stop h = held_nothing sent made past sources.Fetch now stop refl (λ input t. cc) h
 
 -- an event that the engine takes while it runs
 goes_on : (setup : Setup) (sent : List Sent) (before : List Noted) (event : Event) (took : Option Took) (did : Did) (made : EngineMade) (past : List Did) → members_of setup ≡ 1
     → life_in setup before only ≡ Running made past → is_of only event ≡ true → InStart (Good sent) event
-    → after setup event (Some did) (Running made past) ≡ going_on made (did ∷ past) → IsStepFine sent did
+    → after setup event (Some did) (Running made past) ≡ going_on made (did ∷ past) → IsStepFine sent made past did
     → IsFineRun setup sent before → AreOwnSent sent (noted_with setup before event only took did) → IsFineRun setup sent (noted_with setup before event only took did ∷ before)
 goes_on setup sent before event took did made past one f of floor gone step fine votes =
     let old : IsLifeFine sent (Running made past) = subst (IsLifeFine sent) f fine.life in
     advance setup sent before event took did one of floor step.said
     (subst (λ l. IsLifeFine sent (after setup event (Some did) l)) (sym f)
     (subst (IsLifeFine sent) (sym gone)
-    (lives_on sent made (did ∷ past) old.0 (did_fine sent did step.said (votes of) step.taken, old.1)))) fine
+    (lives_on sent made (did ∷ past) (record { only = old.only; history = (did_fine sent did step.said (votes of) step.taken, old.history); place = step.place })))) fine
 
 step_fine : (setup : Setup) (sent : List Sent) (before : List Noted) (source : StepSource) (stop : Stop) (noted : Noted) → members_of setup ≡ 1
-    → on_step setup before only source stop (life_in setup before only) ≡ Ok noted → IsLivedBy setup before only → AreOwnSent sent noted
+    → on_step setup before only source stop (life_in setup before only) ≡ Ok noted → AreOwnSent sent noted
     → IsFineRun setup sent before → IsFineRun setup sent (noted ∷ before)
 unfolding after
-step_fine setup sent before source stop noted one e b votes fine = cases (life_in setup before only) refl e
+step_fine setup sent before source stop noted one e votes fine = cases (life_in setup before only) refl e
   where
     cases : (l : Life) → life_in setup before only ≡ l → on_step setup before only source stop l ≡ Ok noted → IsFineRun setup sent (noted ∷ before)
     cases (Stopped js) f h = cc
@@ -361,7 +432,7 @@ step_fine setup sent before source stop noted one e b votes fine = cases (life_i
         let old : IsLifeFine sent (Running made past) = subst (IsLifeFine sent) f fine.life in
         by_entry setup sent before new noted (ok_is new noted (if_err (is_at_end setup made past) _ _ noted h).1) votes
         (goes_on setup sent before event took did made past one f (same_self only) tt refl
-        (any_step sent made past source (clock_of before) stop old.0 old.1 (knows setup sent before made past f b fine.said)) fine)
+        (any_step sent made past source (clock_of before) stop old) fine)
 
 -- ---- an answer, a crash, a tick, and a packet that is not there
 
@@ -373,9 +444,11 @@ request_fine setup sent before ref answer noted made past None one f e votes fin
 request_fine setup sent before ref answer noted made past (Some number) one f e votes fine =
     let did = engine.replied number answer (clock_of before) in
     let event = events.Answer only ref answer in
+    let old : IsLifeFine sent (Running made past) = subst (IsLifeFine sent) f fine.life in
     let new = noted_with setup before event only None did in
     by_entry setup sent before new noted (ok_is new noted (if_ok (engine.takes_reply made past number answer) _ _ noted e).1) votes
-    (goes_on setup sent before event None did made past one f (same_self only) tt refl (record { said = nothing_said sent; taken = λ input t. cc }) fine)
+    (goes_on setup sent before event None did made past one f (same_self only) tt refl
+    (record { said = nothing_said sent; taken = λ input t. cc; place = answered_place sent made past did number answer refl refl old.place }) fine)
 
 answer_fine : (setup : Setup) (sent : List Sent) (before : List Noted) (ref : Ref) (answer : Answer) (noted : Noted) → members_of setup ≡ 1
     → on_answer setup before only ref answer (life_in setup before only) ≡ Ok noted → AreOwnSent sent noted
@@ -403,7 +476,8 @@ crash_fine setup sent before noted e fine = cases (life_in setup before only) re
         let new = noted_blank before (events.Crash only) (Some only) in
         subst (λ n. IsFineRun setup sent (n ∷ before)) (ok_is new noted h)
         (blank_fine setup sent before (events.Crash only) (Some only) tt
-        (subst (IsLifeFine sent) (sym (life_then setup new before only (same_self only))) tt) fine)
+        (subst (IsLifeFine sent) (sym (life_then setup new before only (same_self only)))
+        (crash_keeps (Good sent) 0 (sections_in (life_in setup before only)) (life_records sent (life_in setup before only) fine.life))) fine)
 
 deliver_fine : (setup : Setup) (sent : List Sent) (before : List Noted) (ref : Ref) (noted : Noted)
     → on_deliver setup before only ref (life_in setup before only) ≡ Ok noted → IsFineRun setup sent before → IsFineRun setup sent (noted ∷ before)
@@ -415,39 +489,39 @@ deliver_fine setup sent before ref noted e fine = cases (life_in setup before on
         let k = subst (λ o. on_packet setup before only ref o made past ≡ Ok noted) (no_packet before only ref fine.nobody) h in cc
 
 event_fine : (setup : Setup) (sent : List Sent) (before : List Noted) (event : Event) (noted : Noted) → members_of setup ≡ 1 → entry_of setup before event ≡ Ok noted
-    → IsLivedBy setup before only → AreOwnSent sent noted → IsFineRun setup sent before → IsFineRun setup sent (noted ∷ before)
+    → AreOwnSent sent noted → IsFineRun setup sent before → IsFineRun setup sent (noted ∷ before)
 unfolding entry_of
-event_fine setup sent before (events.Start at floor stop) noted one e b votes fine =
+event_fine setup sent before (events.Start at floor stop) noted one e votes fine =
     let parts = if_ok (is_node setup at) _ _ noted e in
     start_fine setup sent before floor stop noted one
-    (subst (λ a. on_start setup before a floor stop (life_in setup before a) ≡ Ok noted) (sym (is_only setup at one parts.0)) parts.1) b votes fine
-event_fine setup sent before (events.Deliver at ref) noted one e b votes fine =
+    (subst (λ a. on_start setup before a floor stop (life_in setup before a) ≡ Ok noted) (sym (is_only setup at one parts.0)) parts.1) votes fine
+event_fine setup sent before (events.Deliver at ref) noted one e votes fine =
     let parts = if_ok (is_node setup at) _ _ noted e in
     deliver_fine setup sent before ref noted (subst (λ a. on_deliver setup before a ref (life_in setup before a) ≡ Ok noted) (sym (is_only setup at one parts.0)) parts.1) fine
-event_fine setup sent before (events.Step at source stop) noted one e b votes fine =
+event_fine setup sent before (events.Step at source stop) noted one e votes fine =
     let parts = if_ok (is_node setup at) _ _ noted e in
     step_fine setup sent before source stop noted one
-    (subst (λ a. on_step setup before a source stop (life_in setup before a) ≡ Ok noted) (sym (is_only setup at one parts.0)) parts.1) b votes fine
-event_fine setup sent before (events.Answer at ref answer) noted one e b votes fine =
+    (subst (λ a. on_step setup before a source stop (life_in setup before a) ≡ Ok noted) (sym (is_only setup at one parts.0)) parts.1) votes fine
+event_fine setup sent before (events.Answer at ref answer) noted one e votes fine =
     let parts = if_ok (is_node setup at) _ _ noted e in
     answer_fine setup sent before ref answer noted one
     (subst (λ a. on_answer setup before a ref answer (life_in setup before a) ≡ Ok noted) (sym (is_only setup at one parts.0)) parts.1) votes fine
-event_fine setup sent before (events.Crash at) noted one e b votes fine =
+event_fine setup sent before (events.Crash at) noted one e votes fine =
     let parts = if_ok (is_node setup at) _ _ noted e in
     crash_fine setup sent before noted (subst (λ a. on_crash before a (life_in setup before a) ≡ Ok noted) (sym (is_only setup at one parts.0)) parts.1) fine
-event_fine setup sent before (events.Tick ms) noted one e b votes fine =
+event_fine setup sent before (events.Tick ms) noted one e votes fine =
     let new = noted_blank before (events.Tick ms) None in
     subst (λ n. IsFineRun setup sent (n ∷ before)) (ok_is new noted (if_ok (nat_le (clock_of before + ms) (2 ^ 63 - 1)) _ _ noted e).1)
     (blank_fine setup sent before (events.Tick ms) None tt (subst (IsLifeFine sent) (sym (life_still setup new before only refl)) fine.life) fine)
-event_fine setup sent before (events.Inject who channel to bytes) noted one e b votes fine = absurd (both_err (nat_lt who (members_of setup) && list_all (is_node setup) to) _ _ noted e)
-event_fine setup sent before events.Later noted one e b votes fine = cc
+event_fine setup sent before (events.Inject who channel to bytes) noted one e votes fine = absurd (both_err (nat_lt who (members_of setup) && list_all (is_node setup) to) _ _ noted e)
+event_fine setup sent before events.Later noted one e votes fine = cc
 
 -- ---- every run, by the votes that the member sent in all of it
 
 pub run_fine : (setup : Setup) (sent : List Sent) (noted : List Noted) → 0 < setup.term → members_of setup ≡ 1 → IsRun setup noted → AreFloors noted → AreConstructed only noted sent
     → IsFineRun setup sent noted
-unfolding IsRun AreFloors AreConstructed life_in
-run_fine setup sent [] pos one ran floors votes = record { said = tt; nobody = tt; life = tt }
+unfolding IsRun AreFloors AreConstructed life_in replayed
+run_fine setup sent [] pos one ran floors votes = record { said = tt; nobody = tt; life = λ a c. absurd (not_in_empty a c) }
 run_fine setup sent (noted ∷ before) pos one ran floors votes =
-    event_fine setup sent before ran.0 noted one ran.1 (node_lives setup before only pos ran.2 floors.1) votes.0
+    event_fine setup sent before ran.0 noted one ran.1 votes.0
     (run_fine setup sent before pos one ran.2 floors.1 votes.1)

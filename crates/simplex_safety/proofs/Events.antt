@@ -39,6 +39,7 @@ use Rattle.simplex_run.specs.Members.{floor_of, rules_of, engine_of}
 use Rattle.simplex_lives.specs.Journal as kept
 use Rattle.simplex_lives.specs.Member as life
 use Rattle.simplex_lives.specs.Member.{Member, happens, run, IsLegal}
+use Rattle.simplex_wire.specs.declared.certificate.Certificate.{Certificate}
 use Rattle.simplex_wire.specs.declared.certificate.Certificate.TheVariants as certificates
 use Rattle.simplex_agreement.specs.World as agreement
 use Rattle.simplex_agreement.proofs.ListFacts.{not_in_empty, Contains-cons_cases}
@@ -185,7 +186,7 @@ in_floor setup node (Some f) stop c k =
     subst (λ b. Contains (if b then statement_of (certificates.Finalization f) ∷ [] else []) c) (sym (same_self node)) k
 
 -- a start hands on no constructed vote: it sends none
-abbrev nothing_bad : agreement.Certificate → Type 0
+abbrev nothing_bad : Certificate → Type 0
 nothing_bad c = Unit {0}
 
 no_send : (cs : List Call) (to : Recipients) (bytes : List ℕ) → AreSent cs [] → ¬ (Contains cs (calls.Send channels.Vote to bytes))
@@ -427,13 +428,13 @@ place_then made did past given e f = (ap (λ b. made.voter (if b then did.now el
     filter_some : (did : Did) (past : List Did) (given : Given) → given_to_voter did ≡ Some given → filter_map given_to_voter (did ∷ past) ≡ given ∷ filter_map given_to_voter past
     filter_some did past given e = grind (arith, common_steps, e)
 
-step_place : (made : VoterMade) (given : List Given) (input : VoterInput) (now : ℕ) (stop : Stop) (d : Doing) → voter.stepped made.rules now (place_of made given).standing input ≡ Some d
+pub step_place : (made : VoterMade) (given : List Given) (input : VoterInput) (now : ℕ) (stop : Stop) (d : Doing) → voter.stepped made.rules now (place_of made given).standing input ≡ Some d
     → place_of made (Stepped input now stop ∷ given) ≡ record { standing = rest d (place_of made given).standing.answers; sections = (performed stop d (place_of made given).sections).sections }
 unfolding place_of
 step_place made given input now stop d e =
     ap (λ o. option_map_or (λ doing. record { standing = rest doing (place_of made given).standing.answers; sections = (performed stop doing (place_of made given).sections).sections }) o (place_of made given)) e
 
-idle_place : (made : VoterMade) (given : List Given) (input : VoterInput) (now : ℕ) (stop : Stop) → voter.stepped made.rules now (place_of made given).standing input ≡ None
+pub idle_place : (made : VoterMade) (given : List Given) (input : VoterInput) (now : ℕ) (stop : Stop) → voter.stepped made.rules now (place_of made given).standing input ≡ None
     → place_of made (Stepped input now stop ∷ given) ≡ place_of made given
 unfolding place_of
 idle_place made given input now stop e =
@@ -514,7 +515,7 @@ voter_further setup node made past m noted taken input now stop step low same a 
 
 -- ---- an answer
 
-answered_known : (number : ℕ) (answer : Answer) (s : voter.Standing) → (voter.answered number answer s).desk.known ≡ s.desk.known
+pub answered_known : (number : ℕ) (answer : Answer) (s : voter.Standing) → (voter.answered number answer s).desk.known ≡ s.desk.known
 unfolding voter.answered
 answered_known number answer s = at (voter.takes_answer s number answer)
   where

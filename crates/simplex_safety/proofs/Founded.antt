@@ -33,9 +33,8 @@ use Rattle.simplex_batcher_laws.specs.Votes.{Accepted, Came, Brings}
 use Rattle.simplex_batcher_laws.specs.Reports.{IsFounded, IsFoundedCall}
 use Rattle.simplex_batcher_laws.specs.Certificates.{IsSchemeOfMembers, BringsNew, IsVoteOn, IsFoundedCertificate, IsFoundedMessage}
 use Rattle.simplex_batcher_laws.proofs.Steps.{accepted_came, calls_founded, handed_founded}
-use Rattle.simplex_agreement.specs.World as agreement
 use Rattle.simplex_agreement.specs.World.{Sent}
-use Rattle.simplex_conduct.specs.Life.{statement_of, IsVoteSent, AreVotesSent}
+use Rattle.simplex_conduct.specs.Life.{IsVoteSent, AreVotesSent}
 use Rattle.simplex_safety.specs.Sayings.{Each, InCall, InReport, InMessage, AllSaid}
 use Rattle.simplex_safety.proofs.Mails.{Holds, InMail, holds_nothing, holds_all, holds_after, batcher_keeps, voter_keeps}
 use Rattle.simplex_safety.proofs.Quiet.{AllHush, AllForVoter, batcher_hush}
@@ -138,6 +137,7 @@ came_sent sent (given ∷ past) v f c = elim c [ inl b ↦ brings_sent sent give
 -- the batcher of the one member
 pub record IsOnly (made : batcher.Made) : Type 0 where
   pub scheme : IsSchemeOfMembers made
+  pub signed : (subject : Subject) (a : Attestation) → made.scheme.verifies subject a ≡ true → length a.signature ≡ 32
   pub members : made.members ≡ 1
 
 never_new : (sent : List Sent) (standing : batcher.Standing) (input : BatcherInput) (c : Certificate) → IsFineInput sent input → BringsNew standing input c → ⊥
@@ -153,9 +153,9 @@ some_vote made accepted subject (a ∷ rest) some each =
     (on.vote, on.was_accepted, on.on)
 
 founded_good : (sent : List Sent) (made : batcher.Made) (past : List batcher.Timed) (given : batcher.Timed) (c : Certificate) → IsOnly made → Each (IsFineTimed sent) (given ∷ past)
-    → IsFoundedCertificate made (Accepted made (given ∷ past)) (BringsNew (batcher.standing_after made past) given.input) c → Good sent (statement_of c)
+    → IsFoundedCertificate made (Accepted made (given ∷ past)) (BringsNew (batcher.standing_after made past) given.input) c → Good sent c
 founded_good sent made past given c only f founded =
-    let one = one_signs (made.scheme.verifies (certificate_subject c)) made.members (certificate_signatures c) only.members founded.verifies in
+    let one = one_signs (made.scheme.verifies (certificate_subject c)) made.members (certificate_signatures c) only.members (only.signed (certificate_subject c)) founded.verifies in
     elim founded.source [
       | inl new ↦ absurd (never_new sent (batcher.standing_after made past) given.input c f.0 new)
       | inr votes ↦ (let v = some_vote made (Accepted made (given ∷ past)) (certificate_subject c) (certificate_signatures c) one.1 votes.each in (
@@ -183,14 +183,14 @@ messages_good sent made past given cs (handed.Batcher message ∷ rest) only f v
 messages_good sent made past given cs (handed.Resolver message ∷ rest) only f voter founded = absurd voter.0
 messages_good sent made past given cs (handed.Handler message ∷ rest) only f voter founded = absurd voter.0
 
-report_good : (Good : agreement.Certificate → Type 0) (accepted came : Vote → Type 0) (a : Activity) → IsFounded accepted came a → InReport Good a
+report_good : (Good : Certificate → Type 0) (accepted came : Vote → Type 0) (a : Activity) → IsFounded accepted came a → InReport Good a
 report_good Good accepted came (activities.Notarization c) h = absurd h
 report_good Good accepted came (activities.Certification c) h = absurd h
 report_good Good accepted came (activities.Nullification c) h = absurd h
 report_good Good accepted came (activities.Finalization c) h = absurd h
 report_good Good accepted came _ h = tt
 
-calls_good : (Good : agreement.Certificate → Type 0) (accepted came : Vote → Type 0) (cs : List Call) → AllHush cs → All (IsFoundedCall accepted came) cs → Each (InCall Good) cs
+calls_good : (Good : Certificate → Type 0) (accepted came : Vote → Type 0) (cs : List Call) → AllHush cs → All (IsFoundedCall accepted came) cs → Each (InCall Good) cs
 calls_good Good accepted came [] hush founded = tt
 calls_good Good accepted came (calls.Report a ∷ rest) hush founded =
     let P = IsFoundedCall accepted came in
@@ -214,7 +214,7 @@ step_said sent made past given only f =
       added = tt;
     }
 
-cut_said : (Good : agreement.Certificate → Type 0) (stop : Stop) (out : StepOut) → AllSaid Good out → AllSaid Good (cut_short stop out).1
+cut_said : (Good : Certificate → Type 0) (stop : Stop) (out : StepOut) → AllSaid Good out → AllSaid Good (cut_short stop out).1
 cut_said Good stops.None out s = s
 cut_said Good (stops.Fail call keep) out s = s
 cut_said Good (stops.Cut call keep) out s = at (nat_lt 0 call && nat_le call (length out.calls))

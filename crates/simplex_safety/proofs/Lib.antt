@@ -4,10 +4,12 @@ mod Backing
 mod Events
 mod Founded
 mod Further
+mod Keeping
 mod Knowledge
 mod Mails
 mod Nodes
 mod Quiet
+mod Reading
 mod Safely
 mod Single
 mod Speaking

@@ -8,8 +8,7 @@ use Rattle.simplex_messages.specs.declared.batcher.Message.TheVariants as batche
 use Rattle.simplex_messages.specs.declared.voter.Message as voter_message
 use Rattle.simplex_messages.specs.declared.voter.Message.TheVariants as voter
 use Rattle.simplex_messages.specs.Policies.{is_final_from, voter_view, is_final_for_voter, outlasts_for_voter, stands_for_voter, outranks, changed_for_voter, voter_handled, handled_by_view, outdates_message, is_as_great, is_outdated, stands_for_batcher, batcher_handled}
-use Rattle.simplex_agreement.specs.World as agreement
-use Rattle.simplex_conduct.specs.Life.{statement_of}
+use Rattle.simplex_wire.specs.declared.certificate.Certificate.{Certificate}
 use Rattle.simplex_safety.specs.Sayings.{Each}
 use Rattle.simplex_safety.proofs.Speaking.{Each-append}
 use Rattle.simplex_safety.proofs.Telling.{Each-take}
@@ -128,11 +127,11 @@ batcher_keeps P w (batcher.Constructed vote) h p =
 -- ---- the voter's drops, puts, or changes a timeout
 
 -- the certificate that a message of the voter brings
-abbrev pub InMail : (agreement.Certificate → Type 0) → voter_message.Message → Type 0
-InMail Good (voter.Verified c) = Good (statement_of c)
+abbrev pub InMail : (Certificate → Type 0) → voter_message.Message → Type 0
+InMail Good (voter.Verified c) = Good c
 InMail Good _ = Unit {0}
 
-changed_keeps : (Good : agreement.Certificate → Type 0) (message queued : voter_message.Message) → InMail Good queued → InMail Good (changed_for_voter message queued)
+changed_keeps : (Good : Certificate → Type 0) (message queued : voter_message.Message) → InMail Good queued → InMail Good (changed_for_voter message queued)
 changed_keeps Good (voter.Timeout round reason) (voter.Timeout old other) h = at (old.view == round.view && outranks reason other)
   where
     at : (b : Bool) → InMail Good (if b then voter.Timeout round reason else voter.Timeout old other)
@@ -143,7 +142,7 @@ changed_keeps Good (voter.Timeout round reason) (voter.Verified c) h = h
 changed_keeps Good (voter.Proposal p) queued h = h
 changed_keeps Good (voter.Verified c) queued h = h
 
-pub voter_keeps : (Good : agreement.Certificate → Type 0) (w : Waiting voter_message.Message) (message : voter_message.Message) → Waits (InMail Good) w → InMail Good message
+pub voter_keeps : (Good : Certificate → Type 0) (w : Waiting voter_message.Message) (message : voter_message.Message) → Waits (InMail Good) w → InMail Good message
     → Waits (InMail Good) (voter_handled w message)
 unfolding voter_handled handled_by_view
 voter_keeps Good w message h p =

@@ -1,13 +1,12 @@
 -- What a voter says in a step, and in a start.
-use Rattle.std.proofs.Common.{◌≡◌, ℕ, zero, suc, ◌-◌, ◌==◌, not, Bool, true, false, nat_lt, nat_le, List, [], ◌∷◌, ◌++◌, take, Contains, Option, Some, None, option_to_list, refl, sym, ◌∙◌, subst, if◌then◌else◌}
+use Rattle.std.proofs.Common.{◌≡◌, ℕ, zero, suc, ◌-◌, ◌==◌, not, Bool, true, false, nat_lt, nat_le, List, [], ◌∷◌, ◌++◌, take, Option, Some, None, refl, sym, ap, subst, append_assoc, if◌then◌else◌}
 use Rattle.std.specs.List.{list_any}
 use Rattle.std.specs.Option.{option_or, option_map, option_map_or, option_and_then}
-use Rattle.std.proofs.lemmas.List.Elements.{Contains-append_left}
 use Rattle.simplex_values.specs.declared.answer.Answer.{Answer}
 use Rattle.simplex_values.specs.declared.answer.Answer.TheVariants as answers
 use Rattle.simplex_values.specs.declared.answer.Handoff.TheVariants as handoffs
 use Rattle.simplex_values.specs.declared.plan.Plan.TheVariants as plans
-use Rattle.simplex_values.specs.declared.timeout.TimeoutReason.TheVariants.{LeaderTimeout, MissingProposal, IgnoredProposal, InvalidProposal}
+use Rattle.simplex_values.specs.declared.timeout.TimeoutReason.TheVariants.{LeaderTimeout, MissingProposal, IgnoredProposal, InvalidProposal, FailedCertification}
 use Rattle.simplex_values.specs.Terms.{next_term_start}
 use Rattle.simplex_wire.specs.declared.vote.Nullify.{Nullify}
 use Rattle.simplex_wire.specs.declared.vote.Vote.TheVariants as votes
@@ -25,12 +24,12 @@ use Rattle.simplex_types.specs.declared.floor.Floor.TheVariants as floors
 use Rattle.simplex_rules.specs.declared.request.ProposalState.{ProposalState}
 use Rattle.simplex_rules.specs.declared.request.ProposalState.TheVariants.{Preparing, Proposing, Waiting, Held, Closed}
 use Rattle.simplex_wire.specs.declared.certificate.CertificateKind.TheVariants as kinds
-use Rattle.simplex_rules.specs.Known.{Made, Fact, Added, Voted, Published, FloorAt, Broadcast, view_of, notarization_of, finalization_of, has_nullified}
+use Rattle.simplex_rules.specs.Known.{Made, Fact, Added, Judged, Voted, Published, FloorAt, Broadcast, view_of, notarization_of, finalization_of, has_nullified}
 use Rattle.simplex_rules.specs.Views.{current_of, admits_certificate}
 use Rattle.simplex_rules.specs.Slot.{records_answer}
 use Rattle.simplex_rules.specs.Ancestry.{is_certified, has_true_verdict}
 use Rattle.simplex_rules.specs.Votes.{nullify_at}
-use Rattle.simplex_rules.specs.Deadline.{deadline_of}
+use Rattle.simplex_rules.specs.Deadline.{deadline_of, triggered}
 use Rattle.simplex_rules.specs.Best.{greater, opening_nullification, best_certificate}
 use Rattle.simplex_rules.specs.Calls as state
 use Rattle.simplex_rules.specs.Calls.{facts_of, replay_answer, takes_verdict, certified_answer, judged, only_if, replay_facts}
@@ -49,62 +48,56 @@ use Rattle.simplex_messages.specs.declared.step.Stop.{Stop}
 use Rattle.simplex_messages.specs.declared.step.Stop.TheVariants as stops
 use Rattle.simplex_steps.specs.Performed.{stop_place, whole, broken, performed}
 use Rattle.simplex_steps.specs.VoterLife.{before_reading, unread, start_performed}
-use Rattle.simplex_agreement.specs.World as agreement
 use Rattle.simplex_agreement.proofs.ListFacts.{not_in_empty, Contains-here, Contains-there}
-use Rattle.simplex_lives.specs.Artifacts as member
-use Rattle.simplex_conduct.specs.Life.{statement_of, noted, remembered}
-use Rattle.simplex_conduct.proofs.Remembering.{in_memory}
-use Rattle.simplex_conduct.proofs.Facts.{quiet_memory}
-use Rattle.simplex_conduct.proofs.Publishing.{remembered_push}
+use Rattle.simplex_conduct.specs.Life.{noted}
+use Rattle.simplex_conduct.proofs.Facts.{quiet_same, Quiet-triggered}
 use Rattle.simplex_conduct.proofs.Acting.{adding_facts, nullifying_facts}
-use Rattle.simplex_conduct.proofs.Replaying.{verdict_replayed}
 use Rattle.simplex_safety.specs.Sayings.{Each, InRecord, InReport, InCall, AllSaid, InInput, InFloor, InRecords}
-use Rattle.simplex_safety.proofs.Speaking.{KnowsGood, push_good, good_notarization, good_finalization, OfOption, SaysGood, say, learn, says_told, says_made, says_handed, says_at_end, says_iteration}
+use Rattle.simplex_safety.proofs.Speaking.{KnowsGood, same_good, push_good, good_notarization, good_finalization, OfOption, SaysGood, say, learn, says_told, says_made, says_handed, says_at_end, says_iteration}
 
 -- ---- the best certificate
 
-greater_good : (Good : agreement.Certificate → Type 0) (n : Nullification) (o : Option Nullification) (m : Nullification) → Good (statement_of (certificates.Nullification n))
-    → ((x : Nullification) → o ≡ Some x → Good (statement_of (certificates.Nullification x))) → greater n o ≡ Some m → Good (statement_of (certificates.Nullification m))
+greater_good : (Good : Certificate → Type 0) (n : Nullification) (o : Option Nullification) (m : Nullification) → Good (certificates.Nullification n)
+    → ((x : Nullification) → o ≡ Some x → Good (certificates.Nullification x)) → greater n o ≡ Some m → Good (certificates.Nullification m)
 greater_good Good n o m g h e = at (option_map_or (λ (k : Nullification). nat_lt k.round.view n.round.view) o true) e
   where
-    at : (b : Bool) → (if b then Some n else o) ≡ Some m → Good (statement_of (certificates.Nullification m))
-    at true f = let same : n ≡ m = cc in subst (λ x. Good (statement_of (certificates.Nullification x))) same g
+    at : (b : Bool) → (if b then Some n else o) ≡ Some m → Good (certificates.Nullification m)
+    at true f = let same : n ≡ m = cc in subst (λ x. Good (certificates.Nullification x)) same g
     at false f = h m f
 
-later_good : (Good : agreement.Certificate → Type 0) (fact : Fact) (known : List Fact) → KnowsGood Good (fact ∷ known) → KnowsGood Good known
-unfolding remembered
-later_good Good fact known k c h = k c (Contains-append_left (remembered known) (option_to_list (noted fact)) (member.Proved c) h)
+later_good : (Good : Certificate → Type 0) (fact : Fact) (known : List Fact) → KnowsGood Good (fact ∷ known) → KnowsGood Good known
+later_good Good fact known k c now h = k c now (Contains-there fact known (Added c now) h)
 
-opening_good : (Good : agreement.Certificate → Type 0) (length : ℕ) (known : List Fact) (view : ℕ) (m : Nullification) → KnowsGood Good known
-    → opening_nullification length known view ≡ Some m → Good (statement_of (certificates.Nullification m))
+opening_good : (Good : Certificate → Type 0) (length : ℕ) (known : List Fact) (view : ℕ) (m : Nullification) → KnowsGood Good known
+    → opening_nullification length known view ≡ Some m → Good (certificates.Nullification m)
 unfolding opening_nullification
 opening_good Good length [] view m k e = cc
 opening_good Good length (Added (certificates.Nullification n) now ∷ known) view m k e =
     at (next_term_start length n.round.view == view) e
-    (k (statement_of (certificates.Nullification n)) (in_memory (Added (certificates.Nullification n) now ∷ known) (Added (certificates.Nullification n) now) _ (Contains-here (Added (certificates.Nullification n) now) known) refl))
+    (k (certificates.Nullification n) now (Contains-here (Added (certificates.Nullification n) now) known))
     (λ x h. opening_good Good length known view x (later_good Good (Added (certificates.Nullification n) now) known k) h)
   where
     at : (b : Bool) → (if b then greater n (opening_nullification length known view) else opening_nullification length known view) ≡ Some m
-        → Good (statement_of (certificates.Nullification n))
-        → ((x : Nullification) → opening_nullification length known view ≡ Some x → Good (statement_of (certificates.Nullification x)))
-        → Good (statement_of (certificates.Nullification m))
+        → Good (certificates.Nullification n)
+        → ((x : Nullification) → opening_nullification length known view ≡ Some x → Good (certificates.Nullification x))
+        → Good (certificates.Nullification m)
     at true f g h = greater_good Good n (opening_nullification length known view) m g h f
     at false f g h = h m f
 opening_good Good length (fact ∷ known) view m k e = opening_good Good length known view m (later_good Good fact known k) e
 
-mapped_good : (Good : agreement.Certificate → Type 0) {A : Type 0} (f : A → Certificate) (o : Option A) → ((a : A) → o ≡ Some a → Good (statement_of (f a))) → OfOption Good (option_map f o)
+mapped_good : (Good : Certificate → Type 0) {A : Type 0} (f : A → Certificate) (o : Option A) → ((a : A) → o ≡ Some a → Good (f a)) → OfOption Good (option_map f o)
 mapped_good Good f None h = tt
 mapped_good Good f (Some a) h = h a refl
 
-or_good : (Good : agreement.Certificate → Type 0) (o p : Option Certificate) → OfOption Good o → OfOption Good p → OfOption Good (option_or o p)
+or_good : (Good : Certificate → Type 0) (o p : Option Certificate) → OfOption Good o → OfOption Good p → OfOption Good (option_or o p)
 or_good Good (Some c) p g h = g
 or_good Good None p g h = h
 
-if_good : (Good : agreement.Certificate → Type 0) (b : Bool) (o : Option Certificate) → OfOption Good o → OfOption Good (if b then o else None)
+if_good : (Good : Certificate → Type 0) (b : Bool) (o : Option Certificate) → OfOption Good o → OfOption Good (if b then o else None)
 if_good Good true o g = g
 if_good Good false o g = tt
 
-best_good : (Good : agreement.Certificate → Type 0) (made : Made) (known : List Fact) → KnowsGood Good known → OfOption Good (best_certificate made known)
+best_good : (Good : Certificate → Type 0) (made : Made) (known : List Fact) → KnowsGood Good known → OfOption Good (best_certificate made known)
 unfolding best_certificate
 best_good Good made known k =
     or_good Good (option_map certificates.Finalization (finalization_of known (current_of made known - 1))) _
@@ -116,10 +109,10 @@ best_good Good made known k =
 
 -- ---- acting
 
-abbrev SaysOutcome : (agreement.Certificate → Type 0) → Doing × Option ℕ → Type 0
+abbrev SaysOutcome : (Certificate → Type 0) → Doing × Option ℕ → Type 0
 SaysOutcome Good outcome = SaysGood Good outcome.0
 
-says_propose : (Good : agreement.Certificate → Type 0) (made : Made) (p : Pending) (payload : List ℕ) (d : Doing) → SaysGood Good d → SaysGood Good (propose made p payload d).0
+says_propose : (Good : Certificate → Type 0) (made : Made) (p : Pending) (payload : List ℕ) (d : Doing) → SaysGood Good d → SaysGood Good (propose made p payload d).0
 unfolding propose
 says_propose Good made p payload d s = at (records_answer made d.desk.known (pending_view p))
   where
@@ -135,7 +128,7 @@ says_propose Good made p payload d s = at (records_answer made d.desk.known (pen
     at true = says_made Good (calls.Relay payload (plans.Propose p.context.round)) (settle_proposal (tell made (state.Proposed p.context payload) d)) tt told
     at false = told
 
-says_stage : (Good : agreement.Certificate → Type 0) (made : Made) (p : Pending) (payload : List ℕ) (d : Doing) → SaysGood Good d → SaysGood Good (stage made p payload d).0
+says_stage : (Good : Certificate → Type 0) (made : Made) (p : Pending) (payload : List ℕ) (d : Doing) → SaysGood Good d → SaysGood Good (stage made p payload d).0
 unfolding stage
 says_stage Good made p payload d s = at (is_certified d.desk.known (pending_parent p))
   where
@@ -146,12 +139,12 @@ says_stage Good made p payload d s = at (is_certified d.desk.known (pending_pare
     at true = says_propose Good made p payload d s
     at false = says_made Good (calls.Relay payload (plans.Prepare p.context.round)) d tt s
 
-says_give_up : (Good : agreement.Certificate → Type 0) (made : Made) (now : ℕ) (p : Pending) (at : ProposalState) (d : Doing) → SaysGood Good d → SaysGood Good (give_up made now p at d).0
+says_give_up : (Good : Certificate → Type 0) (made : Made) (now : ℕ) (p : Pending) (at : ProposalState) (d : Doing) → SaysGood Good d → SaysGood Good (give_up made now p at d).0
 unfolding give_up
 says_give_up Good made now p Preparing d s = s
 says_give_up Good made now p _ d s = says_told Good made (state.TriggerTimeout (pending_view p) MissingProposal now) d tt s
 
-says_proposal : (Good : agreement.Certificate → Type 0) (made : Made) (now : ℕ) (p : Pending) (answer : Answer) (d : Doing) → SaysGood Good d → SaysGood Good (act_on_proposal made now p answer d).0
+says_proposal : (Good : Certificate → Type 0) (made : Made) (now : ℕ) (p : Pending) (answer : Answer) (d : Doing) → SaysGood Good d → SaysGood Good (act_on_proposal made now p answer d).0
 unfolding act_on_proposal
 says_proposal Good made now p (answers.Payload payload) d s = says_propose Good made p payload d s
 says_proposal Good made now p (answers.Handoff handoffs.Wait) d s = s
@@ -160,19 +153,30 @@ says_proposal Good made now p (answers.Handoff (handoffs.Vote payload)) d s = sa
 says_proposal Good made now p (answers.Verdict good) d s = s
 says_proposal Good made now p answers.Closed d s = says_give_up Good made now p p.state d s
 
-says_verify : (Good : agreement.Certificate → Type 0) (made : Made) (now : ℕ) (v : Opened) (answer : Answer) (d : Doing) → SaysGood Good d → SaysGood Good (act_on_verify made now v answer d).0
+says_verify : (Good : Certificate → Type 0) (made : Made) (now : ℕ) (v : Opened) (answer : Answer) (d : Doing) → SaysGood Good d → SaysGood Good (act_on_verify made now v answer d).0
 unfolding act_on_verify
 says_verify Good made now v (answers.Verdict true) d s = says_told Good made (state.Verified v.view) (record d { desk = record d.desk { verify = None } }) tt s
 says_verify Good made now v (answers.Verdict false) d s = says_told Good made (state.VerificationFailed v.view InvalidProposal now) (record d { desk = record d.desk { verify = None } }) tt s
 says_verify Good made now v _ d s = says_told Good made (state.VerificationFailed v.view IgnoredProposal now) (record d { desk = record d.desk { verify = None } }) tt s
 
 -- a verdict brings no certificate
-judged_good : (Good : agreement.Certificate → Type 0) (made : Made) (known : List Fact) (view : ℕ) (good : Bool) (now : ℕ) → KnowsGood Good known → KnowsGood Good (judged made known view good now ++ known)
-judged_good Good made known view good now k = at (takes_verdict known view) refl
+judged_good : (Good : Certificate → Type 0) (made : Made) (known : List Fact) (view : ℕ) (good : Bool) (now : ℕ) → KnowsGood Good known → KnowsGood Good (judged made known view good now ++ known)
+unfolding judged
+judged_good Good made known view good now k = at (takes_verdict known view) good
   where
-    at : (t : Bool) → takes_verdict known view ≡ t → KnowsGood Good (judged made known view good now ++ known)
-    at true e = push_good Good known (judged made known view good now ++ known) (member.Judged view good) (verdict_replayed made known view good now true e).0 (λ c h. cc) k
-    at false e = λ c h. k c (subst (λ xs. Contains xs (member.Proved c)) (verdict_replayed made known view good now false e).0 h)
+    failed : List Fact
+    failed = triggered made known view FailedCertification now
+
+    told : KnowsGood Good (Judged view good now ∷ known)
+    told = push_good Good (Judged view good now) known (λ c later e. cc) k
+
+    at : (t b : Bool) → KnowsGood Good ((if t then (if b then [] else failed) ++ Judged view good now ∷ [] else []) ++ known)
+    at false b = k
+    at true true = told
+    at true false =
+        subst (KnowsGood Good) (sym (append_assoc failed (Judged view good now ∷ []) known))
+        (same_good Good made (Judged view good now ∷ known) (failed ++ Judged view good now ∷ known)
+        (quiet_same made failed (Judged view good now ∷ known) (Quiet-triggered made known view FailedCertification now)) told)
 
 certified_known : (known : List Fact) (view : ℕ) (n : Notarization) → certified_answer known view ≡ Some n → notarization_of known view ≡ Some n
 unfolding certified_answer
@@ -182,14 +186,14 @@ certified_known known view n e = at (takes_verdict known view) e
     at true h = h
     at false h = cc
 
-says_verdict_taken : (Good : agreement.Certificate → Type 0) (made : Made) (view : ℕ) (good : Bool) (o : Option Notarization) (d : Doing) → ((n : Notarization) → o ≡ Some n → Good (statement_of (certificates.Notarization n)))
+says_verdict_taken : (Good : Certificate → Type 0) (made : Made) (view : ℕ) (good : Bool) (o : Option Notarization) (d : Doing) → ((n : Notarization) → o ≡ Some n → Good (certificates.Notarization n))
     → SaysGood Good d → SaysGood Good (take_verdict made view good o d).0
 says_verdict_taken Good made view good None d g s = s
 says_verdict_taken Good made view good (Some n) d g s =
     let x = say Good d.calls d.handed d.added d.desk.known d.verdict d.nullify (calls.Append (view_of n.proposal) (artifacts.Certification n.proposal.round good)) tt s in
     record { in_calls = x.in_calls; in_messages = x.in_messages; in_added = x.in_added; in_known = x.in_known; in_verdict = g n refl; in_nullify = x.in_nullify }
 
-says_certify : (Good : agreement.Certificate → Type 0) (made : Made) (now : ℕ) (c : Opened) (answer : Answer) (d : Doing) → SaysGood Good d → SaysGood Good (act_on_certify made now c answer d).0
+says_certify : (Good : Certificate → Type 0) (made : Made) (now : ℕ) (c : Opened) (answer : Answer) (d : Doing) → SaysGood Good d → SaysGood Good (act_on_certify made now c answer d).0
 unfolding act_on_certify facts_of
 says_certify Good made now c (answers.Verdict good) d s =
     says_verdict_taken Good made c.view good (certified_answer d.desk.known c.view) (tell made (state.Certified c.view good now) (settle_certify c.number d))
@@ -199,12 +203,12 @@ says_certify Good made now c _ d s = s
 
 -- ---- a certificate
 
-in_record : (Good : agreement.Certificate → Type 0) (c : Certificate) → Good (statement_of c) → InRecord Good (record_of c)
+in_record : (Good : Certificate → Type 0) (c : Certificate) → Good c → InRecord Good (record_of c)
 in_record Good (certificates.Notarization n) g = g
 in_record Good (certificates.Nullification n) g = g
 in_record Good (certificates.Finalization n) g = g
 
-says_blocked : (Good : agreement.Certificate → Type 0) (o : Option ℕ) (d : Doing) → SaysGood Good d → SaysGood Good (block_for o d)
+says_blocked : (Good : Certificate → Type 0) (o : Option ℕ) (d : Doing) → SaysGood Good d → SaysGood Good (block_for o d)
 says_blocked Good None d s = s
 says_blocked Good (Some leader) d s = says_made Good (calls.Block leader) d tt s
 
@@ -212,14 +216,14 @@ block_same : (o : Option ℕ) (d : Doing) → ((block_for o d).desk ≡ d.desk)
 block_same None d = refl
 block_same (Some leader) d = refl
 
-added_good : (Good : agreement.Certificate → Type 0) (made : Made) (known : List Fact) (c : Certificate) (now : ℕ) → Good (statement_of c) → KnowsGood Good known → KnowsGood Good (facts_of made known (adding c now) ++ known)
+added_good : (Good : Certificate → Type 0) (made : Made) (known : List Fact) (c : Certificate) (now : ℕ) → Good c → KnowsGood Good known → KnowsGood Good (facts_of made known (adding c now) ++ known)
 added_good Good made known c now g k = subst (λ facts. KnowsGood Good (facts ++ known)) (sym (adding_facts made known c now)) (at (adds made known c))
   where
     at : (b : Bool) → KnowsGood Good (only_if b (Added c now) ++ known)
-    at true = push_good Good known (Added c now ∷ known) (member.Proved (statement_of c)) (remembered_push (Added c now) known) (λ x e. let same : statement_of c ≡ x = cc in subst Good same g) k
+    at true = push_good Good (Added c now) known (λ x later e. let same : c ≡ x = cc in subst Good same g) k
     at false = k
 
-says_taken : (Good : agreement.Certificate → Type 0) (made : Made) (now : ℕ) (c : Certificate) (d : Doing) → Good (statement_of c) → SaysGood Good d → SaysGood Good (act_on_certificate made now c d).0
+says_taken : (Good : Certificate → Type 0) (made : Made) (now : ℕ) (c : Certificate) (d : Doing) → Good c → SaysGood Good d → SaysGood Good (act_on_certificate made now c d).0
 unfolding act_on_certificate
 says_taken Good made now c d g s = at (not (admits_certificate made d.desk.known (certificate_view c))) (adds made d.desk.known c)
   where
@@ -240,7 +244,7 @@ says_taken Good made now c d g s = at (not (admits_certificate made d.desk.known
         )
         else (told, Some (certificate_view c))
 
-    each_push : (xs : List Certificate) → Each (λ x. Good (statement_of x)) xs → Each (λ x. Good (statement_of x)) (xs ++ c ∷ [])
+    each_push : (xs : List Certificate) → Each Good xs → Each Good (xs ++ c ∷ [])
     each_push [] h = (g, tt)
     each_push (x ∷ xs) h = (h.0, each_push xs h.1)
 
@@ -263,7 +267,7 @@ says_taken Good made now c d g s = at (not (admits_certificate made d.desk.known
         says_handed Good (handed.Resolver (resolver.Updated c)) (block_for (replay_answer made d.desk.known (record_of c)) z) g
         (says_blocked Good (replay_answer made d.desk.known (record_of c)) z w)
 
-says_mail : (Good : agreement.Certificate → Type 0) (made : Made) (now : ℕ) (message : Message) (d : Doing) → InInput Good (inputs.Mail message) → SaysGood Good d → SaysGood Good (act_on_mail made now message d).0
+says_mail : (Good : Certificate → Type 0) (made : Made) (now : ℕ) (message : Message) (d : Doing) → InInput Good (inputs.Mail message) → SaysGood Good d → SaysGood Good (act_on_mail made now message d).0
 unfolding act_on_mail
 says_mail Good made now (mail.Proposal proposal) d g s = says_told Good made (state.SetProposal (view_of proposal) proposal) d tt s
 says_mail Good made now (mail.Timeout round reason) d g s = says_told Good made (state.TriggerTimeout round.view reason now) d tt s
@@ -271,18 +275,18 @@ says_mail Good made now (mail.Verified c) d g s = says_taken Good made now c d g
 
 -- ---- the deadline
 
-nullify_good : (Good : agreement.Certificate → Type 0) (made : Made) (known : List Fact) (view now : ℕ) (n : Nullify) → nullify_at made view ≡ Some n → KnowsGood Good known
+nullify_good : (Good : Certificate → Type 0) (made : Made) (known : List Fact) (view now : ℕ) (n : Nullify) → nullify_at made view ≡ Some n → KnowsGood Good known
     → KnowsGood Good (facts_of made known (state.ConstructNullify view LeaderTimeout now) ++ known)
 nullify_good Good made known view now n e k =
     subst (λ facts. KnowsGood Good (facts ++ known)) (sym (nullifying_facts made known view now n e)) (at (not (has_nullified known view)))
   where
     at : (b : Bool) → KnowsGood Good ((Published view now ∷ only_if b (Voted (votes.Nullify n))) ++ known)
     at true =
-        push_good Good known (Published view now ∷ Voted (votes.Nullify n) ∷ known) _
-        (quiet_memory (Published view now ∷ []) (Voted (votes.Nullify n) ∷ known) (refl, tt) ∙ remembered_push (Voted (votes.Nullify n)) known) (λ c h. cc) k
-    at false = λ c h. k c (subst (λ xs. Contains xs (member.Proved c)) (quiet_memory (Published view now ∷ []) known (refl, tt)) h)
+        push_good Good (Published view now) (Voted (votes.Nullify n) ∷ known) (λ c later h. cc)
+        (push_good Good (Voted (votes.Nullify n)) known (λ c later h. cc) k)
+    at false = push_good Good (Published view now) known (λ c later h. cc) k
 
-says_deadline : (Good : agreement.Certificate → Type 0) (made : Made) (now : ℕ) (d : Doing) → SaysGood Good d → SaysGood Good (act_on_deadline made now d)
+says_deadline : (Good : Certificate → Type 0) (made : Made) (now : ℕ) (d : Doing) → SaysGood Good d → SaysGood Good (act_on_deadline made now d)
 unfolding act_on_deadline
 says_deadline Good made now d s = at (nullify_at made (current_of made d.desk.known)) refl
   where
@@ -312,7 +316,7 @@ says_deadline Good made now d s = at (nullify_at made (current_of made d.desk.kn
 
 -- ---- a step
 
-says_nothing : (Good : agreement.Certificate → Type 0) (s : Standing) → KnowsGood Good s.desk.known → SaysGood Good (begun s.desk)
+says_nothing : (Good : Certificate → Type 0) (s : Standing) → KnowsGood Good s.desk.known → SaysGood Good (begun s.desk)
 says_nothing Good s k = record { in_calls = tt; in_messages = tt; in_added = tt; in_known = k; in_verdict = tt; in_nullify = tt }
 
 some_is : {A : Type 0} (a b : A) → Some a ≡ Some b → a ≡ b
@@ -326,7 +330,7 @@ gives_some : {A B : Type 0} (P : B → Type 0) (f : A → Option B) (o : Option 
 gives_some P f None b each e = cc
 gives_some P f (Some a) b each e = each a e
 
-taken_says : (Good : agreement.Certificate → Type 0) (made : Made) (now : ℕ) (s : Standing) (p : Pending) (at : ProposalState) (outcome : Doing × Option ℕ)
+taken_says : (Good : Certificate → Type 0) (made : Made) (now : ℕ) (s : Standing) (p : Pending) (at : ProposalState) (outcome : Doing × Option ℕ)
     → SaysGood Good (begun s.desk) → take_proposal made now s p at ≡ Some outcome → SaysGood Good outcome.0
 taken_says Good made now s p (Held payload) outcome g e = held (is_certified s.desk.known (pending_parent p)) e
   where
@@ -340,7 +344,7 @@ taken_says Good made now s p Proposing outcome g e =
 taken_says Good made now s p Waiting outcome g e = cc
 taken_says Good made now s p Closed outcome g e = cc
 
-acted_says : (Good : agreement.Certificate → Type 0) (made : Made) (now : ℕ) (s : Standing) (input : VoterInput) (outcome : Doing × Option ℕ) → InInput Good input
+acted_says : (Good : Certificate → Type 0) (made : Made) (now : ℕ) (s : Standing) (input : VoterInput) (outcome : Doing × Option ℕ) → InInput Good input
     → SaysGood Good (begun s.desk) → acted made now s input ≡ Some outcome → SaysGood Good outcome.0
 unfolding acted
 acted_says Good made now s (inputs.Mail message) outcome b g e =
@@ -359,12 +363,12 @@ acted_says Good made now s inputs.Certify outcome b g e =
     gives (λ (o : Doing × Option ℕ). SaysGood Good o.0) (λ (taken : Opened × Answer). act_on_certify made now taken.0 taken.1 (begun s.desk)) (first_answered s.desk.certify s.answers) outcome
     (λ taken. says_certify Good made now taken.0 taken.1 (begun s.desk) g) e
 
-finished_says : (Good : agreement.Certificate → Type 0) (made : Made) (now before : ℕ) (outcome : Doing × Option ℕ) → SaysGood Good outcome.0 → SaysGood Good (finished made now before outcome)
+finished_says : (Good : Certificate → Type 0) (made : Made) (now before : ℕ) (outcome : Doing × Option ℕ) → SaysGood Good outcome.0 → SaysGood Good (finished made now before outcome)
 unfolding finished
 finished_says Good made now before (d, None) g = says_iteration Good made now d g
 finished_says Good made now before (d, Some view) g = says_iteration Good made now (end_of_step made now before view d) (says_at_end Good made now before view d g)
 
-pub stepped_says : (Good : agreement.Certificate → Type 0) (made : Made) (now : ℕ) (s : Standing) (input : VoterInput) (d : Doing) → InInput Good input → KnowsGood Good s.desk.known
+pub stepped_says : (Good : Certificate → Type 0) (made : Made) (now : ℕ) (s : Standing) (input : VoterInput) (d : Doing) → InInput Good input → KnowsGood Good s.desk.known
     → stepped made now s input ≡ Some d → SaysGood Good d
 unfolding stepped
 stepped_says Good made now s input d b k e = at (acted made now s input) refl e
@@ -377,7 +381,7 @@ stepped_says Good made now s input d b k e = at (acted made now s input) refl e
 
 -- ---- a start
 
-in_report : (Good : agreement.Certificate → Type 0) (a : Artifact) (r : Activity) → InRecord Good a → activity_of a ≡ Some r → InReport Good r
+in_report : (Good : Certificate → Type 0) (a : Artifact) (r : Activity) → InRecord Good a → activity_of a ≡ Some r → InReport Good r
 in_report Good (artifacts.Notarization n) r g e = subst (InReport Good) (some_is _ r e) g
 in_report Good (artifacts.Nullification n) r g e = subst (InReport Good) (some_is _ r e) g
 in_report Good (artifacts.Finalization n) r g e = subst (InReport Good) (some_is _ r e) g
@@ -386,56 +390,52 @@ in_report Good (artifacts.Nullify v) r g e = subst (InReport Good) (some_is _ r 
 in_report Good (artifacts.Finalize v) r g e = subst (InReport Good) (some_is _ r e) tt
 in_report Good (artifacts.Certification round good) r g e = cc
 
-in_certificate : (Good : agreement.Certificate → Type 0) (a : Artifact) (c : Certificate) → InRecord Good a → certificate_in a ≡ Some c → Good (statement_of c)
-in_certificate Good (artifacts.Notarization n) c g e = subst (λ x. Good (statement_of x)) (some_is _ c e) g
-in_certificate Good (artifacts.Nullification n) c g e = subst (λ x. Good (statement_of x)) (some_is _ c e) g
-in_certificate Good (artifacts.Finalization n) c g e = subst (λ x. Good (statement_of x)) (some_is _ c e) g
+in_certificate : (Good : Certificate → Type 0) (a : Artifact) (c : Certificate) → InRecord Good a → certificate_in a ≡ Some c → Good c
+in_certificate Good (artifacts.Notarization n) c g e = subst (λ x. Good x) (some_is _ c e) g
+in_certificate Good (artifacts.Nullification n) c g e = subst (λ x. Good x) (some_is _ c e) g
+in_certificate Good (artifacts.Finalization n) c g e = subst (λ x. Good x) (some_is _ c e) g
 in_certificate Good (artifacts.Notarize v) c g e = cc
 in_certificate Good (artifacts.Nullify v) c g e = cc
 in_certificate Good (artifacts.Finalize v) c g e = cc
 in_certificate Good (artifacts.Certification round good) c g e = cc
 
-says_reported : (Good : agreement.Certificate → Type 0) (o : Option Activity) (d : Doing) → ((r : Activity) → o ≡ Some r → InReport Good r) → SaysGood Good d → SaysGood Good (report_if o d)
+says_reported : (Good : Certificate → Type 0) (o : Option Activity) (d : Doing) → ((r : Activity) → o ≡ Some r → InReport Good r) → SaysGood Good d → SaysGood Good (report_if o d)
 says_reported Good None d g s = s
 says_reported Good (Some r) d g s = says_made Good (calls.Report r) d (g r refl) s
 
-says_updated : (Good : agreement.Certificate → Type 0) (o : Option Certificate) (d : Doing) → ((c : Certificate) → o ≡ Some c → Good (statement_of c)) → SaysGood Good d → SaysGood Good (updated_if o d)
+says_updated : (Good : Certificate → Type 0) (o : Option Certificate) (d : Doing) → ((c : Certificate) → o ≡ Some c → Good c) → SaysGood Good d → SaysGood Good (updated_if o d)
 says_updated Good None d g s = s
 says_updated Good (Some c) d g s = says_handed Good (handed.Resolver (resolver.Updated c)) d (g c refl) s
 
-says_kept_verdict : (Good : agreement.Certificate → Type 0) (good : Bool) (o : Option Notarization) (d : Doing) → ((n : Notarization) → o ≡ Some n → Good (statement_of (certificates.Notarization n))) → SaysGood Good d → SaysGood Good (replay_verdict good o d)
+says_kept_verdict : (Good : Certificate → Type 0) (good : Bool) (o : Option Notarization) (d : Doing) → ((n : Notarization) → o ≡ Some n → Good (certificates.Notarization n)) → SaysGood Good d → SaysGood Good (replay_verdict good o d)
 says_kept_verdict Good good None d g s = s
 says_kept_verdict Good true (Some n) d g s =
     says_handed Good (handed.Resolver (resolver.Certified n true)) (report (activities.Certification n) d) (g n refl) (says_made Good (calls.Report (activities.Certification n)) d (g n refl) s)
 says_kept_verdict Good false (Some n) d g s = says_handed Good (handed.Resolver (resolver.Certified n false)) d (g n refl) s
 
 -- a certificate that is known again is good
-certificate_known : (Good : agreement.Certificate → Type 0) (known : List Fact) (c : Certificate) (extra : Fact) (now : ℕ) → noted extra ≡ None → Good (statement_of c) → KnowsGood Good known
+certificate_known : (Good : Certificate → Type 0) (known : List Fact) (c : Certificate) (extra : Fact) (now : ℕ) → noted extra ≡ None → Good c → KnowsGood Good known
     → KnowsGood Good (extra ∷ Added c now ∷ known)
 certificate_known Good known c extra now e g k =
-    push_good Good known (extra ∷ Added c now ∷ known) (member.Proved (statement_of c)) (quiet_memory (extra ∷ []) (Added c now ∷ known) (e, tt) ∙ remembered_push (Added c now) known)
-    (λ x h. let same : statement_of c ≡ x = cc in subst Good same g) k
-
-nothing_remembered : remembered [] ≡ []
-unfolding remembered
-nothing_remembered = refl
+    push_good Good extra (Added c now ∷ known) (λ x later h. (let is = ap noted h in cc (e, is)))
+    (push_good Good (Added c now) known (λ x later h. let same : c ≡ x = cc in subst Good same g) k)
 
 -- what a record makes known is good
-replayed_known : (Good : agreement.Certificate → Type 0) (made : Made) (known : List Fact) (a : Artifact) (now : ℕ) → InRecord Good a → KnowsGood Good known → KnowsGood Good (replay_facts made known a now ++ known)
-replayed_known Good made known (artifacts.Notarize v) now g k = push_good Good known (Voted (votes.Notarize v) ∷ known) _ (remembered_push (Voted (votes.Notarize v)) known) (λ c h. cc) k
-replayed_known Good made known (artifacts.Nullify v) now g k = push_good Good known (Voted (votes.Nullify v) ∷ known) _ (remembered_push (Voted (votes.Nullify v)) known) (λ c h. cc) k
-replayed_known Good made known (artifacts.Finalize v) now g k = push_good Good known (Voted (votes.Finalize v) ∷ known) _ (remembered_push (Voted (votes.Finalize v)) known) (λ c h. cc) k
+replayed_known : (Good : Certificate → Type 0) (made : Made) (known : List Fact) (a : Artifact) (now : ℕ) → InRecord Good a → KnowsGood Good known → KnowsGood Good (replay_facts made known a now ++ known)
+replayed_known Good made known (artifacts.Notarize v) now g k = push_good Good (Voted (votes.Notarize v)) known (λ c later h. cc) k
+replayed_known Good made known (artifacts.Nullify v) now g k = push_good Good (Voted (votes.Nullify v)) known (λ c later h. cc) k
+replayed_known Good made known (artifacts.Finalize v) now g k = push_good Good (Voted (votes.Finalize v)) known (λ c later h. cc) k
 replayed_known Good made known (artifacts.Certification r good) now g k = judged_good Good made known r.view good now k
 replayed_known Good made known (artifacts.Notarization n) now g k = certificate_known Good known (certificates.Notarization n) (Broadcast kinds.Notarization (view_of n.proposal)) now refl g k
 replayed_known Good made known (artifacts.Nullification n) now g k = certificate_known Good known (certificates.Nullification n) (Broadcast kinds.Nullification n.round.view) now refl g k
 replayed_known Good made known (artifacts.Finalization n) now g k = certificate_known Good known (certificates.Finalization n) (Broadcast kinds.Finalization (view_of n.proposal)) now refl g k
 
-replay_told : (Good : agreement.Certificate → Type 0) (made : Made) (now : ℕ) (d : Doing) (a : Artifact) → InRecord Good a → SaysGood Good d → SaysGood Good (tell made (state.Replay a now) d)
+replay_told : (Good : Certificate → Type 0) (made : Made) (now : ℕ) (d : Doing) (a : Artifact) → InRecord Good a → SaysGood Good d → SaysGood Good (tell made (state.Replay a now) d)
 unfolding facts_of
 replay_told Good made now d a g s =
     learn Good d.calls d.handed d.added d.desk.known (replay_facts made d.desk.known a now ++ d.desk.known) d.verdict d.nullify (replayed_known Good made d.desk.known a now g s.in_known) s
 
-says_plain_record : (Good : agreement.Certificate → Type 0) (made : Made) (now : ℕ) (d : Doing) (a : Artifact) → InRecord Good a → SaysGood Good d
+says_plain_record : (Good : Certificate → Type 0) (made : Made) (now : ℕ) (d : Doing) (a : Artifact) → InRecord Good a → SaysGood Good d
     → SaysGood Good (updated_if (certificate_in a) (report_if (activity_of a) (block_for (replay_answer made d.desk.known a) (tell made (state.Replay a now) d))))
 says_plain_record Good made now d a g s =
     let told = tell made (state.Replay a now) d in
@@ -444,7 +444,7 @@ says_plain_record Good made now d a g s =
     (says_reported Good (activity_of a) blocked (λ r e. in_report Good a r g e)
     (says_blocked Good (replay_answer made d.desk.known a) told (replay_told Good made now d a g s)))
 
-says_record : (Good : agreement.Certificate → Type 0) (made : Made) (now : ℕ) (d : Doing) (a : Artifact) → InRecord Good a → SaysGood Good d → SaysGood Good (replay_record made now d a)
+says_record : (Good : Certificate → Type 0) (made : Made) (now : ℕ) (d : Doing) (a : Artifact) → InRecord Good a → SaysGood Good d → SaysGood Good (replay_record made now d a)
 unfolding replay_record
 says_record Good made now d (artifacts.Certification r good) g s =
     says_kept_verdict Good good (certified_answer d.desk.known r.view) (tell made (state.Replay (artifacts.Certification r good) now) d)
@@ -456,7 +456,7 @@ says_record Good made now d (artifacts.Notarization v) g s = says_plain_record G
 says_record Good made now d (artifacts.Nullification v) g s = says_plain_record Good made now d (artifacts.Nullification v) g s
 says_record Good made now d (artifacts.Finalization v) g s = says_plain_record Good made now d (artifacts.Finalization v) g s
 
-says_records : (Good : agreement.Certificate → Type 0) (made : Made) (now floor : ℕ) (d : Doing) (rs : List Artifact) → InRecords Good rs → SaysGood Good d → SaysGood Good (replay_all made now floor d rs)
+says_records : (Good : Certificate → Type 0) (made : Made) (now floor : ℕ) (d : Doing) (rs : List Artifact) → InRecords Good rs → SaysGood Good d → SaysGood Good (replay_all made now floor d rs)
 unfolding replay_all
 says_records Good made now floor d [] g s = s
 says_records Good made now floor d (a ∷ rest) g s =
@@ -467,20 +467,20 @@ says_records Good made now floor d (a ∷ rest) g s =
     at true = says_record Good made now d a (g a (Contains-here a rest)) s
     at false = s
 
-says_floor : (Good : agreement.Certificate → Type 0) (made : Made) (now : ℕ) (floor : Floor) → InFloor Good floor → SaysGood Good (stand_on made now floor (begun blank_desk))
+pub nothing_known : (Good : Certificate → Type 0) → KnowsGood Good []
+nothing_known Good c now h = absurd (not_in_empty _ h)
+
+says_floor : (Good : Certificate → Type 0) (made : Made) (now : ℕ) (floor : Floor) → InFloor Good floor → SaysGood Good (stand_on made now floor (begun blank_desk))
 unfolding facts_of
 says_floor Good made now (floors.Genesis payload) g =
-    record { in_calls = tt; in_messages = tt; in_added = tt; in_known = λ c h. floor_only payload c h; in_verdict = tt; in_nullify = tt }
-  where
-    floor_only : (payload : List ℕ) (c : agreement.Certificate) → Contains (remembered (FloorAt 0 payload ∷ [])) (member.Proved c) → Good c
-    floor_only payload c h = absurd (not_in_empty _ (subst (λ xs. Contains xs (member.Proved c)) (quiet_memory (FloorAt 0 payload ∷ []) [] (refl, tt) ∙ nothing_remembered) h))
+    record { in_calls = tt; in_messages = tt; in_added = tt; in_known = push_good Good (FloorAt 0 payload) [] (λ c later h. cc) (nothing_known Good); in_verdict = tt; in_nullify = tt }
 says_floor Good made now (floors.Finalized f) g =
     let known : KnowsGood Good (facts_of made [] (state.SetFloor (floors.Finalized f) now) ++ []) =
     certificate_known Good (FloorAt (view_of f.proposal) f.proposal.payload ∷ []) (certificates.Finalization f) (Broadcast kinds.Finalization (view_of f.proposal)) now refl g
-    (λ c h. absurd (not_in_empty _ (subst (λ xs. Contains xs (member.Proved c)) (quiet_memory (FloorAt (view_of f.proposal) f.proposal.payload ∷ []) [] (refl, tt) ∙ nothing_remembered) h))) in
+    (push_good Good (FloorAt (view_of f.proposal) f.proposal.payload) [] (λ c later h. cc) (nothing_known Good)) in
     record { in_calls = (g, tt); in_messages = (g, tt); in_added = tt; in_known = known; in_verdict = tt; in_nullify = tt }
 
-says_kept_floor : (Good : agreement.Certificate → Type 0) (floor : Floor) (records : List Artifact) (d : Doing) → InFloor Good floor → SaysGood Good d → SaysGood Good (keep_floor floor records d)
+says_kept_floor : (Good : Certificate → Type 0) (floor : Floor) (records : List Artifact) (d : Doing) → InFloor Good floor → SaysGood Good d → SaysGood Good (keep_floor floor records d)
 says_kept_floor Good (floors.Genesis payload) records d g s = s
 says_kept_floor Good (floors.Finalized f) records d g s = at (list_any (is_final_from (view_of f.proposal)) records)
   where
@@ -490,7 +490,7 @@ says_kept_floor Good (floors.Finalized f) records d g s = at (list_any (is_final
         says_made Good (calls.Sync (view_of f.proposal)) (append (artifacts.Finalization f) d) tt
         (say Good d.calls d.handed d.added d.desk.known d.verdict d.nullify (calls.Append (view_of f.proposal) (artifacts.Finalization f)) g s)
 
-pub started_says : (Good : agreement.Certificate → Type 0) (made : Made) (now : ℕ) (floor : Floor) (records : List Artifact) → InFloor Good floor → InRecords Good records
+pub started_says : (Good : Certificate → Type 0) (made : Made) (now : ℕ) (floor : Floor) (records : List Artifact) → InFloor Good floor → InRecords Good records
     → SaysGood Good (started made now floor records)
 unfolding started
 started_says Good made now floor records f r =
@@ -510,7 +510,7 @@ Each-take P zero xs h = tt
 Each-take P (suc n) [] h = tt
 Each-take P (suc n) (x ∷ xs) h = (h.0, Each-take P n xs h.1)
 
-pub said : (Good : agreement.Certificate → Type 0) (stop : Stop) (d : Doing) (js : List Section) → SaysGood Good d → AllSaid Good (performed stop d js).out
+pub said : (Good : Certificate → Type 0) (stop : Stop) (d : Doing) (js : List Section) → SaysGood Good d → AllSaid Good (performed stop d js).out
 unfolding performed
 said Good stop d js s = at (stop_place stop d.calls)
   where
@@ -518,7 +518,7 @@ said Good stop d js s = at (stop_place stop d.calls)
     at None = record { calls = s.in_calls; handed = s.in_messages; added = s.in_added }
     at (Some place) = record { calls = Each-take (InCall Good) place d.calls s.in_calls; handed = tt; added = tt }
 
-pub said_at_start : (Good : agreement.Certificate → Type 0) (stop : Stop) (floor : Floor) (d : Doing) (js : List Section) → SaysGood Good d → AllSaid Good (start_performed stop floor d js).out
+pub said_at_start : (Good : Certificate → Type 0) (stop : Stop) (floor : Floor) (d : Doing) (js : List Section) → SaysGood Good d → AllSaid Good (start_performed stop floor d js).out
 unfolding start_performed
 said_at_start Good stops.None floor d js s = said Good stops.None d js s
 said_at_start Good (stops.Cut call keep) floor d js s = said Good (stops.Cut call keep) d js s
