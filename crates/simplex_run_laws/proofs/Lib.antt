@@ -1,0 +1,5 @@
+pub mod Tests
+pub mod Floors
+pub mod Places
+pub mod Exact
+pub mod Whole

@@ -1,0 +1,93 @@
+-- What tests say.
+use Rattle.std.proofs.Common.{◌≡◌, ℕ, ◌-◌, ◌*◌, ◌<◌, ◌≤◌, ◌==◌, ◌&&◌, nat_lt, nat_le, Bool, true, false, List, Result, Err, is_ok, refl, arith, eqb-true, eq-eqb, if◌then◌else◌}
+use Rattle.std.proofs.lemmas.Bool.Decides.{nat_tests}
+use Rattle.simplex_values.specs.Terms.{greatest_view}
+use Rattle.simplex_transcript.specs.declared.node.Node.{Node}
+use Rattle.simplex_transcript.specs.declared.setup.Setup.{Setup}
+use Rattle.simplex_transcript.specs.declared.refusal.RunError.{RunError}
+use Rattle.simplex_steps.specs.Engine.{EngineMade, Did}
+use Rattle.simplex_run.specs.Life.{Noted}
+use Rattle.simplex_run.specs.Members.{members_of, is_node, is_same_node}
+use Rattle.simplex_run.specs.Entries.{is_at_end}
+use Rattle.simplex_run_laws.specs.Conditions.{IsMember, HasRoom, view_in}
+
+pub both : (a b : Bool) → (a && b) ≡ true → (a ≡ true) × (b ≡ true)
+both true b e = (refl, e)
+both false b e = cc
+
+pub and_true : (a b : Bool) → a ≡ true → b ≡ true → (a && b) ≡ true
+and_true true b e f = f
+and_true false b e f = cc
+
+-- ---- answers behind a test
+
+pub ok_if : (b : Bool) (r : Result Noted RunError) (e : RunError) → b ≡ true → is_ok r ≡ true → is_ok (if b then r else Err e) ≡ true
+ok_if true r e t h = h
+ok_if false r e t h = cc
+
+pub ok_unless : (b : Bool) (r : Result Noted RunError) (e : RunError) → b ≡ false → is_ok r ≡ true → is_ok (if b then Err e else r) ≡ true
+ok_unless true r e t h = cc
+ok_unless false r e t h = h
+
+pub if_ok : (b : Bool) (r : Result Noted RunError) (e : RunError) → is_ok (if b then r else Err e) ≡ true → (b ≡ true) × (is_ok r ≡ true)
+if_ok true r e h = (refl, h)
+if_ok false r e h = cc
+
+pub unless_ok : (b : Bool) (r : Result Noted RunError) (e : RunError) → is_ok (if b then Err e else r) ≡ true → (b ≡ false) × (is_ok r ≡ true)
+unless_ok true r e h = cc
+unless_ok false r e h = (refl, h)
+
+-- ---- numbers
+
+pub below : (a b : ℕ) → nat_lt a b ≡ true → a < b
+below a b e = grind (arith, nat_tests)
+
+pub is_below : (a b : ℕ) → a < b → nat_lt a b ≡ true
+is_below a b h = grind (arith, nat_tests)
+
+not_below : (a b : ℕ) → nat_lt a b ≡ false → b ≤ a
+not_below a b e = grind (arith, nat_tests)
+
+is_not_below : (a b : ℕ) → b ≤ a → nat_lt a b ≡ false
+is_not_below a b h = grind (arith, nat_tests)
+
+pub within : (a b : ℕ) → nat_le a b ≡ true → a ≤ b
+within a b e = grind (arith, nat_tests)
+
+pub is_within : (a b : ℕ) → a ≤ b → nat_le a b ≡ true
+is_within a b h = grind (arith, nat_tests)
+
+pub number_is : (a b : ℕ) → a ≡ b → (a == b) ≡ true
+number_is a b e = eq-eqb a b e
+
+pub number_is_not : (a b : ℕ) → a < b → (b == a) ≡ false
+number_is_not a b h = grind (arith, nat_tests)
+
+-- ---- nodes
+
+pub node_is : (setup : Setup) (node : Node) → IsMember setup node → is_node setup node ≡ true
+node_is setup node m = and_true (nat_lt node.member (members_of setup)) (node.half == 0) (is_below node.member (members_of setup) m.member) (number_is node.half 0 m.half)
+
+pub is_member : (setup : Setup) (node : Node) → is_node setup node ≡ true → IsMember setup node
+is_member setup node e =
+    let parts = both (nat_lt node.member (members_of setup)) (node.half == 0) e in
+    record { member = below node.member (members_of setup) parts.0; half = eqb-true node.half 0 parts.1 }
+
+pub same_node : (a b : Node) → is_same_node a b ≡ true → a ≡ b
+same_node a b e =
+    let parts = both (a.member == b.member) (a.half == b.half) e in
+    whole a.member b.member a.half b.half (eqb-true a.member b.member parts.0) (eqb-true a.half b.half parts.1)
+  where
+    whole : (m n g h : ℕ) → m ≡ n → g ≡ h → ◌≡◌ {A = Node} (record { member = m; half = g }) (record { member = n; half = h })
+    whole m n g h i k = rw (i, k) refl
+
+pub same_self : (a : Node) → is_same_node a a ≡ true
+same_self a = and_true (a.member == a.member) (a.half == a.half) (number_is a.member a.member refl) (number_is a.half a.half refl)
+
+-- ---- room
+
+pub room_is : (setup : Setup) (made : EngineMade) (past : List Did) → HasRoom setup made past → is_at_end setup made past ≡ false
+room_is setup made past h = is_not_below (greatest_view - 2 * setup.term - setup.lookahead) (view_in made past) h
+
+pub has_room : (setup : Setup) (made : EngineMade) (past : List Did) → is_at_end setup made past ≡ false → HasRoom setup made past
+has_room setup made past e = not_below (greatest_view - 2 * setup.term - setup.lookahead) (view_in made past) e
