@@ -48,13 +48,13 @@ use Rattle.simplex_lives.proofs.Invariant.{sent_honest}
 use Rattle.simplex_conduct.specs.Life.{statement_of, certificate_in}
 use Rattle.simplex_safety.specs.Sayings.{Each, InRecord, InReport, InCall, InMessage}
 use Rattle.simplex_safety.specs.Histories.{IsRun, IsStartAbove, AreFloors}
-use Rattle.simplex_safety.specs.Alone.{InStart, InNoted, alone, IsBackedByOne, in_report, in_packet, in_call, in_message, in_entry, standing}
+use Rattle.simplex_safety.specs.Alone.{InStart, InNoted, alone, IsBackedByOne, NamesEpoch, AreOfEpoch, in_report, in_packet, in_call, in_message, in_entry, standing}
 use Rattle.simplex_safety.proofs.Above.{sent_above}
 use Rattle.simplex_safety.proofs.Backing.{only, floor_good, run_fine}
 use Rattle.simplex_safety.proofs.Knowledge.{brought_good}
 use Rattle.simplex_safety.proofs.Reading.{read_again}
 use Rattle.simplex_safety.proofs.Nodes.{ok_is, if_ok, if_err, both_err, node_lives}
-use Rattle.simplex_safety.proofs.Single.{Good, good_backed}
+use Rattle.simplex_safety.proofs.Single.{Own, Good, good_backed}
 use Rattle.simplex_safety.proofs.Speaking.{Each-weaker}
 
 -- ---- no start is at view 0, for the member finalizes no such view
@@ -133,10 +133,11 @@ start_above setup before events.Later noted above e = cc
 reported_above : (setup : Setup) (before : List Noted) → 0 < setup.term → members_of setup ≡ 1 → IsRun setup before → AreFloors before → IsReportedAbove before
 reported_above setup before pos one ran floors f e =
     let b = node_lives setup before only pos ran floors in
-    let sent = (run newborn b.calls).sent in
-    let fine = run_fine setup sent before pos one ran floors b.constructed in
-    let good = floor_good sent before (Some f) only stops.None e fine.said in
-    sent_above setup.term b.calls (subjects.Finalize f.proposal) b.legal good.1 f.proposal refl
+    let own : Own = record { sent = (run newborn b.calls).sent; epoch = setup.epoch } in
+    let fine = run_fine setup own before refl pos one ran floors b.constructed in
+    let good = floor_good own before (Some f) only stops.None e fine.said in
+    let stands = good.1 in
+    sent_above setup.term b.calls (subjects.Finalize f.proposal) b.legal stands.sent f.proposal refl
 
 floors_hold : (setup : Setup) (noted : List Noted) → 0 < setup.term → members_of setup ≡ 1 → IsRun setup noted → AreFloors noted
 unfolding IsRun AreFloors
@@ -297,7 +298,7 @@ module _ (P : Certificate → Type 0) (Q : agreement.Certificate → Type 0) (f 
       elim (Contains-append_cases (in_entry noted.entry) (flat_map (λ (n : Noted). in_entry n.entry) before) c k) [ inl here ↦ of_noted noted c p.0 here | inr r ↦ of_run before c p.1 r ]
 
 -- what is read of a good certificate is that one
-good_read : (sent : List Sent) (c x : Certificate) → Good sent c → whole format.certificate (format.certificate.spelling c) ≡ Ok x → Good sent x
+good_read : (sent : Own) (c x : Certificate) → Good sent c → whole format.certificate (format.certificate.spelling c) ≡ Ok x → Good sent x
 good_read sent c x g e = subst (Good sent) (sym (read_again c x g.0 e)) g
 
 pub backed_by_one : (setup : Setup) (noted : List Noted) → 0 < setup.term → members_of setup ≡ 1 → IsRun setup noted → IsBackedByOne setup noted
@@ -306,12 +307,13 @@ backed_by_one setup noted pos one ran =
     let b = node_lives setup noted only pos ran floors in
     let sent = (run newborn b.calls).sent in
     let w = alone setup.term sent in
-    let fine = run_fine setup sent noted pos one ran floors b.constructed in
+    let own : Own = record { sent = sent; epoch = setup.epoch } in
+    let fine = run_fine setup own noted refl pos one ran floors b.constructed in
     record {
       floors = floors;
       lived = b;
-      backed = Each-weaker (InNoted (Good sent)) (InNoted (λ c. IsBacked w (statement_of c))) (noted_more (Good sent) (λ c. IsBacked w (statement_of c)) (good_backed setup.term sent)) noted fine.said;
-      stands = λ c k. of_run (Good sent) (IsBacked w) (good_backed setup.term sent) (good_read sent) noted c fine.said k;
+      backed = Each-weaker (InNoted (Good own)) (InNoted (λ c. IsBacked w (statement_of c))) (noted_more (Good own) (λ c. IsBacked w (statement_of c)) (good_backed setup.term own)) noted fine.said;
+      stands = λ c k. of_run (Good own) (IsBacked w) (good_backed setup.term own) (good_read own) noted c fine.said k;
     }
 
 -- ---- no two conflict
@@ -335,3 +337,16 @@ pub standing_agree : (setup : Setup) (noted : List Noted) (a b : agreement.Certi
 standing_agree setup noted a b pos single ran ka kb =
     let one = backed_by_one setup noted pos single ran in
     one_agrees setup noted a b pos one (one.stands a ka) (one.stands b kb)
+
+-- ---- each names the epoch
+
+names_epoch : (own : Own) (c : Certificate) → Good own c → NamesEpoch own.epoch (statement_of c)
+names_epoch own c g = (let stands = g.1 in stands.epoch)
+
+pub epochs_hold : (setup : Setup) (noted : List Noted) → 0 < setup.term → members_of setup ≡ 1 → IsRun setup noted → AreOfEpoch setup noted
+epochs_hold setup noted pos one ran =
+    let floors = floors_hold setup noted pos one ran in
+    let b = node_lives setup noted only pos ran floors in
+    let own : Own = record { sent = (run newborn b.calls).sent; epoch = setup.epoch } in
+    let fine = run_fine setup own noted refl pos one ran floors b.constructed in
+    λ c k. of_run (Good own) (NamesEpoch own.epoch) (names_epoch own) (good_read own) noted c fine.said k

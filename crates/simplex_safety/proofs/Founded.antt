@@ -1,5 +1,5 @@
 -- What an engine of the one member did: what its mailboxes hold, and what its batcher hands on.
-use Rattle.std.proofs.Common.{◌≡◌, ℕ, ◌-◌, ◌<◌, ◌&&◌, nat_lt, nat_le, Bool, true, false, List, [], ◌∷◌, length, map, take, All, Contains, Option, Some, None, refl, sym, subst, inl, inr, arith, if◌then◌else◌}
+use Rattle.std.proofs.Common.{◌≡◌, ℕ, ◌-◌, ◌<◌, ◌&&◌, nat_lt, nat_le, Bool, true, false, List, [], ◌∷◌, length, take, All, Option, Some, None, refl, sym, subst, inl, inr, arith, if◌then◌else◌}
 use Rattle.std.specs.List.{filter_map}
 use Rattle.std.proofs.lemmas.Grind.{common_steps}
 use Rattle.std.proofs.lemmas.List.Elements.{All-head, All-tail}
@@ -33,45 +33,48 @@ use Rattle.simplex_batcher_laws.specs.Votes.{Accepted, Came, Brings}
 use Rattle.simplex_batcher_laws.specs.Reports.{IsFounded, IsFoundedCall}
 use Rattle.simplex_batcher_laws.specs.Certificates.{IsSchemeOfMembers, BringsNew, IsVoteOn, IsFoundedCertificate, IsFoundedMessage}
 use Rattle.simplex_batcher_laws.proofs.Steps.{accepted_came, calls_founded, handed_founded}
-use Rattle.simplex_agreement.specs.World.{Sent}
-use Rattle.simplex_conduct.specs.Life.{IsVoteSent, AreVotesSent}
+use Rattle.simplex_conduct.specs.Life.{AreVotesSent}
 use Rattle.simplex_safety.specs.Sayings.{Each, InCall, InReport, InMessage, AllSaid}
 use Rattle.simplex_safety.proofs.Mails.{Holds, InMail, holds_nothing, holds_all, holds_after, batcher_keeps, voter_keeps}
 use Rattle.simplex_safety.proofs.Quiet.{AllHush, AllForVoter, batcher_hush}
-use Rattle.simplex_safety.proofs.Single.{Good, one_signs}
+use Rattle.simplex_safety.proofs.Leading.{IsNoProposal, IsOwnMail, no_proposal}
+use Rattle.simplex_safety.proofs.Naming.{NamesHanded}
+use Rattle.simplex_safety.proofs.Speaking.{Each-weaker}
+use Rattle.simplex_safety.proofs.Single.{Own, StandsFor, Good, one_signs}
 use Rattle.simplex_safety.proofs.Telling.{Each-take}
 
 -- ---- what an engine did
 
--- an own vote that a message brings was sent
-abbrev pub InOwnMail : List Sent → batcher_message.Message → Type 0
-InOwnMail sent message = IsVoteSent sent (handed.Batcher message)
+-- the member stands for an own vote that a message brings, and leads
+abbrev pub InOwnMail : Own → batcher_message.Message → Type 0
+InOwnMail sent (batcher_messages.Constructed v) = StandsFor sent (vote_subject v)
+InOwnMail sent (batcher_messages.Update current leader finalized proposal) = leader ≡ 0
 
--- what is handed on: own votes were sent, and certificates are good
-abbrev pub IsFine : List Sent → Handed → Type 0
+-- what is handed on: own votes and certificates are good, and there is no proposal
+abbrev pub IsFine : Own → Handed → Type 0
 IsFine sent (handed.Batcher message) = InOwnMail sent message
 IsFine sent (handed.Voter message) = InMail (Good sent) message
 IsFine sent _ = Unit {0}
 
 -- what the batcher takes is mail
-abbrev pub IsFineInput : List Sent → BatcherInput → Type 0
+abbrev pub IsFineInput : Own → BatcherInput → Type 0
 IsFineInput sent (inputs.Mail message) = InOwnMail sent message
 IsFineInput sent _ = ⊥
 
-pub record IsFineDid (sent : List Sent) (did : Did) : Type 0 where
+pub record IsFineDid (sent : Own) (did : Did) : Type 0 where
   pub handed : Each (IsFine sent) did.out.handed
   pub taken : (input : BatcherInput) → input_of_batcher did.taken ≡ Some input → IsFineInput sent input
 
 -- ---- the mailboxes
 
-for_batcher_fine : (sent : List Sent) (hs : List Handed) → Each (IsFine sent) hs → Each (InOwnMail sent) (filter_map for_batcher hs)
+for_batcher_fine : (sent : Own) (hs : List Handed) → Each (IsFine sent) hs → Each (InOwnMail sent) (filter_map for_batcher hs)
 for_batcher_fine sent [] h = tt
 for_batcher_fine sent (handed.Batcher message ∷ rest) h = (h.0, for_batcher_fine sent rest h.1)
 for_batcher_fine sent (handed.Voter message ∷ rest) h = for_batcher_fine sent rest h.1
 for_batcher_fine sent (handed.Resolver message ∷ rest) h = for_batcher_fine sent rest h.1
 for_batcher_fine sent (handed.Handler message ∷ rest) h = for_batcher_fine sent rest h.1
 
-for_voter_fine : (sent : List Sent) (hs : List Handed) → Each (IsFine sent) hs → Each (InMail (Good sent)) (filter_map for_voter hs)
+for_voter_fine : (sent : Own) (hs : List Handed) → Each (IsFine sent) hs → Each (InMail (Good sent)) (filter_map for_voter hs)
 for_voter_fine sent [] h = tt
 for_voter_fine sent (handed.Voter message ∷ rest) h = (h.0, for_voter_fine sent rest h.1)
 for_voter_fine sent (handed.Batcher message ∷ rest) h = for_voter_fine sent rest h.1
@@ -82,7 +85,7 @@ perhaps_after : {M : Type 0} (P : M → Type 0) (b : Bool) (mail : Mail M) → H
 perhaps_after P true mail h = holds_after P none_skipped mail h
 perhaps_after P false mail h = h
 
-pub batcher_mail_fine : (sent : List Sent) (made : EngineMade) (past : List Did) → Each (IsFineDid sent) past → Holds (InOwnMail sent) (batcher_mail made past)
+pub batcher_mail_fine : (sent : Own) (made : EngineMade) (past : List Did) → Each (IsFineDid sent) past → Holds (InOwnMail sent) (batcher_mail made past)
 unfolding batcher_mail
 batcher_mail_fine sent made [] h = holds_nothing (InOwnMail sent) made.capacity
 batcher_mail_fine sent made (did ∷ past) h =
@@ -91,7 +94,7 @@ batcher_mail_fine sent made (did ∷ past) h =
     (perhaps_after (InOwnMail sent) (takes_from_batcher did.taken) old (batcher_mail_fine sent made past h.1))
     (for_batcher_fine sent did.out.handed h.0.handed)
 
-pub voter_mail_fine : (sent : List Sent) (made : EngineMade) (past : List Did) → Each (IsFineDid sent) past → Holds (InMail (Good sent)) (voter_mail made past)
+pub voter_mail_fine : (sent : Own) (made : EngineMade) (past : List Did) → Each (IsFineDid sent) past → Holds (InMail (Good sent)) (voter_mail made past)
 unfolding voter_mail
 voter_mail_fine sent made [] h = holds_nothing (InMail (Good sent)) made.capacity
 voter_mail_fine sent made (did ∷ past) h =
@@ -102,10 +105,10 @@ voter_mail_fine sent made (did ∷ past) h =
 
 -- ---- the batcher's inputs
 
-abbrev IsFineTimed : List Sent → batcher.Timed → Type 0
+abbrev IsFineTimed : Own → batcher.Timed → Type 0
 IsFineTimed sent given = IsFineInput sent given.input
 
-inputs_fine : (sent : List Sent) (past : List Did) → Each (IsFineDid sent) past → Each (IsFineTimed sent) (batcher_past past)
+inputs_fine : (sent : Own) (past : List Did) → Each (IsFineDid sent) past → Each (IsFineTimed sent) (batcher_past past)
 unfolding batcher_past
 inputs_fine sent [] h = tt
 inputs_fine sent (did ∷ past) h = at (input_of_batcher did.taken) refl (inputs_fine sent past h.1)
@@ -121,13 +124,13 @@ inputs_fine sent (did ∷ past) h = at (input_of_batcher did.taken) refl (inputs
     at None e rest = subst (Each (IsFineTimed sent)) (sym (none e)) rest
     at (Some input) e rest = subst (Each (IsFineTimed sent)) (sym (some input e)) (h.0.taken input e, rest)
 
-brings_sent : (sent : List Sent) (input : BatcherInput) (v : Vote) → IsFineInput sent input → Brings input v → Contains (map (λ (s : Sent). s.subject) sent) (vote_subject v)
-brings_sent sent (inputs.Mail (batcher_messages.Constructed own)) v f b = subst (λ w. Contains (map (λ (s : Sent). s.subject) sent) (vote_subject w)) b f
+brings_sent : (sent : Own) (input : BatcherInput) (v : Vote) → IsFineInput sent input → Brings input v → StandsFor sent (vote_subject v)
+brings_sent sent (inputs.Mail (batcher_messages.Constructed own)) v f b = subst (λ w. StandsFor sent (vote_subject w)) b f
 brings_sent sent (inputs.Mail (batcher_messages.Update current leader finalized proposal)) v f b = absurd b
 brings_sent sent (inputs.Vote sender bytes) v f b = absurd f
 brings_sent sent (inputs.Certificate sender bytes) v f b = absurd f
 
-came_sent : (sent : List Sent) (past : List batcher.Timed) (v : Vote) → Each (IsFineTimed sent) past → Came past v → Contains (map (λ (s : Sent). s.subject) sent) (vote_subject v)
+came_sent : (sent : Own) (past : List batcher.Timed) (v : Vote) → Each (IsFineTimed sent) past → Came past v → StandsFor sent (vote_subject v)
 unfolding Came
 came_sent sent [] v f c = absurd c
 came_sent sent (given ∷ past) v f c = elim c [ inl b ↦ brings_sent sent given.input v f.0 b | inr r ↦ came_sent sent past v f.1 r ]
@@ -139,8 +142,9 @@ pub record IsOnly (made : batcher.Made) : Type 0 where
   pub scheme : IsSchemeOfMembers made
   pub signed : (subject : Subject) (a : Attestation) → made.scheme.verifies subject a ≡ true → length a.signature ≡ 32
   pub members : made.members ≡ 1
+  pub me : made.me ≡ Some 0
 
-never_new : (sent : List Sent) (standing : batcher.Standing) (input : BatcherInput) (c : Certificate) → IsFineInput sent input → BringsNew standing input c → ⊥
+never_new : (sent : Own) (standing : batcher.Standing) (input : BatcherInput) (c : Certificate) → IsFineInput sent input → BringsNew standing input c → ⊥
 never_new sent standing (inputs.Mail message) c f b = b
 never_new sent standing (inputs.Vote sender bytes) c f b = f
 never_new sent standing (inputs.Certificate sender bytes) c f b = f
@@ -152,7 +156,7 @@ some_vote made accepted subject (a ∷ rest) some each =
     let on = All-head (IsVoteOn made accepted subject) a rest each in
     (on.vote, on.was_accepted, on.on)
 
-founded_good : (sent : List Sent) (made : batcher.Made) (past : List batcher.Timed) (given : batcher.Timed) (c : Certificate) → IsOnly made → Each (IsFineTimed sent) (given ∷ past)
+founded_good : (sent : Own) (made : batcher.Made) (past : List batcher.Timed) (given : batcher.Timed) (c : Certificate) → IsOnly made → Each (IsFineTimed sent) (given ∷ past)
     → IsFoundedCertificate made (Accepted made (given ∷ past)) (BringsNew (batcher.standing_after made past) given.input) c → Good sent c
 founded_good sent made past given c only f founded =
     let one = one_signs (made.scheme.verifies (certificate_subject c)) made.members (certificate_signatures c) only.members (only.signed (certificate_subject c)) founded.verifies in
@@ -160,11 +164,11 @@ founded_good sent made past given c only f founded =
       | inl new ↦ absurd (never_new sent (batcher.standing_after made past) given.input c f.0 new)
       | inr votes ↦ (let v = some_vote made (Accepted made (given ∷ past)) (certificate_subject c) (certificate_signatures c) one.1 votes.each in (
         one.0,
-        subst (Contains (map (λ (s : Sent). s.subject) sent)) v.2 (came_sent sent (given ∷ past) v.0 f (accepted_came made (given ∷ past) v.0 v.1)),
+        subst (StandsFor sent) v.2 (came_sent sent (given ∷ past) v.0 f (accepted_came made (given ∷ past) v.0 v.1)),
       ))
     ]
 
-messages_good : (sent : List Sent) (made : batcher.Made) (past : List batcher.Timed) (given : batcher.Timed) (cs : List Call) (hs : List Handed) → IsOnly made → Each (IsFineTimed sent) (given ∷ past)
+messages_good : (sent : Own) (made : batcher.Made) (past : List batcher.Timed) (given : batcher.Timed) (cs : List Call) (hs : List Handed) → IsOnly made → Each (IsFineTimed sent) (given ∷ past)
     → AllForVoter hs → All (IsFoundedMessage made (Accepted made (given ∷ past)) (BringsNew (batcher.standing_after made past) given.input)) hs
     → Each (InMessage (Good sent) cs) hs
 messages_good sent made past given cs [] only f voter founded = tt
@@ -202,7 +206,7 @@ calls_good Good accepted came (calls.Sync n ∷ rest) hush founded = absurd hush
 calls_good Good accepted came (calls.Prune n ∷ rest) hush founded = absurd hush.0
 calls_good Good accepted came (calls.Send channel to bytes ∷ rest) hush founded = absurd hush.0
 
-step_said : (sent : List Sent) (made : batcher.Made) (past : List batcher.Timed) (given : batcher.Timed) → IsOnly made → Each (IsFineTimed sent) (given ∷ past)
+step_said : (sent : Own) (made : batcher.Made) (past : List batcher.Timed) (given : batcher.Timed) → IsOnly made → Each (IsFineTimed sent) (given ∷ past)
     → AllSaid (Good sent) (batcher.step_out made past given)
 unfolding batcher.step_out
 step_said sent made past given only f =
@@ -226,7 +230,7 @@ cut_said Good (stops.Cut call keep) out s = at (nat_lt 0 call && nat_le call (le
     at true = record { calls = Each-take (InCall Good) (call - 1) out.calls s.calls; handed = tt; added = tt }
     at false = s
 
-pub batcher_said : (sent : List Sent) (made : EngineMade) (past : List Did) (taken : Taken) (input : BatcherInput) (now : ℕ) (stop : Stop) → IsOnly made.batcher → Each (IsFineDid sent) past
+pub batcher_said : (sent : Own) (made : EngineMade) (past : List Did) (taken : Taken) (input : BatcherInput) (now : ℕ) (stop : Stop) → IsOnly made.batcher → Each (IsFineDid sent) past
     → IsFineInput sent input → AllSaid (Good sent) (by_batcher made past taken input now stop).out
 unfolding by_batcher
 batcher_said sent made past taken input now stop only h f =
@@ -234,13 +238,54 @@ batcher_said sent made past taken input now stop only h f =
     cut_said (Good sent) stop (batcher.step_out made.batcher (batcher_past past) given)
     (step_said sent made.batcher (batcher_past past) given only (f, inputs_fine sent past h))
 
--- what is said and whose constructed votes were sent is fine
-pub said_fine : (sent : List Sent) (cs : List Call) (hs : List Handed) → Each (InMessage (Good sent) cs) hs → AreVotesSent sent hs → Each (IsFine sent) hs
-said_fine sent cs [] s v = tt
-said_fine sent cs (handed.Batcher (batcher_messages.Constructed w) ∷ rest) s v = (v.0, said_fine sent cs rest s.1 v.1)
-said_fine sent cs (handed.Batcher (batcher_messages.Update current leader finalized proposal) ∷ rest) s v = (tt, said_fine sent cs rest s.1 v.1)
-said_fine sent cs (handed.Voter (voter_messages.Verified c) ∷ rest) s v = (s.0, said_fine sent cs rest s.1 v.1)
-said_fine sent cs (handed.Voter (voter_messages.Proposal p) ∷ rest) s v = (tt, said_fine sent cs rest s.1 v.1)
-said_fine sent cs (handed.Voter (voter_messages.Timeout round reason) ∷ rest) s v = (tt, said_fine sent cs rest s.1 v.1)
-said_fine sent cs (handed.Resolver message ∷ rest) s v = (tt, said_fine sent cs rest s.1 v.1)
-said_fine sent cs (handed.Handler message ∷ rest) s v = (tt, said_fine sent cs rest s.1 v.1)
+-- what a batcher hands on is fine
+handed_fine : (sent : Own) (cs : List Call) (hs : List Handed) → Each (InMessage (Good sent) cs) hs → AllForVoter hs → Each IsNoProposal hs → Each (IsFine sent) hs
+handed_fine sent cs [] s v n = tt
+handed_fine sent cs (handed.Voter (voter_messages.Verified c) ∷ rest) s v n = (s.0, handed_fine sent cs rest s.1 v.1 n.1)
+handed_fine sent cs (handed.Voter (voter_messages.Proposal p) ∷ rest) s v n = absurd n.0
+handed_fine sent cs (handed.Voter (voter_messages.Timeout round reason) ∷ rest) s v n = (tt, handed_fine sent cs rest s.1 v.1 n.1)
+handed_fine sent cs (handed.Batcher message ∷ rest) s v n = absurd v.0
+handed_fine sent cs (handed.Resolver message ∷ rest) s v n = absurd v.0
+handed_fine sent cs (handed.Handler message ∷ rest) s v n = absurd v.0
+
+own_mail : (sent : Own) (given : batcher.Timed) → IsFineTimed sent given → IsOwnMail given
+own_mail sent given f = at given.input f
+  where
+    at : (i : BatcherInput) → IsFineInput sent i → IsOwnMail (record { input = i; now = given.now })
+    at (inputs.Mail (batcher_messages.Constructed v)) h = tt
+    at (inputs.Mail (batcher_messages.Update current leader finalized proposal)) h = h
+    at (inputs.Vote sender bytes) h = absurd h
+    at (inputs.Certificate sender bytes) h = absurd h
+
+cut_fine : (sent : Own) (stop : Stop) (out : StepOut) → Each (IsFine sent) out.handed → Each (IsFine sent) (cut_short stop out).1.handed
+cut_fine sent stops.None out h = h
+cut_fine sent (stops.Fail call keep) out h = h
+cut_fine sent (stops.Cut call keep) out h = at (nat_lt 0 call && nat_le call (length out.calls))
+  where
+    pair : Bool → Outcome × StepOut
+    pair b = if b then (outcomes.Cut, record no_out { calls = take (call - 1) out.calls }) else (outcomes.Done, out)
+
+    at : (b : Bool) → Each (IsFine sent) (pair b).1.handed
+    at true = tt
+    at false = h
+
+pub batcher_fine : (sent : Own) (made : EngineMade) (past : List Did) (taken : Taken) (input : BatcherInput) (now : ℕ) (stop : Stop) → IsOnly made.batcher → Each (IsFineDid sent) past
+    → IsFineInput sent input → Each (IsFine sent) (by_batcher made past taken input now stop).out.handed
+unfolding by_batcher
+batcher_fine sent made past taken input now stop only h f =
+    let given : batcher.Timed = record { input = input; now = now } in
+    let out = batcher.step_out made.batcher (batcher_past past) given in
+    let all : Each (IsFineTimed sent) (given ∷ batcher_past past) = (f, inputs_fine sent past h) in
+    let said = step_said sent made.batcher (batcher_past past) given only all in
+    cut_fine sent stop out
+    (handed_fine sent out.calls out.handed said.handed (batcher_hush made.batcher (batcher_past past) given).1
+    (no_proposal made.batcher (batcher_past past) given only.me (Each-weaker (IsFineTimed sent) IsOwnMail (own_mail sent) (given ∷ batcher_past past) all)))
+
+-- so is what a voter hands on, whose own votes were sent
+pub said_fine : (sent : Own) (hs : List Handed) → AreVotesSent sent.sent hs → Each (NamesHanded sent.epoch) hs → Each (IsFine sent) hs
+said_fine sent [] v n = tt
+said_fine sent (handed.Batcher (batcher_messages.Constructed w) ∷ rest) v n = (record { sent = v.0; epoch = n.0 }, said_fine sent rest v.1 n.1)
+said_fine sent (handed.Batcher (batcher_messages.Update current leader finalized proposal) ∷ rest) v n = (n.0, said_fine sent rest v.1 n.1)
+said_fine sent (handed.Voter message ∷ rest) v n = absurd n.0
+said_fine sent (handed.Resolver message ∷ rest) v n = (tt, said_fine sent rest v.1 n.1)
+said_fine sent (handed.Handler message ∷ rest) v n = (tt, said_fine sent rest v.1 n.1)

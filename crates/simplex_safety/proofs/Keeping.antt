@@ -3,7 +3,6 @@ use Rattle.std.proofs.Common.{ℕ, ◌-◌, ◌==◌, Bool, true, false, List, [
 use Rattle.std.specs.Option.{option_map_or}
 use Rattle.std.proofs.lemmas.List.Elements.{Contains-append_left, Contains-append_right, Contains-append_cases}
 use Rattle.simplex_wire.specs.declared.artifact.Artifact.{Artifact}
-use Rattle.simplex_wire.specs.declared.certificate.Certificate.{Certificate}
 use Rattle.simplex_types.specs.declared.floor.Floor.{Floor}
 use Rattle.simplex_journal.specs.Journal.{Section, replayed, crashed}
 use Rattle.simplex_journal.proofs.Contents.{replayed-synced_at}
@@ -17,25 +16,31 @@ use Rattle.simplex_steps.specs.Performed.{stop_place, after_call, after_calls, a
 use Rattle.simplex_steps.specs.VoterLife.{unread, start_performed}
 use Rattle.simplex_agreement.proofs.ListFacts.{Contains-cons_cases}
 use Rattle.simplex_conduct.proofs.Pruning.{was_there}
-use Rattle.simplex_safety.specs.Sayings.{Each, InCall, InRecord, InRecords}
+use Rattle.simplex_safety.specs.Sayings.{Each}
 use Rattle.simplex_safety.proofs.Telling.{Each-take}
 
-module _ (Good : Certificate → Type 0) where
+module _ (P : Artifact → Type 0) where
+  -- each record of the journal is such
   abbrev pub InJournal : List Section → Type 0
-  InJournal js = InRecords Good (replayed js)
+  InJournal js = (a : Artifact) → Contains (replayed js) a → P a
 
-  appends : (n : ℕ) (a : Artifact) (js : List Section) → InRecord Good a → InJournal js → InJournal (after_call (calls.Append n a) js)
+  -- a record that is appended is such
+  abbrev pub InAppend : Call → Type 0
+  InAppend (calls.Append section a) = P a
+  InAppend _ = Unit {0}
+
+  appends : (n : ℕ) (a : Artifact) (js : List Section) → P a → InJournal js → InJournal (after_call (calls.Append n a) js)
   appends n a js g h x c =
       let split = replayed-appended n a js in
       elim (Contains-append_cases split.0 (a ∷ split.1) x (subst (λ (xs : List Artifact). Contains xs x) split.3 c)) [
         | inl before ↦ h x (subst (λ (xs : List Artifact). Contains xs x) (sym split.2) (Contains-append_left split.0 split.1 x before))
         | inr there ↦ elim (Contains-cons_cases a split.1 x there) [
-          | inl same ↦ subst (InRecord Good) same g
+          | inl same ↦ subst P same g
           | inr behind ↦ h x (subst (λ (xs : List Artifact). Contains xs x) (sym split.2) (Contains-append_right split.0 split.1 x behind))
         ]
       ]
 
-  one_call : (c : Call) (js : List Section) → InCall Good c → InJournal js → InJournal (after_call c js)
+  one_call : (c : Call) (js : List Section) → InAppend c → InJournal js → InJournal (after_call c js)
   one_call (calls.Append n a) js g h = appends n a js g h
   one_call (calls.Sync n) js g h = λ x c. h x (subst (λ (xs : List Artifact). Contains xs x) (replayed-synced_at n js) c)
   one_call (calls.Prune least) js g h = λ x c. h x (Contains-pruned least js x c)
@@ -44,7 +49,7 @@ module _ (Good : Certificate → Type 0) where
   one_call (calls.Relay payload plan) js g h = h
   one_call (calls.Block who) js g h = h
 
-  all_calls : (cs : List Call) (js : List Section) → Each (InCall Good) cs → InJournal js → InJournal (after_calls cs js)
+  all_calls : (cs : List Call) (js : List Section) → Each (InAppend) cs → InJournal js → InJournal (after_calls cs js)
   unfolding after_calls
   all_calls [] js g h = h
   all_calls (c ∷ rest) js g h = all_calls rest (after_call c js) g.1 (one_call c js g.0 h)
@@ -71,7 +76,7 @@ module _ (Good : Certificate → Type 0) where
       at true later = one_fails stop c js h
       at false later = later
 
-  pub step_keeps : (stop : Stop) (d : Doing) (js : List Section) → Each (InCall Good) d.calls → InJournal js → InJournal (performed stop d js).sections
+  pub step_keeps : (stop : Stop) (d : Doing) (js : List Section) → Each (InAppend) d.calls → InJournal js → InJournal (performed stop d js).sections
   unfolding performed
   step_keeps stop d js g h = at (stop_place stop d.calls)
     where
@@ -80,9 +85,9 @@ module _ (Good : Certificate → Type 0) where
       at (Some place) =
           let done = after_calls (take place d.calls) js in
           crash_keeps (kept_by stop) (failing_at stop d.calls place done)
-          (some_fails stop d.calls place done (all_calls (take place d.calls) js (Each-take (InCall Good) place d.calls g) h))
+          (some_fails stop d.calls place done (all_calls (take place d.calls) js (Each-take (InAppend) place d.calls g) h))
 
-  pub start_keeps : (stop : Stop) (floor : Floor) (d : Doing) (js : List Section) → Each (InCall Good) d.calls → InJournal js → InJournal (start_performed stop floor d js).sections
+  pub start_keeps : (stop : Stop) (floor : Floor) (d : Doing) (js : List Section) → Each (InAppend) d.calls → InJournal js → InJournal (start_performed stop floor d js).sections
   unfolding start_performed
   start_keeps stops.None floor d js g h = step_keeps stops.None d js g h
   start_keeps (stops.Cut call keep) floor d js g h = step_keeps (stops.Cut call keep) d js g h

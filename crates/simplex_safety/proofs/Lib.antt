@@ -1,12 +1,15 @@
 mod Above
 mod Agreeing
 mod Backing
+mod Epochs
 mod Events
 mod Founded
 mod Further
 mod Keeping
 mod Knowledge
+mod Leading
 mod Mails
+mod Naming
 mod Nodes
 mod Quiet
 mod Reading

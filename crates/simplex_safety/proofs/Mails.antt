@@ -126,10 +126,11 @@ batcher_keeps P w (batcher.Constructed vote) h p =
 
 -- ---- the voter's drops, puts, or changes a timeout
 
--- the certificate that a message of the voter brings
+-- the certificate that a message of the voter brings; none brings a proposal
 abbrev pub InMail : (Certificate → Type 0) → voter_message.Message → Type 0
 InMail Good (voter.Verified c) = Good c
-InMail Good _ = Unit {0}
+InMail Good (voter.Proposal p) = ⊥
+InMail Good (voter.Timeout round reason) = Unit {0}
 
 changed_keeps : (Good : Certificate → Type 0) (message queued : voter_message.Message) → InMail Good queued → InMail Good (changed_for_voter message queued)
 changed_keeps Good (voter.Timeout round reason) (voter.Timeout old other) h = at (old.view == round.view && outranks reason other)
@@ -137,7 +138,7 @@ changed_keeps Good (voter.Timeout round reason) (voter.Timeout old other) h = at
     at : (b : Bool) → InMail Good (if b then voter.Timeout round reason else voter.Timeout old other)
     at true = tt
     at false = tt
-changed_keeps Good (voter.Timeout round reason) (voter.Proposal p) h = tt
+changed_keeps Good (voter.Timeout round reason) (voter.Proposal p) h = absurd h
 changed_keeps Good (voter.Timeout round reason) (voter.Verified c) h = h
 changed_keeps Good (voter.Proposal p) queued h = h
 changed_keeps Good (voter.Verified c) queued h = h

@@ -14,7 +14,7 @@ use Rattle.simplex_wire.specs.declared.attestation.Attestation.{Attestation}
 use Rattle.simplex_wire.specs.Certified.{is_certified}
 use Rattle.simplex_wire.specs.declared.certificate.Certificate.{Certificate}
 use Rattle.simplex_wire.specs.declared.certificate.Finalization.{Finalization}
-use Rattle.simplex_wire.specs.Fields.{certificate_subject, certificate_signatures}
+use Rattle.simplex_wire.specs.Fields.{subject_round, certificate_subject, certificate_signatures}
 use Rattle.simplex_types.specs.Keyed.{signature_of, keyed_verifies}
 use Rattle.sha2.proofs.Facts256.{length-sha256}
 use Rattle.simplex_run.specs.Entries.{is_same_attestation, are_same_attestations}
@@ -33,9 +33,19 @@ abbrev pub IsOne : List Attestation → Type 0
 IsOne (a ∷ []) = (a.signer ≡ 0) × (length a.signature ≡ 32)
 IsOne _ = ⊥
 
--- the one member signed, and sent a vote on the subject
-abbrev pub Good : List Sent → Certificate → Type 0
-Good sent c = IsOne (certificate_signatures c) × Contains (map (λ (s : Sent). s.subject) sent) (certificate_subject c)
+-- what the member sent in all of a run, and its epoch
+pub record Own : Type 0 where
+  pub sent : List Sent
+  pub epoch : ℕ
+
+-- a vote on the subject was sent, and it is of the epoch
+pub record StandsFor (own : Own) (subject : Subject) : Type 0 where
+  pub sent : Contains (map (λ (s : Sent). s.subject) own.sent) subject
+  pub epoch : (subject_round subject).epoch ≡ own.epoch
+
+-- the one member signed, and stands for the subject
+abbrev pub Good : Own → Certificate → Type 0
+Good own c = IsOne (certificate_signatures c) × StandsFor own (certificate_subject c)
 
 one_signer : (list : List Attestation) → IsOne list → signers_of list ≡ 0 ∷ []
 one_signer [] one = absurd one
@@ -94,11 +104,12 @@ sent_of (x ∷ rest) s k =
       | inr r ↦ (let p = sent_of rest s r in (p.0, Contains-there x rest _ p.1))
     ]
 
-pub good_backed : (term : ℕ) (sent : List Sent) (c : Certificate) → Good sent c → IsBacked (alone term sent) (statement_of c)
-good_backed term sent c g =
-    let w = alone term sent in
+pub good_backed : (term : ℕ) (own : Own) (c : Certificate) → Good own c → IsBacked (alone term own.sent) (statement_of c)
+good_backed term own c g =
+    let w = alone term own.sent in
     let signs = sym (one_signer (certificate_signatures c) g.0) in
-    let has = sent_of sent (certificate_subject c) g.1 in
+    let stands = g.1 in
+    let has = sent_of own.sent (certificate_subject c) stands.sent in
     let P = λ (i : ℕ). Contains w.faulty i ⊎ agreement.HasSent w i (certificate_subject c) in
     record {
       quorum = subst (IsQuorum 1) signs quorum;

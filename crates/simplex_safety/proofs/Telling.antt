@@ -319,14 +319,14 @@ says_deadline Good made now d s = at (nullify_at made (current_of made d.desk.kn
 says_nothing : (Good : Certificate → Type 0) (s : Standing) → KnowsGood Good s.desk.known → SaysGood Good (begun s.desk)
 says_nothing Good s k = record { in_calls = tt; in_messages = tt; in_added = tt; in_known = k; in_verdict = tt; in_nullify = tt }
 
-some_is : {A : Type 0} (a b : A) → Some a ≡ Some b → a ≡ b
+pub some_is : {A : Type 0} (a b : A) → Some a ≡ Some b → a ≡ b
 some_is a b e = cc
 
-gives : {A B : Type 0} (P : B → Type 0) (f : A → B) (o : Option A) (b : B) → ((a : A) → P (f a)) → option_map f o ≡ Some b → P b
+pub gives : {A B : Type 0} (P : B → Type 0) (f : A → B) (o : Option A) (b : B) → ((a : A) → P (f a)) → option_map f o ≡ Some b → P b
 gives P f None b each e = cc
 gives P f (Some a) b each e = subst P (some_is (f a) b e) (each a)
 
-gives_some : {A B : Type 0} (P : B → Type 0) (f : A → Option B) (o : Option A) (b : B) → ((a : A) → f a ≡ Some b → P b) → option_and_then f o ≡ Some b → P b
+pub gives_some : {A B : Type 0} (P : B → Type 0) (f : A → Option B) (o : Option A) (b : B) → ((a : A) → f a ≡ Some b → P b) → option_and_then f o ≡ Some b → P b
 gives_some P f None b each e = cc
 gives_some P f (Some a) b each e = each a e
 

@@ -1,10 +1,11 @@
 -- A run of one honest member: what stands in it, and the world that it is.
-use Rattle.std.specs.Prelude.{ℕ, ◌++◌, List, [], ◌∷◌, map, Contains, Some, Result, Ok, Err}
+use Rattle.std.specs.Prelude.{ℕ, ◌≡◌, ◌++◌, List, [], ◌∷◌, map, Contains, Some, Result, Ok, Err}
 use Rattle.std.specs.List.{flat_map}
 use Rattle.simplex_values.specs.declared.plan.Channel.TheVariants as channels
 use Rattle.simplex_wire.specs.declared.error.DecodeError.{DecodeError}
 use Rattle.simplex_wire.specs.declared.certificate.Certificate.{Certificate}
 use Rattle.simplex_wire.specs.declared.certificate.Certificate.TheVariants as certificates
+use Rattle.simplex_wire.specs.Fields.{subject_round}
 use Rattle.simplex_wire.specs.Format.{whole}
 use Rattle.simplex_wire.specs.Message as format
 use Rattle.simplex_types.specs.declared.activity.Activity.{Activity}
@@ -85,3 +86,11 @@ pub record IsBackedByOne (setup : Setup) (noted : List Noted) : Type 0 where
   pub lived : IsLivedBy setup noted (node_of 0)
   pub backed : Each (InNoted (λ c. IsBacked (alone setup.term (life.run newborn lived.calls).sent) (statement_of c))) noted
   pub stands : (c : agreement.Certificate) → Contains (standing noted) c → IsBacked (alone setup.term (life.run newborn lived.calls).sent) c
+
+-- the certificate is of this epoch
+abbrev pub NamesEpoch : ℕ → agreement.Certificate → Type 0
+NamesEpoch epoch c = (subject_round c.subject).epoch ≡ epoch
+
+-- each certificate that stands in the run is of the setup's epoch
+abbrev pub AreOfEpoch : Setup → List Noted → Type 0
+AreOfEpoch setup noted = (c : agreement.Certificate) → Contains (standing noted) c → NamesEpoch setup.epoch c

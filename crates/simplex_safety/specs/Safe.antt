@@ -7,14 +7,15 @@ use Rattle.simplex_run.specs.Life.{Noted}
 use Rattle.simplex_run.specs.Run as runs
 use Rattle.simplex_agreement.specs.World.{Certificate}
 use Rattle.simplex_agreement.specs.Conflict.{Conflict}
-use Rattle.simplex_safety.specs.Alone.{IsBackedByOne, standing}
+use Rattle.simplex_safety.specs.Alone.{IsBackedByOne, AreOfEpoch, standing}
 use Rattle.simplex_safety.specs.Histories.{AreStored}
 
--- Each certificate that stands in the run is backed by votes that went out, no two of them conflict, and each vote
--- that went out of a node was stored before
+-- Each certificate that stands in the run is backed by votes that went out, no two of them conflict, each is of the
+-- setup's epoch, and each vote that went out of a node was stored before
 pub record IsSafe (setup : Setup) (noted : List Noted) : Type 0 where
   pub backed : IsBackedByOne setup noted
   pub agrees : (a b : Certificate) → Contains (standing noted) a → Contains (standing noted) b → ¬ (Conflict setup.term a.subject b.subject)
+  pub epoch : AreOfEpoch setup noted
   pub stored : (node : Node) → AreStored setup node noted
 
 -- so it is with the entries that these events make

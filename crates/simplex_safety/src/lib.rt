@@ -2,7 +2,7 @@
 //!
 //! Each node of a run lives the life of an honest member, over all its starts, steps, stops and crashes; and a
 //! voter says no certificate that it was not given. In a run of one member each certificate is backed by votes
-//! that the member sent, and no two conflict. These are laws over the definitions alone.
+//! that the member sent, all are of one epoch, and no two conflict. These are laws over the definitions alone.
 #![tactic(auto)]
 
 mod alone;
