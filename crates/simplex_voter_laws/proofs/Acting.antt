@@ -48,6 +48,8 @@ use Rattle.simplex_voter_laws.specs.Tidings.{of_proposals, is_of_proposal, paylo
 use Rattle.simplex_voter_laws.proofs.Quiet.{left_out, IsQuiet, Quiet, Quiet-triggered, quiet_same}
 use Rattle.simplex_voter_laws.proofs.Tallies.{nothing, Tally, Tallied, tally_plain, tally_note, tally_hands}
 use Rattle.simplex_voter_laws.proofs.Syncing.{Flagged}
+use Rattle.simplex_voter_laws.proofs.Adding.{IsAlong, IsJudged, Unpublished, notarization_added, best_added}
+use Rattle.simplex_voter_laws.specs.Publications.{IsAdded, IsOfAdded}
 use Rattle.simplex_voter_laws.proofs.Ending.{nullify_waiting, told_quietly}
 
 -- what a step has done as it acted: no vote went out yet, and these are due; and it learned nothing of a proposal, or
@@ -56,25 +58,26 @@ pub record Acted (now : ℕ) (before : List Fact) (due : List Vote) (news : Opti
   pub learned : Option Fact
   pub tally : Tallied now before outcome.1 (record { votes = due; learned = learned; synced = false }) [] outcome.0
   pub flag : Flagged outcome.0
+  pub shown : Unpublished (additions before) outcome.0
   pub waits : nullify_waiting outcome.0.nullify ≡ due
   pub ends : outcome.1 ≡ None → due ≡ []
   pub told : (learned ≡ None) ⊎ (learned ≡ news)
 
 -- nothing is done yet
 begins : (now : ℕ) (desk : Desk) (touched : Option ℕ) → Tallied now desk.known touched nothing [] (begun desk)
-begins now desk touched = record { sections = All-nil (IsOfSection touched); written = refl; new = refl; published = refl; learned = refl; packets = refl; constructed = refl; guarded = tt; stored = λ e. refl }
+begins now desk touched = record { sections = All-nil (IsOfSection touched); written = refl; new = refl; published = refl; learned = refl; packets = refl; constructed = refl; guarded = tt; stored = λ e. refl; shown = All-nil (IsOfAdded (additions desk.known)) }
 
 -- no vote is due, and nothing of a proposal is learned
-without_votes : (now : ℕ) (before : List Fact) (news : Option Fact) (d : Doing) (o : Option ℕ) → d.nullify ≡ None → Flagged d → Tallied now before o nothing [] d → Acted now before [] news (d, o)
-without_votes now before news d o none flag t = record { learned = None; tally = t; flag = flag; waits = ap nullify_waiting none; ends = λ e. refl; told = inl refl }
+without_votes : (now : ℕ) (before : List Fact) (news : Option Fact) (d : Doing) (o : Option ℕ) → d.nullify ≡ None → Flagged d → IsJudged (additions before) d.verdict → Tallied now before o nothing [] d → Acted now before [] news (d, o)
+without_votes now before news d o none flag judged t = record { learned = None; tally = t; flag = flag; shown = (subst (IsAlong (additions before)) (sym none) tt, judged); waits = ap nullify_waiting none; ends = λ e. refl; told = inl refl }
 
 -- no vote is due, and this is learned
-with_news : (now : ℕ) (before : List Fact) (news : Option Fact) (d : Doing) (o : Option ℕ) → d.nullify ≡ None → Flagged d → Tallied now before o (record { votes = []; learned = news; synced = false }) [] d → Acted now before [] news (d, o)
-with_news now before news d o none flag t = record { learned = news; tally = t; flag = flag; waits = ap nullify_waiting none; ends = λ e. refl; told = inr refl }
+with_news : (now : ℕ) (before : List Fact) (news : Option Fact) (d : Doing) (o : Option ℕ) → d.nullify ≡ None → Flagged d → IsJudged (additions before) d.verdict → Tallied now before o (record { votes = []; learned = news; synced = false }) [] d → Acted now before [] news (d, o)
+with_news now before news d o none flag judged t = record { learned = news; tally = t; flag = flag; shown = (subst (IsAlong (additions before)) (sym none) tt, judged); waits = ap nullify_waiting none; ends = λ e. refl; told = inr refl }
 
 -- nothing is done but to learn what is of no proposal
 learns : (now : ℕ) (made : Made) (news : Option Fact) (desk : Desk) (call : state.Call) (o : Option ℕ) → IsQuiet call → Acted now desk.known [] news (tell made call (begun desk), o)
-learns now made news desk call o q = without_votes now desk.known news _ o refl (λ e. refl) (told_quietly now desk.known o nothing [] made (begun desk) call q (begins now desk o))
+learns now made news desk call o q = without_votes now desk.known news _ o refl (λ e. refl) tt (told_quietly now desk.known o nothing [] made (begun desk) call q (begins now desk o))
 
 -- a fact of a proposal, and of nothing else
 abbrev IsOfOne : Option Fact → Type 0
@@ -94,6 +97,7 @@ tells_news now known later o None q e =
       constructed = refl;
       guarded = tt;
       stored = λ e. refl;
+      shown = All-nil (IsOfAdded (additions later));
     }
 tells_news now known later o (Some fact) q e =
     record {
@@ -106,6 +110,7 @@ tells_news now known later o (Some fact) q e =
       constructed = refl;
       guarded = tt;
       stored = λ e. refl;
+      shown = All-nil (IsOfAdded (additions later));
     }
 
 -- ---- answers
@@ -127,12 +132,12 @@ propose_acts now made p payload desk = at (records_answer made desk.known (pendi
         let settled = settle_proposal (tell made (state.Proposed p.context payload) (begun desk)) in
         let touched = Some (pending_view p) in
         let news = Some (own_with p payload) in
-        with_news now desk.known news (make (calls.Relay payload (plans.Propose p.context.round)) settled) touched refl (λ e. refl)
-        (tally_plain now desk.known touched (record { votes = []; learned = news; synced = false }) [] [] [] [] settled.desk.known (calls.Relay payload (plans.Propose p.context.round)) (tt, refl, refl, λ out. cc)
+        with_news now desk.known news (make (calls.Relay payload (plans.Propose p.context.round)) settled) touched refl (λ e. refl) tt
+        (tally_plain now desk.known touched (record { votes = []; learned = news; synced = false }) [] [] [] [] settled.desk.known (calls.Relay payload (plans.Propose p.context.round)) (tt, refl, refl, λ out. cc, tt)
         (tells_news now desk.known settled.desk.known touched news (refl, refl, refl, refl) (ap (λ facts. facts ++ desk.known) (answering_facts made desk.known p payload true e))))
     at false e =
         let settled = settle_proposal (tell made (state.Proposed p.context payload) (begun desk)) in
-        without_votes now desk.known (Some (own_with p payload)) settled None refl (λ e. refl)
+        without_votes now desk.known (Some (own_with p payload)) settled None refl (λ e. refl) tt
         (tells_news now desk.known settled.desk.known None None tt (ap (λ facts. facts ++ desk.known) (answering_facts made desk.known p payload false e)))
 
 stage_acts : (now : ℕ) (made : Made) (p : Pending) (payload : List ℕ) (desk : Desk) → Acted now desk.known [] (Some (own_with p payload)) (stage made p payload (begun desk))
@@ -143,23 +148,23 @@ stage_acts now made p payload desk = at (is_certified desk.known (pending_parent
         else (proposal_stands p (Held payload) (make (calls.Relay payload (plans.Prepare p.context.round)) (begun desk)), None))
     at true = propose_acts now made p payload desk
     at false =
-        without_votes now desk.known (Some (own_with p payload)) (proposal_stands p (Held payload) (make (calls.Relay payload (plans.Prepare p.context.round)) (begun desk))) None refl (λ e. refl)
-        (tally_plain now desk.known None nothing [] [] [] [] desk.known (calls.Relay payload (plans.Prepare p.context.round)) (tt, refl, refl, λ out. cc) (begins now desk None))
+        without_votes now desk.known (Some (own_with p payload)) (proposal_stands p (Held payload) (make (calls.Relay payload (plans.Prepare p.context.round)) (begun desk))) None refl (λ e. refl) tt
+        (tally_plain now desk.known None nothing [] [] [] [] desk.known (calls.Relay payload (plans.Prepare p.context.round)) (tt, refl, refl, λ out. cc, tt) (begins now desk None))
 
 give_up_acts : (now : ℕ) (made : Made) (p : Pending) (at : ProposalState) (desk : Desk) → Acted now desk.known [] None (give_up made now p at (begun desk))
 unfolding give_up
-give_up_acts now made p Preparing desk = without_votes now desk.known None (proposal_stands p Closed (begun desk)) None refl (λ e. refl) (begins now desk None)
+give_up_acts now made p Preparing desk = without_votes now desk.known None (proposal_stands p Closed (begun desk)) None refl (λ e. refl) tt (begins now desk None)
 give_up_acts now made p _ desk =
-    without_votes now desk.known None (settle_proposal (tell made (state.TriggerTimeout (pending_view p) MissingProposal now) (begun desk))) None refl (λ e. refl)
+    without_votes now desk.known None (settle_proposal (tell made (state.TriggerTimeout (pending_view p) MissingProposal now) (begun desk))) None refl (λ e. refl) tt
     (told_quietly now desk.known None nothing [] made (begun desk) (state.TriggerTimeout (pending_view p) MissingProposal now) tt (begins now desk None))
 
 proposal_acts : (now : ℕ) (made : Made) (p : Pending) (answer : Answer) (desk : Desk) → Acted now desk.known [] (option_map (own_with p) (payload_in answer)) (act_on_proposal made now p answer (begun desk))
 unfolding act_on_proposal
 proposal_acts now made p (answers.Payload payload) desk = propose_acts now made p payload desk
-proposal_acts now made p (answers.Handoff handoffs.Wait) desk = without_votes now desk.known None (proposal_stands p Waiting (begun desk)) None refl (λ e. refl) (begins now desk None)
+proposal_acts now made p (answers.Handoff handoffs.Wait) desk = without_votes now desk.known None (proposal_stands p Waiting (begun desk)) None refl (λ e. refl) tt (begins now desk None)
 proposal_acts now made p (answers.Handoff (handoffs.Stage payload)) desk = stage_acts now made p payload desk
 proposal_acts now made p (answers.Handoff (handoffs.Vote payload)) desk = propose_acts now made p payload desk
-proposal_acts now made p (answers.Verdict good) desk = without_votes now desk.known None (begun desk) None refl (λ e. refl) (begins now desk None)
+proposal_acts now made p (answers.Verdict good) desk = without_votes now desk.known None (begun desk) None refl (λ e. refl) tt (begins now desk None)
 proposal_acts now made p answers.Closed desk = give_up_acts now made p p.state desk
 
 approving_facts : (made : Made) (known : List Fact) (view : ℕ) → facts_of made known (state.Verified view) ≡ option_to_list (option_map Approved (verify_asked known view))
@@ -175,7 +180,7 @@ unfolding act_on_verify
 verify_acts now made v (answers.Verdict true) desk =
     let told = tell made (state.Verified v.view) (begun (record desk { verify = None })) in
     let news = option_map Approved (verify_asked desk.known v.view) in
-    with_news now desk.known news told (Some v.view) refl (λ e. refl)
+    with_news now desk.known news told (Some v.view) refl (λ e. refl) tt
     (tells_news now desk.known told.desk.known (Some v.view) news (approval_of_one (verify_asked desk.known v.view)) (ap (λ facts. facts ++ desk.known) (approving_facts made desk.known v.view)))
 verify_acts now made v (answers.Verdict false) desk = learns now made None (record desk { verify = None }) (state.VerificationFailed v.view InvalidProposal now) (Some v.view) tt
 verify_acts now made v _ desk = learns now made None (record desk { verify = None }) (state.VerificationFailed v.view IgnoredProposal now) (Some v.view) tt
@@ -209,9 +214,9 @@ taken_on_one : (known : List Fact) (view : ℕ) → takes_verdict known view ≡
 unfolding takes_verdict
 taken_on_one known view e f = grind (arith, common_steps, e, f)
 
-judged_acts : (now : ℕ) (made : Made) (number view : ℕ) (good : Bool) (n : Notarization) (desk : Desk) → view_of n.proposal ≡ view → takes_verdict desk.known view ≡ true
+judged_acts : (now : ℕ) (made : Made) (number view : ℕ) (good : Bool) (n : Notarization) (desk : Desk) → view_of n.proposal ≡ view → IsAdded (additions desk.known) (certificates.Notarization n) → takes_verdict desk.known view ≡ true
     → Acted now desk.known [] None (take_verdict made view good (Some n) (tell made (state.Certified view good now) (settle_certify number (begun desk))))
-judged_acts now made number view good n desk here e =
+judged_acts now made number view good n desk here added e =
     let known = desk.known in
     let extra = if good then [] else triggered made known view FailedCertification now in
     let fact = Judged view good now in
@@ -219,7 +224,7 @@ judged_acts now made number view good n desk here e =
     let same : told.desk.known ≡ extra ++ (fact ∷ known) = ap (λ facts. facts ++ known) (certified_facts made known view good now true e) ∙ append_assoc extra (fact ∷ []) known in
     let s = quiet_same extra (fact ∷ known) (failing_quiet made known view good now) in
     let artifact = artifacts.Certification n.proposal.round good in
-    without_votes now known None (record (append artifact told) { verdict = Some (n, good) }) (Some view) refl (λ e. cc)
+    without_votes now known None (record (append artifact told) { verdict = Some (n, good) }) (Some view) refl (λ e. cc) added
     (tally_note now known (Some view) nothing [] [] [] [] known told.desk.known artifact refl (ap (λ v. Some v) (sym here))
     (record {
       lasts = ap lasting same ∙ s.lasts ∙ ap (λ v. Judged v good now ∷ lasting known) (sym here);
@@ -237,18 +242,18 @@ certify_acts now made number view good desk = at (takes_verdict desk.known view)
     at true (Some n) e f =
         subst (λ o. Acted now desk.known [] None (take_verdict made view good o (tell made (state.Certified view good now) (settle_certify number (begun desk)))))
         (sym (certified_is desk.known view true e ∙ f))
-        (judged_acts now made number view good n desk (notarization_view desk.known view n f) e)
+        (judged_acts now made number view good n desk (notarization_view desk.known view n f) (notarization_added desk.known view n f) e)
     at true None e f = absurd (taken_on_one desk.known view e f)
     at false o e f =
         subst (λ o. Acted now desk.known [] None (take_verdict made view good o (tell made (state.Certified view good now) (settle_certify number (begun desk)))))
         (sym (certified_is desk.known view false e))
-        (without_votes now desk.known None (tell made (state.Certified view good now) (settle_certify number (begun desk))) None refl (λ e. refl)
+        (without_votes now desk.known None (tell made (state.Certified view good now) (settle_certify number (begun desk))) None refl (λ e. refl) tt
         (subst (λ facts. Tally now desk.known None nothing [] [] [] [] (facts ++ desk.known)) (sym (certified_facts made desk.known view good now false e)) (begins now desk None)))
 
 answer_certify_acts : (now : ℕ) (made : Made) (c : Opened) (answer : Answer) (desk : Desk) → Acted now desk.known [] None (act_on_certify made now c answer (begun desk))
 unfolding act_on_certify
 answer_certify_acts now made c (answers.Verdict good) desk = certify_acts now made c.number c.view good desk
-answer_certify_acts now made c _ desk = without_votes now desk.known None (settle_certify c.number (begun desk)) (Some c.view) refl (λ e. refl) (begins now desk (Some c.view))
+answer_certify_acts now made c _ desk = without_votes now desk.known None (settle_certify c.number (begun desk)) (Some c.view) refl (λ e. refl) tt (begins now desk (Some c.view))
 
 -- ---- a certificate
 
@@ -284,6 +289,7 @@ certificate_written now known later c same =
       constructed = refl;
       guarded = (λ out. cc, tt);
       stored = λ e. cc;
+      shown = All-cons (IsOfAdded (additions later)) (calls.Append (artifact_round (record_of c)).view (record_of c)) [] tt (All-nil (IsOfAdded (additions later)));
     }
   where
     at : (c : Certificate) → Added c now ≡ fact_of_record now (record_of c)
@@ -293,12 +299,16 @@ certificate_written now known later c same =
 
 blocked : (now : ℕ) (before : List Fact) (touched : Option ℕ) (d : Doing) (o : Option ℕ) → Tallied now before touched nothing [] d → Tallied now before touched nothing [] (block_for o d)
 blocked now before touched d None t = t
-blocked now before touched d (Some leader) t = tally_plain now before touched nothing [] d.calls d.handed d.added d.desk.known (calls.Block leader) (tt, refl, refl, λ out. cc) t
+blocked now before touched d (Some leader) t = tally_plain now before touched nothing [] d.calls d.handed d.added d.desk.known (calls.Block leader) (tt, refl, refl, λ out. cc, tt) t
 
 -- to block adds nothing to what stands unsynced
 block_flags : (o : Option ℕ) (d : Doing) → d.wrote ≡ true → Flagged (block_for o d)
 block_flags None d wrote = λ e. cc (e, wrote)
 block_flags (Some leader) d wrote = λ e. cc (e, wrote)
+
+block_judges : (known : List Fact) (o : Option ℕ) (d : Doing) → IsJudged known d.verdict → IsJudged known (block_for o d).verdict
+block_judges known None d h = h
+block_judges known (Some leader) d h = h
 
 block_keeps : (o : Option ℕ) (d : Doing) → (block_for o d).nullify ≡ d.nullify
 block_keeps None d = refl
@@ -310,7 +320,7 @@ certificate_acts now made c desk = at (admits_certificate made desk.known (certi
   where
     left : (o : Option ℕ) → adds made desk.known c ≡ false → Acted now desk.known [] None (tell made (adding c now) (begun desk), o)
     left o e =
-        without_votes now desk.known None (tell made (adding c now) (begun desk)) o refl (λ e. refl)
+        without_votes now desk.known None (tell made (adding c now) (begun desk)) o refl (λ e. refl) tt
         (subst (λ facts. Tally now desk.known o nothing [] [] [] [] (facts ++ desk.known)) (sym (adding_facts made desk.known c now false e)) (begins now desk o))
 
     at : (admitted added : Bool) → admits_certificate made desk.known (certificate_view c) ≡ admitted → adds made desk.known c ≡ added
@@ -335,7 +345,7 @@ certificate_acts now made c desk = at (admits_certificate made desk.known (certi
         let after = block_for o noted in
         let written : Tallied now known touched nothing [] noted =
         certificate_written now known told.desk.known c (ap (λ facts. facts ++ known) (adding_facts made known c now true f)) in
-        without_votes now known None (hand (handed.Resolver (resolver.Updated c)) after) touched (block_keeps o noted) (block_flags o noted refl)
+        without_votes now known None (hand (handed.Resolver (resolver.Updated c)) after) touched (block_keeps o noted) (block_flags o noted refl) (block_judges (additions known) o noted tt)
         (tally_hands now known touched nothing [] after.calls after.handed (handed.Resolver (resolver.Updated c) ∷ []) after.added after.desk.known refl (blocked now known touched noted o written))
 
 taking_facts : (made : Made) (known : List Fact) (view : ℕ) (proposal : Proposal) (t : Bool) → records_proposal made known proposal ≡ t
@@ -350,11 +360,11 @@ leader_acts now made proposal o desk = at (records_proposal made desk.known prop
     at : (t : Bool) → records_proposal made desk.known proposal ≡ t → Acted now desk.known [] (Some (Taken proposal)) (tell made (state.SetProposal (view_of proposal) proposal) (begun desk), o)
     at true e =
         let told = tell made (state.SetProposal (view_of proposal) proposal) (begun desk) in
-        with_news now desk.known (Some (Taken proposal)) told o refl (λ e. refl)
+        with_news now desk.known (Some (Taken proposal)) told o refl (λ e. refl) tt
         (tells_news now desk.known told.desk.known o (Some (Taken proposal)) (refl, refl, refl, refl) (ap (λ facts. facts ++ desk.known) (taking_facts made desk.known (view_of proposal) proposal true e)))
     at false e =
         let told = tell made (state.SetProposal (view_of proposal) proposal) (begun desk) in
-        without_votes now desk.known (Some (Taken proposal)) told o refl (λ e. refl)
+        without_votes now desk.known (Some (Taken proposal)) told o refl (λ e. refl) tt
         (tells_news now desk.known told.desk.known o None tt (ap (λ facts. facts ++ desk.known) (taking_facts made desk.known (view_of proposal) proposal false e)))
 
 mail_acts : (now : ℕ) (made : Made) (message : Message) (s : Standing) → Acted now s.desk.known [] (tidings s (inputs.Mail message)) (act_on_mail made now message (begun s.desk))
@@ -399,8 +409,10 @@ repeat_acts now made desk n e f =
         constructed = refl;
         guarded = tt;
         stored = λ e. refl;
+        shown = All-nil (IsOfAdded (additions (facts_of made known (state.ConstructNullify view LeaderTimeout now) ++ known)));
       };
       flag = λ e. refl;
+      shown = (best_added made known, tt);
       waits = refl;
       ends = λ h. cc;
       told = inl refl;
@@ -430,8 +442,10 @@ first_acts now made desk n e f =
         constructed = refl;
         guarded = (λ out. cc, tt);
         stored = λ e. cc;
+        shown = All-cons (IsOfAdded (additions (facts_of made known (state.ConstructNullify view LeaderTimeout now) ++ known))) (calls.Append n.round.view (artifacts.Nullify n)) [] tt (All-nil (IsOfAdded (additions (facts_of made known (state.ConstructNullify view LeaderTimeout now) ++ known))));
       };
       flag = λ e. cc;
+      shown = (tt, tt);
       waits = refl;
       ends = λ h. cc;
       told = inl refl;
@@ -461,7 +475,7 @@ deadline_acts now made desk = at (nullify_at made (current_of made desk.known)) 
               o (begun desk),
           Some (current_of made desk.known),
         )
-    at None e = without_votes now desk.known None (begun desk) (Some (current_of made desk.known)) refl (λ e. refl) (begins now desk (Some (current_of made desk.known)))
+    at None e = without_votes now desk.known None (begun desk) (Some (current_of made desk.known)) refl (λ e. refl) tt (begins now desk (Some (current_of made desk.known)))
     at (Some n) e = one n (has_nullified desk.known (current_of made desk.known)) e refl
 
 -- ---- whatever its source holds

@@ -34,8 +34,10 @@ use Rattle.simplex_voter_laws.specs.Votes.{votes_of, votes_on, votes_at_end}
 use Rattle.simplex_voter_laws.specs.Learned.{lasting, additions, publications}
 use Rattle.simplex_voter_laws.specs.Tidings.{of_proposals}
 use Rattle.simplex_voter_laws.proofs.Quiet.{IsQuiet, told_quiet, reconciled_same, iterated_same}
-use Rattle.simplex_voter_laws.proofs.Tallies.{Due, Tally, Tallied, tally_known, tally_plain, tally_note, tally_hands, tally_send, tally_synced, once_synced, sought_silent}
+use Rattle.simplex_voter_laws.proofs.Tallies.{Due, Tally, Tallied, tally_known, tally_plain, tally_note, tally_hands, tally_send, tally_synced, tally_added, once_synced, sought_silent}
 use Rattle.simplex_voter_laws.proofs.Syncing.{sync_ends, untouched, Flagged}
+use Rattle.simplex_voter_laws.specs.Publications.{IsAdded, IsOfAdded}
+use Rattle.simplex_voter_laws.proofs.Adding.{IfAdded, IsAlong, IsJudged, Unpublished, unsent_notarization_added, unsent_nullification_added, unsent_finalization_added}
 
 -- the nullify that waits to go out
 abbrev pub nullify_waiting : Option (Nullify × Option Certificate) → List Vote
@@ -118,6 +120,14 @@ notarize_keeps made view d = at (notarize_at made d.desk.known view)
     at None = refl
     at (Some n) = refl
 
+notarize_shows : (made : Made) (view : ℕ) (d : Doing) (known : List Fact) → Unpublished known d → Unpublished known (vote_notarize made view d)
+unfolding vote_notarize
+notarize_shows made view d known h = at (notarize_at made d.desk.known view)
+  where
+    at : (o : Option Notarize) → Unpublished known (option_map_or (λ n. append (artifacts.Notarize n) (tell made (state.ConstructNotarize view) d)) o (tell made (state.ConstructNotarize view) d))
+    at None = h
+    at (Some n) = h
+
 finalize_flags : (made : Made) (view : ℕ) (d : Doing) → Flagged d → Flagged (vote_finalize made view d)
 unfolding vote_finalize
 finalize_flags made view d flag = at (finalize_at made d.desk.known view)
@@ -133,6 +143,14 @@ finalize_keeps made view d = at (finalize_at made d.desk.known view)
     at : (o : Option Finalize) → (option_map_or (λ f. append (artifacts.Finalize f) (tell made (state.ConstructFinalize view) d)) o (tell made (state.ConstructFinalize view) d)).nullify ≡ d.nullify
     at None = refl
     at (Some f) = refl
+
+finalize_shows : (made : Made) (view : ℕ) (d : Doing) (known : List Fact) → Unpublished known d → Unpublished known (vote_finalize made view d)
+unfolding vote_finalize
+finalize_shows made view d known h = at (finalize_at made d.desk.known view)
+  where
+    at : (o : Option Finalize) → Unpublished known (option_map_or (λ f. append (artifacts.Finalize f) (tell made (state.ConstructFinalize view) d)) o (tell made (state.ConstructFinalize view) d))
+    at None = h
+    at (Some f) = h
 
 -- ---- the requests, and the sync
 
@@ -154,6 +172,10 @@ requests_keep : (made : Made) (now : ℕ) (d : Doing) → (open_requests made no
 unfolding open_requests
 requests_keep made now d = refl
 
+requests_show : (made : Made) (now : ℕ) (d : Doing) (known : List Fact) → Unpublished known d → Unpublished known (open_requests made now d)
+unfolding open_requests
+requests_show made now d known h = h
+
 synced : (now : ℕ) (before : List Fact) (view : ℕ) (due : Due) (sent : List Vote) (d : Doing) → Flagged d → Tallied now before (Some view) due sent d
     → Tallied now before (Some view) (once_synced due) sent (sync view d)
 synced now before view due sent d flag t = at d.wrote refl
@@ -161,7 +183,7 @@ synced now before view due sent d flag t = at d.wrote refl
     at : (b : Bool) → d.wrote ≡ b → Tallied now before (Some view) (once_synced due) sent (if b then make (calls.Sync view) d else d)
     at true e =
         tally_synced now before (Some view) due sent (d.calls ++ calls.Sync view ∷ []) d.handed d.added d.desk.known (sync_ends view d.calls t.sections)
-        (tally_plain now before (Some view) due sent d.calls d.handed d.added d.desk.known (calls.Sync view) (refl, refl, refl, λ out. cc) t)
+        (tally_plain now before (Some view) due sent d.calls d.handed d.added d.desk.known (calls.Sync view) (refl, refl, refl, λ out. cc, tt) t)
     at false e = tally_synced now before (Some view) due sent d.calls d.handed d.added d.desk.known (flag e) t
 
 sync_keeps : (view : ℕ) (d : Doing) → (sync view d).nullify ≡ d.nullify
@@ -171,24 +193,31 @@ sync_keeps view d = at d.wrote
     at true = refl
     at false = refl
 
+sync_shows : (view : ℕ) (d : Doing) (known : List Fact) → Unpublished known d → Unpublished known (sync view d)
+sync_shows view d known h = at d.wrote
+  where
+    at : (b : Bool) → Unpublished known (if b then make (calls.Sync view) d else d)
+    at true = h
+    at false = h
+
 -- ---- what is published
 
-verdict_out : (now : ℕ) (before : List Fact) (touched : Option ℕ) (due : Due) (sent : List Vote) (d : Doing) → due.synced ≡ true → Tallied now before touched due sent d → Tallied now before touched due sent (publish_verdict d)
+verdict_out : (now : ℕ) (before : List Fact) (touched : Option ℕ) (due : Due) (sent : List Vote) (d : Doing) → due.synced ≡ true → IsJudged (additions before) d.verdict → Tallied now before touched due sent d → Tallied now before touched due sent (publish_verdict d)
 unfolding publish_verdict
-verdict_out now before touched due sent d done t = at d.verdict
+verdict_out now before touched due sent d done known t = at d.verdict known
   where
-    one : (n : Notarization) (good b : Bool) → (let told = hand (handed.Resolver (resolver.Certified n good)) d in
+    one : (n : Notarization) (good b : Bool) → IsAdded (additions before) (certificates.Notarization n) → (let told = hand (handed.Resolver (resolver.Certified n good)) d in
         Tallied now before touched due sent (if b then report (activities.Certification n) told else told))
-    one n good true =
-        tally_plain now before touched due sent d.calls (hand (handed.Resolver (resolver.Certified n good)) d).handed d.added d.desk.known (calls.Report (activities.Certification n)) (tt, refl, refl, λ out. done)
+    one n good true k =
+        tally_plain now before touched due sent d.calls (hand (handed.Resolver (resolver.Certified n good)) d).handed d.added d.desk.known (calls.Report (activities.Certification n)) (tt, refl, refl, λ out. done, tally_added now before touched due sent d.calls d.handed d.added d.desk.known (certificates.Notarization n) t k)
         (tally_hands now before touched due sent d.calls d.handed (handed.Resolver (resolver.Certified n good) ∷ []) d.added d.desk.known refl t)
-    one n good false = tally_hands now before touched due sent d.calls d.handed (handed.Resolver (resolver.Certified n good) ∷ []) d.added d.desk.known refl t
+    one n good false k = tally_hands now before touched due sent d.calls d.handed (handed.Resolver (resolver.Certified n good) ∷ []) d.added d.desk.known refl t
 
-    at : (o : Option (Notarization × Bool)) → Tallied now before touched due sent (option_map_or (λ v.
+    at : (o : Option (Notarization × Bool)) → IsJudged (additions before) o → Tallied now before touched due sent (option_map_or (λ v.
         let told = hand (handed.Resolver (resolver.Certified v.0 v.1)) d in
         if v.1 then report (activities.Certification v.0) told else told) o d)
-    at None = t
-    at (Some v) = one v.0 v.1 v.1
+    at None k = t
+    at (Some v) k = one v.0 v.1 v.1 k
 
 verdict_keeps : (d : Doing) → (publish_verdict d).nullify ≡ d.nullify
 unfolding publish_verdict
@@ -205,13 +234,19 @@ verdict_keeps d = at d.verdict
     at None = refl
     at (Some v) = one v.0 v.1 v.1
 
-certificate_out : (now : ℕ) (before : List Fact) (touched : Option ℕ) (due : Due) (sent : List Vote) (d : Doing) (c : Certificate) → due.synced ≡ true → Tallied now before touched due sent d → Tallied now before touched due sent (send_certificate c d)
-certificate_out now before touched due sent d c done t =
-    tally_plain now before touched due sent d.calls d.handed d.added d.desk.known (calls.Send channels.Certificate recipients.All (format.certificate.spelling c)) (tt, refl, refl, λ out. done) t
+verdict_shows : (d : Doing) (known : List Fact) → Unpublished known d → IsAlong known (publish_verdict d).nullify
+verdict_shows d known h = subst (IsAlong known) (sym (verdict_keeps d)) h.0
 
-certificate_along : (now : ℕ) (before : List Fact) (touched : Option ℕ) (due : Due) (sent : List Vote) (d : Doing) (o : Option Certificate) → due.synced ≡ true → Tallied now before touched due sent d → Tallied now before touched due sent (with_certificate o d)
-certificate_along now before touched due sent d None done t = t
-certificate_along now before touched due sent d (Some c) done t = certificate_out now before touched due sent d c done t
+certificate_out : (now : ℕ) (before : List Fact) (touched : Option ℕ) (due : Due) (sent : List Vote) (d : Doing) (c : Certificate) → due.synced ≡ true → IsAdded (additions d.desk.known) c
+    → Tallied now before touched due sent d → Tallied now before touched due sent (send_certificate c d)
+certificate_out now before touched due sent d c done known t =
+    tally_plain now before touched due sent d.calls d.handed d.added d.desk.known (calls.Send channels.Certificate recipients.All (format.certificate.spelling c))
+    (tt, refl, refl, λ out. done, (c, known, refl, refl)) t
+
+certificate_along : (now : ℕ) (before : List Fact) (touched : Option ℕ) (due : Due) (sent : List Vote) (d : Doing) (o : Option Certificate) → due.synced ≡ true → IfAdded (additions d.desk.known) o
+    → Tallied now before touched due sent d → Tallied now before touched due sent (with_certificate o d)
+certificate_along now before touched due sent d None done known t = t
+certificate_along now before touched due sent d (Some c) done known t = certificate_out now before touched due sent d c done known t
 
 vote_out : (now : ℕ) (before : List Fact) (touched : Option ℕ) (due : Due) (sent : List Vote) (d : Doing) (v : Vote) → due.synced ≡ true → Tallied now before touched due sent d → Tallied now before touched due (sent ++ v ∷ []) (send_vote v d)
 vote_out now before touched due sent d v done t = tally_send now before touched due sent d.calls d.handed d.added d.desk.known v done t
@@ -219,16 +254,20 @@ vote_out now before touched due sent d v done t = tally_send now before touched 
 nothing_out : (now : ℕ) (before : List Fact) (touched : Option ℕ) (due : Due) (sent : List Vote) (d : Doing) → Tallied now before touched due sent d → Tallied now before touched due (sent ++ []) d
 nothing_out now before touched due sent d t = subst (λ vs. Tallied now before touched due vs d) (sym (append-nil sent)) t
 
-nullify_out : (now : ℕ) (before : List Fact) (touched : Option ℕ) (due : Due) (sent : List Vote) (d : Doing) → due.synced ≡ true → Tallied now before touched due sent d
+nullify_out : (now : ℕ) (before : List Fact) (touched : Option ℕ) (due : Due) (sent : List Vote) (d : Doing) → due.synced ≡ true → IsAlong (additions before) d.nullify → Tallied now before touched due sent d
     → Tallied now before touched due (sent ++ nullify_waiting d.nullify) (publish_nullify d)
 unfolding publish_nullify
-nullify_out now before touched due sent d done t = at d.nullify
+nullify_out now before touched due sent d done known t = at d.nullify known
   where
-    at : (o : Option (Nullify × Option Certificate))
+    along : (o : Option Certificate) → IfAdded (additions before) o → IfAdded (additions d.desk.known) o
+    along None k = tt
+    along (Some c) k = tally_added now before touched due sent d.calls d.handed d.added d.desk.known c t k
+
+    at : (o : Option (Nullify × Option Certificate)) → IsAlong (additions before) o
         → Tallied now before touched due (sent ++ nullify_waiting o) (option_map_or (λ n. with_certificate n.1 (send_vote (votes.Nullify n.0) d)) o d)
-    at None = nothing_out now before touched due sent d t
-    at (Some n) =
-        certificate_along now before touched due (sent ++ votes.Nullify n.0 ∷ []) (send_vote (votes.Nullify n.0) d) n.1 done (vote_out now before touched due sent d (votes.Nullify n.0) done t)
+    at None k = nothing_out now before touched due sent d t
+    at (Some n) k =
+        certificate_along now before touched due (sent ++ votes.Nullify n.0 ∷ []) (send_vote (votes.Nullify n.0) d) n.1 done (along n.1 k) (vote_out now before touched due sent d (votes.Nullify n.0) done t)
 
 notarize_out : (now : ℕ) (before : List Fact) (touched : Option ℕ) (due : Due) (sent : List Vote) (d : Doing) (o : Option Notarize) → due.synced ≡ true → Tallied now before touched due sent d
     → Tallied now before touched due (sent ++ votes_of votes.Notarize o) (option_map_or (λ n. send_vote (votes.Notarize n) d) o d)
@@ -246,46 +285,61 @@ told_quietly now before touched due sent made d call q t =
     tally_known now before touched due sent d.calls d.handed d.added d.desk.known (facts_of made d.desk.known call ++ d.desk.known) (told_quiet made d.desk.known call q) t
 
 -- a certificate is sent and reported
-both_out : (now : ℕ) (before : List Fact) (touched : Option ℕ) (due : Due) (sent : List Vote) (d : Doing) (c : Certificate) (a : Activity) → due.synced ≡ true → Tallied now before touched due sent d
+both_out : (now : ℕ) (before : List Fact) (touched : Option ℕ) (due : Due) (sent : List Vote) (d : Doing) (c : Certificate) (a : Activity) → due.synced ≡ true → IsAdded (additions d.desk.known) c → IsOfAdded (additions d.desk.known) (calls.Report a) → Tallied now before touched due sent d
     → Tallied now before touched due sent (report a (send_certificate c d))
-both_out now before touched due sent d c a done t =
-    tally_plain now before touched due sent (send_certificate c d).calls d.handed d.added d.desk.known (calls.Report a) (tt, refl, refl, λ out. done) (certificate_out now before touched due sent d c done t)
+both_out now before touched due sent d c a done known same t =
+    tally_plain now before touched due sent (send_certificate c d).calls d.handed d.added d.desk.known (calls.Report a) (tt, refl, refl, λ out. done, same) (certificate_out now before touched due sent d c done known t)
 
 notarization_out : (now : ℕ) (before : List Fact) (touched : Option ℕ) (due : Due) (sent : List Vote) (made : Made) (view : ℕ) (d : Doing) → due.synced ≡ true → Tallied now before touched due sent d
     → Tallied now before touched due sent (publish_notarization made view d)
 unfolding publish_notarization
-notarization_out now before touched due sent made view d done t = at (unsent_notarization d.desk.known view)
+notarization_out now before touched due sent made view d done t = at (unsent_notarization d.desk.known view) refl
   where
     told : Tallied now before touched due sent (tell made (state.BroadcastNotarization view) d)
     told = told_quietly now before touched due sent made d (state.BroadcastNotarization view) tt t
 
-    at : (o : Option Notarization) → Tallied now before touched due sent (option_map_or (λ n. report (activities.Notarization n) (send_certificate (certificates.Notarization n) (tell made (state.BroadcastNotarization view) d))) o (tell made (state.BroadcastNotarization view) d))
-    at None = told
-    at (Some n) = both_out now before touched due sent (tell made (state.BroadcastNotarization view) d) _ _ done told
+    known : (o : Notarization) → unsent_notarization d.desk.known view ≡ Some o → IsAdded (additions (tell made (state.BroadcastNotarization view) d).desk.known) (certificates.Notarization o)
+    known o e =
+        let same = told_quiet made d.desk.known (state.BroadcastNotarization view) tt in
+        subst (λ facts. IsAdded facts (certificates.Notarization o)) (sym same.adds) (unsent_notarization_added d.desk.known view o e)
+
+    at : (o : Option Notarization) → unsent_notarization d.desk.known view ≡ o → Tallied now before touched due sent (option_map_or (λ n. report (activities.Notarization n) (send_certificate (certificates.Notarization n) (tell made (state.BroadcastNotarization view) d))) o (tell made (state.BroadcastNotarization view) d))
+    at None e = told
+    at (Some n) e = both_out now before touched due sent (tell made (state.BroadcastNotarization view) d) _ _ done (known n e) (known n e) told
 
 nullification_out : (now : ℕ) (before : List Fact) (touched : Option ℕ) (due : Due) (sent : List Vote) (made : Made) (view : ℕ) (d : Doing) → due.synced ≡ true → Tallied now before touched due sent d
     → Tallied now before touched due sent (publish_nullification made view d)
 unfolding publish_nullification
-nullification_out now before touched due sent made view d done t = at (unsent_nullification d.desk.known view)
+nullification_out now before touched due sent made view d done t = at (unsent_nullification d.desk.known view) refl
   where
     told : Tallied now before touched due sent (tell made (state.BroadcastNullification view) d)
     told = told_quietly now before touched due sent made d (state.BroadcastNullification view) tt t
 
-    at : (o : Option Nullification) → Tallied now before touched due sent (option_map_or (λ n. report (activities.Nullification n) (send_certificate (certificates.Nullification n) (tell made (state.BroadcastNullification view) d))) o (tell made (state.BroadcastNullification view) d))
-    at None = told
-    at (Some n) = both_out now before touched due sent (tell made (state.BroadcastNullification view) d) _ _ done told
+    known : (o : Nullification) → unsent_nullification d.desk.known view ≡ Some o → IsAdded (additions (tell made (state.BroadcastNullification view) d).desk.known) (certificates.Nullification o)
+    known o e =
+        let same = told_quiet made d.desk.known (state.BroadcastNullification view) tt in
+        subst (λ facts. IsAdded facts (certificates.Nullification o)) (sym same.adds) (unsent_nullification_added d.desk.known view o e)
+
+    at : (o : Option Nullification) → unsent_nullification d.desk.known view ≡ o → Tallied now before touched due sent (option_map_or (λ n. report (activities.Nullification n) (send_certificate (certificates.Nullification n) (tell made (state.BroadcastNullification view) d))) o (tell made (state.BroadcastNullification view) d))
+    at None e = told
+    at (Some n) e = both_out now before touched due sent (tell made (state.BroadcastNullification view) d) _ _ done (known n e) (known n e) told
 
 finalization_out : (now : ℕ) (before : List Fact) (touched : Option ℕ) (due : Due) (sent : List Vote) (made : Made) (view : ℕ) (d : Doing) → due.synced ≡ true → Tallied now before touched due sent d
     → Tallied now before touched due sent (publish_finalization made view d)
 unfolding publish_finalization
-finalization_out now before touched due sent made view d done t = at (unsent_finalization d.desk.known view)
+finalization_out now before touched due sent made view d done t = at (unsent_finalization d.desk.known view) refl
   where
     told : Tallied now before touched due sent (tell made (state.BroadcastFinalization view) d)
     told = told_quietly now before touched due sent made d (state.BroadcastFinalization view) tt t
 
-    at : (o : Option Finalization) → Tallied now before touched due sent (option_map_or (λ f. report (activities.Finalization f) (send_certificate (certificates.Finalization f) (tell made (state.BroadcastFinalization view) d))) o (tell made (state.BroadcastFinalization view) d))
-    at None = told
-    at (Some n) = both_out now before touched due sent (tell made (state.BroadcastFinalization view) d) _ _ done told
+    known : (o : Finalization) → unsent_finalization d.desk.known view ≡ Some o → IsAdded (additions (tell made (state.BroadcastFinalization view) d).desk.known) (certificates.Finalization o)
+    known o e =
+        let same = told_quiet made d.desk.known (state.BroadcastFinalization view) tt in
+        subst (λ facts. IsAdded facts (certificates.Finalization o)) (sym same.adds) (unsent_finalization_added d.desk.known view o e)
+
+    at : (o : Option Finalization) → unsent_finalization d.desk.known view ≡ o → Tallied now before touched due sent (option_map_or (λ f. report (activities.Finalization f) (send_certificate (certificates.Finalization f) (tell made (state.BroadcastFinalization view) d))) o (tell made (state.BroadcastFinalization view) d))
+    at None e = told
+    at (Some n) e = both_out now before touched due sent (tell made (state.BroadcastFinalization view) d) _ _ done (known n e) (known n e) told
 
 update_out : (now : ℕ) (before : List Fact) (touched : Option ℕ) (due : Due) (sent : List Vote) (made : Made) (first : ℕ) (d : Doing) → Tallied now before touched due sent d
     → Tallied now before touched due sent (update_batcher made first d)
@@ -298,10 +352,10 @@ update_out now before touched due sent made first d t = at (nat_lt first (curren
 
 -- ---- the end of a step
 
-pub step_ends : (now : ℕ) (before : List Fact) (made : Made) (first view : ℕ) (d : Doing) (due : Due) → due.synced ≡ false → Flagged d → Tallied now before (Some view) due [] d → nullify_waiting d.nullify ≡ due.votes
+pub step_ends : (now : ℕ) (before : List Fact) (made : Made) (first view : ℕ) (d : Doing) (due : Due) → due.synced ≡ false → Flagged d → Unpublished (additions before) d → Tallied now before (Some view) due [] d → nullify_waiting d.nullify ≡ due.votes
     → Tallied now before (Some view) (once_synced due) (due.votes ++ votes_on made d.desk.known view) (end_of_step made now first view d)
 unfolding end_of_step votes_on
-step_ends now before made first view d due unsaved flag t waits =
+step_ends now before made first view d due unsaved flag shown t waits =
     let touched = Some view in
     let safe = once_synced due in
     let notarize = notarize_at made d.desk.known view in
@@ -313,14 +367,17 @@ step_ends now before made first view d due unsaved flag t waits =
     let judged = publish_verdict opened in
     let kept : judged.nullify ≡ d.nullify =
     verdict_keeps opened ∙ sync_keeps view asked ∙ requests_keep made now finalized ∙ finalize_keeps made view voted ∙ notarize_keeps made view d in
+    let unpublished =
+    sync_shows view asked (additions before)
+    (requests_show made now finalized (additions before) (finalize_shows made view voted (additions before) (notarize_shows made view d (additions before) shown))) in
     let stored : Tallied now before touched safe [] judged =
-    verdict_out now before touched safe [] opened refl
+    verdict_out now before touched safe [] opened refl unpublished.1
     (synced now before view due [] asked (requests_flag made now finalized (finalize_flags made view voted (notarize_flags made view d flag)))
     (requests_open now before touched due [] made finalized
     (finalize_written now before made view due [] voted unsaved (notarize_written now before made view due [] d unsaved t)))) in
     let out1 = publish_nullify judged in
     let nullified : Tallied now before touched safe due.votes out1 =
-    subst (λ vs. Tallied now before touched safe vs out1) (ap nullify_waiting kept ∙ waits) (nullify_out now before touched safe [] judged refl stored) in
+    subst (λ vs. Tallied now before touched safe vs out1) (ap nullify_waiting kept ∙ waits) (nullify_out now before touched safe [] judged refl (verdict_shows opened (additions before) unpublished) stored) in
     let out2 = option_map_or (λ n. send_vote (votes.Notarize n) out1) notarize out1 in
     let out3 = publish_notarization made view out2 in
     let out4 = publish_nullification made view out3 in
@@ -355,16 +412,16 @@ iteration_begins now before touched due sent made d done t =
     at : (b : Doing) → Tallied now before touched due sent b → (o : Option ℕ) → Tallied now before touched due sent (prune_at o (tell made state.Prune b))
     at b ready None = told_quietly now before touched due sent made b state.Prune tt ready
     at b ready (Some least) =
-        tally_plain now before touched due sent b.calls b.handed b.added (tell made state.Prune b).desk.known (calls.Prune least) (tt, refl, refl, λ out. done)
+        tally_plain now before touched due sent b.calls b.handed b.added (tell made state.Prune b).desk.known (calls.Prune least) (tt, refl, refl, λ out. done, tt)
         (told_quietly now before touched due sent made b state.Prune tt ready)
 
-pub step_finishes : (now : ℕ) (before : List Fact) (made : Made) (first : ℕ) (d : Doing) (o : Option ℕ) (due : Due) → due.synced ≡ false → Flagged d → Tallied now before o due [] d → nullify_waiting d.nullify ≡ due.votes → (o ≡ None → due.votes ≡ [])
+pub step_finishes : (now : ℕ) (before : List Fact) (made : Made) (first : ℕ) (d : Doing) (o : Option ℕ) (due : Due) → due.synced ≡ false → Flagged d → Unpublished (additions before) d → Tallied now before o due [] d → nullify_waiting d.nullify ≡ due.votes → (o ≡ None → due.votes ≡ [])
     → Tallied now before o (once_synced due) (due.votes ++ votes_at_end made (d, o)) (finished made now first (d, o))
 unfolding finished
-step_finishes now before made first d None due unsaved flag t waits ends =
+step_finishes now before made first d None due unsaved flag shown t waits ends =
     let none : Tallied now before None due (due.votes ++ []) d = subst (λ vs. Tallied now before None due (vs ++ []) d) (sym (ends refl)) t in
     iteration_begins now before None (once_synced due) (due.votes ++ []) made d refl
     (tally_synced now before None due (due.votes ++ []) d.calls d.handed d.added d.desk.known (untouched d.calls t.sections) none)
-step_finishes now before made first d (Some view) due unsaved flag t waits ends =
+step_finishes now before made first d (Some view) due unsaved flag shown t waits ends =
     iteration_begins now before (Some view) (once_synced due) (due.votes ++ votes_on made d.desk.known view) made (end_of_step made now first view d) refl
-    (step_ends now before made first view d due unsaved flag t waits)
+    (step_ends now before made first view d due unsaved flag shown t waits)

@@ -17,6 +17,7 @@ use Rattle.simplex_voter_laws.specs.Votes.{vote_packets, packet_of, constructed_
 use Rattle.simplex_voter_laws.specs.Learned.{lasting, facts_of_step, additions, added_at, publications, publication_of, publications_of}
 use Rattle.simplex_voter_laws.specs.Tidings.{of_proposals, tidings, MayLearn}
 use Rattle.simplex_voter_laws.specs.Syncs.{unsynced}
+use Rattle.simplex_voter_laws.specs.Publications.{IsOfAdded}
 use Rattle.simplex_voter_laws.proofs.Tallies.{Due, once_synced, Tallied}
 use Rattle.simplex_voter_laws.proofs.Syncing.{Guarded}
 use Rattle.simplex_voter_laws.proofs.Ending.{step_finishes}
@@ -65,6 +66,7 @@ pub record Tells (made : Made) (now : ℕ) (input : VoterInput) (s : Standing) (
   pub constructed : constructed_votes d.handed ≡ votes_by_rule made now s input
   pub guarded : Guarded [] d.calls
   pub stored : unsynced d.calls ≡ []
+  pub shown : All (IsOfAdded (additions d.desk.known)) d.calls
   pub outcome : Doing × Option ℕ
   pub votes : votes_by_rule made now s input ≡ nullifies made s.desk.known input ++ votes_at_end made outcome
 
@@ -90,7 +92,7 @@ step_tells made now input s d e = at (acted made now s input) refl e
         let had : Due = record { votes = due; learned = acts.learned; synced = false } in
         let t : Tallied now known o (once_synced had) (due ++ votes_at_end made (after, o)) d =
         subst (Tallied now known o (once_synced had) (due ++ votes_at_end made (after, o))) same
-        (step_finishes now known made (current_of made known) after o had refl acts.flag acts.tally acts.waits acts.ends) in
+        (step_finishes now known made (current_of made known) after o had refl acts.flag acts.shown acts.tally acts.waits acts.ends) in
         let ruled = votes_are made now s input (after, o) f in
         let all = sym ruled in
         record {
@@ -103,6 +105,7 @@ step_tells made now input s d e = at (acted made now s input) refl e
           constructed = t.constructed ∙ all;
           guarded = t.guarded;
           stored = t.stored refl;
+          shown = t.shown;
           outcome = (after, o);
           votes = ruled;
         }

@@ -1,5 +1,5 @@
 -- What a step has done so far, read from its calls and its messages.
-use Rattle.std.proofs.Common.{◌≡◌, ℕ, Bool, true, false, cond, option_to_list, List, [], ◌∷◌, ◌++◌, map, filter_map, reverse, All, Option, Some, None, refl, sym, ap, ◌∙◌, append-nil}
+use Rattle.std.proofs.Common.{◌≡◌, ℕ, Bool, true, false, cond, option_to_list, List, [], ◌∷◌, ◌++◌, map, filter_map, reverse, All, Option, Some, None, refl, sym, ap, ◌∙◌, subst, append-nil}
 use Rattle.std.proofs.lemmas.List.{reverse-append, map-append}
 use Rattle.std.proofs.lemmas.List.Elements.{All-push, filter-append, filter_map-append}
 use Rattle.simplex_wire.specs.declared.vote.Vote.{Vote}
@@ -19,8 +19,10 @@ use Rattle.simplex_voter_laws.specs.Votes.{is_vote_packet, vote_packets, packet_
 use Rattle.simplex_voter_laws.specs.Learned.{lasting, fact_of_record, appended_fact, facts_of_step, additions, added_at, publications, publications_of}
 use Rattle.simplex_voter_laws.specs.Tidings.{of_proposals}
 use Rattle.simplex_voter_laws.specs.Syncs.{unsynced}
+use Rattle.simplex_voter_laws.specs.Publications.{IsAdded, IsOfAdded}
 use Rattle.simplex_voter_laws.proofs.Quiet.{Same}
 use Rattle.simplex_voter_laws.proofs.Syncing.{is_outward, Guarded, guards_push, synced_push}
+use Rattle.simplex_voter_laws.proofs.Adding.{added_later}
 
 -- as a step has acted: the votes that are due to go out, and what it learned of a proposal; and whether it has synced
 pub record Due : Type 0 where
@@ -47,6 +49,7 @@ pub record Tally (now : ℕ) (before : List Fact) (touched : Option ℕ) (due : 
   pub constructed : constructed_votes hs ≡ sent
   pub guarded : Guarded [] cs
   pub stored : due.synced ≡ true → unsynced cs ≡ []
+  pub shown : All (IsOfAdded (additions known)) cs
 
 abbrev pub Tallied : ℕ → List Fact → Option ℕ → Due → List Vote → Doing → Type 0
 Tallied now before touched due sent d = Tally now before touched due sent d.calls d.handed d.added d.desk.known
@@ -85,14 +88,16 @@ tally_known now before touched due sent cs hs added known later same t =
       constructed = t.constructed;
       guarded = t.guarded;
       stored = t.stored;
+      shown = subst (λ facts. All (IsOfAdded facts) cs) (sym same.adds) t.shown;
     }
 
--- a call that appends nothing and sends no vote; a sync is one. What goes out waits for the sync
-abbrev pub IsPlain : ℕ → Option ℕ → Due → Call → Type 0
-IsPlain now touched due c = IsOfSection touched c × (appended_fact now c ≡ None) × (is_vote_packet c ≡ false) × (is_outward c ≡ true → due.synced ≡ true)
+-- a call that appends nothing and sends no vote; a sync is one. What goes out waits for the sync, and a
+-- certificate that goes out was added
+abbrev pub IsPlain : ℕ → Option ℕ → Due → List Fact → Call → Type 0
+IsPlain now touched due known c = IsOfSection touched c × (appended_fact now c ≡ None) × (is_vote_packet c ≡ false) × (is_outward c ≡ true → due.synced ≡ true) × IsOfAdded (additions known) c
 
 pub tally_plain : (now : ℕ) (before : List Fact) (touched : Option ℕ) (due : Due) (sent : List Vote) (cs : List Call) (hs : List Handed) (added : List Certificate) (known : List Fact) (c : Call)
-    → IsPlain now touched due c → Tally now before touched due sent cs hs added known → Tally now before touched due sent (cs ++ c ∷ []) hs added known
+    → IsPlain now touched due known c → Tally now before touched due sent cs hs added known → Tally now before touched due sent (cs ++ c ∷ []) hs added known
 tally_plain now before touched due sent cs hs added known c plain t =
     record {
       sections = All-push (IsOfSection touched) cs c t.sections plain.0;
@@ -104,6 +109,7 @@ tally_plain now before touched due sent cs hs added known c plain t =
       constructed = t.constructed;
       guarded = guards_push cs c t.guarded (λ out. t.stored (plain.3 out));
       stored = λ e. synced_push now cs c plain.1 (t.stored e);
+      shown = All-push (IsOfAdded (additions known)) cs c t.shown plain.4;
     }
 
 -- a record of the touched view is appended, and the fact that it tells is known
@@ -128,6 +134,7 @@ tally_note now before touched due sent cs hs added known later artifact unsaved 
       constructed = t.constructed;
       guarded = guards_push cs c t.guarded (λ out. cc);
       stored = λ e. cc (e, unsaved);
+      shown = All-push (IsOfAdded (additions later)) cs c (subst (λ facts. All (IsOfAdded facts) cs) (sym noted.adds) t.shown) tt;
     }
 
 -- messages with no own vote are handed on
@@ -144,6 +151,7 @@ tally_hands now before touched due sent cs hs ms added known silent t =
       constructed = message_last hs ms ∙ ap (λ vs. constructed_votes hs ++ vs) silent ∙ append-nil (constructed_votes hs) ∙ t.constructed;
       guarded = t.guarded;
       stored = t.stored;
+      shown = t.shown;
     }
 
 pub sought_silent : (sought : List Sought) → constructed_votes (map (λ s. handed.Resolver (resolve_of s)) sought) ≡ []
@@ -166,6 +174,7 @@ tally_send now before touched due sent cs hs added known v synced t =
       constructed = message_last hs (handed.Batcher (batcher.Constructed v) ∷ []) ∙ ap (λ vs. vs ++ v ∷ []) t.constructed;
       guarded = guards_push cs c t.guarded (λ out. t.stored synced);
       stored = λ e. synced_push now cs c refl (t.stored e);
+      shown = All-push (IsOfAdded (additions known)) cs c t.shown tt;
     }
 
 -- what was appended is synced
@@ -182,4 +191,11 @@ tally_synced now before touched due sent cs hs added known none t =
       constructed = t.constructed;
       guarded = t.guarded;
       stored = λ e. none;
+      shown = t.shown;
     }
+
+-- what was added before is added now
+pub tally_added : (now : ℕ) (before : List Fact) (touched : Option ℕ) (due : Due) (sent : List Vote) (cs : List Call) (hs : List Handed) (added : List Certificate) (known : List Fact) (c : Certificate)
+    → Tally now before touched due sent cs hs added known → IsAdded (additions before) c → IsAdded (additions known) c
+tally_added now before touched due sent cs hs added known c t h =
+    subst (λ facts. IsAdded facts c) (sym t.new) (added_later (map (added_at now) added) (additions before) c h)

@@ -6,6 +6,7 @@
 
 mod knowledge;
 mod performed;
+mod publications;
 mod samples;
 mod sections;
 mod syncs;
@@ -16,6 +17,7 @@ pub use knowledge::{
     publications_are_handed_on,
 };
 pub use performed::done_steps_give_all;
+pub use publications::published_certificates_were_added;
 pub use samples::a_step_is_read;
 pub use sections::steps_write_to_one_section;
 pub use syncs::{
