@@ -48,8 +48,8 @@ use Rattle.simplex_voter_laws.specs.Tidings.{of_proposals, is_of_proposal, paylo
 use Rattle.simplex_voter_laws.proofs.Quiet.{left_out, IsQuiet, Quiet, Quiet-triggered, quiet_same}
 use Rattle.simplex_voter_laws.proofs.Tallies.{nothing, Tally, Tallied, tally_plain, tally_note, tally_hands}
 use Rattle.simplex_voter_laws.proofs.Syncing.{Flagged}
-use Rattle.simplex_voter_laws.proofs.Adding.{IsAlong, IsJudged, Unpublished, notarization_added, best_added}
-use Rattle.simplex_voter_laws.specs.Publications.{IsAdded, IsOfAdded}
+use Rattle.simplex_voter_laws.proofs.Adding.{IsAlong, IsJudged, Unpublished, some_is, notarization_added, best_added}
+use Rattle.simplex_voter_laws.specs.Outgoing.{IsAdded, MayGoOut}
 use Rattle.simplex_voter_laws.proofs.Ending.{nullify_waiting, told_quietly}
 
 -- what a step has done as it acted: no vote went out yet, and these are due; and it learned nothing of a proposal, or
@@ -65,7 +65,7 @@ pub record Acted (now : ℕ) (before : List Fact) (due : List Vote) (news : Opti
 
 -- nothing is done yet
 begins : (now : ℕ) (desk : Desk) (touched : Option ℕ) → Tallied now desk.known touched nothing [] (begun desk)
-begins now desk touched = record { sections = All-nil (IsOfSection touched); written = refl; new = refl; published = refl; learned = refl; packets = refl; constructed = refl; guarded = tt; stored = λ e. refl; shown = All-nil (IsOfAdded (additions desk.known)) }
+begins now desk touched = record { sections = All-nil (IsOfSection touched); written = refl; new = refl; published = refl; learned = refl; packets = refl; constructed = refl; guarded = tt; stored = λ e. refl; shown = All-nil (MayGoOut (additions desk.known)) }
 
 -- no vote is due, and nothing of a proposal is learned
 without_votes : (now : ℕ) (before : List Fact) (news : Option Fact) (d : Doing) (o : Option ℕ) → d.nullify ≡ None → Flagged d → IsJudged (additions before) d.verdict → Tallied now before o nothing [] d → Acted now before [] news (d, o)
@@ -97,7 +97,7 @@ tells_news now known later o None q e =
       constructed = refl;
       guarded = tt;
       stored = λ e. refl;
-      shown = All-nil (IsOfAdded (additions later));
+      shown = All-nil (MayGoOut (additions later));
     }
 tells_news now known later o (Some fact) q e =
     record {
@@ -110,7 +110,7 @@ tells_news now known later o (Some fact) q e =
       constructed = refl;
       guarded = tt;
       stored = λ e. refl;
-      shown = All-nil (IsOfAdded (additions later));
+      shown = All-nil (MayGoOut (additions later));
     }
 
 -- ---- answers
@@ -289,7 +289,7 @@ certificate_written now known later c same =
       constructed = refl;
       guarded = (λ out. cc, tt);
       stored = λ e. cc;
-      shown = All-cons (IsOfAdded (additions later)) (calls.Append (artifact_round (record_of c)).view (record_of c)) [] tt (All-nil (IsOfAdded (additions later)));
+      shown = All-cons (MayGoOut (additions later)) (calls.Append (artifact_round (record_of c)).view (record_of c)) [] tt (All-nil (MayGoOut (additions later)));
     }
   where
     at : (c : Certificate) → Added c now ≡ fact_of_record now (record_of c)
@@ -301,7 +301,7 @@ blocked : (now : ℕ) (before : List Fact) (touched : Option ℕ) (d : Doing) (o
 blocked now before touched d None t = t
 blocked now before touched d (Some leader) t = tally_plain now before touched nothing [] d.calls d.handed d.added d.desk.known (calls.Block leader) (tt, refl, refl, λ out. cc, tt) t
 
--- to block adds nothing to what stands unsynced
+-- what was appended before a leader is blocked is still to be synced
 block_flags : (o : Option ℕ) (d : Doing) → d.wrote ≡ true → Flagged (block_for o d)
 block_flags None d wrote = λ e. cc (e, wrote)
 block_flags (Some leader) d wrote = λ e. cc (e, wrote)
@@ -409,7 +409,7 @@ repeat_acts now made desk n e f =
         constructed = refl;
         guarded = tt;
         stored = λ e. refl;
-        shown = All-nil (IsOfAdded (additions (facts_of made known (state.ConstructNullify view LeaderTimeout now) ++ known)));
+        shown = All-nil (MayGoOut (additions (facts_of made known (state.ConstructNullify view LeaderTimeout now) ++ known)));
       };
       flag = λ e. refl;
       shown = (best_added made known, tt);
@@ -442,7 +442,7 @@ first_acts now made desk n e f =
         constructed = refl;
         guarded = (λ out. cc, tt);
         stored = λ e. cc;
-        shown = All-cons (IsOfAdded (additions (facts_of made known (state.ConstructNullify view LeaderTimeout now) ++ known))) (calls.Append n.round.view (artifacts.Nullify n)) [] tt (All-nil (IsOfAdded (additions (facts_of made known (state.ConstructNullify view LeaderTimeout now) ++ known))));
+        shown = All-cons (MayGoOut (additions (facts_of made known (state.ConstructNullify view LeaderTimeout now) ++ known))) (calls.Append n.round.view (artifacts.Nullify n)) [] tt (All-nil (MayGoOut (additions (facts_of made known (state.ConstructNullify view LeaderTimeout now) ++ known))));
       };
       flag = λ e. cc;
       shown = (tt, tt);
@@ -479,9 +479,6 @@ deadline_acts now made desk = at (nullify_at made (current_of made desk.known)) 
     at (Some n) e = one n (has_nullified desk.known (current_of made desk.known)) e refl
 
 -- ---- whatever its source holds
-
-pub some_is : {A : Type 0} (a b : A) → Some a ≡ Some b → a ≡ b
-some_is a b e = cc
 
 -- what an option gives, its value gives
 gives : {A B : Type 0} (P : Option A → B → Type 0) (f : A → B) (o : Option A) (b : B) → ((a : A) → P (Some a) (f a)) → option_map f o ≡ Some b → P o b

@@ -1,7 +1,7 @@
 -- Which certificates were added.
-use Rattle.std.proofs.Common.{◌≡◌, ℕ, ◌==◌, ◌-◌, cond, nat_lt, Bool, true, false, List, [], ◌∷◌, ◌++◌, filter, Contains, All, Option, Some, None, refl, sym, ap, ◌∙◌, subst, inl, inr, ◌⊎◌, arith, if◌then◌else◌}
-use Rattle.std.specs.Option.{option_or, option_map, option_map_or}
-use Rattle.std.proofs.lemmas.List.Elements.{Contains-append_right, All-weaker}
+use Rattle.std.proofs.Common.{◌≡◌, ℕ, ◌==◌, ◌-◌, cond, Bool, true, false, List, [], ◌∷◌, ◌++◌, Option, Some, None, refl, sym, ap, subst, inl, inr, ◌⊎◌, arith, if◌then◌else◌}
+use Rattle.std.specs.Option.{option_or, option_map}
+use Rattle.std.proofs.lemmas.List.Elements.{Contains-append_right}
 use Rattle.simplex_values.specs.Terms.{next_term_start}
 use Rattle.simplex_wire.specs.declared.vote.Nullify.{Nullify}
 use Rattle.simplex_wire.specs.declared.certificate.Certificate.{Certificate}
@@ -9,7 +9,6 @@ use Rattle.simplex_wire.specs.declared.certificate.Certificate.TheVariants as ce
 use Rattle.simplex_wire.specs.declared.certificate.Notarization.{Notarization}
 use Rattle.simplex_wire.specs.declared.certificate.Nullification.{Nullification}
 use Rattle.simplex_wire.specs.declared.certificate.Finalization.{Finalization}
-use Rattle.simplex_rules.specs.declared.request.CertificateFetch.{CertificateFetch}
 use Rattle.simplex_wire.specs.declared.certificate.CertificateKind.TheVariants as kinds
 use Rattle.simplex_rules.specs.Lists.{first_of}
 use Rattle.simplex_rules.specs.Known.{Made, Fact, Added, view_of, notarization_in, nullification_in, finalization_in, notarization_of, nullification_of, finalization_of, was_broadcast}
@@ -17,12 +16,11 @@ use Rattle.simplex_rules.specs.Views.{current_of}
 use Rattle.simplex_rules.specs.Ancestry.{has_true_verdict}
 use Rattle.simplex_rules.specs.Best.{greater, opening_nullification, best_certificate}
 use Rattle.simplex_rules.specs.Calls.{unsent_notarization, unsent_nullification, unsent_finalization}
-use Rattle.simplex_messages.specs.declared.call.Call.{Call}
 use Rattle.simplex_steps.specs.Desk.{Doing}
 use Rattle.simplex_voter_laws.specs.Learned.{is_addition, additions}
-use Rattle.simplex_voter_laws.specs.Publications.{IsAdded, IsOfAdded}
+use Rattle.simplex_voter_laws.specs.Outgoing.{IsAdded}
 
-some_is : {A : Type 0} (a b : A) → Some a ≡ Some b → a ≡ b
+pub some_is : {A : Type 0} (a b : A) → Some a ≡ Some b → a ≡ b
 some_is a b e = cc
 
 either : {A : Type 0} (o p : Option A) (a : A) → option_or o p ≡ Some a → (o ≡ Some a) ⊎ (p ≡ Some a)

@@ -36,7 +36,7 @@ use Rattle.simplex_voter_laws.specs.Tidings.{of_proposals}
 use Rattle.simplex_voter_laws.proofs.Quiet.{IsQuiet, told_quiet, reconciled_same, iterated_same}
 use Rattle.simplex_voter_laws.proofs.Tallies.{Due, Tally, Tallied, tally_known, tally_plain, tally_note, tally_hands, tally_send, tally_synced, tally_added, once_synced, sought_silent}
 use Rattle.simplex_voter_laws.proofs.Syncing.{sync_ends, untouched, Flagged}
-use Rattle.simplex_voter_laws.specs.Publications.{IsAdded, IsOfAdded}
+use Rattle.simplex_voter_laws.specs.Outgoing.{IsAdded, MayGoOut}
 use Rattle.simplex_voter_laws.proofs.Adding.{IfAdded, IsAlong, IsJudged, Unpublished, unsent_notarization_added, unsent_nullification_added, unsent_finalization_added}
 
 -- the nullify that waits to go out
@@ -285,7 +285,7 @@ told_quietly now before touched due sent made d call q t =
     tally_known now before touched due sent d.calls d.handed d.added d.desk.known (facts_of made d.desk.known call ++ d.desk.known) (told_quiet made d.desk.known call q) t
 
 -- a certificate is sent and reported
-both_out : (now : ℕ) (before : List Fact) (touched : Option ℕ) (due : Due) (sent : List Vote) (d : Doing) (c : Certificate) (a : Activity) → due.synced ≡ true → IsAdded (additions d.desk.known) c → IsOfAdded (additions d.desk.known) (calls.Report a) → Tallied now before touched due sent d
+both_out : (now : ℕ) (before : List Fact) (touched : Option ℕ) (due : Due) (sent : List Vote) (d : Doing) (c : Certificate) (a : Activity) → due.synced ≡ true → IsAdded (additions d.desk.known) c → MayGoOut (additions d.desk.known) (calls.Report a) → Tallied now before touched due sent d
     → Tallied now before touched due sent (report a (send_certificate c d))
 both_out now before touched due sent d c a done known same t =
     tally_plain now before touched due sent (send_certificate c d).calls d.handed d.added d.desk.known (calls.Report a) (tt, refl, refl, λ out. done, same) (certificate_out now before touched due sent d c done known t)

@@ -1,6 +1,6 @@
 pub mod Quiet
-pub mod Syncing
 pub mod Adding
+pub mod Syncing
 pub mod Tallies
 pub mod Ending
 pub mod Acting

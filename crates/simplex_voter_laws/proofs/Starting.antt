@@ -1,10 +1,9 @@
 -- What a start calls.
-use Rattle.std.proofs.Common.{◌≡◌, ℕ, nat_lt, cond, Bool, true, false, List, [], ◌∷◌, ◌++◌, filter, Option, Some, None, refl, sym, ap, ◌∙◌, subst, append-nil, if◌then◌else◌}
+use Rattle.std.proofs.Common.{◌≡◌, ℕ, nat_lt, cond, Bool, true, false, List, [], ◌∷◌, ◌++◌, Option, Some, None, refl, ap, ◌∙◌, if◌then◌else◌}
 use Rattle.std.specs.List.{list_any}
 use Rattle.std.proofs.lemmas.List.Elements.{filter-append}
 use Rattle.simplex_wire.specs.declared.certificate.Certificate.{Certificate}
 use Rattle.simplex_wire.specs.declared.certificate.Notarization.{Notarization}
-use Rattle.simplex_wire.specs.declared.certificate.Finalization.{Finalization}
 use Rattle.simplex_wire.specs.declared.artifact.Artifact.{Artifact}
 use Rattle.simplex_wire.specs.declared.artifact.Artifact.TheVariants as artifacts
 use Rattle.simplex_wire.specs.Fields.{artifact_round}
@@ -21,7 +20,7 @@ use Rattle.simplex_rules.specs.Pending.{iterated}
 use Rattle.simplex_steps.specs.Desk.{Doing, begun, tell, append, seek}
 use Rattle.simplex_steps.specs.Voter.{activity_of, certificate_in, block_for, report_if, updated_if, replay_verdict, replay_record, replay_all, stand_on, is_final_from, keep_floor, blank_desk, floor_view, sync, prune_at, prune, begin_iteration, started}
 use Rattle.simplex_voter_laws.specs.Syncs.{unsynced_after, unsynced, is_send, sends}
-use Rattle.simplex_voter_laws.proofs.Syncing.{is_outward, Guarded, guards_push, unsynced_last, only_one}
+use Rattle.simplex_voter_laws.proofs.Syncing.{Guarded, guards_push, unsynced_last, only_one}
 
 -- so far nothing was sent, what goes out found nothing unsynced, and nothing is
 pub record Sound (cs : List Call) : Type 0 where

@@ -17,11 +17,12 @@ use Rattle.simplex_voter_laws.specs.Votes.{vote_packets, packet_of, constructed_
 use Rattle.simplex_voter_laws.specs.Learned.{lasting, facts_of_step, additions, added_at, publications, publication_of, publications_of}
 use Rattle.simplex_voter_laws.specs.Tidings.{of_proposals, tidings, MayLearn}
 use Rattle.simplex_voter_laws.specs.Syncs.{unsynced}
-use Rattle.simplex_voter_laws.specs.Publications.{IsOfAdded}
+use Rattle.simplex_voter_laws.specs.Outgoing.{MayGoOut}
 use Rattle.simplex_voter_laws.proofs.Tallies.{Due, once_synced, Tallied}
 use Rattle.simplex_voter_laws.proofs.Syncing.{Guarded}
 use Rattle.simplex_voter_laws.proofs.Ending.{step_finishes}
-use Rattle.simplex_voter_laws.proofs.Acting.{some_is, step_acts}
+use Rattle.simplex_voter_laws.proofs.Acting.{step_acts}
+use Rattle.simplex_voter_laws.proofs.Adding.{some_is}
 
 -- ---- which votes are publications
 
@@ -66,7 +67,7 @@ pub record Tells (made : Made) (now : ℕ) (input : VoterInput) (s : Standing) (
   pub constructed : constructed_votes d.handed ≡ votes_by_rule made now s input
   pub guarded : Guarded [] d.calls
   pub stored : unsynced d.calls ≡ []
-  pub shown : All (IsOfAdded (additions d.desk.known)) d.calls
+  pub shown : All (MayGoOut (additions d.desk.known)) d.calls
   pub outcome : Doing × Option ℕ
   pub votes : votes_by_rule made now s input ≡ nullifies made s.desk.known input ++ votes_at_end made outcome
 

@@ -1,5 +1,5 @@
 -- What stands unsynced, call by call.
-use Rattle.std.proofs.Common.{◌≡◌, ℕ, ◌==◌, not, cond, Bool, true, false, List, [], ◌∷◌, ◌++◌, fold, filter, All, Option, Some, None, refl, sym, ap, ◌∙◌, subst, arith}
+use Rattle.std.proofs.Common.{◌≡◌, ℕ, ◌==◌, not, cond, Bool, true, false, List, [], ◌∷◌, ◌++◌, fold, filter, All, Some, None, refl, sym, ap, ◌∙◌, subst, arith}
 use Rattle.std.proofs.lemmas.Grind.{common_steps}
 use Rattle.std.proofs.lemmas.List.Sums.{fold-append}
 use Rattle.std.proofs.lemmas.List.Elements.{All-head, All-tail}
@@ -9,6 +9,7 @@ use Rattle.simplex_steps.specs.Desk.{Doing}
 use Rattle.simplex_voter_laws.specs.Sections.{IsOfSection}
 use Rattle.simplex_voter_laws.specs.Syncs.{unsynced_after, unsynced}
 use Rattle.simplex_voter_laws.specs.Learned.{appended_fact}
+use Rattle.simplex_voter_laws.proofs.Adding.{some_is}
 
 -- ---- calls that wait for the sync
 
@@ -72,13 +73,10 @@ only_one view (s ∷ rest) h =
     ap (λ b. cond (not b) (s ∷ filter (λ s. not (s == view)) rest) (filter (λ s. not (s == view)) rest)) (ap (λ n. n == view) h.0 ∙ itself view)
     ∙ only_one view rest h.1
 
-same_view : (a b : ℕ) → Some a ≡ Some b → a ≡ b
-same_view a b e = cc
-
 only_after : (view : ℕ) (loose : List ℕ) (c : Call) → IsOfSection (Some view) c → Only view loose → Only view (unsynced_after loose c)
-only_after view loose (calls.Append section artifact) h o = (sym (same_view view section h.0), o)
+only_after view loose (calls.Append section artifact) h o = (sym (some_is view section h.0), o)
 only_after view loose (calls.Sync section) h o =
-    subst (Only view) (sym (subst (λ n. filter (λ s. not (s == n)) loose ≡ []) (same_view view section h) (only_one view loose o))) tt
+    subst (Only view) (sym (subst (λ n. filter (λ s. not (s == n)) loose ≡ []) (some_is view section h) (only_one view loose o))) tt
 only_after view loose (calls.Prune least) h o = o
 only_after view loose (calls.Send channel to bytes) h o = o
 only_after view loose (calls.Report activity) h o = o

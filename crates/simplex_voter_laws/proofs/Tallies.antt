@@ -19,7 +19,7 @@ use Rattle.simplex_voter_laws.specs.Votes.{is_vote_packet, vote_packets, packet_
 use Rattle.simplex_voter_laws.specs.Learned.{lasting, fact_of_record, appended_fact, facts_of_step, additions, added_at, publications, publications_of}
 use Rattle.simplex_voter_laws.specs.Tidings.{of_proposals}
 use Rattle.simplex_voter_laws.specs.Syncs.{unsynced}
-use Rattle.simplex_voter_laws.specs.Publications.{IsAdded, IsOfAdded}
+use Rattle.simplex_voter_laws.specs.Outgoing.{IsAdded, MayGoOut}
 use Rattle.simplex_voter_laws.proofs.Quiet.{Same}
 use Rattle.simplex_voter_laws.proofs.Syncing.{is_outward, Guarded, guards_push, synced_push}
 use Rattle.simplex_voter_laws.proofs.Adding.{added_later}
@@ -49,7 +49,7 @@ pub record Tally (now : ℕ) (before : List Fact) (touched : Option ℕ) (due : 
   pub constructed : constructed_votes hs ≡ sent
   pub guarded : Guarded [] cs
   pub stored : due.synced ≡ true → unsynced cs ≡ []
-  pub shown : All (IsOfAdded (additions known)) cs
+  pub shown : All (MayGoOut (additions known)) cs
 
 abbrev pub Tallied : ℕ → List Fact → Option ℕ → Due → List Vote → Doing → Type 0
 Tallied now before touched due sent d = Tally now before touched due sent d.calls d.handed d.added d.desk.known
@@ -88,13 +88,13 @@ tally_known now before touched due sent cs hs added known later same t =
       constructed = t.constructed;
       guarded = t.guarded;
       stored = t.stored;
-      shown = subst (λ facts. All (IsOfAdded facts) cs) (sym same.adds) t.shown;
+      shown = subst (λ facts. All (MayGoOut facts) cs) (sym same.adds) t.shown;
     }
 
 -- a call that appends nothing and sends no vote; a sync is one. What goes out waits for the sync, and a
 -- certificate that goes out was added
 abbrev pub IsPlain : ℕ → Option ℕ → Due → List Fact → Call → Type 0
-IsPlain now touched due known c = IsOfSection touched c × (appended_fact now c ≡ None) × (is_vote_packet c ≡ false) × (is_outward c ≡ true → due.synced ≡ true) × IsOfAdded (additions known) c
+IsPlain now touched due known c = IsOfSection touched c × (appended_fact now c ≡ None) × (is_vote_packet c ≡ false) × (is_outward c ≡ true → due.synced ≡ true) × MayGoOut (additions known) c
 
 pub tally_plain : (now : ℕ) (before : List Fact) (touched : Option ℕ) (due : Due) (sent : List Vote) (cs : List Call) (hs : List Handed) (added : List Certificate) (known : List Fact) (c : Call)
     → IsPlain now touched due known c → Tally now before touched due sent cs hs added known → Tally now before touched due sent (cs ++ c ∷ []) hs added known
@@ -109,7 +109,7 @@ tally_plain now before touched due sent cs hs added known c plain t =
       constructed = t.constructed;
       guarded = guards_push cs c t.guarded (λ out. t.stored (plain.3 out));
       stored = λ e. synced_push now cs c plain.1 (t.stored e);
-      shown = All-push (IsOfAdded (additions known)) cs c t.shown plain.4;
+      shown = All-push (MayGoOut (additions known)) cs c t.shown plain.4;
     }
 
 -- a record of the touched view is appended, and the fact that it tells is known
@@ -134,7 +134,7 @@ tally_note now before touched due sent cs hs added known later artifact unsaved 
       constructed = t.constructed;
       guarded = guards_push cs c t.guarded (λ out. cc);
       stored = λ e. cc (e, unsaved);
-      shown = All-push (IsOfAdded (additions later)) cs c (subst (λ facts. All (IsOfAdded facts) cs) (sym noted.adds) t.shown) tt;
+      shown = All-push (MayGoOut (additions later)) cs c (subst (λ facts. All (MayGoOut facts) cs) (sym noted.adds) t.shown) tt;
     }
 
 -- messages with no own vote are handed on
@@ -174,7 +174,7 @@ tally_send now before touched due sent cs hs added known v synced t =
       constructed = message_last hs (handed.Batcher (batcher.Constructed v) ∷ []) ∙ ap (λ vs. vs ++ v ∷ []) t.constructed;
       guarded = guards_push cs c t.guarded (λ out. t.stored synced);
       stored = λ e. synced_push now cs c refl (t.stored e);
-      shown = All-push (IsOfAdded (additions known)) cs c t.shown tt;
+      shown = All-push (MayGoOut (additions known)) cs c t.shown tt;
     }
 
 -- what was appended is synced

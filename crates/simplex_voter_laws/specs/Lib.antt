@@ -3,4 +3,4 @@ pub mod Votes
 pub mod Learned
 pub mod Tidings
 pub mod Syncs
-pub mod Publications
+pub mod Outgoing

@@ -5,8 +5,8 @@
 #![tactic(auto)]
 
 mod knowledge;
+mod outgoing;
 mod performed;
-mod publications;
 mod samples;
 mod sections;
 mod syncs;
@@ -16,13 +16,13 @@ pub use knowledge::{
     certificates_are_handed_on, knowledge_is_written, proposals_are_taken,
     publications_are_handed_on,
 };
+pub use outgoing::certificates_that_go_out_were_added;
 pub use performed::done_steps_give_all;
-pub use publications::published_certificates_were_added;
 pub use samples::a_step_is_read;
 pub use sections::steps_write_to_one_section;
 pub use syncs::{
-    prunes_follow_syncs, reports_follow_syncs, sends_follow_syncs, starts_send_nothing,
-    steps_end_synced,
+    prunes_follow_syncs, reports_follow_syncs, sends_follow_syncs, starts_follow_syncs,
+    starts_send_nothing, steps_end_synced,
 };
 pub use votes::{
     nullifies_are_of_timer_steps, one_nullify_at_most, own_votes_are_by_rule,

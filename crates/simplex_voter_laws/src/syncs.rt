@@ -36,10 +36,14 @@ pub fn steps_end_synced()
     ensures { (made : Made) (now : ℕ) (input : VoterInput) (standing : Standing) (doing : Doing) → stepped made now standing input ≡ Some doing → unsynced doing.calls ≡ [] }
 {}
 
-/// A start sends nothing. Where it tells the reporter or prunes, nothing stands unsynced, and it leaves nothing
-/// unsynced.
+/// A start sends nothing, on any channel.
 pub fn starts_send_nothing()
-    ensures sends { (made : Made) (now : ℕ) (floor : Floor) (records : List Artifact) → sends (started made now floor records).calls ≡ [] }
+    ensures { (made : Made) (now : ℕ) (floor : Floor) (records : List Artifact) → sends (started made now floor records).calls ≡ [] }
+{}
+
+/// Where a start tells the reporter or prunes, nothing that it appended before stands unsynced, and it leaves nothing
+/// unsynced.
+pub fn starts_follow_syncs()
     ensures reports { (made : Made) (now : ℕ) (floor : Floor) (records : List Artifact) (before behind : List Call) (activity : Activity)
         → (started made now floor records).calls ≡ before ++ calls.Report activity ∷ behind → unsynced before ≡ [] }
     ensures prunes { (made : Made) (now : ℕ) (floor : Floor) (records : List Artifact) (before behind : List Call) (least : ℕ)

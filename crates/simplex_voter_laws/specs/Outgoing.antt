@@ -1,4 +1,4 @@
--- Which certificates a step sends and reports.
+-- What a step sends and reports.
 use Rattle.std.specs.Prelude.{ℕ, ◌≡◌, List, Contains}
 use Rattle.simplex_values.specs.declared.plan.Channel.TheVariants as channels
 use Rattle.simplex_values.specs.declared.plan.Recipients.TheVariants as recipients
@@ -14,13 +14,16 @@ use Rattle.simplex_rules.specs.Known.{Fact, Added}
 abbrev pub IsAdded : List Fact → Certificate → Type 0
 IsAdded known certificate = (now : ℕ) × Contains known (Added certificate now)
 
--- what goes out on the certificate channel is a certificate that was added, and goes to all; and a certificate that is
--- reported was added
-abbrev pub IsOfAdded : List Fact → Call → Type 0
-IsOfAdded known (calls.Send channels.Certificate to bytes) =
+-- Of what a step sends and reports: a vote; a certificate that was added, which goes to all; and the report of one.
+-- Nothing goes out on the resolver's channel, and nothing else is reported
+abbrev pub MayGoOut : List Fact → Call → Type 0
+MayGoOut known (calls.Send channels.Vote to bytes) = Unit {0}
+MayGoOut known (calls.Send channels.Certificate to bytes) =
     (certificate : Certificate) × IsAdded known certificate × (bytes ≡ format.certificate.spelling certificate) × (to ≡ recipients.All)
-IsOfAdded known (calls.Report (activities.Notarization n)) = IsAdded known (certificates.Notarization n)
-IsOfAdded known (calls.Report (activities.Certification n)) = IsAdded known (certificates.Notarization n)
-IsOfAdded known (calls.Report (activities.Nullification n)) = IsAdded known (certificates.Nullification n)
-IsOfAdded known (calls.Report (activities.Finalization f)) = IsAdded known (certificates.Finalization f)
-IsOfAdded known _ = Unit {0}
+MayGoOut known (calls.Send channels.Resolver to bytes) = ⊥
+MayGoOut known (calls.Report (activities.Notarization n)) = IsAdded known (certificates.Notarization n)
+MayGoOut known (calls.Report (activities.Certification n)) = IsAdded known (certificates.Notarization n)
+MayGoOut known (calls.Report (activities.Nullification n)) = IsAdded known (certificates.Nullification n)
+MayGoOut known (calls.Report (activities.Finalization f)) = IsAdded known (certificates.Finalization f)
+MayGoOut known (calls.Report _) = ⊥
+MayGoOut known _ = Unit {0}
