@@ -16,7 +16,7 @@ use Rattle.simplex_batcher_laws.proofs.Choices.{if_case}
 
 pub record GoodBallot (verifies : Subject → Attestation → Bool) (accepted : Vote → Type 0) (b : Ballot) : Type 0 where
   pub was_accepted : accepted b.vote
-  pub checked : b.found ≡ Some true → verifies (vote_subject b.vote) (vote_attestation b.vote) ≡ true
+  pub checked : (valid : Bool) → b.found ≡ Some valid → verifies (vote_subject b.vote) (vote_attestation b.vote) ≡ valid
 
 -- each signer is above the one before, and the first is at least this
 abbrev pub Rise : ℕ → List Ballot → Type 0

@@ -33,7 +33,7 @@ use Rattle.simplex_batcher_laws.specs.Certificates.{IsSchemeOfMembers, IsVoteOn,
 use Rattle.simplex_batcher_laws.proofs.Choices.{if_case, some_more}
 use Rattle.simplex_batcher_laws.proofs.Ballots.{GoodBallot, GoodBallots, Rise}
 
-both : (a b : Bool) → a && b ≡ true → (a ≡ true) × (b ≡ true)
+pub both : (a b : Bool) → a && b ≡ true → (a ≡ true) × (b ≡ true)
 both true true e = (refl, refl)
 both true false e = absurd (cc)
 both false b e = absurd (cc)
@@ -70,7 +70,7 @@ subjects-same (subjects.Finalize p) (subjects.Notarize q) e = absurd (cc)
 subjects-same (subjects.Finalize p) (subjects.Nullify r) e = absurd (cc)
 
 -- a certificate on a subject has that subject and those signatures
-on_case : (Q : Subject → List Attestation → Type 0) (subject : Subject) (list : List Attestation) → Q subject list
+pub on_case : (Q : Subject → List Attestation → Type 0) (subject : Subject) (list : List Attestation) → Q subject list
     → Q (certificate_subject (certificate_on subject list)) (certificate_signatures (certificate_on subject list))
 on_case Q (subjects.Notarize p) list q = q
 on_case Q (subjects.Nullify r) list q = q
@@ -98,9 +98,9 @@ module _ (made : Made) (accepted : Vote → Type 0) where
       if_case Good (is_unchecked subject b) (record b { found = Some (made.scheme.verifies subject (vote_attestation b.vote)) }) b
       (λ h. record {
         was_accepted = good.was_accepted;
-        checked = λ e.
-            let is : made.scheme.verifies subject (vote_attestation b.vote) ≡ true = cc e in
-            subst (λ (s : Subject). made.scheme.verifies s (vote_attestation b.vote) ≡ true) (sym (unchecked_on subject b h)) is;
+        checked = λ valid e.
+            let is : made.scheme.verifies subject (vote_attestation b.vote) ≡ valid = cc e in
+            subst (λ (s : Subject). made.scheme.verifies s (vote_attestation b.vote) ≡ valid) (sym (unchecked_on subject b h)) is;
       })
       (λ h. good)
 
@@ -137,7 +137,7 @@ module _ (made : Made) (accepted : Vote → Type 0) where
         vote = b.vote;
         signature = refl;
         on = on;
-        verifies = subst (λ (s : Subject). made.scheme.verifies s (vote_attestation b.vote) ≡ true) on (good.checked (found_true b.found parts.1));
+        verifies = subst (λ (s : Subject). made.scheme.verifies s (vote_attestation b.vote) ≡ true) on (good.checked true (found_true b.found parts.1));
         was_accepted = good.was_accepted;
       }
 

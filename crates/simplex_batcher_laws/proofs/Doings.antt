@@ -115,14 +115,14 @@ module _ (made : Made) (accepted came : Vote → Type 0) (is_new : Certificate �
         → GoodHeard made.scheme.verifies (IsOf (vote_view vote) accepted) (IsOf (vote_view vote) came) (votes.heard_from (known_in (round_for made doing.standing (vote_view vote))) sender vote)
     from_network sender vote accepts comes =
         heard_from_good made.scheme.verifies (IsOf (vote_view vote) accepted) (IsOf (vote_view vote) came) (λ v was. (is_came v was.0, was.1)) (vote_view vote) (λ v came. came.1)
-        (known_in (round_for made doing.standing (vote_view vote))) (round_for_good made accepted doing.standing (vote_view vote) s.rounds) sender vote
+        (known_in (round_for made doing.standing (vote_view vote))) (round_for_good made accepted doing.standing (vote_view vote) s.rounds).known sender vote
         (λ from h. (accepts from h, refl)) (λ from. (comes from, refl))
 
     from_voter : (vote : Vote) → (is_accepted made doing.standing vote ≡ true → accepted vote) → came vote
         → GoodHeard made.scheme.verifies (IsOf (vote_view vote) accepted) (IsOf (vote_view vote) came) (votes.heard (known_in (round_for made doing.standing (vote_view vote))) vote)
     from_voter vote accepts comes =
         heard_good made.scheme.verifies (IsOf (vote_view vote) accepted) (IsOf (vote_view vote) came) (λ v was. (is_came v was.0, was.1)) (vote_view vote) (λ v came. came.1)
-        (known_in (round_for made doing.standing (vote_view vote))) (round_for_good made accepted doing.standing (vote_view vote) s.rounds) vote
+        (known_in (round_for made doing.standing (vote_view vote))) (round_for_good made accepted doing.standing (vote_view vote) s.rounds).known vote
         (λ h. (accepts h, refl)) (comes, refl)
 
     pub took_vote_sound : (sender : ℕ) (vote : Vote)
@@ -138,7 +138,7 @@ module _ (made : Made) (accepted came : Vote → Type 0) (is_new : Certificate �
         (λ h.
         let good = from_network sender vote (λ from. accepts from h) comes in
         hinted_at_vote_sound heard.accepted (with_heard view (called (rounds.AddNetwork sender vote) round) heard doing)
-        (with_heard_sound view (called (rounds.AddNetwork sender vote) round) heard doing (network_called made (IsOf view accepted) round sender vote good.known) good.reports s))
+        (with_heard_sound view (called (rounds.AddNetwork sender vote) round) heard doing (network_called made (IsOf view accepted) round sender vote (round_for_good made accepted doing.standing view s.rounds) good.known) good.reports s))
         (λ h. s)
 
     pub took_constructed_sound : (vote : Vote) → (retains_view made doing.standing (vote_view vote) ≡ true → is_accepted made doing.standing vote ≡ true → accepted vote)
@@ -151,7 +151,7 @@ module _ (made : Made) (accepted came : Vote → Type 0) (is_new : Certificate �
         if_case S (retains_view made doing.standing view) (with_heard view (called (rounds.AcceptVote vote) round) heard doing) doing
         (λ h.
         let good = from_voter vote (accepts h) comes in
-        with_heard_sound view (called (rounds.AcceptVote vote) round) heard doing (own_called made (IsOf view accepted) round vote good.known) good.reports s)
+        with_heard_sound view (called (rounds.AcceptVote vote) round) heard doing (own_called made (IsOf view accepted) round vote (round_for_good made accepted doing.standing view s.rounds) good.known) good.reports s)
         (λ h. s)
 
   -- ---- certificates

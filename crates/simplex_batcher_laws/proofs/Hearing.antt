@@ -103,7 +103,7 @@ module _ (verifies : Subject → Attestation → Bool) (accepted came : Vote →
       let side = side_good verifies accepted known (vote_kind vote) good in
       record {
         each = placed_each (GoodBallot verifies accepted) (record { vote = vote; found = None }) (side_of known (vote_kind vote))
-            (record { was_accepted = was; checked = λ e. absurd (cc e) }) side.each;
+            (record { was_accepted = was; checked = λ valid e. absurd (cc e) }) side.each;
         rise = placed_rise 0 (record { vote = vote; found = None }) (side_of known (vote_kind vote)) (omega arith) none side.rise;
       }
 

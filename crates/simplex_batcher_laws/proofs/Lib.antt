@@ -8,3 +8,5 @@ pub mod Working
 pub mod Steps
 pub mod Schemes
 pub mod Handing
+pub mod Assembling
+pub mod Turns

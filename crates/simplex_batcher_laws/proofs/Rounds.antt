@@ -1,11 +1,12 @@
 -- The rounds of a batcher are good, and stay so.
-use Rattle.std.proofs.Common.{sym, subst, ℕ, Bool, if◌then◌else◌}
+use Rattle.std.proofs.Common.{◌≡◌, refl, sym, subst, ℕ, Bool, false, if◌then◌else◌}
 use Rattle.std.specs.Prelude.{◌==◌, ◌||◌, Option, Some}
 use Rattle.std.specs.Option.{IfSome, option_map, option_map_or, unwrap_or}
 use Rattle.std.proofs.lemmas.Bool.Decides.{Decides-eqb}
 use Rattle.std.proofs.lemmas.List.Elements.{All-nil}
 use Rattle.simplex_values.specs.declared.proposal.Subject.{Subject}
 use Rattle.simplex_values.specs.Terms.{is_in_window}
+use Rattle.simplex_values.specs.Quorum.{quorum_of}
 use Rattle.simplex_wire.specs.declared.attestation.Attestation.{Attestation}
 use Rattle.simplex_wire.specs.declared.certificate.Certificate.{Certificate}
 use Rattle.simplex_wire.specs.declared.certificate.Certificate.TheVariants as certificates
@@ -19,8 +20,10 @@ use Rattle.simplex_batcher_laws.specs.Votes.{IsOf}
 use Rattle.simplex_batcher_laws.proofs.Choices.{if_case, default_case, map_case, map_or_any, some_more}
 use Rattle.simplex_batcher_laws.proofs.Ballots.{GoodBallot, GoodKnown, known_more}
 
-abbrev pub GoodRound : Made → (Vote → Type 0) → RoundHistory → Type 0
-GoodRound made accepted round = GoodKnown made.scheme.verifies accepted (known_in round)
+-- a quorum of the members is wanted, and what is known is good
+pub record GoodRound (made : Made) (accepted : Vote → Type 0) (round : RoundHistory) : Type 0 where
+  pub quorum : round.made.skipped ≡ false → round.made.quorum ≡ quorum_of made.members
+  pub known : GoodKnown made.scheme.verifies accepted (known_in round)
 
 -- each holds accepted votes of its view alone
 abbrev pub GoodRounds : Made → (Vote → Type 0) → (ℕ → Option RoundHistory) → Type 0
@@ -36,25 +39,25 @@ module _ (made : Made) (accepted : Vote → Type 0) where
   -- what each call leaves of a good round
   leader_called : (round : RoundHistory) (leader : ℕ) → GoodRound made accepted round → GoodRound made accepted (called (rounds.SetLeader leader) round)
   unfolding rounds.known_after rounds.after_call
-  leader_called round leader good = record { notarizes = good.notarizes; others = good.others }
+  leader_called round leader good = record { quorum = good.quorum; known = record { notarizes = good.known.notarizes; others = good.known.others } }
 
   pub forward_called : (round : RoundHistory) (me : ℕ) → GoodRound made accepted round → GoodRound made accepted (called (rounds.TryForward me) round)
   unfolding rounds.known_after rounds.after_call
-  forward_called round me good = record { notarizes = good.notarizes; others = good.others }
+  forward_called round me good = record { quorum = good.quorum; known = record { notarizes = good.known.notarizes; others = good.known.others } }
 
   pub certificate_called : (round : RoundHistory) (certificate : Certificate) → GoodRound made accepted round → GoodRound made accepted (called (rounds.RecordCertificate certificate) round)
   unfolding rounds.known_after rounds.after_call
-  certificate_called round certificate good = certificate_good made.scheme.verifies accepted (known_in round) certificate good
+  certificate_called round certificate good = record { quorum = good.quorum; known = certificate_good made.scheme.verifies accepted (known_in round) certificate good.known }
 
-  pub network_called : (round : RoundHistory) (sender : ℕ) (vote : Vote) → GoodKnown made.scheme.verifies accepted (heard_from (known_in round) sender vote).known
+  pub network_called : (round : RoundHistory) (sender : ℕ) (vote : Vote) → GoodRound made accepted round → GoodKnown made.scheme.verifies accepted (heard_from (known_in round) sender vote).known
       → GoodRound made accepted (called (rounds.AddNetwork sender vote) round)
   unfolding rounds.known_after rounds.after_call
-  network_called round sender vote good = good
+  network_called round sender vote good known = record { quorum = good.quorum; known = known }
 
-  pub own_called : (round : RoundHistory) (vote : Vote) → GoodKnown made.scheme.verifies accepted (heard (known_in round) vote).known
+  pub own_called : (round : RoundHistory) (vote : Vote) → GoodRound made accepted round → GoodKnown made.scheme.verifies accepted (heard (known_in round) vote).known
       → GoodRound made accepted (called (rounds.AcceptVote vote) round)
   unfolding rounds.known_after rounds.after_call
-  own_called round vote good = good
+  own_called round vote good known = record { quorum = good.quorum; known = known }
 
   led_good : (standing : Standing) (view : ℕ) (round : RoundHistory) → GoodRound made accepted round → GoodRound made accepted (led made standing view round)
   unfolding led
@@ -68,7 +71,10 @@ module _ (made : Made) (accepted : Vote → Type 0) where
   unfolding new_round rounds.known_after
   new_good standing view =
       let none = All-nil (GoodBallot made.scheme.verifies accepted) in
-      record { notarizes = record { each = none; rise = tt }; others = record { each = none; rise = tt } }
+      record {
+        quorum = λ assembles. rw assembles refl;
+        known = record { notarizes = record { each = none; rise = tt }; others = record { each = none; rise = tt } };
+      }
 
 module _ (made : Made) (accepted : Vote → Type 0) where
   pub round_for_good : (standing : Standing) (view : ℕ) → GoodRounds made accepted standing.rounds → GoodRound made (IsOf view accepted) (round_for made standing view)
@@ -97,4 +103,5 @@ pub rounds_more : (made : Made) (accepted later : Vote → Type 0) (all : ℕ �
     → GoodRounds made accepted all → GoodRounds made later all
 rounds_more made accepted later all more good view =
     some_more (GoodRound made (IsOf view accepted)) (GoodRound made (IsOf view later)) (all view)
-    (λ round is. known_more made.scheme.verifies (IsOf view accepted) (IsOf view later) (known_in round) (λ v was. (more v was.0, was.1)) is) (good view)
+    (λ round is. record { quorum = is.quorum; known = known_more made.scheme.verifies (IsOf view accepted) (IsOf view later) (known_in round) (λ v was. (more v was.0, was.1)) is.known })
+    (good view)

@@ -59,7 +59,7 @@ module _ (made : Made) (accepted came : Vote → Type 0) (is_new : Certificate �
       (λ h. took_certificate_sound made accepted came is_new sender certificate seen (new certificate refl) (seen_sound sender now))
       (λ h. blocked_sound made accepted came is_new sender (begun standing) begun_sound)
 
-  acted_sound : (given : BatcherInput) (now : ℕ)
+  pub acted_sound : (given : BatcherInput) (now : ℕ)
       → ((vote : Vote) → Brings given vote → takes made standing given vote ≡ true → is_accepted made standing vote ≡ true → accepted vote)
       → ((vote : Vote) → Brings given vote → came vote) → ((certificate : Certificate) → BringsNew standing given certificate → is_new certificate)
       → S (acted made given now (begun standing))
@@ -76,14 +76,6 @@ module _ (made : Made) (accepted came : Vote → Type 0) (is_new : Certificate �
   acted_sound (input.Certificate sender bytes) now accepts comes new =
       heard_certificate_sound sender (whole format.certificate bytes) now (λ certificate is none. new certificate (is, none))
 
-  pub step_sound : (given : Timed)
-      → ((vote : Vote) → Brings given.input vote → takes made standing given.input vote ≡ true → is_accepted made standing vote ≡ true → accepted vote)
-      → ((vote : Vote) → Brings given.input vote → came vote) → ((certificate : Certificate) → BringsNew standing given.input certificate → is_new certificate)
-      → S (step made standing given)
-  unfolding step
-  step_sound given accepts comes new =
-      finished_sound made accepted came is_new (acted made given.input given.now (begun standing)) (acted_sound given.input given.now accepts comes new)
-
 -- an accepted vote came
 pub accepted_came : (made : Made) (past : List Timed) (vote : Vote) → Accepted made past vote → Came past vote
 unfolding Accepted Came
@@ -91,15 +83,23 @@ accepted_came made [] vote was = absurd was
 accepted_came made (given ∷ past) vote (inl now) = inl now.brings
 accepted_came made (given ∷ past) vote (inr before) = inr (accepted_came made past vote before)
 
+-- where the input of a step behind these leaves it, before it works
+pub taken_sound : (made : Made) (past : List Timed) (given : Timed) → GoodRounds made (Accepted made past) (standing_after made past).rounds
+    → Sound made (Accepted made (given ∷ past)) (Came (given ∷ past)) (BringsNew (standing_after made past) given.input) (acted made given.input given.now (begun (standing_after made past)))
+unfolding Accepted Came
+taken_sound made past given good =
+    acted_sound made (Accepted made (given ∷ past)) (Came (given ∷ past)) (BringsNew (standing_after made past) given.input)
+    (accepted_came made (given ∷ past)) (standing_after made past)
+    (rounds_more made (Accepted made past) (Accepted made (given ∷ past)) (standing_after made past).rounds (λ v was. inr was) good)
+    given.input given.now (λ vote brings taken accepts. inl (record { brings = brings; is_taken = taken; accepts = accepts })) (λ vote brings. inl brings) (λ certificate new. new)
+
 -- the step behind these inputs
 pub after_sound : (made : Made) (past : List Timed) (given : Timed) → GoodRounds made (Accepted made past) (standing_after made past).rounds
     → Sound made (Accepted made (given ∷ past)) (Came (given ∷ past)) (BringsNew (standing_after made past) given.input) (step made (standing_after made past) given)
-unfolding Accepted Came
+unfolding step
 after_sound made past given good =
-    step_sound made (Accepted made (given ∷ past)) (Came (given ∷ past)) (BringsNew (standing_after made past) given.input)
-    (accepted_came made (given ∷ past)) (standing_after made past)
-    (rounds_more made (Accepted made past) (Accepted made (given ∷ past)) (standing_after made past).rounds (λ v was. inr was) good)
-    given (λ vote brings taken accepts. inl (record { brings = brings; is_taken = taken; accepts = accepts })) (λ vote brings. inl brings) (λ certificate new. new)
+    finished_sound made (Accepted made (given ∷ past)) (Came (given ∷ past)) (BringsNew (standing_after made past) given.input)
+    (acted made given.input given.now (begun (standing_after made past))) (taken_sound made past given good)
 
 pub rounds_good : (made : Made) (past : List Timed) → GoodRounds made (Accepted made past) (standing_after made past).rounds
 unfolding standing_after at_first
@@ -125,4 +125,4 @@ pub held_accepted : (made : Made) (past : List Timed) (view : ℕ) (round : Roun
     → HoldsOnly (IsOf view (Accepted made past)) (known_in round)
 held_accepted made past view round is =
     holds_only made.scheme.verifies (IsOf view (Accepted made past)) (known_in round)
-    (some_at (GoodRound made (IsOf view (Accepted made past))) ((standing_after made past).rounds view) round is (rounds_good made past view))
+    (some_at (GoodRound made (IsOf view (Accepted made past))) ((standing_after made past).rounds view) round is (rounds_good made past view)).known

@@ -84,16 +84,19 @@ module _ (made : Made) (accepted : Vote → Type 0) (is_new : Certificate → Ty
   after_work_good known (Some work) good is =
       after_assembly_good (rules.with_side known work.kind work.ballots) work.certificate (with_side_good made.scheme.verifies accepted known work.kind work.ballots good is.ballots)
 
-  construct_called : (round : RoundHistory) → GoodRound made accepted round → GoodRound made accepted (called (rounds.TryConstruct made.scheme) round)
+  pub construct_called : (round : RoundHistory) → GoodRound made accepted round → GoodRound made accepted (called (rounds.TryConstruct made.scheme) round)
   unfolding rounds.known_after rounds.after_call
-  construct_called round good = after_work_good (known_in round) (assembly.first_work round.made made.scheme (known_in round)) good (first_good round.made (known_in round) good)
+  construct_called round good = record {
+    quorum = good.quorum;
+    known = after_work_good (known_in round) (assembly.first_work round.made made.scheme (known_in round)) good.known (first_good round.made (known_in round) good.known);
+  }
 
   batch_founded : (round : RoundHistory) → GoodRound made accepted round
       → IfSome (assembly.constructed round.made made.scheme (known_in round)) (λ (batch : Batch). IfSome batch.certificate FoundedIf)
   unfolding assembly.constructed
   batch_founded round good =
       map_case GoodWork (λ (batch : Batch). IfSome batch.certificate FoundedIf) assembly.batch_of (assembly.first_work round.made made.scheme (known_in round))
-      (λ work is. is.certificate) (first_good round.made (known_in round) good)
+      (λ work is. is.certificate) (first_good round.made (known_in round) good.known)
 
 -- what is made of such votes is made of more
 votes_more : (made : Made) (accepted accepted_too : Vote → Type 0) (is_new : Certificate → Type 0) (certificate : Certificate) → ((v : Vote) → accepted v → accepted_too v)

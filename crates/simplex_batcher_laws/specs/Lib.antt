@@ -1,3 +1,4 @@
 pub mod Votes
 pub mod Reports
 pub mod Certificates
+pub mod Quorums

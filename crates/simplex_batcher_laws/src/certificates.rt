@@ -1,11 +1,15 @@
 //! Certificates that are handed to the voter.
-ghost use Rattle.std.specs.Prelude.{ℕ, ◌≡◌, Bool, List, ◌∷◌, All};
+ghost use Rattle.std.specs.Prelude.{ℕ, ◌≡◌, Bool, true, List, ◌∷◌, All, Some};
+ghost use Rattle.simplex_values.specs.declared.proposal.Subject.{Subject};
 ghost use Rattle.simplex_wire.specs.declared.certificate.Certificate.{Certificate};
+ghost use Rattle.simplex_wire.specs.declared.certificate.CertificateKind.{CertificateKind};
+ghost use Rattle.simplex_wire.specs.declared.certificate.CertificateKind.TheVariants.{Notarization};
 ghost use Rattle.simplex_types.specs.Keyed.{keyed_verifies};
 ghost use Rattle.simplex_round.specs.Assembly.{as_scheme};
-ghost use Rattle.simplex_steps.specs.Batcher.{Made, Timed, standing_after, step_out};
+ghost use Rattle.simplex_steps.specs.Batcher.{Made, Timed, RoundHistory, standing_after, step_out};
 ghost use Rattle.simplex_batcher_laws.specs.Votes.{Accepted};
 ghost use Rattle.simplex_batcher_laws.specs.Certificates.{IsSchemeOfMembers, BringsNew, IsFoundedMessage, BringsVerified, HandsOn};
+ghost use Rattle.simplex_batcher_laws.specs.Quorums.{taken, IsWorked, HasQuorum, HandsOnOne};
 
 use simplex_wire::Scheme;
 
@@ -22,6 +26,14 @@ pub fn handed_certificates_are_founded()
 pub fn new_certificates_are_handed_on()
     ensures { (made : Made) (past : List Timed) (given : Timed) (certificate : Certificate) → BringsVerified made (standing_after made past) given.input certificate
         → HandsOn (step_out made past given) certificate }
+{}
+
+/// Nor is a quorum left lying: where a step works a view, and its round holds no notarization and has a quorum of
+/// accepted votes on its proposal that verify, the step hands a notarization of the proposal to the voter.
+pub fn quorums_are_handed_on()
+    ensures { (made : Made) (past : List Timed) (given : Timed) (view : ℕ) (round : RoundHistory) (kind : CertificateKind) (subject : Subject) → kind ≡ Notarization
+        → IsSchemeOfMembers made → made.scheme.recovers ≡ true → IsWorked made (taken made past given) view
+        → (taken made past given).standing.rounds view ≡ Some round → HasQuorum made round kind subject → HandsOnOne (step_out made past given) subject }
 {}
 
 /// Where the scheme of these laws comes from: a batcher that is made with a lawful scheme, and as many members as the

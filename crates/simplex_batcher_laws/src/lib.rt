@@ -10,7 +10,7 @@ mod votes;
 
 pub use certificates::{
     handed_certificates_are_founded, keyed_scheme_is_of_its_members, lawful_scheme_is_of_its_members,
-    new_certificates_are_handed_on,
+    new_certificates_are_handed_on, quorums_are_handed_on,
 };
 pub use votes::{
     accepted_votes_came_from_their_signers, held_votes_were_accepted, reports_are_founded,
