@@ -163,7 +163,7 @@ module _ (made : Made) (accepted : Vote → Type 0) where
       (λ h. rises_less least (vote_signer b.vote + 1) (map (λ (x : Ballot). vote_attestation x.vote) (filter (is_valid subject) bs)) (omega (arith, rise.0)) more)
 
   -- what assembling gives lists the valid signatures, a quorum at least
-  assembled_lists : (round : known.Made) (subject : Subject) (valid : List Attestation)
+  pub assembled_lists : (round : known.Made) (subject : Subject) (valid : List Attestation)
       → IfSome (assembled_on round made.scheme subject valid) (λ c. (c ≡ certificate_on subject valid) × (quorum_of made.scheme.members ≤ length valid))
   unfolding assembled_on
   assembled_lists round subject valid =

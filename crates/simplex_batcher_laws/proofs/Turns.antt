@@ -174,11 +174,11 @@ module _ (made : Made) (view : ℕ) (subject : Subject) where
               (Contains-tail v views view (λ same. cc (e, (Decides-eqb view v).1 (sym same))) marked)
         ]
 
-pub quorum_handed : (made : Made) (past : List Timed) (given : Timed) (view : ℕ) (round : RoundHistory) (kind : CertificateKind) (subject : Subject) → kind ≡ kinds.Notarization
+pub quorum_handed : (made : Made) (past : List Timed) (given : Timed) (view : ℕ) (round : RoundHistory) (kind : CertificateKind) (subject : Subject)
     → IsSchemeOfMembers made → made.scheme.recovers ≡ true → IsWorked made (taken made past given) view
     → (taken made past given).standing.rounds view ≡ Some round → HasQuorum made round kind subject → HandsOnOne (step_out made past given) subject
 unfolding step_out step finished dropped rounds.known_after rounds.after_call
-quorum_handed made past given view round kind subject notarizes fits recovers worked is has =
+quorum_handed made past given view round kind subject fits recovers worked is has =
     let accepted : Vote → Type 0 = IsOf view (Accepted made (given ∷ past)) in
     let doing = taken made past given in
     let good : GoodRound made accepted round =
@@ -187,7 +187,7 @@ quorum_handed made past given view round kind subject notarizes fits recovers wo
         record { about = has.about; none_held = has.none_held; quorum = has.quorum; good = good.known } in
     let forwards = known_in (called (rounds.TryForward (number_of made)) round) in
     let makes : Reaches made round.made subject 3 forwards =
-        reaches made accepted round.made fits recovers has.assembles (good.quorum has.assembles) forwards kind subject notarizes
+        reaches made accepted round.made fits recovers has.assembles (good.quorum has.assembles) forwards kind subject
         (forward_waits made accepted round.made (known_in round) forwards.forwarded kind subject waits) in
     let it = all_hand made view subject round makes doing.dirty doing
         (record { is = is; above = lt-leb view doing.standing.finalized worked.above; admitted = worked.admitted }) worked.marked in

@@ -3,7 +3,6 @@ ghost use Rattle.std.specs.Prelude.{ℕ, ◌≡◌, Bool, true, List, ◌∷◌,
 ghost use Rattle.simplex_values.specs.declared.proposal.Subject.{Subject};
 ghost use Rattle.simplex_wire.specs.declared.certificate.Certificate.{Certificate};
 ghost use Rattle.simplex_wire.specs.declared.certificate.CertificateKind.{CertificateKind};
-ghost use Rattle.simplex_wire.specs.declared.certificate.CertificateKind.TheVariants.{Notarization};
 ghost use Rattle.simplex_types.specs.Keyed.{keyed_verifies};
 ghost use Rattle.simplex_round.specs.Assembly.{as_scheme};
 ghost use Rattle.simplex_steps.specs.Batcher.{Made, Timed, RoundHistory, standing_after, step_out};
@@ -28,10 +27,10 @@ pub fn new_certificates_are_handed_on()
         → HandsOn (step_out made past given) certificate }
 {}
 
-/// Nor is a quorum left lying: where a step works a view, and its round holds no notarization and has a quorum of
-/// accepted votes on its proposal that verify, the step hands a notarization of the proposal to the voter.
+/// Nor is a quorum left lying: where a step works a view, and the round of the view holds no certificate of a kind and
+/// has a quorum of accepted votes that verify on what one would be on, the step hands such a certificate to the voter.
 pub fn quorums_are_handed_on()
-    ensures { (made : Made) (past : List Timed) (given : Timed) (view : ℕ) (round : RoundHistory) (kind : CertificateKind) (subject : Subject) → kind ≡ Notarization
+    ensures { (made : Made) (past : List Timed) (given : Timed) (view : ℕ) (round : RoundHistory) (kind : CertificateKind) (subject : Subject)
         → IsSchemeOfMembers made → made.scheme.recovers ≡ true → IsWorked made (taken made past given) view
         → (taken made past given).standing.rounds view ≡ Some round → HasQuorum made round kind subject → HandsOnOne (step_out made past given) subject }
 {}
