@@ -10,3 +10,4 @@ pub mod Schemes
 pub mod Handing
 pub mod Assembling
 pub mod Turns
+pub mod Marking

@@ -1,12 +1,13 @@
 //! Certificates that are handed to the voter.
-ghost use Rattle.std.specs.Prelude.{ℕ, ◌≡◌, Bool, true, List, ◌∷◌, All, Some};
+ghost use Rattle.std.specs.Prelude.{ℕ, ◌≡◌, ◌<◌, Bool, true, List, ◌∷◌, All, Some};
 ghost use Rattle.simplex_values.specs.declared.proposal.Subject.{Subject};
 ghost use Rattle.simplex_wire.specs.declared.certificate.Certificate.{Certificate};
 ghost use Rattle.simplex_wire.specs.declared.certificate.CertificateKind.{CertificateKind};
+ghost use Rattle.simplex_wire.specs.declared.vote.Vote.{Vote};
 ghost use Rattle.simplex_types.specs.Keyed.{keyed_verifies};
 ghost use Rattle.simplex_round.specs.Assembly.{as_scheme};
-ghost use Rattle.simplex_steps.specs.Batcher.{Made, Timed, RoundHistory, standing_after, step_out};
-ghost use Rattle.simplex_batcher_laws.specs.Votes.{Accepted};
+ghost use Rattle.simplex_steps.specs.Batcher.{Made, Timed, RoundHistory, vote_view, admits_view, standing_after, step_out};
+ghost use Rattle.simplex_batcher_laws.specs.Votes.{Accepted, Accepts};
 ghost use Rattle.simplex_batcher_laws.specs.Certificates.{IsSchemeOfMembers, BringsNew, IsFoundedMessage, BringsVerified, HandsOn};
 ghost use Rattle.simplex_batcher_laws.specs.Quorums.{taken, IsWorked, HasQuorum, HandsOnOne};
 
@@ -27,12 +28,19 @@ pub fn new_certificates_are_handed_on()
         → HandsOn (step_out made past given) certificate }
 {}
 
-/// Nor is a quorum left lying: where a step works a view, and the round of the view holds no certificate of a kind and
-/// has a quorum of accepted votes that verify on what one would be on, the step hands such a certificate to the voter.
+/// Nor is a quorum left lying: where a step works a view, and, once it has taken its input, the round of the view holds
+/// no certificate of a kind and has a quorum of accepted votes that verify on what one would be on, the step hands such
+/// a certificate to the voter.
 pub fn quorums_are_handed_on()
     ensures { (made : Made) (past : List Timed) (given : Timed) (view : ℕ) (round : RoundHistory) (kind : CertificateKind) (subject : Subject)
         → IsSchemeOfMembers made → made.scheme.recovers ≡ true → IsWorked made (taken made past given) view
         → (taken made past given).standing.rounds view ≡ Some round → HasQuorum made round kind subject → HandsOnOne (step_out made past given) subject }
+{}
+
+/// A step that accepts a vote works its view, where that is above the finalized one and admitted.
+pub fn accepted_votes_are_worked()
+    ensures { (made : Made) (past : List Timed) (given : Timed) (vote : Vote) → Accepts made past given vote → (standing_after made past).finalized < vote_view vote
+        → admits_view made (standing_after made past) (vote_view vote) ≡ true → IsWorked made (taken made past given) (vote_view vote) }
 {}
 
 /// Where the scheme of these laws comes from: a batcher that is made with a lawful scheme, and as many members as the
