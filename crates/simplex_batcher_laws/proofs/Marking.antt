@@ -1,8 +1,15 @@
--- A vote that is accepted marks its view.
-use Rattle.std.proofs.Common.{◌≡◌, ℕ, ◌<◌, Bool, true, false, if◌then◌else◌, List, [], ◌∷◌, ◌++◌, sym, subst}
-use Rattle.std.specs.Prelude.{◌==◌, ◌&&◌, not, Result, Ok, Contains}
+-- Which views a step works: that of a vote that is accepted, and the current one of an update.
+use Rattle.std.proofs.Common.{◌≡◌, ℕ, ◌+◌, ◌<◌, ◌≤◌, Bool, true, false, if◌then◌else◌, List, [], ◌∷◌, ◌++◌, refl, sym, subst, arith, nat_le}
+use Rattle.std.specs.Prelude.{◌==◌, ◌&&◌, ◌||◌, not, min, Option, Some, None, Result, Ok, Contains}
+use Rattle.std.proofs.lemmas.Bool.{le-leb}
 use Rattle.std.proofs.lemmas.Bool.Decides.{Decides-eqb}
-use Rattle.std.proofs.lemmas.List.Elements.{Contains-push}
+use Rattle.std.proofs.lemmas.List.Elements.{Contains-append_left, Contains-push}
+use Rattle.simplex_values.specs.declared.proposal.Proposal.{Proposal}
+use Rattle.simplex_values.specs.declared.policy.SkipPolicy.{SkipPolicy}
+use Rattle.simplex_values.specs.declared.policy.SkipPolicy.TheVariants as skip
+use Rattle.simplex_values.specs.declared.timeout.TimeoutReason.{TimeoutReason}
+use Rattle.simplex_values.specs.declared.timeout.TimeoutReason.TheVariants.{Inactivity}
+use Rattle.simplex_values.specs.Terms.{greatest_view, next_of, admits}
 use Rattle.simplex_wire.specs.declared.error.DecodeError.{DecodeError}
 use Rattle.simplex_wire.specs.declared.vote.Vote.{Vote}
 use Rattle.simplex_wire.specs.Format.{whole}
@@ -14,7 +21,7 @@ use Rattle.simplex_round.specs.Calls as rounds
 use Rattle.simplex_messages.specs.declared.batcher.BatcherInput.{BatcherInput}
 use Rattle.simplex_messages.specs.declared.batcher.BatcherInput.TheVariants as input
 use Rattle.simplex_messages.specs.declared.batcher.Message.TheVariants as batcher
-use Rattle.simplex_steps.specs.Batcher.{Made, Timed, Standing, RoundHistory, Doing, known_in, called, begun, and_blocked, vote_view, vote_epoch, retains_view, admits_view, led, new_round, round_for, has_skipping, leader_nullified, hinting_nullify, hinted_at_vote, with_heard, took_vote, took_constructed, seen_now, heard_vote, acted, standing_after}
+use Rattle.simplex_steps.specs.Batcher.{Made, Timed, Standing, RoundHistory, Doing, known_in, called, begun, and_blocked, vote_view, vote_epoch, retains_view, admits_view, led, new_round, round_for, has_skipping, leader_nullified, hinting, hinting_nullify, hinted_at_vote, hinted_at_update, is_me, is_active, forwarding, with_leader, window_views, took_update, with_heard, took_vote, took_constructed, seen_now, heard_vote, acted, standing_after}
 use Rattle.simplex_batcher_laws.specs.Votes.{Brings, takes, Accepts}
 use Rattle.simplex_batcher_laws.specs.Quorums.{taken, IsWorked}
 use Rattle.simplex_batcher_laws.proofs.Choices.{if_case}
@@ -93,3 +100,54 @@ pub accepted_worked : (made : Made) (past : List Timed) (given : Timed) (vote : 
     → admits_view made (standing_after made past) (vote_view vote) ≡ true → IsWorked made (taken made past given) (vote_view vote)
 accepted_worked made past given vote is above admitted =
     acted_worked made vote (standing_after made past) above admitted is.accepts given.input given.now is.brings is.is_taken
+
+-- ---- updates
+
+module _ (made : Made) (view : ℕ) where
+  abbrev Works : Doing → Type 0
+  Works doing = IsWorked made doing view
+
+  hinting_works : (reason : TimeoutReason) (doing : Doing) → Works doing → Works (hinting made reason doing)
+  hinting_works reason doing w = record { marked = w.marked; above = w.above; admitted = w.admitted }
+
+  hinting_nullify_works : (doing : Doing) → Works doing → Works (hinting_nullify made doing)
+  unfolding admits_view
+  hinting_nullify_works doing w = record { marked = w.marked; above = w.above; admitted = w.admitted }
+
+  hinted_works : (policy : SkipPolicy) (leader now : ℕ) (doing : Doing) → Works doing → Works (hinted_at_update made policy leader now doing)
+  unfolding hinted_at_update
+  hinted_works skip.Disabled leader now doing w = w
+  hinted_works (skip.Enabled timeout budget) leader now doing w =
+      if_case Works (leader_nullified doing.standing) (hinting_nullify made doing)
+      (if is_me made leader || is_active made doing.standing leader timeout now then doing else hinting made Inactivity doing)
+      (λ h. hinting_nullify_works doing w)
+      (λ h. if_case Works (is_me made leader || is_active made doing.standing leader timeout now) doing (hinting made Inactivity doing) (λ k. w) (λ k. hinting_works Inactivity doing w))
+
+  forwarding_works : (leader : ℕ) (proposal : Option Proposal) (doing : Doing) → Works doing → Works (forwarding made leader proposal doing)
+  unfolding forwarding
+  forwarding_works leader None doing w = w
+  forwarding_works leader (Some proposal) doing w = record { marked = w.marked; above = w.above; admitted = w.admitted }
+
+-- the current view is admitted
+current_admitted : (length views current : ℕ) → current ≤ greatest_view → admits length views current current ≡ true
+unfolding admits next_of
+current_admitted length views current le =
+    let first : nat_le current (min (current + 1) greatest_view) ≡ true = le-leb current (min (current + 1) greatest_view) (omega (arith, le)) in
+    rw first refl
+
+took_update_works : (made : Made) (current leader finalized : ℕ) (proposal : Option Proposal) (now : ℕ) (doing : Doing) → finalized < current → current ≤ greatest_view
+    → IsWorked made (took_update made current leader finalized proposal now doing) current
+unfolding took_update with_leader admits_view
+took_update_works made current leader finalized proposal now doing above le =
+    let standing = with_leader made (record doing.standing { current = current; leader = Some leader; finalized = finalized; hinted = false }) in
+    let marking = record doing { standing = standing; dirty = current ∷ window_views made standing } in
+    forwarding_works made current leader proposal (hinted_at_update made made.skip leader now marking)
+    (hinted_works made current made.skip leader now marking
+    (record { marked = Contains-append_left (current ∷ []) (window_views made standing) current (Contains-push [] current); above = above; admitted = current_admitted made.lookahead.length made.lookahead.views current le }))
+
+pub update_works : (made : Made) (past : List Timed) (given : Timed) (current leader finalized : ℕ) (proposal : Option Proposal)
+    → given.input ≡ input.Mail (batcher.Update current leader finalized proposal) → finalized < current → current ≤ greatest_view → IsWorked made (taken made past given) current
+unfolding acted
+update_works made past given current leader finalized proposal is above le =
+    subst (λ (i : BatcherInput). IsWorked made (acted made i given.now (begun (standing_after made past))) current) (sym is)
+    (took_update_works made current leader finalized proposal given.now (begun (standing_after made past)) above le)

@@ -1,11 +1,15 @@
 //! Certificates that are handed to the voter.
-ghost use Rattle.std.specs.Prelude.{ℕ, ◌≡◌, ◌<◌, Bool, true, List, ◌∷◌, All, Some};
+ghost use Rattle.std.specs.Prelude.{ℕ, ◌≡◌, ◌<◌, ◌≤◌, Bool, true, List, ◌∷◌, All, Option, Some};
+ghost use Rattle.simplex_values.specs.Terms.{greatest_view};
+ghost use Rattle.simplex_values.specs.declared.proposal.Proposal.{Proposal};
 ghost use Rattle.simplex_values.specs.declared.proposal.Subject.{Subject};
 ghost use Rattle.simplex_wire.specs.declared.certificate.Certificate.{Certificate};
 ghost use Rattle.simplex_wire.specs.declared.certificate.CertificateKind.{CertificateKind};
 ghost use Rattle.simplex_wire.specs.declared.vote.Vote.{Vote};
 ghost use Rattle.simplex_types.specs.Keyed.{keyed_verifies};
 ghost use Rattle.simplex_round.specs.Assembly.{as_scheme};
+ghost use Rattle.simplex_messages.specs.declared.batcher.BatcherInput.TheVariants.{Mail};
+ghost use Rattle.simplex_messages.specs.declared.batcher.Message.TheVariants.{Update};
 ghost use Rattle.simplex_steps.specs.Batcher.{Made, Timed, RoundHistory, vote_view, admits_view, standing_after, step_out};
 ghost use Rattle.simplex_batcher_laws.specs.Votes.{Accepted, Accepts};
 ghost use Rattle.simplex_batcher_laws.specs.Certificates.{IsSchemeOfMembers, BringsNew, IsFoundedMessage, BringsVerified, HandsOn};
@@ -41,6 +45,12 @@ pub fn quorums_are_handed_on()
 pub fn accepted_votes_are_worked()
     ensures { (made : Made) (past : List Timed) (given : Timed) (vote : Vote) → Accepts made past given vote → (standing_after made past).finalized < vote_view vote
         → admits_view made (standing_after made past) (vote_view vote) ≡ true → IsWorked made (taken made past given) (vote_view vote) }
+{}
+
+/// A step that takes an update works the view that is current from then on, where that is above the finalized one.
+pub fn current_views_are_worked()
+    ensures { (made : Made) (past : List Timed) (given : Timed) (current leader finalized : ℕ) (proposal : Option Proposal)
+        → given.input ≡ Mail (Update current leader finalized proposal) → finalized < current → current ≤ greatest_view → IsWorked made (taken made past given) current }
 {}
 
 /// Where the scheme of these laws comes from: a batcher that is made with a lawful scheme, and as many members as the
