@@ -1,11 +1,11 @@
 #!/bin/bash
 # Times the work of crates/bench_wire, bench_mailbox, bench_fetch, bench_round, bench_state and bench_repair, by the
-# proved program and by plain Rust, that of crates/bench_batcher by a batcher and by the round alone, and that of
-# crates/bench_voter by a voter. Run it from anywhere, after `rt run` in the program's crate:
-# bench/run.sh wire|mailbox|fetch|round|batcher|state|repair|voter [TIMES].
+# proved program and by plain Rust, that of crates/bench_batcher by a batcher and by the round alone, that of
+# crates/bench_voter by a voter, and that of crates/bench_resolver by a resolver. Run it from anywhere, after `rt run`
+# in the program's crate: bench/run.sh wire|mailbox|fetch|round|batcher|state|repair|voter|resolver [TIMES].
 set -euo pipefail
 cd "$(dirname "$0")"
-what=${1:?wire, mailbox, fetch, round, batcher, state, repair or voter}
+what=${1:?wire, mailbox, fetch, round, batcher, state, repair, voter or resolver}
 proved=../crates/bench_$what/out/bench_$what
 
 # How often a program does the work in a second of user time: that of so many turns, less that of none,
@@ -81,6 +81,40 @@ if [ "$what" = voter ]; then
     printf '%-10s %8s %12s %14s %10s\n' 'member' 'views' 'steps a s' 'later half' 'peak kB'
     over_views alone 4 "$views" $((views * 2)) $((views * 4))
     over_views follow 3 "$views" $((views * 2)) $((views * 4))
+    exit
+fi
+
+# A resolver that lacks the nullifications of so many terms: the seconds of user time of the step by which it comes to
+# lack them, and the steps a second behind it, where answers come, requests are served, and peers have no answer. Two
+# steps are a turn. The time for the jump before is taken off, and from that of answers the time for their packets. Each
+# is the least of five runs.
+behind_jump() {
+    python3 - "$proved" "$@" <<'P'
+import os, subprocess, sys
+program, turns, *terms = sys.argv[1:]
+turns = int(turns)
+def run(*words):
+    child = subprocess.Popen([program, *map(str, words)], stdout=subprocess.DEVNULL)
+    _, status, usage = os.wait4(child.pid, 0)
+    assert status == 0
+    return usage.ru_utime, usage.ru_maxrss
+def least(*words):
+    return min(run(*words)[0] for _ in range(5))
+for n in map(int, terms):
+    jumps = max(1, 1_000_000 // n)
+    jump = (least("jump", n, jumps) - least("jump", n, 0)) / jumps
+    none = least("fill", n, 0)
+    filled = least("fill", n, n) - none - least("packet", n, n) + least("packet", n, 0)
+    served, retried = (least(work, n, turns) - none for work in ("serve", "retry"))
+    peak = run("fill", n, n)[1]
+    print(f"{n:>8} {jump:10.4f} {2 * n / filled:12.0f} {2 * turns / served:12.0f} {2 * turns / retried:12.0f} {peak:10}")
+P
+}
+
+if [ "$what" = resolver ]; then
+    turns=${2:-500000}
+    printf '%8s %10s %12s %12s %12s %10s\n' 'terms' 'jump, s' 'fill' 'serve' 'retry' 'peak kB'
+    behind_jump "$turns" 10000 50000 100000
     exit
 fi
 
