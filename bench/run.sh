@@ -85,9 +85,9 @@ if [ "$what" = voter ]; then
 fi
 
 # A resolver that lacks the nullifications of so many terms: the seconds of user time of the step by which it comes to
-# lack them, and the steps a second behind it, where answers come, requests are served, and peers have no answer. Two
-# steps are a turn. The time for the jump before is taken off, and from that of answers the time for their packets. Each
-# is the least of five runs.
+# lack them, and of the two steps by which it asks for all again. Then the steps a second behind the jump: of answers, of
+# requests that are served, of peers that have no answer, and of further nullifications. The time for the jump is taken
+# off, and from that of answers the time for their packets. Each is the least of five runs.
 behind_jump() {
     python3 - "$proved" "$@" <<'P'
 import os, subprocess, sys
@@ -97,23 +97,25 @@ def run(*words):
     child = subprocess.Popen([program, *map(str, words)], stdout=subprocess.DEVNULL)
     _, status, usage = os.wait4(child.pid, 0)
     assert status == 0
-    return usage.ru_utime, usage.ru_maxrss
+    return usage.ru_utime
 def least(*words):
-    return min(run(*words)[0] for _ in range(5))
+    return min(run(*words) for _ in range(5))
 for n in map(int, terms):
     jumps = max(1, 1_000_000 // n)
-    jump = (least("jump", n, jumps) - least("jump", n, 0)) / jumps
     none = least("fill", n, 0)
-    filled = least("fill", n, n) - none - least("packet", n, n) + least("packet", n, 0)
-    served, retried = (least(work, n, turns) - none for work in ("serve", "retry"))
-    peak = run("fill", n, n)[1]
-    print(f"{n:>8} {jump:10.4f} {2 * n / filled:12.0f} {2 * turns / served:12.0f} {2 * turns / retried:12.0f} {peak:10}")
+    jump = (least("jump", n, jumps) - least("jump", n, 0)) / jumps
+    wave = (least("wave", n, jumps) - none) / jumps
+    packets = least("packet", n, n) - least("packet", n, 0)
+    rates = [2 * n / (least("fill", n, n) - none - packets)]
+    for work, steps in (("serve", 2), ("retry", 2), ("climb", 1)):
+        rates.append(steps * turns / (least(work, n, turns) - none))
+    print(f"{n:>8} {jump:9.4f} {wave:9.4f}", *(f"{rate:11.0f}" for rate in rates))
 P
 }
 
 if [ "$what" = resolver ]; then
     turns=${2:-500000}
-    printf '%8s %10s %12s %12s %12s %10s\n' 'terms' 'jump, s' 'fill' 'serve' 'retry' 'peak kB'
+    printf '%8s %9s %9s %11s %11s %11s %11s\n' terms 'jump, s' 'wave, s' fill serve retry climb
     behind_jump "$turns" 10000 50000 100000
     exit
 fi

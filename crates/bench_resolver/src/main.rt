@@ -1,5 +1,5 @@
 //! A resolver that lacks nullifications of many terms. It prints no times: `bench_resolver WORK TERMS TIMES`, where
-//! WORK is `jump`, `fill`, `packet`, `serve`, `retry` or `all`. `bench/run.sh` takes the times.
+//! WORK is `jump`, `fill`, `packet`, `serve`, `retry`, `climb`, `wave` or `all`. `bench/run.sh` takes the times.
 #![tactic(auto)]
 
 ghost use Rattle.std.specs.Prelude.{◌<◌};
@@ -29,6 +29,10 @@ enum Work {
     /// A peer of such a resolver has no answer for one of the terms, and the next peer is asked a millisecond later, in
     /// two steps.
     Retry,
+    /// Such a resolver is given the nullification of the next term, in one step.
+    Climb,
+    /// All peers that such a resolver asked are silent, and the next ones are asked a millisecond later, in two steps.
+    Wave,
 }
 
 /// A resolver that was given a nullification that many terms ahead.
@@ -47,6 +51,8 @@ fn behind(alloc: Global, peers: &Peers, work: Work, terms: u32, times: u32) -> R
     for at in 0..times {
         match work {
             Work::Jump | Work::Packet => (),
+            Work::Climb => member.know(peers.further(alloc, terms, at)?)?,
+            Work::Wave => member.time_out()?,
             Work::Fill => member.hear(peers.answer(alloc, at)?)?,
             Work::Serve => member.hear(peers.request(alloc, peers::first_view(terms))?)?,
             Work::Retry => member.wait(peers.refusal(alloc, at % terms, at / terms, at)?)?,
@@ -81,7 +87,7 @@ fn turns(alloc: Global, peers: &Peers, work: Work, terms: u32, times: u32) -> Re
     match work {
         Work::Jump => jumps(alloc, peers, terms, times),
         Work::Packet => packets(alloc, peers, times),
-        Work::Fill | Work::Serve | Work::Retry => behind(alloc, peers, work, terms, times),
+        _ => behind(alloc, peers, work, terms, times),
     }
 }
 
@@ -96,6 +102,8 @@ fn run(rt: &impl Print, alloc: Global, word: &str, terms: u32, times: u32) -> Re
         ("packet", Work::Packet),
         ("serve", Work::Serve),
         ("retry", Work::Retry),
+        ("climb", Work::Climb),
+        ("wave", Work::Wave),
     ] {
         if word == name || word == "all" {
             let made = turns(alloc, &peers, work, terms, times)?;

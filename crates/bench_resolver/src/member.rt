@@ -10,7 +10,7 @@ use simplex_resolver::{Actor, Config};
 use simplex_types::{Certificate, Epoch, Keyed, TermLength};
 use std::alloc::Global;
 
-/// Longer than any run takes, in milliseconds.
+/// How long a peer may be silent, in milliseconds.
 const LONG: u64 = 1 << 40;
 
 /// Member 0 of four, at its clock.
@@ -54,7 +54,7 @@ impl Member {
     }
 
     fn step(&mut self, input: ResolverInput) -> Result<()> {
-        if self.now >= LONG {
+        if self.now >= 1 << 62 {
             bail!("the run is not that long");
         }
         let mut out = StepOut::new(self.alloc);
@@ -83,10 +83,20 @@ impl Member {
         self.step(ResolverInput::Handler(message))
     }
 
+    fn timer(&mut self, later: u64) -> Result<()> {
+        self.now = self.now.saturating_add(later);
+        self.step(ResolverInput::Timer)
+    }
+
     /// A packet comes, and the timer a millisecond later.
     pub fn wait(&mut self, packet: Packet) -> Result<()> {
         self.take(packet)?;
-        self.now = self.now.saturating_add(1);
-        self.step(ResolverInput::Timer)
+        self.timer(1)
+    }
+
+    /// The timer comes once all peers were silent, and a millisecond later.
+    pub fn time_out(&mut self) -> Result<()> {
+        self.timer(LONG)?;
+        self.timer(1)
     }
 }

@@ -107,6 +107,12 @@ impl Peers {
         }))
     }
 
+    /// The nullification of a term that is so many and one behind the term that follows so many.
+    pub fn further(&self, alloc: Global, terms: u32, more: u32) -> Result<Certificate> {
+        let before = u64::from(terms) + u64::from(more) + 1;
+        self.nullification(alloc, View(before * LENGTH + 1))
+    }
+
     /// The answer to the first request for the term, by its nullification.
     pub fn answer(&self, alloc: Global, term: u32) -> Result<Packet> {
         let view = first_view(term);
