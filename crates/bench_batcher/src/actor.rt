@@ -1,87 +1,124 @@
-//! The view by a batcher.
-ghost use Rattle.std.specs.Prelude.{◌<◌};
+//! View after view by one batcher.
+ghost use Rattle.std.specs.Prelude.{◌<◌, ◌^◌};
 
-use crate::votes::{Votes, scheme, view};
-use anyhow::Result;
+use crate::votes::{EPOCH, Sent, Turn, scheme};
+use anyhow::{Result, bail};
 use simplex_batcher::{Actor, Config};
-use simplex_mailbox::Mailbox;
-use simplex_messages::{BatcherInput, Handed, StepOut, batcher, voter};
+use simplex_mailbox::Post;
+use simplex_messages::{BatcherInput, StepOut, batcher, voter};
 use simplex_types::{
-    ForwardPolicy, Keyed, Lookahead, Participant, Sequence, SkipBudget, SkipPolicy, TermLength,
-    View, ViewDelta,
+    Feedback, ForwardPolicy, Keyed, Lookahead, Sequence, SkipBudget, SkipPolicy, TermLength, View,
+    ViewDelta, Vote,
 };
-use std::alloc::Global;
+use std::alloc::{AllocError, Global};
 
-/// A batcher of member 0.
-fn member(alloc: Global, members: u32) -> Result<Actor<Keyed>>
-    requires { 0 < members }
-{
-    let config = Config {
-        scheme: scheme(alloc, members)?,
-        track_historical_votes: false,
-        view_retention: ViewDelta(10),
-        skip: SkipPolicy::Enabled {
-            timeout: 5000,
-            budget: SkipBudget::Participants,
-        },
-        epoch: view().epoch,
-        mailbox_size: 16,
-        lookahead: Lookahead {
-            length: TermLength::ONE,
-            views: 0,
-        },
-        forward: ForwardPolicy::SilentVoters,
-        floor: View(298),
-    };
-    Ok(Actor::new(alloc, config)?)
+/// A voter's place that counts the certificates that are put there, and drops all.
+#[derive(Drop)]
+struct Counter {
+    certificates: u64,
 }
 
-/// The voter is in the view, which member 0 leads.
-fn update() -> BatcherInput {
+impl Post<voter::Message> for Counter {
+    ghost puts = { λ _ _ _ _. Unit {0} };
+
+    fn enqueue(&mut self, message: voter::Message) -> Result<Feedback, AllocError> {
+        if let voter::Message::Verified { .. } = message {
+            self.certificates = self.certificates.saturating_add(1);
+        }
+        Ok(Feedback::Ok)
+    }
+}
+
+/// Member 0's batcher.
+#[derive(Drop)]
+pub struct Member {
+    alloc: Global,
+    batcher: Actor<Keyed>,
+    voter: Counter,
+}
+
+/// The voter is in the view. All votes of the view before came in, so that it is final, and its proposal is worth
+/// forwarding.
+fn update(turn: &Turn) -> BatcherInput {
+    let before = turn.before();
     BatcherInput::Mail(batcher::Message::Update {
-        current: view().view,
-        leader: Participant(0),
-        finalized: View(298),
-        forwardable_proposal: None,
+        current: turn.view,
+        leader: turn.leader(),
+        finalized: before.view,
+        forwardable_proposal: Some(before.proposal()),
     })
 }
 
-/// How many certificates the step hands on.
-fn certificates_in(out: &StepOut) -> u64 {
-    let mut count = 0u64;
-    for message in out.handed.as_slice() {
-        if let Handed::Voter(voter::Message::Verified { .. }) = message {
-            count = count.saturating_add(1);
+impl Member {
+    /// One that was given nothing yet, and keeps ten views behind the last final one.
+    pub fn new(alloc: Global, members: u32) -> Result<Member>
+        requires { 0 < members }
+    {
+        let config = Config {
+            scheme: scheme(alloc, members, 0)?,
+            track_historical_votes: false,
+            view_retention: ViewDelta(10),
+            skip: SkipPolicy::Enabled {
+                timeout: 5000,
+                budget: SkipBudget::Participants,
+            },
+            epoch: EPOCH,
+            mailbox_size: 16,
+            lookahead: Lookahead {
+                length: TermLength::ONE,
+                views: 0,
+            },
+            forward: ForwardPolicy::SilentVoters,
+            floor: View(0),
+        };
+        Ok(Member {
+            alloc,
+            batcher: Actor::new(alloc, config)?,
+            voter: Counter { certificates: 0 },
+        })
+    }
+
+    /// How many certificates it gave the voter.
+    pub fn certificates(&self) -> u64 {
+        self.voter.certificates
+    }
+
+    /// The clock is the view: a millisecond for each.
+    fn step(&mut self, turn: &Turn, input: BatcherInput) -> Result<()> {
+        let now = turn.view.0;
+        if now >= 1 << 63 {
+            bail!("the clock ends");
+        }
+        let mut out = StepOut::new(self.alloc);
+        self.batcher.step(input, now, &mut self.voter, &mut out)?;
+        Ok(())
+    }
+
+    /// The update that begins the view.
+    pub fn begin(&mut self, turn: &Turn) -> Result<()> {
+        self.step(turn, update(turn))
+    }
+
+    /// All votes of the view, as packets.
+    pub fn take(&mut self, turn: &Turn, votes: Vec<Sent>) -> Result<()> {
+        for sent in votes {
+            let input = BatcherInput::Vote {
+                sender: sent.vote.signer(),
+                bytes: Sequence::from_vec(sent.bytes),
+            };
+            self.step(turn, input)?;
+        }
+        Ok(())
+    }
+}
+
+/// Decodes the packets, and does nothing else: how many are votes.
+pub fn decoded(votes: &[Sent]) -> u64 {
+    let mut decoded = 0u64;
+    for sent in votes {
+        if Vote::decode(&sent.bytes).is_ok() {
+            decoded = decoded.saturating_add(1);
         }
     }
-    count
-}
-
-/// How many certificates come out of the view.
-pub fn turn(alloc: Global, members: u32, votes: &Votes) -> Result<u64>
-    requires { 0 < members }
-{
-    let mut batcher = member(alloc, members)?;
-    let mut post = Mailbox::<voter::Message>::new(alloc, 16)?;
-    let mut out = StepOut::new(alloc);
-    batcher.step(update(), 0, &mut post, &mut out)?;
-    let mut certificates = 0u64;
-    for sent in &votes.sent {
-        let input = BatcherInput::Vote {
-            sender: sent.vote.signer(),
-            bytes: Sequence::from_vec(sent.bytes.clone()?),
-        };
-        let mut out = StepOut::new(alloc);
-        batcher.step(input, 1, &mut post, &mut out)?;
-        certificates = certificates.saturating_add(certificates_in(&out));
-    }
-    Ok(certificates)
-}
-
-/// The scheme that a batcher is made with, and nothing with it.
-pub fn scheme_alone(alloc: Global, members: u32) -> Result<u64>
-    requires { 0 < members }
-{
-    let _scheme = scheme(alloc, members)?;
-    Ok(0)
+    decoded
 }

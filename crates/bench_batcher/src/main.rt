@@ -1,6 +1,12 @@
-//! A view whose votes all come in, again and again: by a batcher that takes them as packets, and by the round
-//! alone. It prints no times: `bench_batcher WORK MEMBERS TIMES`, where WORK is `round`, `actor`, `scheme` or
-//! `all`. `bench/run.sh` takes the times. A new batcher wants a scheme of its own, so `scheme` only makes one.
+//! View after view whose votes all come in: by a batcher that takes them as packets, and by the rounds alone. It
+//! prints no times: `bench_batcher WORK MEMBERS VIEWS`, where WORK is one of these, or `all`. `bench/run.sh` takes
+//! the times.
+//!
+//! - `votes`: the votes of each view are signed and written as packets. All others do that too.
+//! - `round`: a round of its own takes the votes of each view.
+//! - `actor`: one batcher takes an update and then the packets of each view.
+//! - `updates`: one batcher takes the updates alone.
+//! - `decode`: the packets are decoded.
 #![tactic(auto)]
 
 mod actor;
@@ -9,36 +15,50 @@ mod votes;
 
 ghost use Rattle.std.specs.Prelude.{◌<◌};
 
+use actor::{Member, decoded};
 use anyhow::{Context, Result, bail};
+use simplex_types::View;
 use std::alloc::Global;
 use std::env;
 use std::io::Print;
-use votes::{Votes, scheme};
+use votes::{Signers, Turn, scheme};
 
-/// What is done in a turn.
+/// What is done with the votes of each view.
 #[derive(Clone, Copy)]
 enum Work {
+    Votes,
     Round,
     Actor,
-    Scheme,
+    Updates,
+    Decode,
 }
 
-/// How many certificates come out of so many views.
-fn turns(alloc: Global, work: Work, members: u32, times: u32) -> Result<u64>
+/// How many certificates come out of so many views, or how many packets are decoded.
+fn views(alloc: Global, work: Work, members: u32, views: u32) -> Result<u64>
     requires { 0 < members }
 {
-    let votes = Votes::signed(alloc, members)?;
-    let scheme = scheme(alloc, members)?;
-    let mut certificates = 0u64;
-    for _ in 0..times {
-        let made = match work {
-            Work::Round => round::turn(alloc, &scheme, members, &votes)?,
-            Work::Actor => actor::turn(alloc, members, &votes)?,
-            Work::Scheme => actor::scheme_alone(alloc, members)?,
-        };
-        certificates = certificates.saturating_add(made);
+    let signers = Signers::new(alloc, members)?;
+    let scheme = scheme(alloc, members, 0)?;
+    let mut member = Member::new(alloc, members)?;
+    let mut done = 0u64;
+    for number in 0..views {
+        let view = View(u64::from(number).saturating_add(1));
+        let turn = Turn { members, view };
+        let votes = signers.votes(&turn)?;
+        match work {
+            Work::Votes => {}
+            Work::Round => {
+                done = done.saturating_add(round::turn(alloc, &scheme, &turn, votes)?);
+            }
+            Work::Actor => {
+                member.begin(&turn)?;
+                member.take(&turn, votes)?;
+            }
+            Work::Updates => member.begin(&turn)?,
+            Work::Decode => done = done.saturating_add(decoded(&votes)),
+        }
     }
-    Ok(certificates)
+    Ok(done.saturating_add(member.certificates()))
 }
 
 fn run(rt: &impl Print, alloc: Global, word: &str, members: u32, times: u32) -> Result<()> {
@@ -46,14 +66,16 @@ fn run(rt: &impl Print, alloc: Global, word: &str, members: u32, times: u32) -> 
         bail!("one member at least");
     }
     let works = [
+        ("votes", Work::Votes),
         ("round", Work::Round),
         ("actor", Work::Actor),
-        ("scheme", Work::Scheme),
+        ("updates", Work::Updates),
+        ("decode", Work::Decode),
     ];
     for (name, work) in works {
         if word == name || word == "all" {
-            let certificates = turns(alloc, work, members, times)?;
-            println!(rt; "{name} {members} {times} {certificates}")?;
+            let done = views(alloc, work, members, times)?;
+            println!(rt; "{name} {members} {times} {done}")?;
         }
     }
     Ok(())
@@ -65,7 +87,7 @@ fn main(rt: HostRuntime) -> Result<()> {
     let work = words.next().context("what is to be done")?;
     let members = words.next().context("how many members")?;
     let members = members.as_str().parse::<u32>().context("how many members")?;
-    let times = words.next().context("how many times")?;
-    let times = times.as_str().parse::<u32>().context("how many times")?;
+    let times = words.next().context("how many views")?;
+    let times = times.as_str().parse::<u32>().context("how many views")?;
     run(&rt, rt.alloc(), work.as_str(), members, times)
 }

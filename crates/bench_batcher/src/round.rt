@@ -1,7 +1,7 @@
-//! The view by its round alone.
+//! A view by its round alone.
 ghost use Rattle.std.specs.Prelude.{◌<◌};
 
-use crate::votes::{Votes, view};
+use crate::votes::{Sent, Turn};
 use anyhow::{Result, bail};
 use simplex_round::{Round, RoundOut};
 use simplex_types::{Keyed, Participant, quorum};
@@ -9,6 +9,7 @@ use std::alloc::Global;
 
 /// How many certificates the round makes now, where each of the three kinds has its turn.
 fn made(alloc: Global, round: &mut Round, scheme: &Keyed) -> Result<u64> {
+    let _proposal = round.try_forward_proposal(Participant(0));
     let mut made = 0u64;
     for _ in 0..3 {
         let batch = round.try_construct(alloc, scheme)?;
@@ -19,20 +20,29 @@ fn made(alloc: Global, round: &mut Round, scheme: &Keyed) -> Result<u64> {
     Ok(made)
 }
 
-/// How many certificates come out of the view: behind each vote the round is asked for what there is to do.
-pub fn turn(alloc: Global, scheme: &Keyed, members: u32, votes: &Votes) -> Result<u64>
-    requires { 0 < members }
+/// How many certificates come out of the view. The round is called as a batcher calls it: once for the update that
+/// begins the view, then for each vote, and for the update that ends it.
+pub fn turn(alloc: Global, scheme: &Keyed, turn: &Turn, votes: Vec<Sent>) -> Result<u64>
+    requires { 0 < turn.now.members }
 {
-    let mut round = Round::new(alloc, view(), members, quorum(members), false)?;
-    round.set_leader(Participant(0));
-    let mut certificates = 0u64;
-    for sent in &votes.sent {
+    let leader = turn.leader();
+    let quorum = quorum(turn.members);
+    let mut round = Round::new(alloc, turn.round(), turn.members, quorum, false)?;
+    round.set_leader(leader);
+    let mut certificates = made(alloc, &mut round, scheme)?;
+    for sent in votes {
         let mut out = RoundOut::new(alloc);
+        round.set_leader(leader);
         if !round.add_network(sent.vote.signer(), sent.vote, &mut out)? {
             bail!("each vote is accepted");
         }
-        let _proposal = round.try_forward_proposal(Participant(0));
+        if round.has_nullify(leader) {
+            bail!("the leader does not give up");
+        }
         certificates = certificates.saturating_add(made(alloc, &mut round, scheme)?);
+    }
+    if !round.missing_voters(alloc, &turn.proposal())?.is_empty() {
+        bail!("each member votes");
     }
     Ok(certificates)
 }

@@ -1,4 +1,4 @@
-//! The votes of all members.
+//! The votes of all members, view after view.
 ghost use Rattle.std.specs.Prelude.{◌<◌};
 
 use anyhow::{Context, Result};
@@ -10,27 +10,51 @@ use std::alloc::Global;
 /// What every key is made from.
 const KEY_BASE: u64 = 1;
 
-/// The scheme of member 0.
-pub fn scheme(alloc: Global, members: u32) -> Result<Keyed>
-    requires { 0 < members }
+/// The epoch of all views.
+pub const EPOCH: Epoch = Epoch(3);
+
+/// The scheme of a member.
+pub fn scheme(alloc: Global, members: u32, member: u32) -> Result<Keyed>
+    requires { member < members }
 {
-    Ok(Keyed::new(alloc, KEY_BASE, members, Some(Participant(0)))?)
+    Ok(Keyed::new(alloc, KEY_BASE, members, Some(Participant(member)))?)
 }
 
-/// View 300.
-pub fn view() -> ViewRound {
-    ViewRound {
-        epoch: Epoch(3),
-        view: View(300),
+/// A view, which its number gives.
+#[derive(Drop)]
+pub struct Turn {
+    pub members: u32,
+    pub view: View,
+}
+
+impl Turn {
+    /// The members lead one after the other.
+    pub fn leader(&self) -> Participant {
+        Participant((self.view.0 % u64::from(self.members.max(1))) as u32)
     }
-}
 
-/// The proposal of the view.
-fn proposal() -> Proposal {
-    Proposal {
-        round: view(),
-        parent: View(299),
-        payload: Digest([17; 32]),
+    pub fn round(&self) -> ViewRound {
+        ViewRound {
+            epoch: EPOCH,
+            view: self.view,
+        }
+    }
+
+    /// The view before.
+    pub fn before(&self) -> Turn {
+        Turn {
+            members: self.members,
+            view: View(self.view.0.saturating_sub(1)),
+        }
+    }
+
+    /// The proposal of the view.
+    pub fn proposal(&self) -> Proposal {
+        Proposal {
+            round: self.round(),
+            parent: self.before().view,
+            payload: Digest([17; 32]),
+        }
     }
 }
 
@@ -48,28 +72,35 @@ impl Sent {
     }
 }
 
-/// All members' votes: first the notarizes, then the finalizes.
+/// All members, each of which signs.
 #[derive(Drop)]
-pub struct Votes {
-    pub sent: Vec<Sent>,
+pub struct Signers {
+    alloc: Global,
+    schemes: Vec<Keyed>,
 }
 
-impl Votes {
-    /// The votes of so many members.
-    pub fn signed(alloc: Global, members: u32) -> Result<Votes>
+impl Signers {
+    pub fn new(alloc: Global, members: u32) -> Result<Signers>
         requires { 0 < members }
     {
-        let mut sent = Vec::new(alloc);
+        let mut schemes = Vec::new(alloc);
         for member in 0..members {
-            let scheme = Keyed::new(alloc, KEY_BASE, members, Some(Participant(member)))?;
-            let vote = Notarize::sign(&scheme, proposal()).context("a member signs")?;
-            sent.push(Sent::new(alloc, Vote::Notarize(vote))?)?;
+            schemes.push(scheme(alloc, members, member)?)?;
         }
-        for member in 0..members {
-            let scheme = Keyed::new(alloc, KEY_BASE, members, Some(Participant(member)))?;
-            let vote = Finalize::sign(&scheme, proposal()).context("a member signs")?;
-            sent.push(Sent::new(alloc, Vote::Finalize(vote))?)?;
+        Ok(Signers { alloc, schemes })
+    }
+
+    /// All votes of a view: first the notarizes, then the finalizes.
+    pub fn votes(&self, turn: &Turn) -> Result<Vec<Sent>> {
+        let mut sent = Vec::new(self.alloc);
+        for scheme in &self.schemes {
+            let vote = Notarize::sign(scheme, turn.proposal()).context("a member signs")?;
+            sent.push(Sent::new(self.alloc, Vote::Notarize(vote))?)?;
         }
-        Ok(Votes { sent })
+        for scheme in &self.schemes {
+            let vote = Finalize::sign(scheme, turn.proposal()).context("a member signs")?;
+            sent.push(Sent::new(self.alloc, Vote::Finalize(vote))?)?;
+        }
+        Ok(sent)
     }
 }
