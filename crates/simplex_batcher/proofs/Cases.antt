@@ -13,7 +13,7 @@ use Rattle.simplex_wire.specs.Fields.{certificate_subject, certificate_signature
 use Rattle.simplex_round.specs.Acceptance.{heard_from}
 use Rattle.simplex_round.specs.Forwarding.{is_missing_voter}
 use Rattle.simplex_steps.specs.Batcher.{Made, Standing, Doing, leader_nullified, hinted_at_update, hinted_at_vote, hinting_nullify, hinting, has_skipping, is_me, is_active, required_active, retains_view, admits_view, vote_view, vote_epoch, certificate_view, certificate_epoch, took_vote, took_constructed, took_certificate, kept_certificate, holds_kind, and_blocked, known_in, round_for, worked, constructing_times, RoundHistory, forwarding, relayed, targets_of, heard_vote, heard_certificate, seen_now}
-use Rattle.simplex_batcher.specs.Working.{heard_at, own_heard_at, forwarded_at, decoded_vote, decoded_certificate}
+use Rattle.simplex_batcher.specs.Working.{heard_at, own_heard_at, forwarded_at, worked_near, decoded_vote, decoded_certificate}
 
 -- ---- hints
 
@@ -108,8 +108,8 @@ unfolding worked
 work-final made view doing final = rw final refl
 
 pub work-near : (made : Made) (view : ℕ) (doing : Doing) → nat_le view doing.standing.finalized ≡ false → admits_view made doing.standing view ≡ true
-    → worked made view doing ≡ constructing_times 3 made view (forwarded_at made view doing)
-unfolding worked forwarded_at
+    → worked made view doing ≡ worked_near made view doing
+unfolding worked forwarded_at worked_near
 work-near made view doing open_view near = rw (open_view, near) refl
 
 pub work-far : (made : Made) (view : ℕ) (doing : Doing) → nat_le view doing.standing.finalized ≡ false → admits_view made doing.standing view ≡ false

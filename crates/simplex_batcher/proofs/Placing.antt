@@ -7,7 +7,7 @@ use Rattle.std.proofs.lemmas.Bool.Decides.{nat_tests}
 use Rattle.simplex_round.specs.Known as low
 use Rattle.simplex_round.specs.Calls as rounds
 use Rattle.simplex_steps.specs.Batcher.{Made, Standing, RoundHistory, called, led, round_for, new_round}
-use Rattle.simplex_batcher.specs.Rounds.{round_of}
+use Rattle.simplex_batcher.specs.Rounds.{round_of, given}
 use Rattle.simplex_batcher.specs.Working.{put, with_lead, lead_of}
 
 pub same-some : {A : Type 0} → (x y : A) → Some x ≡ Some y → x ≡ y
@@ -75,6 +75,15 @@ taken-set old new histories view call history s takes q =
     let now = takes history (s view ∙ ap (option_map round_of) (set-here view history histories)) q in
     let before = s q in grind (arith, common_steps, nat_tests)
 
+-- the same, where it takes more than a call
+pub changed-set : (old new : ℕ → Option low.Standing) (histories : ℕ → Option RoundHistory) (view : ℕ) (change : RoundHistory → RoundHistory) (history : RoundHistory)
+    → Stand old (set view history histories)
+    → ((h : RoundHistory) → old view ≡ Some (round_of h) → (q : ℕ) → new q ≡ set view (round_of (change h)) old q)
+    → Stand new (set view (change history) histories)
+changed-set old new histories view change history s takes q =
+    let now = takes history (s view ∙ ap (option_map round_of) (set-here view history histories)) q in
+    let before = s q in grind (arith, common_steps, nat_tests)
+
 -- what a round that was just put there answers
 pub at-set : (old : ℕ → Option low.Standing) (histories : ℕ → Option RoundHistory) (view : ℕ) (history : RoundHistory)
     → Stand old (set view history histories) → old view ≡ Some (round_of history)
@@ -86,6 +95,14 @@ pub led-is : (made : Made) (standing : Standing) (view : ℕ) (history : RoundHi
     → led made standing view history ≡ option_map_or (λ leader. called (rounds.SetLeader leader) history) (lead_of made standing view) history
 unfolding led lead_of
 led-is made standing view history = grind (arith, common_steps)
+
+-- the round of the view, made where there is none, with the leader
+pub given-is : (made : Made) (standing : Standing) (view : ℕ) (leader : Option ℕ) → leader ≡ lead_of made standing view
+    → given leader (unwrap_or (standing.rounds view) (new_round made standing view)) ≡ round_for made standing view
+unfolding round_for
+given-is made standing view leader is =
+    ap (λ (o : Option ℕ). given o (unwrap_or (standing.rounds view) (new_round made standing view))) is
+    ∙ sym (led-is made standing view (unwrap_or (standing.rounds view) (new_round made standing view)))
 
 -- no leader is given
 pub led-none : (old : ℕ → Option low.Standing) (made : Made) (standing : Standing) (view : ℕ)

@@ -2,3 +2,4 @@ pub mod Rounds
 pub mod Activity
 pub mod Working
 pub mod Stands
+pub mod Holding

@@ -1,11 +1,11 @@
 -- The batcher's maps, and the histories of the rounds in them.
 use Rattle.std.specs.Prelude.{◌≡◌, ℕ, ◌==◌, Option, Some, None, if◌then◌else◌}
-use Rattle.std.specs.Option.{option_map}
+use Rattle.std.specs.Option.{option_map, option_map_or}
 use Rattle.std.specs.Ordering.{nat_cmp}
 use Rattle.std.specs.BTreeMap as tree
 use Rattle.std.specs.BTreeMap.{BTreeMap}
 use Rattle.simplex_round.specs.Known.{Made, Known, Standing}
-use Rattle.simplex_round.specs.Calls.{Call}
+use Rattle.simplex_round.specs.Calls.{Call, SetLeader}
 use Rattle.simplex_steps.specs.Batcher.{RoundHistory, known_in, called}
 
 -- what the map has at a number
@@ -15,6 +15,16 @@ found values number = tree.get nat_cmp values number
 -- the round as it stands behind the calls of its history
 unfoldable pub round_of : RoundHistory → Standing
 round_of history = record { made = history.made; known = known_in history }
+
+-- the history with the leader behind it, if there is one
+abbrev pub given : Option ℕ → RoundHistory → RoundHistory
+given leader history = option_map_or (λ it. called (SetLeader it) history) leader history
+
+-- whatever history the round of the view has, it has this one now, and the others stay
+abbrev pub ChangesAt : BTreeMap ℕ Standing → BTreeMap ℕ Standing → ℕ → (RoundHistory → RoundHistory) → Type 0
+ChangesAt old new view change =
+    (history : RoundHistory) → found old view ≡ Some (round_of history)
+    → (q : ℕ) → found new q ≡ (if q == view then Some (round_of (change history)) else found old q)
 
 -- whatever history the round of the view has, it has it with the call behind it, and the others stay
 abbrev pub TakesAt : BTreeMap ℕ Standing → BTreeMap ℕ Standing → ℕ → Call → Type 0
@@ -30,3 +40,8 @@ StaysWithout old new view = found old view ≡ None → (q : ℕ) → found new 
 abbrev pub AnswersAt : {R : Type 0} → BTreeMap ℕ Standing → ℕ → (Made → Known → R) → R → Type 0
 AnswersAt rounds view rule answer =
     (history : RoundHistory) → found rounds view ≡ Some (round_of history) → answer ≡ rule history.made (known_in history)
+
+-- the same, where the rule goes by the history
+abbrev pub HistoryAnswersAt : {R : Type 0} → BTreeMap ℕ Standing → ℕ → (RoundHistory → R) → R → Type 0
+HistoryAnswersAt rounds view rule answer =
+    (history : RoundHistory) → found rounds view ≡ Some (round_of history) → answer ≡ rule history

@@ -7,7 +7,7 @@ use Rattle.simplex_wire.specs.declared.certificate.Certificate.{Certificate}
 use Rattle.simplex_round.specs.Acceptance as votes
 use Rattle.simplex_round.specs.Calls as rounds
 use Rattle.simplex_round.specs.Forwarding.{gives_proposal}
-use Rattle.simplex_steps.specs.Batcher.{Made, Standing, Doing, RoundHistory, called, known_in, led, round_for, with_heard, with_round, and_marked, vote_view, certificate_view, forwarded, constructing, heard_vote, heard_certificate}
+use Rattle.simplex_steps.specs.Batcher.{Made, Standing, Doing, RoundHistory, called, known_in, led, round_for, with_heard, with_round, and_marked, vote_view, certificate_view, forwarded, constructing, constructing_times, heard_vote, heard_certificate}
 
 -- the view has this round
 abbrev pub put : ℕ → RoundHistory → Standing → Standing
@@ -51,6 +51,10 @@ forwarded_at made view doing = option_map_or (λ round. forwarded made view roun
 -- the round of the view, if there is one, checks and assembles
 unfoldable pub constructing_at : Made → ℕ → Doing → Doing
 constructing_at made view doing = option_map_or (λ round. constructing made view round doing) (doing.standing.rounds view) doing
+
+-- the round of the view, if there is one, hands on its proposal, and then the three kinds follow each other
+unfoldable pub worked_near : Made → ℕ → Doing → Doing
+worked_near made view doing = constructing_times 3 made view (forwarded_at made view doing)
 
 -- a certificate, by the round of its view
 unfoldable pub recorded_at : Made → Certificate → Doing → Doing

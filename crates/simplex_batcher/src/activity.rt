@@ -60,7 +60,10 @@ impl<S: Scheme + Drop> Actor<S> {
         ensures { Reads S.verifies S.recovers S.members S.member self.now (λ made standing. is_active made standing member timeout now) result }
     {
         let since = now.saturating_sub(timeout);
-        self.count_active(since) < self.required_active() || self.was_seen(since, member)
+        if self.was_seen(since, member) {
+            return true;
+        }
+        self.count_active(since) < self.required_active()
     }
 
     /// How many members were seen since.

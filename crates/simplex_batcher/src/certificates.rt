@@ -7,11 +7,11 @@ ghost use Rattle.simplex_batcher.specs.Working.{recorded_at};
 ghost use Rattle.simplex_batcher.specs.Stands.{Marks, Reads};
 
 use crate::actor::Actor;
-use crate::marks::mark;
+use crate::marks::Marked;
 use crate::rounds;
 use crate::work::Work;
 use simplex_messages::voter;
-use simplex_types::{Certificate, Participant, Scheme, Signatures, View};
+use simplex_types::{Certificate, Participant, Scheme, Signatures};
 use std::alloc::AllocError;
 
 /// The signatures of the certificate.
@@ -49,10 +49,10 @@ impl<S: Scheme + Drop> Actor<S> {
     fn record(
         &mut self,
         certificate: &Certificate,
-        dirty: &mut Vec<View>,
+        dirty: &mut Marked,
         work: &mut Work,
     ) -> Result<(), AllocError>
-        ensures { OnOk result (Marks S.verifies S.recovers S.members S.member self.old work.old dirty.old.items self.new work.new dirty.new.items (λ made. recorded_at made certificate.now)) }
+        ensures { OnOk result (Marks S.verifies S.recovers S.members S.member self.old work.old dirty.old self.new work.new dirty.new (λ made. recorded_at made certificate.now)) }
     {
         let view = certificate.view();
         self.make_round(view)?;
@@ -62,7 +62,7 @@ impl<S: Scheme + Drop> Actor<S> {
             self.alloc,
             certificate,
         )?;
-        mark(dirty, is_marked, view)?;
+        dirty.mark(is_marked, view)?;
         Ok(())
     }
 
@@ -71,10 +71,10 @@ impl<S: Scheme + Drop> Actor<S> {
     fn keep_certificate(
         &mut self,
         certificate: Certificate,
-        dirty: &mut Vec<View>,
+        dirty: &mut Marked,
         work: &mut Work,
     ) -> Result<(), AllocError>
-        ensures { OnOk result (Marks S.verifies S.recovers S.members S.member self.old work.old dirty.old.items self.new work.new dirty.new.items (λ made. kept_certificate made certificate)) }
+        ensures { OnOk result (Marks S.verifies S.recovers S.members S.member self.old work.old dirty.old self.new work.new dirty.new (λ made. kept_certificate made certificate)) }
     {
         self.record(&certificate, dirty, work)?;
         work.hand(voter::Message::Verified { certificate })?;
@@ -87,10 +87,10 @@ impl<S: Scheme + Drop> Actor<S> {
         &mut self,
         sender: Participant,
         certificate: Certificate,
-        dirty: &mut Vec<View>,
+        dirty: &mut Marked,
         work: &mut Work,
     ) -> Result<(), AllocError>
-        ensures { OnOk result (Marks S.verifies S.recovers S.members S.member self.old work.old dirty.old.items self.new work.new dirty.new.items (λ made. took_certificate made sender certificate)) }
+        ensures { OnOk result (Marks S.verifies S.recovers S.members S.member self.old work.old dirty.old self.new work.new dirty.new (λ made. took_certificate made sender certificate)) }
     {
         if !self.retains(certificate.view()) {
             return Ok(());

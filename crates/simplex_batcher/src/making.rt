@@ -67,7 +67,7 @@ impl<S: Scheme + Drop> Actor<S> {
 
     /// The view has a round from now on.
     #[tactic(auto, unfolding(crate::specs::Rounds::found))]
-    fn make_bare_round(&mut self, view: View) -> Result<(), AllocError>
+    pub(crate) fn make_bare_round(&mut self, view: View) -> Result<(), AllocError>
         ensures { OnOk result (Moves S.verifies S.recovers S.members S.member self.old self.new (λ made standing. put view (unwrap_or (standing.rounds view) (new_round made standing view)) standing)) }
     {
         let number = view.0;
@@ -81,7 +81,7 @@ impl<S: Scheme + Drop> Actor<S> {
 
     /// The leader that a round of the view is given.
     #[tactic(auto, unfolding(crate::specs::Stands::batcher_made, crate::specs::Working::lead_of))]
-    fn leader_at(&self, view: View) -> Option<Participant>
+    pub(crate) fn leader_at(&self, view: View) -> Option<Participant>
         ensures { Reads S.verifies S.recovers S.members S.member self.now (λ made standing. lead_of made standing view) result }
     {
         if view == self.current {

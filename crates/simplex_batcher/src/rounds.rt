@@ -8,13 +8,13 @@ ghost use Rattle.std.specs.Map.{keys_of};
 ghost use Rattle.std.specs.Ordering.{nat_cmp};
 ghost use Rattle.std.specs.declared.ops.Bound.TheVariants.{Included};
 ghost use Rattle.simplex_round.specs.Acceptance.{heard, heard_from, has_nullify};
-ghost use Rattle.simplex_round.specs.Assembly.{as_scheme, constructed};
-ghost use Rattle.simplex_round.specs.Calls.{AddNetwork, AcceptVote, SetLeader, RecordCertificate, TryConstruct, TryForward};
-ghost use Rattle.simplex_round.specs.Forwarding.{gives_proposal, forwarded_to_voter, is_held};
-ghost use Rattle.simplex_batcher.specs.Rounds.{found, round_of, TakesAt, StaysWithout, AnswersAt};
+ghost use Rattle.simplex_round.specs.Calls.{AddNetwork, AcceptVote, SetLeader, RecordCertificate};
+ghost use Rattle.simplex_round.specs.Forwarding.{gives_proposal, is_held};
+ghost use Rattle.simplex_steps.specs.Batcher.{RoundHistory, called, known_in};
+ghost use Rattle.simplex_batcher.specs.Rounds.{found, round_of, given, ChangesAt, TakesAt, StaysWithout, AnswersAt, HistoryAnswersAt};
 
-use simplex_round::{Batch, Round, RoundOut};
-use simplex_types::{Certificate, CertificateKind, Participant, Proposal, Scheme, Vote};
+use simplex_round::{Round, RoundOut};
+use simplex_types::{Certificate, CertificateKind, Participant, Vote};
 use std::alloc::{AllocError, Global};
 use std::collections::BTreeMap;
 
@@ -31,22 +31,49 @@ pub(crate) fn set_leader(rounds: &mut Rounds, view: u64, leader: Participant)
     }
 }
 
-/// The view's round takes a vote from the network: whether it is accepted.
-pub(crate) fn add_network(
-    rounds: &mut Rounds,
-    view: u64,
+/// The round takes the leader, if there is one.
+fn give(round: &mut Round, leader: Option<Participant>)
+    ensures { (history : RoundHistory) → round.old ≡ round_of history → round.new ≡ round_of (given leader history) }
+{
+    if let Some(leader) = leader {
+        round.set_leader(leader);
+    }
+}
+
+/// The round takes the leader, if there is one, and a vote from the network: whether it is accepted.
+fn hear(
+    round: &mut Round,
+    leader: Option<Participant>,
     sender: Participant,
     vote: Vote,
     out: &mut RoundOut,
 ) -> Result<bool, AllocError>
-    ensures stands { OnOk result (TakesAt rounds.old rounds.new view (AddNetwork sender vote)) }
-    ensures answer { IfOk result (AnswersAt rounds.old view (λ made known. (heard_from known sender vote).accepted)) }
-    ensures reports { OnOk result (AnswersAt rounds.old view (λ made known. out.old.reports ++ (heard_from known sender vote).reports) out.new.reports) }
-    ensures blocks { OnOk result (AnswersAt rounds.old view (λ made known. out.old.blocks ++ (heard_from known sender vote).blocks) out.new.blocks) }
+    ensures stands { OnOk result ((history : RoundHistory) → round.old ≡ round_of history → round.new ≡ round_of (called (AddNetwork sender vote) (given leader history))) }
+    ensures answer { IfOk result (λ accepted. (history : RoundHistory) → round.old ≡ round_of history → accepted ≡ (heard_from (known_in (given leader history)) sender vote).accepted) }
+    ensures reports { OnOk result ((history : RoundHistory) → round.old ≡ round_of history → out.new.reports ≡ out.old.reports ++ (heard_from (known_in (given leader history)) sender vote).reports) }
+    ensures blocks { OnOk result ((history : RoundHistory) → round.old ≡ round_of history → out.new.blocks ≡ out.old.blocks ++ (heard_from (known_in (given leader history)) sender vote).blocks) }
+{
+    give(round, leader);
+    round.add_network(sender, vote, out)
+}
+
+/// The view's round takes the leader, if there is one, and a vote from the network: whether it is accepted.
+pub(crate) fn add_network(
+    rounds: &mut Rounds,
+    view: u64,
+    leader: Option<Participant>,
+    sender: Participant,
+    vote: Vote,
+    out: &mut RoundOut,
+) -> Result<bool, AllocError>
+    ensures stands { OnOk result (ChangesAt rounds.old rounds.new view (λ history. called (AddNetwork sender vote) (given leader history))) }
+    ensures answer { IfOk result (HistoryAnswersAt rounds.old view (λ history. (heard_from (known_in (given leader history)) sender vote).accepted)) }
+    ensures reports { OnOk result (HistoryAnswersAt rounds.old view (λ history. out.old.reports ++ (heard_from (known_in (given leader history)) sender vote).reports) out.new.reports) }
+    ensures blocks { OnOk result (HistoryAnswersAt rounds.old view (λ history. out.old.blocks ++ (heard_from (known_in (given leader history)) sender vote).blocks) out.new.blocks) }
 {
     match rounds.get_mut(&view) {
         None => Ok(false),
-        Some(round) => round.add_network(sender, vote, out),
+        Some(round) => hear(round, leader, sender, vote, out),
     }
 }
 
@@ -105,38 +132,6 @@ pub(crate) fn record_certificate(
     match rounds.get_mut(&view) {
         None => Ok(false),
         Some(round) => round.record_certificate(alloc, certificate),
-    }
-}
-
-/// The view's round checks the votes of the first kind for which there is something to do, and assembles their
-/// certificate.
-pub(crate) fn try_construct<S: Scheme>(
-    rounds: &mut Rounds,
-    view: u64,
-    alloc: Global,
-    scheme: &S,
-) -> Result<Option<Batch>, AllocError>
-    ensures stands { OnOk result (TakesAt rounds.old rounds.new view (TryConstruct (as_scheme (S.verifies scheme.now) (S.recovers scheme.now) (S.members scheme.now)))) }
-    ensures answer { IfOk result (AnswersAt rounds.old view (λ made known. constructed made (as_scheme (S.verifies scheme.now) (S.recovers scheme.now) (S.members scheme.now)) known)) }
-    ensures none { OnOk result (StaysWithout rounds.old rounds.new view) }
-    ensures nothing { IfOk result (λ batch. found rounds.old view ≡ None → batch ≡ None) }
-{
-    match rounds.get_mut(&view) {
-        None => Ok(None),
-        Some(round) => round.try_construct(alloc, scheme),
-    }
-}
-
-/// The proposal that the view's round hands to the voter, once.
-pub(crate) fn try_forward(rounds: &mut Rounds, view: u64, me: Participant) -> Option<Proposal>
-    ensures stands { TakesAt rounds.old rounds.new view (TryForward me) }
-    ensures answer { AnswersAt rounds.old view (λ made known. forwarded_to_voter known me) result }
-    ensures none { StaysWithout rounds.old rounds.new view }
-    ensures nothing { found rounds.old view ≡ None → result ≡ None }
-{
-    match rounds.get_mut(&view) {
-        None => None,
-        Some(round) => round.try_forward_proposal(me),
     }
 }
 

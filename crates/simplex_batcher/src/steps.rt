@@ -12,10 +12,11 @@ ghost use Rattle.simplex_batcher.specs.Working.{decoded_vote, decoded_certificat
 ghost use Rattle.simplex_batcher.specs.Stands.{Marks, Reads, WorksAs};
 
 use crate::actor::Actor;
+use crate::marks::Marked;
 use crate::work::Work;
 use simplex_mailbox::Post;
 use simplex_messages::{BatcherInput, Handed, batcher, voter};
-use simplex_types::{Certificate, DecodeError, Epoch, Keep, Participant, Scheme, View, Vote};
+use simplex_types::{Certificate, DecodeError, Epoch, Keep, Participant, Scheme, Vote};
 use std::alloc::{AllocError, Global};
 
 impl<S: Scheme + Drop> Actor<S> {
@@ -34,10 +35,10 @@ impl<S: Scheme + Drop> Actor<S> {
         sender: Participant,
         vote: Vote,
         now: u64,
-        dirty: &mut Vec<View>,
+        dirty: &mut Marked,
         work: &mut Work,
     ) -> Result<(), AllocError>
-        ensures { OnOk result (Marks S.verifies S.recovers S.members S.member self.old work.old dirty.old.items self.new work.new dirty.new.items (λ made. decoded_vote made sender vote now)) }
+        ensures { OnOk result (Marks S.verifies S.recovers S.members S.member self.old work.old dirty.old self.new work.new dirty.new (λ made. decoded_vote made sender vote now)) }
     {
         if !self.is_of_epoch(vote.epoch()) {
             work.block(sender)?;
@@ -55,10 +56,10 @@ impl<S: Scheme + Drop> Actor<S> {
         sender: Participant,
         bytes: &[u8],
         now: u64,
-        dirty: &mut Vec<View>,
+        dirty: &mut Marked,
         work: &mut Work,
     ) -> Result<(), AllocError>
-        ensures { OnOk result (Marks S.verifies S.recovers S.members S.member self.old work.old dirty.old.items self.new work.new dirty.new.items (λ made. heard_vote made sender (whole format.vote bytes.now) now)) }
+        ensures { OnOk result (Marks S.verifies S.recovers S.members S.member self.old work.old dirty.old self.new work.new dirty.new (λ made. heard_vote made sender (whole format.vote bytes.now) now)) }
     {
         match Vote::decode(bytes) {
             Err(_) => {
@@ -79,10 +80,10 @@ impl<S: Scheme + Drop> Actor<S> {
         sender: Participant,
         certificate: Certificate,
         now: u64,
-        dirty: &mut Vec<View>,
+        dirty: &mut Marked,
         work: &mut Work,
     ) -> Result<(), AllocError>
-        ensures { OnOk result (Marks S.verifies S.recovers S.members S.member self.old work.old dirty.old.items self.new work.new dirty.new.items (λ made. decoded_certificate made sender certificate now)) }
+        ensures { OnOk result (Marks S.verifies S.recovers S.members S.member self.old work.old dirty.old self.new work.new dirty.new (λ made. decoded_certificate made sender certificate now)) }
     {
         if !self.is_of_epoch(certificate.epoch()) {
             work.block(sender)?;
@@ -100,10 +101,10 @@ impl<S: Scheme + Drop> Actor<S> {
         sender: Participant,
         bytes: &[u8],
         now: u64,
-        dirty: &mut Vec<View>,
+        dirty: &mut Marked,
         work: &mut Work,
     ) -> Result<(), AllocError>
-        ensures { OnOk result (Marks S.verifies S.recovers S.members S.member self.old work.old dirty.old.items self.new work.new dirty.new.items (λ made. heard_certificate made sender (whole format.certificate bytes.now) now)) }
+        ensures { OnOk result (Marks S.verifies S.recovers S.members S.member self.old work.old dirty.old self.new work.new dirty.new (λ made. heard_certificate made sender (whole format.certificate bytes.now) now)) }
     {
         match Certificate::decode(self.alloc, bytes) {
             Err(DecodeError::Memory) => Err(AllocError),
@@ -124,10 +125,10 @@ impl<S: Scheme + Drop> Actor<S> {
         &mut self,
         message: batcher::Message,
         now: u64,
-        dirty: &mut Vec<View>,
+        dirty: &mut Marked,
         work: &mut Work,
     ) -> Result<(), AllocError>
-        ensures { OnOk result (Marks S.verifies S.recovers S.members S.member self.old work.old dirty.old.items self.new work.new dirty.new.items (λ made. acted made (Mail message) now)) }
+        ensures { OnOk result (Marks S.verifies S.recovers S.members S.member self.old work.old dirty.old self.new work.new dirty.new (λ made. acted made (Mail message) now)) }
     {
         match message {
             batcher::Message::Update {
@@ -153,10 +154,10 @@ impl<S: Scheme + Drop> Actor<S> {
         &mut self,
         input: BatcherInput,
         now: u64,
-        dirty: &mut Vec<View>,
+        dirty: &mut Marked,
         work: &mut Work,
     ) -> Result<(), AllocError>
-        ensures { OnOk result (Marks S.verifies S.recovers S.members S.member self.old work.old dirty.old.items self.new work.new dirty.new.items (λ made. acted made input now)) }
+        ensures { OnOk result (Marks S.verifies S.recovers S.members S.member self.old work.old dirty.old self.new work.new dirty.new (λ made. acted made input now)) }
     {
         match input {
             BatcherInput::Mail(message) => {
@@ -179,7 +180,7 @@ impl<S: Scheme + Drop> Actor<S> {
     pub(crate) fn take(&mut self, input: BatcherInput, now: u64) -> Result<Work, AllocError>
         ensures { IfOk result (λ work. WorksAs S.verifies S.recovers S.members S.member self.old self.new work (λ made standing. step made standing (record { input = input; now = now }))) }
     {
-        let mut dirty = Vec::new(self.alloc);
+        let mut dirty = Marked::new(self.alloc);
         let mut work = Work::new(self.alloc);
         self.act(input, now, &mut dirty, &mut work)?;
         self.finish(&dirty, &mut work)?;

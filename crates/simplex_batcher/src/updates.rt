@@ -5,7 +5,7 @@ ghost use Rattle.simplex_batcher.specs.Working.{entered, with_leads, with_window
 ghost use Rattle.simplex_batcher.specs.Stands.{Marks, Moves, Reads};
 
 use crate::actor::Actor;
-use crate::marks::marks_of;
+use crate::marks::Marked;
 use crate::rounds;
 use crate::work::Work;
 use simplex_types::{Participant, Proposal, Scheme, View};
@@ -75,14 +75,14 @@ impl<S: Scheme + Drop> Actor<S> {
         finalized: View,
         proposal: &Option<Proposal>,
         now: u64,
-        dirty: &mut Vec<View>,
+        dirty: &mut Marked,
         work: &mut Work,
     ) -> Result<(), AllocError>
-        ensures { OnOk result (Marks S.verifies S.recovers S.members S.member self.old work.old dirty.old.items self.new work.new dirty.new.items (λ made. took_update made current leader finalized proposal.now now)) }
+        ensures { OnOk result (Marks S.verifies S.recovers S.members S.member self.old work.old dirty.old self.new work.new dirty.new (λ made. took_update made current leader finalized proposal.now now)) }
     {
         self.enter(current, leader, finalized);
         let window = self.lead_current()?;
-        *dirty = marks_of(self.alloc, current, &window)?;
+        *dirty = Marked::of(self.alloc, current, &window)?;
         self.hint_at_update(leader, now, work)?;
         self.forward(leader, proposal, work)?;
         Ok(())

@@ -6,11 +6,11 @@ ghost use Rattle.simplex_batcher.specs.Working.{heard_at, own_heard_at};
 ghost use Rattle.simplex_batcher.specs.Stands.{Marks, Reads};
 
 use crate::actor::Actor;
-use crate::marks::mark;
+use crate::marks::Marked;
 use crate::rounds;
 use crate::work::Work;
 use simplex_round::RoundOut;
-use simplex_types::{Participant, Scheme, View, Vote};
+use simplex_types::{Participant, Scheme, Vote};
 use std::alloc::AllocError;
 
 impl<S: Scheme + Drop> Actor<S> {
@@ -19,18 +19,26 @@ impl<S: Scheme + Drop> Actor<S> {
         &mut self,
         sender: Participant,
         vote: Vote,
-        dirty: &mut Vec<View>,
+        dirty: &mut Marked,
         work: &mut Work,
     ) -> Result<bool, AllocError>
-        ensures stands { OnOk result (Marks S.verifies S.recovers S.members S.member self.old work.old dirty.old.items self.new work.new dirty.new.items (λ made doing. heard_at made sender vote doing)) }
+        ensures stands { OnOk result (Marks S.verifies S.recovers S.members S.member self.old work.old dirty.old self.new work.new dirty.new (λ made doing. heard_at made sender vote doing)) }
         ensures answer { IfOk result (Reads S.verifies S.recovers S.members S.member self.old (λ made standing. (heard_from (known_in (round_for made standing (vote_view vote))) sender vote).accepted)) }
     {
         let view = vote.view();
-        self.make_round(view)?;
+        self.make_bare_round(view)?;
+        let leader = self.leader_at(view);
         let mut out = RoundOut::new(self.alloc);
-        let accepted = rounds::add_network(&mut self.rounds, view.0, sender, vote, &mut out)?;
+        let accepted = rounds::add_network(
+            &mut self.rounds,
+            view.0,
+            leader,
+            sender,
+            vote,
+            &mut out,
+        )?;
         work.publish(out)?;
-        mark(dirty, accepted, view)?;
+        dirty.mark(accepted, view)?;
         Ok(accepted)
     }
 
@@ -40,10 +48,10 @@ impl<S: Scheme + Drop> Actor<S> {
         &mut self,
         sender: Participant,
         vote: Vote,
-        dirty: &mut Vec<View>,
+        dirty: &mut Marked,
         work: &mut Work,
     ) -> Result<(), AllocError>
-        ensures { OnOk result (Marks S.verifies S.recovers S.members S.member self.old work.old dirty.old.items self.new work.new dirty.new.items (λ made. took_vote made sender vote)) }
+        ensures { OnOk result (Marks S.verifies S.recovers S.members S.member self.old work.old dirty.old self.new work.new dirty.new (λ made. took_vote made sender vote)) }
     {
         let view = vote.view();
         if !self.admits_vote(view) {
@@ -58,17 +66,17 @@ impl<S: Scheme + Drop> Actor<S> {
     fn hear_own(
         &mut self,
         vote: Vote,
-        dirty: &mut Vec<View>,
+        dirty: &mut Marked,
         work: &mut Work,
     ) -> Result<(), AllocError>
-        ensures { OnOk result (Marks S.verifies S.recovers S.members S.member self.old work.old dirty.old.items self.new work.new dirty.new.items (λ made doing. own_heard_at made vote doing)) }
+        ensures { OnOk result (Marks S.verifies S.recovers S.members S.member self.old work.old dirty.old self.new work.new dirty.new (λ made doing. own_heard_at made vote doing)) }
     {
         let view = vote.view();
         self.make_round(view)?;
         let mut out = RoundOut::new(self.alloc);
         let accepted = rounds::accept_vote(&mut self.rounds, view.0, vote, &mut out)?;
         work.publish(out)?;
-        mark(dirty, accepted, view)?;
+        dirty.mark(accepted, view)?;
         Ok(())
     }
 
@@ -77,10 +85,10 @@ impl<S: Scheme + Drop> Actor<S> {
     pub(crate) fn take_constructed(
         &mut self,
         vote: Vote,
-        dirty: &mut Vec<View>,
+        dirty: &mut Marked,
         work: &mut Work,
     ) -> Result<(), AllocError>
-        ensures { OnOk result (Marks S.verifies S.recovers S.members S.member self.old work.old dirty.old.items self.new work.new dirty.new.items (λ made. took_constructed made vote)) }
+        ensures { OnOk result (Marks S.verifies S.recovers S.members S.member self.old work.old dirty.old self.new work.new dirty.new (λ made. took_constructed made vote)) }
     {
         if !self.retains(vote.view()) {
             return Ok(());

@@ -3,18 +3,21 @@ ghost use Rattle.std.specs.Prelude.{◌≡◌, ◌++◌, map, OnOk};
 ghost use Rattle.std.specs.Option.{option_to_list};
 ghost use Rattle.simplex_messages.specs.declared.handed.Handed.TheVariants.{Voter};
 ghost use Rattle.simplex_messages.specs.declared.voter.Message.TheVariants.{Verified, Proposal as ProposalMessage};
-ghost use Rattle.simplex_steps.specs.Batcher.{Doing, worked, worked_all, finished, dropped, constructing_times, number_of, with_batch};
-ghost use Rattle.simplex_batcher.specs.Working.{forwarded_at, constructing_at};
+ghost use Rattle.simplex_round.specs.Assembly.{as_scheme};
+ghost use Rattle.simplex_steps.specs.Batcher.{Made, Doing, worked, worked_all, finished, dropped, number_of, with_batch};
+ghost use Rattle.simplex_batcher.specs.Holding.{Works, WorksAt, StaysBeside};
+ghost use Rattle.simplex_batcher.specs.Working.{forwarded_at, constructing_at, worked_near};
 ghost use Rattle.simplex_batcher.specs.Stands.{Does, Marks, Reads, work_of};
 ghost use Rattle.simplex_batcher.specs.declared.work.Work.{Work};
 
 use crate::actor::Actor;
-use crate::rounds;
+use crate::marks::Marked;
+use crate::rounds::{self, Rounds};
 use crate::work::{Work, block_each};
 use simplex_messages::voter;
-use simplex_round::Batch;
+use simplex_round::{Batch, Round};
 use simplex_types::{Certificate, Participant, Proposal, Scheme, View};
-use std::alloc::AllocError;
+use std::alloc::{AllocError, Global};
 
 impl Work {
     /// The proposal, if there is one, goes to the voter.
@@ -55,6 +58,88 @@ impl Work {
     }
 }
 
+/// The round hands its proposal to the voter, once.
+fn forward_proposal(round: &mut Round, me: Participant, work: &mut Work) -> Result<(), AllocError>
+    ensures { OnOk result ((made : Made) → me ≡ number_of made → Works round.old work.old round.new work.new (forwarded_at made)) }
+{
+    let proposal = round.try_forward_proposal(me);
+    work.hand_proposal(proposal)?;
+    Ok(())
+}
+
+/// The round checks the votes of the first kind for which there is something to do, and assembles their certificate.
+fn construct<S: Scheme>(
+    round: &mut Round,
+    alloc: Global,
+    scheme: &S,
+    work: &mut Work,
+) -> Result<(), AllocError>
+    ensures { OnOk result ((made : Made) → made.scheme ≡ as_scheme (S.verifies scheme.now) (S.recovers scheme.now) (S.members scheme.now) → Works round.old work.old round.new work.new (constructing_at made)) }
+{
+    let batch = round.try_construct(alloc, scheme)?;
+    work.publish_batch(batch)?;
+    Ok(())
+}
+
+/// The round hands on its proposal, and then the three kinds follow each other.
+fn work_round<S: Scheme>(
+    round: &mut Round,
+    alloc: Global,
+    scheme: &S,
+    me: Participant,
+    work: &mut Work,
+) -> Result<(), AllocError>
+    ensures { OnOk result ((made : Made) → me ≡ number_of made → made.scheme ≡ as_scheme (S.verifies scheme.now) (S.recovers scheme.now) (S.members scheme.now) → Works round.old work.old round.new work.new (worked_near made)) }
+{
+    forward_proposal(round, me, work)?;
+    construct(round, alloc, scheme, work)?;
+    construct(round, alloc, scheme, work)?;
+    construct(round, alloc, scheme, work)?;
+    Ok(())
+}
+
+/// The round of the view, if there is one, hands its proposal to the voter, once.
+#[tactic(auto, unfolding(crate::specs::Rounds::found))]
+fn forward_at(
+    rounds: &mut Rounds,
+    view: u64,
+    me: Participant,
+    work: &mut Work,
+) -> Result<(), AllocError>
+    ensures works { OnOk result ((made : Made) → me ≡ number_of made → WorksAt rounds.old work.old rounds.new work.new view (forwarded_at made view)) }
+    ensures others { OnOk result (StaysBeside rounds.old rounds.new view) }
+{
+    match rounds.get_mut(&view) {
+        None => Ok(()),
+        Some(round) => {
+            forward_proposal(round, me, work)?;
+            Ok(())
+        }
+    }
+}
+
+/// The round of the view, if there is one, hands on its proposal, and then the three kinds follow each other.
+#[tactic(auto, unfolding(crate::specs::Rounds::found))]
+fn work_at<S: Scheme>(
+    rounds: &mut Rounds,
+    view: u64,
+    alloc: Global,
+    scheme: &S,
+    me: Participant,
+    work: &mut Work,
+) -> Result<(), AllocError>
+    ensures works { OnOk result ((made : Made) → me ≡ number_of made → made.scheme ≡ as_scheme (S.verifies scheme.now) (S.recovers scheme.now) (S.members scheme.now) → WorksAt rounds.old work.old rounds.new work.new view (worked_near made view)) }
+    ensures others { OnOk result (StaysBeside rounds.old rounds.new view) }
+{
+    match rounds.get_mut(&view) {
+        None => Ok(()),
+        Some(round) => {
+            work_round(round, alloc, scheme, me, work)?;
+            Ok(())
+        }
+    }
+}
+
 impl<S: Scheme + Drop> Actor<S> {
     /// The number by which a round knows this member: one that no member has, where it is none.
     #[tactic(auto, unfolding(crate::specs::Stands::batcher_made))]
@@ -65,55 +150,21 @@ impl<S: Scheme + Drop> Actor<S> {
         self.config.scheme.me().unwrap_or(Participant(members))
     }
 
-    /// The round of the view, if there is one, hands its proposal to the voter, once.
-    fn forward_proposal(&mut self, view: View, work: &mut Work) -> Result<(), AllocError>
-        ensures { OnOk result (Does S.verifies S.recovers S.members S.member self.old work.old self.new work.new (λ made. forwarded_at made view)) }
-    {
-        let me = self.number();
-        let proposal = rounds::try_forward(&mut self.rounds, view.0, me);
-        work.hand_proposal(proposal)?;
-        Ok(())
-    }
-
-    /// The round of the view, if there is one, checks the votes of the first kind for which there is something to
-    /// do, and assembles their certificate.
-    fn construct(&mut self, view: View, work: &mut Work) -> Result<(), AllocError>
-        ensures { OnOk result (Does S.verifies S.recovers S.members S.member self.old work.old self.new work.new (λ made. constructing_at made view)) }
-    {
-        let batch = rounds::try_construct(
-            &mut self.rounds,
-            view.0,
-            self.alloc,
-            &self.config.scheme,
-        )?;
-        work.publish_batch(batch)?;
-        Ok(())
-    }
-
-    /// The three kinds follow each other.
-    #[tactic(auto, unfolding(crate::specs::Working::constructing_at, simplex_steps::specs::Batcher::constructing_times))]
-    fn construct_all(&mut self, view: View, work: &mut Work) -> Result<(), AllocError>
-        ensures { OnOk result (Does S.verifies S.recovers S.members S.member self.old work.old self.new work.new (λ made. constructing_times 3 made view)) }
-    {
-        self.construct(view, work)?;
-        self.construct(view, work)?;
-        self.construct(view, work)?;
-        Ok(())
-    }
-
-    /// The view is worked, where it is not final.
-    #[tactic(auto, unfolding(crate::specs::Working::forwarded_at, simplex_steps::specs::Batcher::worked))]
+    /// The view is worked, where it is not final. Its round is looked up once.
+    #[tactic(auto, unfolding(simplex_steps::specs::Batcher::worked))]
     fn work(&mut self, view: View, work: &mut Work) -> Result<(), AllocError>
         ensures { OnOk result (Does S.verifies S.recovers S.members S.member self.old work.old self.new work.new (λ made. worked made view)) }
     {
         if view <= self.finalized {
             return Ok(());
         }
-        let is_admitted = self.admits(view);
-        self.forward_proposal(view, work)?;
-        if is_admitted {
-            self.construct_all(view, work)?;
+        let me = self.number();
+        if !self.admits(view) {
+            forward_at(&mut self.rounds, view.0, me, work)?;
+            return Ok(());
         }
+        let scheme = &self.config.scheme;
+        work_at(&mut self.rounds, view.0, self.alloc, scheme, me, work)?;
         Ok(())
     }
 
@@ -136,12 +187,24 @@ impl<S: Scheme + Drop> Actor<S> {
         rounds::drop_below(&mut self.rounds, least.0);
     }
 
+    /// The marked views are worked, in this order.
+    fn work_marked(&mut self, dirty: &Marked, work: &mut Work) -> Result<(), AllocError>
+        ensures { OnOk result (Does S.verifies S.recovers S.members S.member self.old work.old self.new work.new (λ made. worked_all made dirty.now)) }
+    {
+        let (first, others) = dirty.parts();
+        if let Some(view) = first {
+            self.work(view, work)?;
+        }
+        self.work_each(others, work)?;
+        Ok(())
+    }
+
     /// The marked views are worked, and rounds that are not kept are dropped.
     #[tactic(auto, unfolding(simplex_steps::specs::Batcher::finished))]
-    pub(crate) fn finish(&mut self, dirty: &[View], work: &mut Work) -> Result<(), AllocError>
+    pub(crate) fn finish(&mut self, dirty: &Marked, work: &mut Work) -> Result<(), AllocError>
         ensures { OnOk result (Marks S.verifies S.recovers S.members S.member self.old work.old dirty.now self.new work.new dirty.now (λ made. finished made)) }
     {
-        self.work_each(dirty, work)?;
+        self.work_marked(dirty, work)?;
         self.drop_old();
         Ok(())
     }

@@ -1,0 +1,31 @@
+use Rattle.std.proofs.Common.{◌≡◌, ◌∙◌, ap, sym, refl, Option, Some, None}
+use Rattle.std.specs.Option.{option_map, option_map_or}
+use Rattle.simplex_round.specs.Assembly.{constructed}
+use Rattle.simplex_round.specs.Calls.{TryConstruct}
+use Rattle.simplex_round.specs.Stands.{StandsFor}
+use Rattle.simplex_steps.specs.Batcher.{Standing, RoundHistory, constructing, called, known_in, with_batch}
+use Rattle.simplex_batcher.specs.Rounds.{round_of}
+use Rattle.simplex_batcher.specs.Stands.{work_of}
+use Rattle.simplex_batcher.specs.Holding.{Holds}
+use Rattle.simplex_batcher.specs.Working.{constructing_at}
+use Rattle.simplex_batcher.proofs.Placing.{same-some, set}
+use Rattle.simplex_batcher.proofs.Batches.{batch-standing, batch-dirty}
+use Rattle.simplex_batcher.proofs.Holding.{holds-set}
+use Rattle.simplex_batcher.proofs.working.construct.Goals as goal
+
+pub returns : goal.returns
+unfolding constructing_at constructing round_of StandsFor
+returns g c = λ made same view before doing h.
+    elim (doing.standing.rounds view) as (λ (o : Option RoundHistory). doing.standing.rounds view ≡ o
+    → Holds (Some c.try_construct.new.self) c.publish_batch.new.self view before (option_map_or (λ round. constructing made view round doing) o doing)) [
+      | None ↦ λ is. absurd (let bad : Some c.args.round.now ≡ None = h.round_is ∙ ap (option_map round_of) is in cc)
+      | Some history ↦ λ is.
+          let round : c.args.round.now ≡ round_of history = same-some _ _ (h.round_is ∙ ap (option_map round_of) is) in
+          let taken = c.in_ok-batch.ensures.stands history.made history.calls round in
+          let answer = c.in_ok-batch.ensures.answer history.made history.calls round in
+          let batch = constructed history.made made.scheme (known_in history) in
+          let rounds = set view (called (TryConstruct made.scheme) history) doing.standing.rounds in
+          holds-set (Some c.args.round.now) c.args.work.now c.publish_batch.new.self view before doing (constructing made view history doing) c.try_construct.new.self (called (TryConstruct made.scheme) history) h
+          (rw (← same) at taken) (ap (λ (s : Standing). record s { rounds = set view (called (TryConstruct made.scheme) history) s.rounds }) (batch-standing batch doing)) (batch-dirty batch doing)
+          (c.in_ok-publish_batch.ensures doing h.does ∙ ap (λ b. work_of (with_batch b doing)) (rw (← same) at answer))
+    ] refl
