@@ -2,6 +2,7 @@ pub mod Accepting
 pub mod Batches
 pub mod Cases
 pub mod Counting
+pub mod Hearing
 pub mod Holding
 pub mod Leading
 pub mod Moving

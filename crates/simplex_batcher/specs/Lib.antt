@@ -3,3 +3,4 @@ pub mod Activity
 pub mod Working
 pub mod Stands
 pub mod Holding
+pub mod Hearing

@@ -1,5 +1,5 @@
 -- The parts of a step's definitions, each as what one call does.
-use Rattle.std.specs.Prelude.{ℕ, ◌==◌, ◌||◌, Bool, false, List, fold, Option, Some, None, Ok, if◌then◌else◌}
+use Rattle.std.specs.Prelude.{ℕ, ◌==◌, ◌||◌, Bool, false, List, fold, Option, Some, None, Ok, unwrap_or, if◌then◌else◌}
 use Rattle.std.specs.Option.{option_map, option_map_or}
 use Rattle.simplex_values.specs.Terms.{is_in_window}
 use Rattle.simplex_wire.specs.declared.vote.Vote.{Vote}
@@ -7,7 +7,7 @@ use Rattle.simplex_wire.specs.declared.certificate.Certificate.{Certificate}
 use Rattle.simplex_round.specs.Acceptance as votes
 use Rattle.simplex_round.specs.Calls as rounds
 use Rattle.simplex_round.specs.Forwarding.{gives_proposal}
-use Rattle.simplex_steps.specs.Batcher.{Made, Standing, Doing, RoundHistory, called, known_in, led, round_for, with_heard, with_round, and_marked, vote_view, certificate_view, forwarded, constructing, constructing_times, heard_vote, heard_certificate}
+use Rattle.simplex_steps.specs.Batcher.{Made, Standing, Doing, RoundHistory, called, known_in, led, round_for, new_round, with_heard, with_round, and_marked, vote_view, certificate_view, forwarded, constructing, constructing_times, heard_vote, heard_certificate}
 
 -- the view has this round
 abbrev pub put : ℕ → RoundHistory → Standing → Standing
@@ -22,6 +22,10 @@ lead_of made standing view =
 abbrev pub with_lead : Made → ℕ → Standing → Standing
 with_lead made view standing =
     record standing { rounds = λ q. if q == view then option_map (led made standing view) (standing.rounds view) else standing.rounds q }
+
+-- the round of the view, made where there is none, before it is given the leader
+abbrev pub bare_round : Made → Standing → ℕ → RoundHistory
+bare_round made standing view = unwrap_or (standing.rounds view) (new_round made standing view)
 
 -- a vote from the network, by the round of its view
 unfoldable pub heard_at : Made → ℕ → Vote → Doing → Doing

@@ -1,13 +1,13 @@
 //! Hints to the voter that the current view's leader is of no use.
-ghost use Rattle.std.specs.Prelude.{◌≡◌, OnOk};
-ghost use Rattle.simplex_steps.specs.Batcher.{leader_nullified, hinting, hinting_nullify, hinted_at_vote, hinted_at_update, is_me, has_skipping};
-ghost use Rattle.simplex_batcher.specs.Stands.{Does, Reads};
+ghost use Rattle.std.specs.Prelude.{◌≡◌, ℕ, List, OnOk};
+ghost use Rattle.simplex_steps.specs.Batcher.{Made, Standing, Doing, leader_nullified, hinting, hinting_nullify, hinted_at_vote, hinted_at_update, is_me, has_skipping};
+ghost use Rattle.simplex_batcher.specs.Stands.{Does, IsAt, Reads, Stands};
 
 use crate::actor::Actor;
 use crate::rounds;
 use crate::work::Work;
 use simplex_messages::voter;
-use simplex_types::{Participant, Round, Scheme, SkipPolicy, TimeoutReason};
+use simplex_types::{Participant, Round, Scheme, SkipPolicy, TimeoutReason, View};
 use std::alloc::AllocError;
 
 /// Whether leaders that seem to be gone are hinted at.
@@ -65,13 +65,33 @@ impl<S: Scheme + Drop> Actor<S> {
         Ok(())
     }
 
-    /// The hint that a vote from the network gives, once between two updates.
+    /// Whether the leader's nullify of the current view is accepted, where it is known of this view.
+    fn is_nullified(&self, view: View, nullified: bool) -> bool
+        ensures { (made : Made) (standing : Standing) → IsAt S.verifies S.recovers S.members S.member self.now made standing → (view ≡ standing.current → nullified ≡ leader_nullified standing) → result ≡ leader_nullified standing }
+    {
+        if view == self.current {
+            return nullified;
+        }
+        self.leader_nullified()
+    }
+
+    /// The hint that a vote from the network gives, once between two updates. Where its view is current, it is known
+    /// whether the leader's nullify is accepted.
     #[tactic(auto, unfolding(crate::specs::Stands::batcher_made, simplex_steps::specs::Batcher::hinted_at_vote))]
-    pub(crate) fn hint_at_vote(&mut self, accepted: bool, work: &mut Work) -> Result<(), AllocError>
-        ensures { OnOk result (Does S.verifies S.recovers S.members S.member self.old work.old self.new work.new (λ made. hinted_at_vote made accepted)) }
+    pub(crate) fn hint_at_vote(
+        &mut self,
+        view: View,
+        accepted: bool,
+        nullified: bool,
+        work: &mut Work,
+    ) -> Result<(), AllocError>
+        ensures { OnOk result ((dirty : List ℕ) (made : Made) (doing : Doing)
+            → (view ≡ doing.standing.current → nullified ≡ leader_nullified doing.standing)
+            → Stands S.verifies S.recovers S.members S.member self.old work.old dirty made doing
+            → Stands S.verifies S.recovers S.members S.member self.new work.new dirty made (hinted_at_vote made accepted doing)) }
     {
         let is_skipping = has_skipping(self.config.skip);
-        if accepted && is_skipping && !self.hinted && self.leader_nullified() {
+        if accepted && is_skipping && !self.hinted && self.is_nullified(view, nullified) {
             self.hint_nullify(work)?;
         }
         Ok(())

@@ -50,7 +50,7 @@ impl<S: Scheme + Drop> Actor<S> {
 
     /// A new round of the view: it is skipped where the view is below current and votes are not tracked.
     #[tactic(auto, unfolding(crate::specs::Stands::batcher_made, crate::specs::Rounds::round_of, simplex_round::specs::Stands::StandsFor, simplex_steps::specs::Batcher::new_round))]
-    fn new_round(&self, view: View) -> Result<Round, AllocError>
+    pub(crate) fn new_round(&self, view: View) -> Result<Round, AllocError>
         ensures { IfOk result (λ round. Reads S.verifies S.recovers S.members S.member self.now (λ made standing. round_of (new_round made standing view)) round) }
     {
         let round = ViewRound {
@@ -67,7 +67,7 @@ impl<S: Scheme + Drop> Actor<S> {
 
     /// The view has a round from now on.
     #[tactic(auto, unfolding(crate::specs::Rounds::found))]
-    pub(crate) fn make_bare_round(&mut self, view: View) -> Result<(), AllocError>
+    fn make_bare_round(&mut self, view: View) -> Result<(), AllocError>
         ensures { OnOk result (Moves S.verifies S.recovers S.members S.member self.old self.new (λ made standing. put view (unwrap_or (standing.rounds view) (new_round made standing view)) standing)) }
     {
         let number = view.0;

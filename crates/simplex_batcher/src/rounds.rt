@@ -8,6 +8,9 @@ ghost use Rattle.std.specs.Map.{keys_of};
 ghost use Rattle.std.specs.Ordering.{nat_cmp};
 ghost use Rattle.std.specs.declared.ops.Bound.TheVariants.{Included};
 ghost use Rattle.simplex_round.specs.Acceptance.{heard, heard_from, has_nullify};
+ghost use Rattle.std.specs.Option.{is_some};
+ghost use Rattle.simplex_steps.specs.Batcher.{some_passes};
+ghost use Rattle.simplex_batcher.specs.Hearing.{voted, heard_of};
 ghost use Rattle.simplex_round.specs.Calls.{AddNetwork, AcceptVote, SetLeader, RecordCertificate};
 ghost use Rattle.simplex_round.specs.Forwarding.{gives_proposal, is_held};
 ghost use Rattle.simplex_steps.specs.Batcher.{RoundHistory, called, known_in};
@@ -32,48 +35,78 @@ pub(crate) fn set_leader(rounds: &mut Rounds, view: u64, leader: Participant)
 }
 
 /// The round takes the leader, if there is one.
-fn give(round: &mut Round, leader: Option<Participant>)
-    ensures { (history : RoundHistory) → round.old ≡ round_of history → round.new ≡ round_of (given leader history) }
+fn give(round: &mut Round, leader: &Option<Participant>)
+    ensures { (history : RoundHistory) → round.old ≡ round_of history → round.new ≡ round_of (given leader.now history) }
 {
     if let Some(leader) = leader {
-        round.set_leader(leader);
+        round.set_leader(*leader);
     }
 }
 
-/// The round takes the leader, if there is one, and a vote from the network: whether it is accepted.
-fn hear(
-    round: &mut Round,
-    leader: Option<Participant>,
-    sender: Participant,
-    vote: Vote,
-    out: &mut RoundOut,
-) -> Result<bool, AllocError>
-    ensures stands { OnOk result ((history : RoundHistory) → round.old ≡ round_of history → round.new ≡ round_of (called (AddNetwork sender vote) (given leader history))) }
-    ensures answer { IfOk result (λ accepted. (history : RoundHistory) → round.old ≡ round_of history → accepted ≡ (heard_from (known_in (given leader history)) sender vote).accepted) }
-    ensures reports { OnOk result ((history : RoundHistory) → round.old ≡ round_of history → out.new.reports ≡ out.old.reports ++ (heard_from (known_in (given leader history)) sender vote).reports) }
-    ensures blocks { OnOk result ((history : RoundHistory) → round.old ≡ round_of history → out.new.blocks ≡ out.old.blocks ++ (heard_from (known_in (given leader history)) sender vote).blocks) }
-{
-    give(round, leader);
-    round.add_network(sender, vote, out)
+/// What came of a vote from the network.
+#[derive(Clone, Copy)]
+pub(crate) struct Heard {
+    /// Whether the vote is accepted.
+    pub(crate) accepted: bool,
+    /// Whether a nullify of the leader that the round was given is accepted, this vote counted.
+    pub(crate) nullified: bool,
 }
 
-/// The view's round takes the leader, if there is one, and a vote from the network: whether it is accepted.
+/// Whether the round accepted a nullify of the member, if there is one.
+fn has_nullify_of(round: &Round, member: &Option<Participant>) -> bool
+    ensures { (history : RoundHistory) → round.now ≡ round_of history → result ≡ some_passes (has_nullify (known_in history)) member.now }
+{
+    match member {
+        None => false,
+        Some(member) => round.has_nullify(*member),
+    }
+}
+
+/// The round takes the leader, if there is one, and a vote from the network.
+pub(crate) fn hear(
+    round: &mut Round,
+    leader: &Option<Participant>,
+    sender: Participant,
+    vote: &Vote,
+    out: &mut RoundOut,
+) -> Result<Heard, AllocError>
+    ensures stands { OnOk result ((history : RoundHistory) → round.old ≡ round_of history → round.new ≡ round_of (voted leader.now sender vote.now history)) }
+    ensures answer { IfOk result (λ heard. (history : RoundHistory) → round.old ≡ round_of history → heard ≡ heard_of leader.now sender vote.now history) }
+    ensures reports { OnOk result ((history : RoundHistory) → round.old ≡ round_of history → out.new.reports ≡ out.old.reports ++ (heard_from (known_in (given leader.now history)) sender vote.now).reports) }
+    ensures blocks { OnOk result ((history : RoundHistory) → round.old ≡ round_of history → out.new.blocks ≡ out.old.blocks ++ (heard_from (known_in (given leader.now history)) sender vote.now).blocks) }
+{
+    give(round, leader);
+    let accepted = round.add_network(sender, *vote, out)?;
+    let nullified = has_nullify_of(round, leader);
+    Ok(Heard {
+        accepted,
+        nullified,
+    })
+}
+
+/// The view's round, if there is one, takes the leader, if there is one, and a vote from the network.
 pub(crate) fn add_network(
     rounds: &mut Rounds,
     view: u64,
-    leader: Option<Participant>,
+    leader: &Option<Participant>,
     sender: Participant,
-    vote: Vote,
+    vote: &Vote,
     out: &mut RoundOut,
-) -> Result<bool, AllocError>
-    ensures stands { OnOk result (ChangesAt rounds.old rounds.new view (λ history. called (AddNetwork sender vote) (given leader history))) }
-    ensures answer { IfOk result (HistoryAnswersAt rounds.old view (λ history. (heard_from (known_in (given leader history)) sender vote).accepted)) }
-    ensures reports { OnOk result (HistoryAnswersAt rounds.old view (λ history. out.old.reports ++ (heard_from (known_in (given leader history)) sender vote).reports) out.new.reports) }
-    ensures blocks { OnOk result (HistoryAnswersAt rounds.old view (λ history. out.old.blocks ++ (heard_from (known_in (given leader history)) sender vote).blocks) out.new.blocks) }
+) -> Result<Option<Heard>, AllocError>
+    ensures stands { OnOk result (ChangesAt rounds.old rounds.new view (voted leader.now sender vote.now)) }
+    ensures answer { IfOk result (HistoryAnswersAt rounds.old view (λ history. Some (heard_of leader.now sender vote.now history))) }
+    ensures reports { OnOk result (HistoryAnswersAt rounds.old view (λ history. out.old.reports ++ (heard_from (known_in (given leader.now history)) sender vote.now).reports) out.new.reports) }
+    ensures blocks { OnOk result (HistoryAnswersAt rounds.old view (λ history. out.old.blocks ++ (heard_from (known_in (given leader.now history)) sender vote.now).blocks) out.new.blocks) }
+    ensures some { IfOk result (λ heard. is_some heard ≡ is_some (found rounds.old view)) }
+    ensures none { OnOk result (StaysWithout rounds.old rounds.new view) }
+    ensures out { OnOk result (found rounds.old view ≡ None → out.new ≡ out.old) }
 {
     match rounds.get_mut(&view) {
-        None => Ok(false),
-        Some(round) => hear(round, leader, sender, vote, out),
+        None => Ok(None),
+        Some(round) => {
+            let heard = hear(round, leader, sender, vote, out)?;
+            Ok(Some(heard))
+        }
     }
 }
 

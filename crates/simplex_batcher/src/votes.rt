@@ -1,45 +1,65 @@
 //! Votes: those of the network, and own ones.
-ghost use Rattle.std.specs.Prelude.{◌≡◌, IfOk, OnOk};
-ghost use Rattle.simplex_round.specs.Acceptance.{heard_from};
-ghost use Rattle.simplex_steps.specs.Batcher.{took_vote, took_constructed, round_for, known_in, vote_view};
-ghost use Rattle.simplex_batcher.specs.Working.{heard_at, own_heard_at};
-ghost use Rattle.simplex_batcher.specs.Stands.{Marks, Reads};
+ghost use Rattle.std.specs.Prelude.{◌≡◌, ◌++◌, IfOk, OnOk};
+ghost use Rattle.simplex_round.specs.Acceptance.{heard_from, has_nullify};
+ghost use Rattle.simplex_round.specs.Calls.{AddNetwork};
+ghost use Rattle.simplex_steps.specs.Batcher.{took_vote, took_constructed, round_for, called, known_in, vote_view, some_passes};
+ghost use Rattle.simplex_batcher.specs.Hearing.{voted, heard_of};
+ghost use Rattle.simplex_batcher.specs.Rounds.{given};
+ghost use Rattle.simplex_batcher.specs.Working.{heard_at, own_heard_at, bare_round, lead_of, put};
+ghost use Rattle.simplex_batcher.specs.Stands.{Marks, Moves, Reads};
 
 use crate::actor::Actor;
 use crate::marks::Marked;
-use crate::rounds;
+use crate::rounds::{self, Heard, add_network, hear};
 use crate::work::Work;
 use simplex_round::RoundOut;
-use simplex_types::{Participant, Scheme, Vote};
+use simplex_types::{Participant, Scheme, View, Vote};
 use std::alloc::AllocError;
 
 impl<S: Scheme + Drop> Actor<S> {
-    /// A vote from the network, by the round of its view: whether it is accepted.
+    /// A vote from the network, by the round of the view, which is looked up once where there is one.
+    fn hear_at(
+        &mut self,
+        view: View,
+        leader: &Option<Participant>,
+        sender: Participant,
+        vote: &Vote,
+        out: &mut RoundOut,
+    ) -> Result<Heard, AllocError>
+        ensures stands { OnOk result (Moves S.verifies S.recovers S.members S.member self.old self.new (λ made standing. put view (voted leader.now sender vote.now (bare_round made standing view)) standing)) }
+        ensures answer { IfOk result (Reads S.verifies S.recovers S.members S.member self.old (λ made standing. heard_of leader.now sender vote.now (bare_round made standing view))) }
+        ensures reports { OnOk result (Reads S.verifies S.recovers S.members S.member self.old (λ made standing. out.old.reports ++ (heard_from (known_in (given leader.now (bare_round made standing view))) sender vote.now).reports) out.new.reports) }
+        ensures blocks { OnOk result (Reads S.verifies S.recovers S.members S.member self.old (λ made standing. out.old.blocks ++ (heard_from (known_in (given leader.now (bare_round made standing view))) sender vote.now).blocks) out.new.blocks) }
+    {
+        let rounds = &mut self.rounds;
+        if let Some(heard) = add_network(rounds, view.0, leader, sender, vote, out)? {
+            return Ok(heard);
+        }
+        let mut round = self.new_round(view)?;
+        let heard = hear(&mut round, leader, sender, vote, out)?;
+        rounds::put(&mut self.rounds, view.0, round)?;
+        Ok(heard)
+    }
+
+    /// A vote from the network, by the round of its view.
     fn hear(
         &mut self,
         sender: Participant,
         vote: Vote,
         dirty: &mut Marked,
         work: &mut Work,
-    ) -> Result<bool, AllocError>
+    ) -> Result<Heard, AllocError>
         ensures stands { OnOk result (Marks S.verifies S.recovers S.members S.member self.old work.old dirty.old self.new work.new dirty.new (λ made doing. heard_at made sender vote doing)) }
-        ensures answer { IfOk result (Reads S.verifies S.recovers S.members S.member self.old (λ made standing. (heard_from (known_in (round_for made standing (vote_view vote))) sender vote).accepted)) }
+        ensures accepted { IfOk result (λ heard. Reads S.verifies S.recovers S.members S.member self.old (λ made standing. (heard_from (known_in (round_for made standing (vote_view vote))) sender vote).accepted) heard.accepted) }
+        ensures nullified { IfOk result (λ heard. Reads S.verifies S.recovers S.members S.member self.old (λ made standing. some_passes (has_nullify (known_in (called (AddNetwork sender vote) (round_for made standing (vote_view vote))))) (lead_of made standing (vote_view vote))) heard.nullified) }
     {
         let view = vote.view();
-        self.make_bare_round(view)?;
         let leader = self.leader_at(view);
         let mut out = RoundOut::new(self.alloc);
-        let accepted = rounds::add_network(
-            &mut self.rounds,
-            view.0,
-            leader,
-            sender,
-            vote,
-            &mut out,
-        )?;
+        let heard = self.hear_at(view, &leader, sender, &vote, &mut out)?;
         work.publish(out)?;
-        dirty.mark(accepted, view)?;
-        Ok(accepted)
+        dirty.mark(heard.accepted, view)?;
+        Ok(heard)
     }
 
     /// A vote from the network, where it is still of use.
@@ -57,8 +77,11 @@ impl<S: Scheme + Drop> Actor<S> {
         if !self.admits_vote(view) {
             return Ok(());
         }
-        let accepted = self.hear(sender, vote, dirty, work)?;
-        self.hint_at_vote(accepted, work)?;
+        let Heard {
+            accepted,
+            nullified,
+        } = self.hear(sender, vote, dirty, work)?;
+        self.hint_at_vote(view, accepted, nullified, work)?;
         Ok(())
     }
 
