@@ -1,8 +1,8 @@
 #!/bin/bash
 # Times the work of crates/bench_wire, bench_mailbox, bench_fetch, bench_round, bench_state and bench_repair, by the
-# proved program and by plain Rust, that of crates/bench_batcher by a batcher and by the round alone, that of
-# crates/bench_voter by a voter, and that of crates/bench_resolver by a resolver. Run it from anywhere, after `rt run`
-# in the program's crate: bench/run.sh wire|mailbox|fetch|round|batcher|state|repair|voter|resolver [TIMES].
+# proved program and by plain Rust, that of crates/bench_batcher by batcher.py, that of crates/bench_voter by a voter, and
+# that of crates/bench_resolver by a resolver. Run it from anywhere, after `rt run` in the program's crate:
+# bench/run.sh wire|mailbox|fetch|round|batcher|state|repair|voter|resolver [TIMES].
 set -euo pipefail
 cd "$(dirname "$0")"
 what=${1:?wire, mailbox, fetch, round, batcher, state, repair, voter or resolver}
@@ -24,27 +24,8 @@ print(f"{int(times) / best:.0f}")
 P
 }
 
-# A batcher and the round alone, so often and for so many members: the rate of each, and how long the one takes by the
-# other. The batcher's time is taken without that of its scheme.
-beside_round() {
-    local round actor scheme
-    round=$(rate "$1" "$proved" round "$2")
-    actor=$(rate "$1" "$proved" actor "$2")
-    scheme=$(rate "$1" "$proved" scheme "$2")
-    python3 - "$2" "$round" "$actor" "$scheme" <<'P'
-import sys
-members, round, actor, scheme = map(int, sys.argv[1:])
-alone = 1 / (1 / actor - 1 / scheme)
-print(f"{members:<14} {round:12} {alone:12.0f} {round / alone:18.2f}")
-P
-}
-
 if [ "$what" = batcher ]; then
-    times=${2:-2000}
-    printf '%-14s %12s %12s %18s\n' 'members' 'round alone' 'batcher' 'times the round'
-    beside_round $((times * 20)) 4
-    beside_round "$times" 100
-    exit
+    exec ./batcher.py "${@:2}"
 fi
 
 # A voter over more and more views, each time twice as many: its steps a second of user time over all of them and over

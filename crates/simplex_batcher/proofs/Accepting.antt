@@ -1,5 +1,5 @@
 -- What shows that an own vote was accepted.
-use Rattle.std.proofs.Common.{◌≡◌, ◌==◌, ◌&&◌, not, Bool, true, false, length, refl, ℕ, List, [], ◌∷◌, Option, Some, None, if◌then◌else◌}
+use Rattle.std.proofs.Common.{◌≡◌, ◌==◌, ◌&&◌, not, Bool, true, false, length, refl, ℕ, [], ◌∷◌, Option, Some, None, if◌then◌else◌}
 use Rattle.simplex_wire.specs.declared.vote.Vote.{Vote}
 use Rattle.simplex_round.specs.declared.evidence.Evidence.{Evidence}
 use Rattle.simplex_round.specs.declared.ballot.Ballot.{Ballot}

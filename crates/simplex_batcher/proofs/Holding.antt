@@ -1,5 +1,5 @@
 -- A view that is worked with its round in hand.
-use Rattle.std.proofs.Common.{◌≡◌, ℕ, zero, suc, ◌==◌, Bool, true, false, refl, sym, ap, ◌∙◌, List, Option, Some, None, if◌then◌else◌, inl, inr, arith}
+use Rattle.std.proofs.Common.{◌≡◌, ℕ, zero, suc, ◌==◌, Bool, false, refl, sym, ap, ◌∙◌, List, Option, Some, None, inl, inr, arith}
 use Rattle.std.specs.Option.{option_map, option_map_or}
 use Rattle.std.specs.BTreeMap.{BTreeMap}
 use Rattle.std.proofs.lemmas.Grind.{common_steps}

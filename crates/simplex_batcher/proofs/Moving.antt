@@ -1,13 +1,12 @@
 -- Where a batcher stands when its rounds change.
-use Rattle.std.proofs.Common.{◌≡◌, ℕ, Bool, List, Option, refl}
-use Rattle.std.specs.Option.{option_map}
+use Rattle.std.proofs.Common.{ℕ, Bool, Option}
 use Rattle.std.specs.BTreeMap.{BTreeMap}
 use Rattle.simplex_values.specs.declared.proposal.Subject.{Subject}
 use Rattle.simplex_wire.specs.declared.attestation.Attestation.{Attestation}
 use Rattle.simplex_round.specs.Known as low
 use Rattle.simplex_steps.specs.Batcher.{Made, Standing, RoundHistory}
 use Rattle.simplex_batcher.specs.declared.actor.Actor.{Actor}
-use Rattle.simplex_batcher.specs.Rounds.{found, round_of}
+use Rattle.simplex_batcher.specs.Rounds.{found}
 use Rattle.simplex_batcher.specs.Stands.{IsAt}
 use Rattle.simplex_batcher.proofs.Placing.{Stand}
 

@@ -1,5 +1,5 @@
 -- The rounds by view, when one is put at a view or takes a call.
-use Rattle.std.proofs.Common.{◌≡◌, ℕ, ◌==◌, nat_le, Bool, true, false, refl, sym, ap, ◌∙◌, Option, Some, None, if◌then◌else◌, unwrap_or, inl, inr, arith, rules}
+use Rattle.std.proofs.Common.{◌≡◌, ℕ, ◌==◌, nat_le, true, false, refl, sym, ap, ◌∙◌, Option, Some, None, if◌then◌else◌, unwrap_or, inl, inr, arith}
 use Rattle.std.specs.Option.{is_some, option_map, option_map_or}
 use Rattle.std.proofs.lemmas.Grind.{common_steps}
 use Rattle.std.proofs.lemmas.Bool.{cases_eq}

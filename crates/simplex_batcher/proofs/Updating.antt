@@ -1,7 +1,7 @@
 -- The leader of an update, and the rounds of the admission window.
-use Rattle.std.proofs.Common.{◌≡◌, ◌≤◌, ◌<◌, ℕ, zero, suc, ◌+◌, ◌-◌, ◌==◌, nat_le, nat_lt, ◌&&◌, ◌||◌, Bool, true, false, refl, sym, ap, ◌∙◌, List, [], ◌∷◌, fold, map, filter, Option, Some, None, unwrap_or, if◌then◌else◌, inl, inr, arith, rules}
+use Rattle.std.proofs.Common.{◌≡◌, ◌≤◌, ◌<◌, ℕ, zero, suc, ◌+◌, ◌-◌, ◌==◌, nat_le, nat_lt, ◌&&◌, Bool, true, false, refl, sym, ap, ◌∙◌, List, [], ◌∷◌, map, filter, Option, Some, None, if◌then◌else◌, inl, inr, arith}
 use mathlib.Core.Path.{fun_ext}
-use Rattle.std.specs.Option.{is_some, option_map, option_map_or}
+use Rattle.std.specs.Option.{is_some, option_map}
 use Rattle.std.specs.Ordering.{nat_cmp}
 use Rattle.std.specs.Map.{lookup}
 use Rattle.std.specs.BTreeMap.{is_at}
@@ -13,7 +13,7 @@ use Rattle.std.proofs.lemmas.Bool.{cases_eq}
 use Rattle.std.proofs.lemmas.Bool.Decides.{nat_tests}
 use Rattle.simplex_values.specs.Terms.{is_in_window, admission_limit}
 use Rattle.simplex_round.specs.Known as low
-use Rattle.simplex_steps.specs.Batcher.{Made, Standing, RoundHistory, led, window_views, with_leader, round_for, new_round}
+use Rattle.simplex_steps.specs.Batcher.{Made, Standing, RoundHistory, led, window_views, with_leader, round_for}
 use Rattle.simplex_batcher.specs.Rounds.{round_of}
 use Rattle.simplex_batcher.specs.Working.{put, with_lead, with_leads, with_window}
 use Rattle.simplex_batcher.proofs.Counting.{filter_same}

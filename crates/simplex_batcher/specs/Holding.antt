@@ -1,5 +1,5 @@
 -- The round of one view in hand, while the view is worked.
-use Rattle.std.specs.Prelude.{◌≡◌, ℕ, ◌==◌, Bool, false, Option, Some}
+use Rattle.std.specs.Prelude.{◌≡◌, ℕ, ◌==◌, false, Option, Some}
 use Rattle.std.specs.Option.{option_map}
 use Rattle.std.specs.BTreeMap.{BTreeMap}
 use Rattle.simplex_round.specs.Known as low

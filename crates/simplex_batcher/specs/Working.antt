@@ -1,5 +1,5 @@
 -- The parts of a step's definitions, each as what one call does.
-use Rattle.std.specs.Prelude.{ℕ, ◌==◌, ◌||◌, Bool, false, List, fold, Option, Some, None, Ok, unwrap_or, if◌then◌else◌}
+use Rattle.std.specs.Prelude.{ℕ, ◌==◌, ◌||◌, false, List, fold, Option, Some, None, Ok, unwrap_or, if◌then◌else◌}
 use Rattle.std.specs.Option.{option_map, option_map_or}
 use Rattle.simplex_values.specs.Terms.{is_in_window}
 use Rattle.simplex_wire.specs.declared.vote.Vote.{Vote}

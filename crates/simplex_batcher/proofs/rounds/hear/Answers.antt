@@ -1,4 +1,4 @@
-use Rattle.std.proofs.Common.{◌≡◌, refl}
+use Rattle.std.proofs.Common.{refl}
 use Rattle.simplex_round.specs.Stands.{StandsFor}
 use Rattle.simplex_batcher.specs.Hearing.{voted}
 use Rattle.simplex_batcher.specs.Rounds.{round_of, given}

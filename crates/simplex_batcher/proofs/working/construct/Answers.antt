@@ -1,4 +1,4 @@
-use Rattle.std.proofs.Common.{◌≡◌, ◌∙◌, ap, sym, refl, Option, Some, None}
+use Rattle.std.proofs.Common.{◌≡◌, ◌∙◌, ap, refl, Option, Some, None}
 use Rattle.std.specs.Option.{option_map, option_map_or}
 use Rattle.simplex_round.specs.Assembly.{constructed}
 use Rattle.simplex_round.specs.Calls.{TryConstruct}

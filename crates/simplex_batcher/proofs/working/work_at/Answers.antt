@@ -1,4 +1,4 @@
-use Rattle.std.proofs.Common.{rules, ◌≡◌, ◌∙◌}
+use Rattle.std.proofs.Common.{rules, ◌∙◌}
 use Rattle.simplex_batcher.specs.Rounds.{found}
 use Rattle.simplex_batcher.proofs.Holding.{none-of, none-near}
 use Rattle.simplex_batcher.proofs.working.work_at.Goals as goal

@@ -1,7 +1,4 @@
-use Rattle.std.proofs.Common.{◌≡◌, ap, ◌∙◌, sym, length, filter}
-use Rattle.std.specs.List.{range_with_len}
-use Rattle.simplex_steps.specs.Batcher.{was_seen}
-use Rattle.simplex_batcher.specs.Activity.{seen_in}
+use Rattle.std.proofs.Common.{ap, ◌∙◌, sym}
 use Rattle.simplex_batcher.specs.Stands.{batcher_made}
 use Rattle.simplex_batcher.proofs.Counting.{seen-same}
 use Rattle.simplex_batcher.proofs.actor.Actor.count_active.Goals as goal

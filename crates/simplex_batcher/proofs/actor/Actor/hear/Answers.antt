@@ -1,4 +1,4 @@
-use Rattle.std.proofs.Common.{◌≡◌, ap, refl, sym, ◌∙◌}
+use Rattle.std.proofs.Common.{◌≡◌, ap, refl, ◌∙◌}
 use Rattle.simplex_round.specs.Acceptance.{heard_from}
 use Rattle.simplex_steps.specs.Batcher.{with_heard, round_for, known_in}
 use Rattle.simplex_batcher.specs.declared.rounds.Heard.{Heard}

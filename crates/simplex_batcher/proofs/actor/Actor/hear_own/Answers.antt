@@ -1,4 +1,4 @@
-use Rattle.std.proofs.Common.{◌≡◌, refl, sym, ◌∙◌}
+use Rattle.std.proofs.Common.{◌≡◌, refl, ◌∙◌}
 use Rattle.simplex_round.specs.Acceptance.{heard}
 use Rattle.simplex_round.specs.Calls.{AcceptVote}
 use Rattle.simplex_steps.specs.Batcher.{with_heard, round_for, known_in, called}

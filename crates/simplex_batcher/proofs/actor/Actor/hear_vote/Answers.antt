@@ -1,4 +1,4 @@
-use Rattle.std.proofs.Common.{◌≡◌, ◌∙◌, sym}
+use Rattle.std.proofs.Common.{◌∙◌, sym}
 use Rattle.simplex_steps.specs.Batcher.{seen_now}
 use Rattle.simplex_batcher.proofs.Cases.{vote-foreign, vote-own}
 use Rattle.simplex_batcher.proofs.actor.Actor.hear_vote.Goals as goal

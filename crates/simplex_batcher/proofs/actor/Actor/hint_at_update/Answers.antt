@@ -1,4 +1,4 @@
-use Rattle.std.proofs.Common.{◌≡◌, ap, sym, ◌∙◌}
+use Rattle.std.proofs.Common.{ap, sym, ◌∙◌}
 use Rattle.simplex_batcher.specs.Stands.{batcher_made}
 use Rattle.simplex_batcher.proofs.Cases.{update-nullified, update-own, update-active, update-inactive}
 use Rattle.simplex_batcher.proofs.actor.Actor.hint_at_update.Goals as goal

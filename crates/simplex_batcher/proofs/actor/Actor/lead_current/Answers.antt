@@ -1,4 +1,4 @@
-use Rattle.std.proofs.Common.{◌≡◌, ℕ, ◌∙◌, sym, subst}
+use Rattle.std.proofs.Common.{ℕ, ◌∙◌, sym, subst}
 use Rattle.simplex_steps.specs.Batcher.{Standing, round_for}
 use Rattle.simplex_batcher.specs.Stands.{IsAt}
 use Rattle.simplex_batcher.specs.Working.{put}

@@ -1,4 +1,4 @@
-use Rattle.std.proofs.Common.{◌≡◌, refl, sym, ◌∙◌, ap, drop, length, arith, rules}
+use Rattle.std.proofs.Common.{arith}
 use Rattle.std.proofs.lemmas.List.{drop_more, drop_all}
 use Rattle.simplex_batcher.proofs.Leading.{led-item, led-end}
 use Rattle.simplex_batcher.proofs.actor.Actor.lead_each.Goals as goal

@@ -1,5 +1,4 @@
-use Rattle.std.proofs.Common.{◌≡◌, sym, ◌∙◌, true, false, unwrap_or}
-use Rattle.std.specs.Option.{is_some}
+use Rattle.std.proofs.Common.{sym, ◌∙◌, unwrap_or}
 use Rattle.simplex_steps.specs.Batcher.{new_round}
 use Rattle.simplex_batcher.specs.Rounds.{found}
 use Rattle.simplex_batcher.proofs.Moving.{moved}

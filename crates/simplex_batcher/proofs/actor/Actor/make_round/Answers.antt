@@ -1,7 +1,5 @@
 use Rattle.simplex_batcher.specs.Rounds.{found}
-use Rattle.simplex_batcher.specs.Working.{put}
-use Rattle.simplex_steps.specs.Batcher.{round_for}
-use Rattle.simplex_batcher.proofs.Placing.{made-led, set}
+use Rattle.simplex_batcher.proofs.Placing.{made-led}
 use Rattle.simplex_batcher.proofs.actor.Actor.make_round.Goals as goal
 
 pub returns : goal.returns

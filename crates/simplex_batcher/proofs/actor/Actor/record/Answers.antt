@@ -1,4 +1,4 @@
-use Rattle.std.proofs.Common.{◌≡◌, refl, sym, ◌∙◌}
+use Rattle.std.proofs.Common.{refl, ◌∙◌}
 use Rattle.simplex_round.specs.Calls.{RecordCertificate}
 use Rattle.simplex_steps.specs.Batcher.{round_for, called}
 use Rattle.simplex_batcher.specs.Rounds.{found}

@@ -1,4 +1,4 @@
-use Rattle.std.proofs.Common.{arith, ◌≡◌, ◌||◌, nat_lt}
+use Rattle.std.proofs.Common.{arith}
 use Rattle.std.proofs.lemmas.Grind.{common_steps}
 use Rattle.simplex_steps.specs.Batcher.{is_active}
 use Rattle.simplex_batcher.proofs.actor.Actor.seems_active.Goals as goal

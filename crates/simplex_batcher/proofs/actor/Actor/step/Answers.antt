@@ -1,4 +1,4 @@
-use Rattle.std.proofs.Common.{◌≡◌, ◌∙◌, ap}
+use Rattle.std.proofs.Common.{◌∙◌, ap}
 use Rattle.simplex_messages.specs.Step.{no_out}
 use Rattle.simplex_messages.specs.declared.step.StepOut.{StepOut}
 use Rattle.simplex_steps.specs.Batcher.{standing_after, step_out}

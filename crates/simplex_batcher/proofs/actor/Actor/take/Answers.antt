@@ -1,4 +1,3 @@
-use Rattle.std.proofs.Common.{◌≡◌, ◌∙◌, sym, subst}
 use Rattle.simplex_steps.specs.Batcher.{begun, step}
 use Rattle.simplex_batcher.proofs.actor.Actor.take.Goals as goal
 

@@ -1,4 +1,4 @@
-use Rattle.std.proofs.Common.{◌≡◌, sym, ◌∙◌}
+use Rattle.std.proofs.Common.{sym, ◌∙◌}
 use Rattle.simplex_batcher.proofs.Cases.{certificate-outside, certificate-held, certificate-false, certificate-true}
 use Rattle.simplex_batcher.proofs.actor.Actor.take_certificate.Goals as goal
 

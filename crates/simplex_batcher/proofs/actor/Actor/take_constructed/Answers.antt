@@ -1,4 +1,4 @@
-use Rattle.std.proofs.Common.{◌≡◌, sym, ◌∙◌}
+use Rattle.std.proofs.Common.{sym, ◌∙◌}
 use Rattle.simplex_batcher.proofs.Cases.{constructed-outside, constructed-inside}
 use Rattle.simplex_batcher.proofs.actor.Actor.take_constructed.Goals as goal
 

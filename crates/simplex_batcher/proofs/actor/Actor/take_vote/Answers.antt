@@ -1,4 +1,4 @@
-use Rattle.std.proofs.Common.{◌≡◌, sym, ◌∙◌}
+use Rattle.std.proofs.Common.{sym, ◌∙◌}
 use Rattle.simplex_steps.specs.Batcher.{with_heard}
 use Rattle.simplex_batcher.specs.Working.{heard_at}
 use Rattle.simplex_batcher.proofs.Cases.{vote-outside, vote-inside}

@@ -1,4 +1,4 @@
-use Rattle.std.proofs.Common.{◌≡◌, sym, ap, refl, nat_le, true, false, ◌∙◌, arith}
+use Rattle.std.proofs.Common.{◌≡◌, sym, ap, nat_le, true, false, ◌∙◌, arith}
 use Rattle.std.proofs.lemmas.Grind.{common_steps}
 use Rattle.std.proofs.lemmas.Bool.Decides.{nat_tests}
 use Rattle.simplex_steps.specs.Batcher.{Made}
