@@ -268,7 +268,7 @@ module _ (made : Made) (accepted : Vote → Type 0) (round : rules.Made) (fits :
   assembled_is subject valid enough =
       let wide : nat_le round.quorum (length valid) ≡ true = le-leb round.quorum (length valid) (subst (λ (q : ℕ). q ≤ length valid) (sym quorum) enough) in
       let full : nat_lt (length valid) (quorum_of made.scheme.members) ≡ false =
-          le-ltb (length valid) (quorum_of made.scheme.members) (subst (λ (n : ℕ). quorum_of n ≤ length valid) (sym fits.members) enough) in
+      le-ltb (length valid) (quorum_of made.scheme.members) (subst (λ (n : ℕ). quorum_of n ≤ length valid) (sym fits.members) enough) in
       rw (wide, full, recovers) refl
 
   any_makes : (kind : CertificateKind) (bs : List Ballot) (subject : Subject) → All (GoodBallot made.scheme.verifies accepted) bs
@@ -278,7 +278,7 @@ module _ (made : Made) (accepted : Vote → Type 0) (round : rules.Made) (fits :
       let work = work_on round made.scheme kind subject bs in
       let valid = valid_on made.scheme subject bs in
       let many : quorum_of made.members ≤ length valid =
-          subst (λ (n : ℕ). quorum_of made.members ≤ n) (sym (valid_count made accepted subject bs good)) enough in
+      subst (λ (n : ℕ). quorum_of made.members ≤ n) (sym (valid_count made accepted subject bs good)) enough in
       let candidates = length (filter (is_candidate subject) bs) in
       let wide : round.quorum ≤ candidates = omega (arith, quorum, enough, candidate_count made accepted subject bs good) in
       if_case (Makes subject) (nat_le round.quorum candidates) (some_work work) None
@@ -362,8 +362,8 @@ module _ (made : Made) (accepted : Vote → Type 0) (round : rules.Made) (fits :
       let again = map (checked made.scheme subject) bs in
       let work = work_on round made.scheme kind subject again in
       let still : assembled_on round made.scheme subject (valid_on made.scheme subject again) ≡ None =
-          subst (λ (xs : List Ballot). assembled_on round made.scheme subject (map (λ (b : Ballot). vote_attestation b.vote) (filter (is_valid subject) xs)) ≡ None)
-          (sym (checked_again made subject bs)) none in
+      subst (λ (xs : List Ballot). assembled_on round made.scheme subject (map (λ (b : Ballot). vote_attestation b.vote) (filter (is_valid subject) xs)) ≡ None)
+      (sym (checked_again made subject bs)) none in
       if_case (λ (o : Option Work). o ≡ None) (nat_le round.quorum (length (filter (is_candidate subject) again))) (some_work work) None
       (λ h. if_case (λ (o : Option Work). o ≡ None) (nat_lt 0 work.processed || is_some work.certificate) (Some work) None
       (λ g. absurd (nothing_done work.processed work.certificate (none_unchecked made subject bs) still g)) (λ g. refl))

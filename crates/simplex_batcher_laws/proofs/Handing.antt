@@ -1,5 +1,5 @@
 -- What a step has handed on stays handed on, and a new certificate that verifies is.
-use Rattle.std.proofs.Common.{◌≡◌, ℕ, zero, suc, Bool, true, false, if◌then◌else◌, List, [], ◌∷◌, ◌++◌, map, nat_le, refl, subst, sym}
+use Rattle.std.proofs.Common.{◌≡◌, ℕ, zero, suc, Bool, true, false, if◌then◌else◌, List, [], ◌∷◌, map, nat_le, subst, sym}
 use Rattle.std.specs.Prelude.{◌==◌, ◌||◌, not, Option, Some, None, Result, Ok, Contains}
 use Rattle.std.specs.Option.{option_map_or, option_to_list}
 use Rattle.std.proofs.lemmas.Bool.Decides.{Decides-eqb}
@@ -20,7 +20,7 @@ use Rattle.simplex_messages.specs.declared.voter.Message.TheVariants as voter
 use Rattle.simplex_messages.specs.declared.handed.Handed.{Handed}
 use Rattle.simplex_messages.specs.declared.handed.Handed.TheVariants as handed
 use Rattle.simplex_steps.specs.Batcher.{Made, Timed, Standing, RoundHistory, Doing, known_in, begun, and_blocked, with_batch, number_of, forwarded, constructing, constructing_times, worked, worked_all, dropped, finished, retains_view, admits_view, holds_kind, certificate_view, certificate_epoch, kept_certificate, took_certificate, seen_now, heard_certificate, acted, step, standing_after, step_out}
-use Rattle.simplex_batcher_laws.specs.Certificates.{BringsNew, BringsVerified, HandsOn}
+use Rattle.simplex_batcher_laws.specs.Certificates.{BringsVerified, HandsOn}
 use Rattle.simplex_batcher_laws.proofs.Choices.{if_case, map_or_any}
 
 module _ (made : Made) (message : Handed) where

@@ -1,5 +1,5 @@
 -- A view that is worked hands on the certificate of its quorum.
-use Rattle.std.proofs.Common.{◌≡◌, ℕ, zero, suc, ◌<◌, ◌⊎◌, inl, inr, Bool, true, false, if◌then◌else◌, List, [], ◌∷◌, ◌++◌, map, nat_le, refl, sym, subst, arith}
+use Rattle.std.proofs.Common.{◌≡◌, ℕ, zero, suc, ◌⊎◌, inl, inr, Bool, true, false, if◌then◌else◌, List, [], ◌∷◌, ◌++◌, map, nat_le, refl, sym, subst, arith}
 use Rattle.std.specs.Prelude.{◌==◌, Option, Some, None, Contains}
 use Rattle.std.specs.Option.{option_map, option_map_or, option_to_list}
 use Rattle.std.proofs.lemmas.Bool.{lt-leb}
@@ -16,12 +16,11 @@ use Rattle.simplex_wire.specs.Fields.{certificate_subject}
 use Rattle.simplex_round.specs.declared.batch.Batch.{Batch}
 use Rattle.simplex_round.specs.Known as rules
 use Rattle.simplex_round.specs.Forwarding.{proposal_of, leader_proposal, forwarded_to_voter}
-use Rattle.simplex_round.specs.Assembly.{Work, subject_of, first_work, after_work, batch_of, constructed}
+use Rattle.simplex_round.specs.Assembly.{Work, subject_of, first_work, batch_of, constructed}
 use Rattle.simplex_round.specs.Calls as rounds
 use Rattle.simplex_messages.specs.declared.voter.Message.TheVariants as voter
-use Rattle.simplex_messages.specs.declared.handed.Handed.{Handed}
 use Rattle.simplex_messages.specs.declared.handed.Handed.TheVariants as handed
-use Rattle.simplex_steps.specs.Batcher.{Made, Timed, RoundHistory, Doing, known_in, called, with_round, with_batch, number_of, forwarded, constructing, constructing_times, worked, worked_all, dropped, finished, admits_view, step, standing_after, step_out}
+use Rattle.simplex_steps.specs.Batcher.{Made, Timed, RoundHistory, Doing, known_in, called, with_round, with_batch, number_of, forwarded, constructing, constructing_times, worked, worked_all, dropped, finished, admits_view, step, step_out}
 use Rattle.simplex_batcher_laws.specs.Votes.{Accepted, IsOf}
 use Rattle.simplex_batcher_laws.specs.Certificates.{IsSchemeOfMembers}
 use Rattle.simplex_batcher_laws.specs.Quorums.{taken, IsWorked, HasQuorum, HandsOnOne}
@@ -154,8 +153,8 @@ module _ (made : Made) (view : ℕ) (subject : Subject) where
         let next = called (rounds.TryForward (number_of made)) round in
         let given = option_to_list (forwarded_to_voter (known_in round) (number_of made)) in
         let after : handing.standing.rounds view ≡ Some next =
-            subst (λ (o : Option RoundHistory). (option_map_or turn o doing).standing.rounds view ≡ Some next) (sym at.is)
-            (put_at next (record doing { handed = doing.handed ++ map (λ (proposal : Proposal). handed.Voter (voter.Proposal proposal)) given })) in
+        subst (λ (o : Option RoundHistory). (option_map_or turn o doing).standing.rounds view ≡ Some next) (sym at.is)
+        (put_at next (record doing { handed = doing.handed ++ map (λ (proposal : Proposal). handed.Voter (voter.Proposal proposal)) given })) in
         if_case Such (nat_le view doing.standing.finalized) doing (if admits_view made doing.standing view then constructing_times 3 made view handing else handing)
         (λ e. absurd (cc (e, at.above)))
         (λ e. if_case Such (admits_view made doing.standing view) (constructing_times 3 made view handing) handing (λ k. times_hand 3 next handing after makes) (λ k. absurd (cc (k, at.admitted))))
@@ -182,13 +181,13 @@ quorum_handed made past given view round kind subject fits recovers worked is ha
     let accepted : Vote → Type 0 = IsOf view (Accepted made (given ∷ past)) in
     let doing = taken made past given in
     let good : GoodRound made accepted round =
-        some_at (GoodRound made accepted) (doing.standing.rounds view) round is ((taken_sound made past given (rounds_good made past)).rounds view) in
+    some_at (GoodRound made accepted) (doing.standing.rounds view) round is ((taken_sound made past given (rounds_good made past)).rounds view) in
     let waits : Waits made accepted round.made (known_in round) kind subject =
-        record { about = has.about; none_held = has.none_held; quorum = has.quorum; good = good.known } in
+    record { about = has.about; none_held = has.none_held; quorum = has.quorum; good = good.known } in
     let forwards = known_in (called (rounds.TryForward (number_of made)) round) in
     let makes : Reaches made round.made subject 3 forwards =
-        reaches made accepted round.made fits recovers has.assembles (good.quorum has.assembles) forwards kind subject
-        (forward_waits made accepted round.made (known_in round) forwards.forwarded kind subject waits) in
+    reaches made accepted round.made fits recovers has.assembles (good.quorum has.assembles) forwards kind subject
+    (forward_waits made accepted round.made (known_in round) forwards.forwarded kind subject waits) in
     let it = all_hand made view subject round makes doing.dirty doing
-        (record { is = is; above = lt-leb view doing.standing.finalized worked.above; admitted = worked.admitted }) worked.marked in
+    (record { is = is; above = lt-leb view doing.standing.finalized worked.above; admitted = worked.admitted }) worked.marked in
     record { certificate = it.certificate; about = it.about; is_handed = it.is_handed }

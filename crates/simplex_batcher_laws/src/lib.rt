@@ -9,7 +9,8 @@ mod certificates;
 mod votes;
 
 pub use certificates::{
-    accepted_votes_are_worked, current_views_are_worked, handed_certificates_are_founded, keyed_scheme_is_of_its_members, lawful_scheme_is_of_its_members,
+    accepted_votes_are_worked, current_views_are_worked, handed_certificates_are_founded,
+    keyed_scheme_is_of_its_members, lawful_scheme_is_of_its_members,
     new_certificates_are_handed_on, quorums_are_handed_on,
 };
 pub use votes::{
