@@ -67,7 +67,7 @@ use Rattle.simplex_safety.proofs.Further.{Further, subjects_of, same_self, stopp
 
 -- ---- what an outcome is
 
-never_idle : (stop : Stop) (d : Doing) (js : List Section) → (performed stop d js).outcome ≡ outcomes.Idle → ⊥
+pub never_idle : (stop : Stop) (d : Doing) (js : List Section) → (performed stop d js).outcome ≡ outcomes.Idle → ⊥
 unfolding performed
 never_idle stop d js e = at (stop_place stop d.calls) e
   where

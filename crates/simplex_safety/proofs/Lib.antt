@@ -13,6 +13,7 @@ mod Naming
 mod Nodes
 mod Quiet
 mod Reading
+mod Ruling
 mod Safely
 mod Single
 mod Speaking

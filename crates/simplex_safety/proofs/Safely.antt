@@ -15,6 +15,7 @@ use Rattle.simplex_run.specs.Run.{is_one_honest, is_taken, unless_refused, run, 
 use Rattle.simplex_safety.specs.Histories.{IsRun}
 use Rattle.simplex_safety.specs.Safe.{IsSafe, RunsSafely}
 use Rattle.simplex_safety.proofs.Agreeing.{backed_by_one, epochs_hold, standing_agree}
+use Rattle.simplex_safety.proofs.Ruling.{run_by_rule}
 use Rattle.simplex_safety.proofs.Nodes.{node_lives}
 
 ok_is : {E A : Type 0} (a b : A) → ◌≡◌ {A = Result A E} (Ok a) (Ok b) → a ≡ b
@@ -57,6 +58,7 @@ safe_run setup events noted taken e =
       agrees = λ a b ca cb. standing_agree setup noted a b pos one ran ca cb;
       epoch = epochs_hold setup noted pos one ran;
       stored = λ node. (node_lives setup noted node pos ran backed.floors).stored;
+      ruled = λ node. run_by_rule setup noted node ran;
     }
 
 -- a run that is not refused is of a setup that is taken
