@@ -3,3 +3,4 @@ pub mod Floors
 pub mod Places
 pub mod Exact
 pub mod Whole
+pub mod Entering

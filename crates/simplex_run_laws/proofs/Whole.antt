@@ -11,7 +11,7 @@ use Rattle.simplex_run.specs.Life.{Noted}
 use Rattle.simplex_run.specs.Entries.{entry_of}
 use Rattle.simplex_run.specs.Setups.{first_bad}
 use Rattle.simplex_run.specs.Run.{unless_refused, run, transcript_of, unless_bad, is_taken, are_few, Run}
-use Rattle.simplex_run_laws.specs.Complete.{IsOneEach, MeetAll, IsProper, MakesTranscript}
+use Rattle.simplex_run_laws.specs.Complete.{MeetAll, IsProper, MakesTranscript}
 use Rattle.simplex_run_laws.proofs.Exact.{meets_ok, ok_meets}
 
 -- ---- entry by entry
@@ -75,11 +75,11 @@ complete setup events p =
 
 -- ---- and nothing else
 
-record Parts (taken few : Bool) (bad : Option Field) (r : Result (List Entry) Refusal) (entries : List Entry) : Type 0 where
-  is_taken : taken ≡ true
-  are_few : few ≡ true
-  is_good : IsNone bad
-  ran : r ≡ Ok entries
+pub record Parts (taken few : Bool) (bad : Option Field) (r : Result (List Entry) Refusal) (entries : List Entry) : Type 0 where
+  pub is_taken : taken ≡ true
+  pub are_few : few ≡ true
+  pub is_good : IsNone bad
+  pub ran : r ≡ Ok entries
 
 parts_of : (taken few : Bool) (bad : Option Field) (one other : Refusal) (r : Result (List Entry) Refusal) (entries : List Entry)
     → (if not taken then Err one else if not few then Err other else unless_bad bad r) ≡ Ok entries → Parts taken few bad r entries
@@ -88,13 +88,13 @@ parts_of true true (Some field) one other r entries e = cc
 parts_of true false bad one other r entries e = cc
 parts_of false few bad one other r entries e = cc
 
-parts : (setup : Setup) (events : List Event) (entries : List Entry) → Run setup events ≡ Ok entries
+pub parts : (setup : Setup) (events : List Event) (entries : List Entry) → Run setup events ≡ Ok entries
     → Parts (is_taken setup) (are_few setup events) (first_bad setup) (transcript_of (run setup [] events)) entries
 unfolding Run
 parts setup events entries e = parts_of (is_taken setup) (are_few setup events) (first_bad setup) _ _ (transcript_of (run setup [] events)) entries e
 
 -- the entries of a transcript, the newest first
-noted_in : (r : Result (List Noted) Refusal) (entries : List Entry) → transcript_of r ≡ Ok entries
+pub noted_in : (r : Result (List Noted) Refusal) (entries : List Entry) → transcript_of r ≡ Ok entries
     → (noted : List Noted) × (r ≡ Ok noted) × (entries ≡ reverse (map (λ (n : Noted). n.entry) noted))
 noted_in (Ok noted) entries e = (noted, refl, cc)
 noted_in (Err refusal) entries e = cc
@@ -137,8 +137,8 @@ run_long setup before (event ∷ events) noted e = by (entry_of setup before eve
     by (Err error) h old = cc
     by (Ok n) h old = let longer = old n h in omega (arith, longer)
 
-pub one_each : (setup : Setup) (events : List Event) (entries : List Entry) → Run setup events ≡ Ok entries → IsOneEach entries events
+pub as_long : (setup : Setup) (events : List Event) (entries : List Entry) → Run setup events ≡ Ok entries → length entries ≡ length events
 unfolding run
-one_each setup events entries e =
+as_long setup events entries e =
     let noted = noted_in (run setup [] events) entries (parts setup events entries e).ran in
     ap length noted.2 ∙ length-reverse (map (λ (n : Noted). n.entry) noted.0) ∙ length-map noted.0 (λ (n : Noted). n.entry) ∙ omega (arith, run_long setup [] events noted.0 noted.1)

@@ -1,17 +1,43 @@
 -- Which setups and events make a transcript.
-use Rattle.std.specs.Prelude.{◌≡◌, true, List, [], ◌∷◌, ◌++◌, length, Ok, IsNone}
+use Rattle.std.specs.Prelude.{◌≡◌, ℕ, ◌+◌, true, List, [], ◌∷◌, ◌++◌, length, Option, Some, None, Ok, IsNone}
 use Rattle.simplex_transcript.specs.declared.entry.Entry.{Entry}
 use Rattle.simplex_transcript.specs.declared.event.Event.{Event}
+use Rattle.simplex_transcript.specs.declared.event.Event.TheVariants as events
+use Rattle.simplex_transcript.specs.declared.node.Node.{Node}
 use Rattle.simplex_transcript.specs.declared.setup.Setup.{Setup}
 use Rattle.simplex_run.specs.Life.{Noted}
+use Rattle.simplex_run.specs.Entries.{node_of}
 use Rattle.simplex_run.specs.Setups.{first_bad}
 use Rattle.simplex_run.specs.Run.{is_taken, are_few, run}
 use Rattle.simplex_run.specs.Run as runs
 use Rattle.simplex_run_laws.specs.Conditions.{Meets}
 
--- one entry for each event
-abbrev pub IsOneEach : List Entry → List Event → Type 0
-IsOneEach entries events = length entries ≡ length events
+-- the node that an event names
+abbrev pub node_named : Event → Option Node
+node_named (events.Start node floor stop) = Some node
+node_named (events.Tick ms) = None
+node_named (events.Deliver node at) = Some node
+node_named (events.Step node source stop) = Some node
+node_named (events.Answer node at answer) = Some node
+node_named (events.Crash node) = Some node
+node_named (events.Inject member channel to bytes) = Some (node_of member)
+node_named events.Later = None
+
+-- the entry has this number, and is of the node that the event names
+pub record IsEntryOf (number : ℕ) (event : Event) (entry : Entry) : Type 0 where
+  pub counted : entry.event ≡ number
+  pub who : entry.who ≡ node_named event
+
+-- from this number on, one entry for each event, in their order
+unfoldable pub AreEach : ℕ → List Event → List Entry → Type 0
+AreEach number [] [] = Unit {0}
+AreEach number (event ∷ events) (entry ∷ entries) = IsEntryOf number event entry × AreEach (number + 1) events entries
+AreEach number _ _ = ⊥
+
+-- as many entries as events, of which each is one
+pub record IsOneEach (entries : List Entry) (events : List Event) : Type 0 where
+  pub count : length entries ≡ length events
+  pub each : AreEach 1 events entries
 
 -- the setup is taken, none of its items breaks its limit, and there are no more events than may be
 pub record IsValid (setup : Setup) (events : List Event) : Type 0 where

@@ -1,4 +1,4 @@
-use Rattle.simplex_run_laws.proofs.Whole.{one_each}
+use Rattle.simplex_run_laws.proofs.Entering.{one_each}
 use Rattle.simplex_run_laws.proofs.each.transcripts_have_one_entry_each.Goals as goal
 
 pub returns : goal.returns

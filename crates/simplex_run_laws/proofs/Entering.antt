@@ -1,0 +1,132 @@
+-- One entry for each event.
+use Rattle.std.proofs.Common.{◌≡◌, ℕ, ◌+◌, Bool, true, false, List, [], ◌∷◌, ◌++◌, length, map, reverse, Option, Some, None, Result, Ok, Err, IfOk, refl, sym, ap, ◌∙◌, subst, append_assoc, append-nil, add-one, if◌then◌else◌}
+use Rattle.std.proofs.lemmas.List.{reverse-append}
+use Rattle.simplex_values.specs.declared.answer.Answer.{Answer}
+use Rattle.simplex_wire.specs.declared.certificate.Finalization.{Finalization}
+use Rattle.simplex_messages.specs.declared.step.Stop.{Stop}
+use Rattle.simplex_transcript.specs.declared.event.Event.{Event}
+use Rattle.simplex_transcript.specs.declared.event.Event.TheVariants as events
+use Rattle.simplex_transcript.specs.declared.event.StepSource.{StepSource}
+use Rattle.simplex_transcript.specs.declared.entry.Entry.{Entry}
+use Rattle.simplex_transcript.specs.declared.entry.Packet.{Packet}
+use Rattle.simplex_transcript.specs.declared.node.Node.{Node}
+use Rattle.simplex_transcript.specs.declared.node.Ref.{Ref}
+use Rattle.simplex_transcript.specs.declared.setup.Setup.{Setup}
+use Rattle.simplex_transcript.specs.declared.refusal.RunError.{RunError}
+use Rattle.simplex_steps.specs.Engine.{EngineMade, Did}
+use Rattle.simplex_run.specs.Life.{Noted, Life, Stopped, Running, life_in}
+use Rattle.simplex_run.specs.Requests.{request_number, packet_for}
+use Rattle.simplex_run.specs.Entries.{on_start, on_packet, on_deliver, on_step, on_request, on_answer, on_crash, entry_of}
+use Rattle.simplex_run.specs.Run.{unless_refused, run, Run}
+use Rattle.simplex_run_laws.specs.Complete.{IsEntryOf, AreEach, IsOneEach}
+use Rattle.simplex_run_laws.proofs.Whole.{noted_in, parts, as_long}
+
+-- ---- one entry
+
+-- what is not refused is an entry of this event
+abbrev Enters : List Noted → Event → Result Noted RunError → Type 0
+Enters before event r = IfOk r (λ noted. IsEntryOf (length before + 1) event noted.entry)
+
+either : (before : List Noted) (event : Event) (b : Bool) (r s : Result Noted RunError) → Enters before event r → Enters before event s
+    → Enters before event (if b then r else s)
+either before event true r s p q = p
+either before event false r s p q = q
+
+start_enters : (setup : Setup) (before : List Noted) (node : Node) (floor : Option Finalization) (stop : Stop) (life : Life)
+    → Enters before (events.Start node floor stop) (on_start setup before node floor stop life)
+start_enters setup before node floor stop (Running made past) = tt
+start_enters setup before node floor stop (Stopped sections) =
+    either before (events.Start node floor stop) _ (Ok _) (Err _) (record { counted = refl; who = refl }) tt
+
+packet_enters : (setup : Setup) (before : List Noted) (node : Node) (at : Ref) (o : Option Packet) (made : EngineMade) (past : List Did)
+    → Enters before (events.Deliver node at) (on_packet setup before node at o made past)
+packet_enters setup before node at None made past = tt
+packet_enters setup before node at (Some packet) made past =
+    either before (events.Deliver node at) _ (Err _) (Ok _) tt (record { counted = refl; who = refl })
+
+deliver_enters : (setup : Setup) (before : List Noted) (node : Node) (at : Ref) (life : Life)
+    → Enters before (events.Deliver node at) (on_deliver setup before node at life)
+deliver_enters setup before node at (Stopped sections) = tt
+deliver_enters setup before node at (Running made past) = packet_enters setup before node at (packet_for before node at) made past
+
+step_enters : (setup : Setup) (before : List Noted) (node : Node) (source : StepSource) (stop : Stop) (life : Life)
+    → Enters before (events.Step node source stop) (on_step setup before node source stop life)
+step_enters setup before node source stop (Stopped sections) = tt
+step_enters setup before node source stop (Running made past) =
+    either before (events.Step node source stop) _ (Err _) (Ok _) tt (record { counted = refl; who = refl })
+
+request_enters : (setup : Setup) (before : List Noted) (node : Node) (at : Ref) (answer : Answer) (o : Option ℕ) (made : EngineMade) (past : List Did)
+    → Enters before (events.Answer node at answer) (on_request setup before node at answer o made past)
+request_enters setup before node at answer None made past = tt
+request_enters setup before node at answer (Some number) made past =
+    either before (events.Answer node at answer) _ (Ok _) (Err _) (record { counted = refl; who = refl }) tt
+
+answer_enters : (setup : Setup) (before : List Noted) (node : Node) (at : Ref) (answer : Answer) (life : Life)
+    → Enters before (events.Answer node at answer) (on_answer setup before node at answer life)
+answer_enters setup before node at answer (Stopped sections) = tt
+answer_enters setup before node at answer (Running made past) = request_enters setup before node at answer (request_number before node at) made past
+
+crash_enters : (before : List Noted) (node : Node) (life : Life) → Enters before (events.Crash node) (on_crash before node life)
+crash_enters before node (Stopped sections) = tt
+crash_enters before node (Running made past) = record { counted = refl; who = refl }
+
+enters : (setup : Setup) (before : List Noted) (event : Event) → Enters before event (entry_of setup before event)
+unfolding entry_of
+enters setup before (events.Start node floor stop) =
+    either before (events.Start node floor stop) _ (on_start setup before node floor stop (life_in setup before node)) (Err _)
+    (start_enters setup before node floor stop (life_in setup before node)) tt
+enters setup before (events.Tick ms) = either before (events.Tick ms) _ (Ok _) (Err _) (record { counted = refl; who = refl }) tt
+enters setup before (events.Deliver node at) =
+    either before (events.Deliver node at) _ (on_deliver setup before node at (life_in setup before node)) (Err _)
+    (deliver_enters setup before node at (life_in setup before node)) tt
+enters setup before (events.Step node source stop) =
+    either before (events.Step node source stop) _ (on_step setup before node source stop (life_in setup before node)) (Err _)
+    (step_enters setup before node source stop (life_in setup before node)) tt
+enters setup before (events.Answer node at answer) =
+    either before (events.Answer node at answer) _ (on_answer setup before node at answer (life_in setup before node)) (Err _)
+    (answer_enters setup before node at answer (life_in setup before node)) tt
+enters setup before (events.Crash node) =
+    either before (events.Crash node) _ (on_crash before node (life_in setup before node)) (Err _)
+    (crash_enters before node (life_in setup before node)) tt
+enters setup before (events.Inject member channel to bytes) = either before (events.Inject member channel to bytes) _ (Err _) (Err _) tt tt
+enters setup before events.Later = tt
+
+-- ---- all of them
+
+-- in order of events
+abbrev in_order : List Noted → List Entry
+in_order noted = reverse (map (λ (n : Noted). n.entry) noted)
+
+in_order-push : (noted : Noted) (before : List Noted) → in_order (noted ∷ before) ≡ in_order before ++ noted.entry ∷ []
+in_order-push noted before = rw (reverse-append (noted.entry ∷ []) (map (λ (n : Noted). n.entry) before)) refl
+
+-- behind the entries so far stand those of the events
+record Goes (before noted : List Noted) (events : List Event) : Type 0 where
+  news : List Entry
+  behind : in_order noted ≡ in_order before ++ news
+  each : AreEach (length before + 1) events news
+
+run_goes : (setup : Setup) (before : List Noted) (events : List Event) (noted : List Noted) → run setup before events ≡ Ok noted → Goes before noted events
+unfolding run unless_refused AreEach
+run_goes setup before [] noted e =
+    let same : before ≡ noted = cc in
+    record { news = []; behind = ap in_order (sym same) ∙ sym (append-nil (in_order before)); each = tt }
+run_goes setup before (event ∷ events) noted e =
+    by (entry_of setup before event) (enters setup before event) e (λ n. run_goes setup (n ∷ before) events noted)
+  where
+    by : (r : Result Noted RunError) → Enters before event r → unless_refused (length before + 1) r (λ n. run setup (n ∷ before) events) ≡ Ok noted
+        → ((n : Noted) → run setup (n ∷ before) events ≡ Ok noted → Goes (n ∷ before) noted events) → Goes before noted (event ∷ events)
+    by (Err error) enter h old = cc
+    by (Ok n) enter h old =
+        let goes = old n h in
+        record {
+          news = n.entry ∷ goes.news;
+          behind = goes.behind ∙ ap (λ list. list ++ goes.news) (in_order-push n before) ∙ append_assoc (in_order before) (n.entry ∷ []) goes.news;
+          each = (enter, subst (λ number. AreEach (number + 1) events goes.news) (sym (add-one (length before))) goes.each);
+        }
+
+pub one_each : (setup : Setup) (events : List Event) (entries : List Entry) → Run setup events ≡ Ok entries → IsOneEach entries events
+one_each setup events entries e =
+    let noted = noted_in (run setup [] events) entries (parts setup events entries e).ran in
+    let goes = run_goes setup [] events noted.0 noted.1 in
+    record { count = as_long setup events entries e; each = subst (AreEach 1 events) (sym (noted.2 ∙ goes.behind)) goes.each }
