@@ -2,12 +2,16 @@
 ghost use Rattle.std.specs.Prelude.{◌≡◌, ◌++◌, ◌∷◌, [], Ok, Err, OnOk, IfOk, IfErr, true, false};
 ghost use Rattle.simplex_run.specs.Run as runs;
 ghost use Rattle.simplex_run.specs.Setups as setups;
+ghost use Rattle.simplex_run_laws.specs.Complete.{IsOneEach, IsProper};
 ghost use Rattle.simplex_safety.specs.Safe.{RunsSafely};
 ghost use Rattle.simplex_network.specs.Answer.{is_memory};
 ghost use Rattle.simplex_network.specs.Stands.{MadeBy};
 
 use crate::network::Network;
 use crate::setups::{are_few, is_taken};
+use simplex_run_laws::{
+    proper_runs_make_transcripts, transcripts_are_of_proper_runs, transcripts_have_one_entry_each,
+};
 use simplex_safety::runs_are_safe;
 use simplex_transcript::{Entry, Event, Field, Refusal, RunError, Setup};
 use simplex_types::Sequence;
@@ -27,8 +31,16 @@ pub fn run_network(alloc: Global, setup: &Setup, events: &[Event]) -> Result<Tra
     ensures refused { IfErr result (λ refusal. is_memory refusal.error ≡ false → runs.Run setup.now events.now ≡ Err refusal) }
     // Each certificate that stands in the transcript is backed, no two of them conflict, and each vote was stored first.
     ensures safe { IfOk result (λ transcript. RunsSafely setup.now events.now) }
+    // One entry for each event: as many, numbered from 1, each of the node that its event names.
+    ensures entries { IfOk result (λ transcript. IsOneEach transcript.entries events.now) }
+    // A valid setup and events that each meet their conditions make a transcript, or want memory; and nothing else makes one.
+    ensures complete { IfErr result (λ refusal. IsProper setup.now events.now → is_memory refusal.error ≡ true) }
+    ensures proper { IfOk result (λ transcript. IsProper setup.now events.now) }
 {
     runs_are_safe();
+    transcripts_have_one_entry_each();
+    proper_runs_make_transcripts();
+    transcripts_are_of_proper_runs();
     run_taken(alloc, setup, events)
 }
 

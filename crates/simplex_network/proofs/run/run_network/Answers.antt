@@ -1,6 +1,38 @@
-use Rattle.std.proofs.lemmas.Result.{IfOk-weaker}
+use Rattle.std.proofs.Common.{◌≡◌, Bool, true, false, List, Err, refl}
+use Rattle.std.proofs.lemmas.Result.{IfOk-weaker, IfErr-weaker}
+use Rattle.simplex_transcript.specs.declared.event.Event.{Event}
+use Rattle.simplex_transcript.specs.declared.refusal.Refusal.{Refusal}
+use Rattle.simplex_transcript.specs.declared.setup.Setup.{Setup}
+use Rattle.simplex_run.specs.Run.{Run}
+use Rattle.simplex_run_laws.specs.Complete.{MakesTranscript}
+use Rattle.simplex_network.specs.Answer.{is_memory}
 use Rattle.simplex_network.proofs.run.run_network.Goals as goal
+
+-- what makes a transcript is refused for want of memory alone
+memory_alone : (setup : Setup) (events : List Event) (refusal : Refusal) → MakesTranscript setup events
+    → (is_memory refusal.error ≡ false → Run setup events ≡ Err refusal) → is_memory refusal.error ≡ true
+memory_alone setup events refusal made why = by (is_memory refusal.error) why
+  where
+    by : (b : Bool) → (b ≡ false → Run setup events ≡ Err refusal) → b ≡ true
+    by true k = refl
+    by false k = let refused = k refl in let is = made.1 in cc
 
 pub returns-clause-safe : goal.returns-clause-safe
 returns-clause-safe c =
     IfOk-weaker c.run_taken.result _ _ (λ transcript made. c.runs_are_safe.ensures c.args.setup.now c.args.events.now transcript.entries made) c.run_taken.ensures.done
+
+pub returns-clause-entries : goal.returns-clause-entries
+returns-clause-entries c =
+    IfOk-weaker c.run_taken.result _ _
+    (λ transcript made. c.transcripts_have_one_entry_each.ensures c.args.setup.now c.args.events.now transcript.entries made) c.run_taken.ensures.done
+
+pub returns-clause-proper : goal.returns-clause-proper
+returns-clause-proper c =
+    IfOk-weaker c.run_taken.result _ _
+    (λ transcript made. c.transcripts_are_of_proper_runs.ensures c.args.setup.now c.args.events.now transcript.entries made) c.run_taken.ensures.done
+
+pub returns-clause-complete : goal.returns-clause-complete
+returns-clause-complete c =
+    IfErr-weaker c.run_taken.result _ _
+    (λ refusal why proper. memory_alone c.args.setup.now c.args.events.now refusal (c.proper_runs_make_transcripts.ensures c.args.setup.now c.args.events.now proper) why)
+    c.run_taken.ensures.refused
