@@ -10,15 +10,18 @@ use Rattle.simplex_transcript.specs.declared.refusal.RunError.{RunError}
 use Rattle.simplex_transcript.specs.declared.refusal.Refusal.{Refusal}
 use Rattle.simplex_form.specs.declared.input.Input.{Input}
 use Rattle.simplex_form.specs.Input.{input_of}
-use Rattle.simplex_run.specs.Run.{Run, refused}
+use Rattle.simplex_run.specs.Run.{Run, run, refused}
+use Rattle.simplex_safety.specs.Safe.{RunsSafely}
 use Rattle.simplex_text.specs.Lines.{PrintedRun}
 use Rattle.simplex_network.specs.declared.run.Transcript.{Transcript}
+use Rattle.simplex_network.specs.Stands.{MadeBy}
 use Rattle.simplex_program.specs.declared.exit.Exit.{Exit}
 use Rattle.simplex_program.specs.declared.exit.Exit.TheVariants.{Done}
 use Rattle.simplex_program.specs.declared.front.TheConstants.{LIMIT}
 use Rattle.simplex_program.specs.Exit.{Ending, Ran, Refused, BadWords, BadInput, TooLong, ReadFault, WriteFault, Memory, told, text_of}
 use Rattle.simplex_io.specs.Io.{Takes, TakesAll, TakesWithin, Adds}
-use Rattle.simplex_program.specs.Cause.{IsRun, ending_of_run, ending_of_input, ending_of, ending_for, events_in, LeadsTo, Cause, IsCut, IsFault}
+use Rattle.simplex_program.specs.Whole.{WholeRun}
+use Rattle.simplex_program.specs.Cause.{IsRun, ending_of_run, ending_of_input, ending_of, ending_for, events_in, events_of, LeadsTo, Cause, IsCut, IsFault}
 
 takes_none : (o : Option (List ℕ)) → Takes o [] o
 takes_none None = refl
@@ -177,17 +180,28 @@ printed : (events : List Event) (exit : Exit) (entries : List Entry) (written af
     → Adds written (PrintedRun events entries) after
 printed events exit entries written after added is = subst (λ e. Adds written (text_of events e) after) is added
 
+-- what bytes of the form say of their events
+says_events : (bytes : List ℕ) (transcript : Transcript) (events : List Event) → (whole : WholeRun bytes transcript) → events_of bytes ≡ events → events ≡ whole.input.events
+says_events bytes transcript events whole of = sym of ∙ ap events_in whole.says
+
 -- the whole source was read, its run is whole, and what is printed of it was written
-pub run_read : (words : List (String Global)) (old new : Option (List ℕ)) (before now : ℕ) (events : List Event) (result exit : Exit) (written after : Option (List ℕ))
-    → Cause words old new before now events (told exit) → ((result ≡ exit) × Adds written (text_of events (told exit)) after) ⊎ IsCut (told result)
+pub run_read : (old new : Option (List ℕ)) (events : List Event) (result exit : Exit) (written after : Option (List ℕ))
+    → ((transcript : Transcript) → exit ≡ Done transcript → (bytes : List ℕ) × TakesAll old bytes new × (WholeRun bytes transcript × (events_of bytes ≡ events)))
+    → ((result ≡ exit) × Adds written (text_of events (told exit)) after) ⊎ IsCut (told result)
     → (transcript : Transcript) → result ≡ Done transcript
     → (bytes : List ℕ) × TakesAll old bytes new
-    × ((input : Input) × (input_of bytes ≡ Ok input) × (Run input.setup input.events ≡ Ok transcript.entries)
-    × Adds written (PrintedRun input.events transcript.entries) after)
-run_read words old new before now events result exit written after cause (inl (same, added)) transcript is =
-    let chosen : told exit ≡ Ran transcript.entries = sym (ap told same) ∙ ap told is in
-    let (_, (bytes, taken, small, says, leads)) = subst (Cause words old new before now events) chosen cause in
-    let (input, of_form, ran, same_events) = input_ran (input_of bytes) transcript.entries events leads says in
-    (bytes, taken, (input, of_form, ran, subst (λ es. Adds written (PrintedRun es transcript.entries) after) (sym same_events) (printed events exit transcript.entries written after added chosen)))
-run_read words old new before now events result exit written after cause (inr cut) transcript is =
+    × ((whole : WholeRun bytes transcript) × Adds written (PrintedRun whole.input.events transcript.entries) after)
+run_read old new events result exit written after decided (inl (same, added)) transcript is =
+    let done : exit ≡ Done transcript = sym same ∙ is in
+    let (bytes, taken, (whole, of)) = decided transcript done in
+    (bytes, taken, (whole, subst (λ es. Adds written (PrintedRun es transcript.entries) after) (says_events bytes transcript events whole of) (printed events exit transcript.entries written after added (ap told done))))
+run_read old new events result exit written after decided (inr cut) transcript is =
     absurd (ran_is_no_cut transcript.entries (subst IsCut (ap told is) cut))
+
+-- a whole run of the bytes, as it was made
+pub made_whole : (bytes : List ℕ) (input : Input) (made : Transcript) → input_of bytes ≡ Ok input
+    → Run input.setup input.events ≡ Ok made.entries → MadeBy made.network input.setup (run input.setup [] input.events) → RunsSafely input.setup input.events
+    → (transcript : Transcript) → Done made ≡ Done transcript → WholeRun bytes transcript
+made_whole bytes input made says entries network safe transcript is =
+    let same : made ≡ transcript = cc in
+    subst (WholeRun bytes) same (record { input = input; says = says; entries = entries; network = network; safe = safe })

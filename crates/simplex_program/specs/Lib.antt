@@ -1,2 +1,3 @@
 pub mod Exit
 pub mod Cause
+pub mod Whole

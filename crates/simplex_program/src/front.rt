@@ -11,6 +11,7 @@ ghost use Rattle.simplex_network.specs.declared.run.Transcript.{Transcript};
 ghost use Rattle.simplex_program.specs.declared.exit.Exit.{Exit};
 ghost use Rattle.simplex_program.specs.Exit as endings;
 ghost use Rattle.simplex_program.specs.Exit.{Ending, told, text_of};
+ghost use Rattle.simplex_program.specs.Whole.{WholeRun};
 ghost use Rattle.simplex_program.specs.Cause.{IsRun, ending_of, ending_for, events_of, Cause, IsCut, IsFault};
 
 use crate::exit::Exit;
@@ -18,6 +19,7 @@ use crate::text::text;
 use simplex_form::read_input;
 use simplex_io::{InputError, Sink, SinkError, Source, read_to_end, write_all};
 use simplex_network::run_network;
+use simplex_safety::runs_are_safe;
 use simplex_transcript::{Event, RunError};
 use simplex_types::Sequence;
 use std::alloc::{AllocError, Global};
@@ -56,7 +58,9 @@ fn is_run(words: &[String]) -> bool
 fn answer(alloc: Global, bytes: &[u8]) -> Result<Decision, AllocError>
     ensures exit { IfOk result (λ decision. ending_of bytes.now ≡ told decision.exit) }
     ensures events { IfOk result (λ decision. events_of bytes.now ≡ decision.events) }
+    ensures whole { IfOk result (λ decision. (transcript : Transcript) → decision.exit ≡ Exit.Done transcript → WholeRun bytes.now transcript) }
 {
+    runs_are_safe();
     let input = match read_input(alloc, bytes)? {
         Err(place) => return Ok(at_once(alloc, Exit::BadInput { place })),
         Ok(input) => input,
@@ -83,8 +87,11 @@ fn answer(alloc: Global, bytes: &[u8]) -> Result<Decision, AllocError>
 
 // The exit, before its text is written.
 fn decide<S: Source>(alloc: Global, words: &[String], source: &mut S) -> Decision
-    ensures { Cause words.now (S.left source.old) (S.left source.new)
+    ensures cause { Cause words.now (S.left source.old) (S.left source.new)
         (S.fault_count source.old) (S.fault_count source.new) result.events (told result.exit) }
+    ensures whole { (transcript : Transcript) → result.exit ≡ Exit.Done transcript
+        → (bytes : List ℕ) × TakesAll (S.left source.old) bytes (S.left source.new)
+        × (WholeRun bytes transcript × (events_of bytes ≡ result.events)) }
 {
     if !is_run(words) {
         return at_once(alloc, Exit::BadWords);
@@ -148,12 +155,12 @@ pub fn program<S: Source, K: Sink>(
         × ((input : Input) × (input_of bytes ≡ Ok input)
         × (Run input.setup input.events ≡ Err (record { error = error; event = event }))) }
 
-    // It says a setup and events of which the run has these entries, and what is printed of them was written.
+    // It says a setup and events of which the run has these entries and this network, and what is printed of them was
+    // written. The run is safe: each certificate is backed, no two of them conflict, and each vote was stored first.
     ensures done { (transcript : Transcript) → result ≡ Exit.Done transcript
         → (bytes : List ℕ) × TakesAll (S.left source.old) bytes (S.left source.new)
-        × ((input : Input) × (input_of bytes ≡ Ok input)
-        × (Run input.setup input.events ≡ Ok transcript.entries)
-        × Adds (K.written sink.old) (PrintedRun input.events transcript.entries) (K.written sink.new)) }
+        × ((whole : WholeRun bytes transcript)
+        × Adds (K.written sink.old) (PrintedRun whole.input.events transcript.entries) (K.written sink.new)) }
 
     // A fault comes only where a count of faults rose.
     ensures read_fault { told result ≡ endings.ReadFault

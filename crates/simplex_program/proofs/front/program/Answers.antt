@@ -2,16 +2,16 @@ use Rattle.simplex_program.proofs.Causes.{told_answer, small_after_writing, bad_
 use Rattle.simplex_program.proofs.front.program.Goals as goal
 
 pub returns-clause-answer : goal.returns-clause-answer
-returns-clause-answer g c = told_answer _ _ _ _ _ _ _ _ _ c.decide-decision.ensures c.tell.ensures.whole
+returns-clause-answer g c = told_answer _ _ _ _ _ _ _ _ _ c.decide-decision.ensures.cause c.tell.ensures.whole
 
 pub returns-clause-within : goal.returns-clause-within
-returns-clause-within g c = small_after_writing _ _ _ _ _ _ _ _ _ c.decide-decision.ensures c.tell.ensures.whole
+returns-clause-within g c = small_after_writing _ _ _ _ _ _ _ _ _ c.decide-decision.ensures.cause c.tell.ensures.whole
 
 pub returns-clause-bad_input : goal.returns-clause-bad_input
-returns-clause-bad_input g c = bad_input_read _ _ _ _ _ _ _ _ _ c.decide-decision.ensures c.tell.ensures.whole
+returns-clause-bad_input g c = bad_input_read _ _ _ _ _ _ _ _ _ c.decide-decision.ensures.cause c.tell.ensures.whole
 
 pub returns-clause-refused : goal.returns-clause-refused
-returns-clause-refused g c = refused_read _ _ _ _ _ _ _ _ _ c.decide-decision.ensures c.tell.ensures.whole
+returns-clause-refused g c = refused_read _ _ _ _ _ _ _ _ _ c.decide-decision.ensures.cause c.tell.ensures.whole
 
 pub returns-clause-done : goal.returns-clause-done
-returns-clause-done g c = run_read _ _ _ _ _ _ _ _ _ _ c.decide-decision.ensures c.tell.ensures.whole
+returns-clause-done g c = run_read _ _ _ _ _ _ _ c.decide-decision.ensures.whole c.tell.ensures.whole
