@@ -23,7 +23,7 @@ use Rattle.simplex_engine.specs.declared.error.PollError.{PollError}
 use Rattle.simplex_engine.specs.declared.error.PollError.TheVariants as errors
 use Rattle.simplex_engine.specs.Parts.{parts_of}
 use Rattle.simplex_engine.specs.Polled.{is_taken, refusal_of, is_memory, taken_inside}
-use Rattle.simplex_engine.specs.Stands.{CrewStands, Tells, CrewTakes, CrewGives, CrewAnswers, CrewRefuses, StageStands, StandsFor, Takes, Stays, Gives, Answers, Starts, GivesFirst, FailsAfter, has_failed, is_failed, Waits, settled, settled_with}
+use Rattle.simplex_engine.specs.Stands.{CrewStands, Tells, CrewTakes, CrewGives, CrewAnswers, CrewRefuses, StageStands, StandsFor, Takes, Stays, Gives, Answers, Starts, GivesFirst, FailsAfter, has_begun, has_failed, is_failed, Waits, settled, settled_with}
 
 module _ {S L J : Type 0} {s : scheme.Ghosts S} {l : elector.Ghosts L} {j : journal.Ghosts J} where
   pub stage-settled : (crew : Crew S L J s l j) (made : EngineMade) (past : List Did) (did : Did) (outcome : Outcome) → outcome ≡ did.outcome
@@ -166,6 +166,14 @@ module _ {S L J : Type 0} {s : scheme.Ghosts S} {l : elector.Ghosts L} {j : jour
       → StandsFor engine made past → runs past ≡ true → ⊥
   unfolding StandsFor runs
   waiting-idle engine unstarted made past e h r =
+      let held = rw e at h in
+      false≢true (rw held.0 at r)
+
+  -- an engine that waits for its start has not begun
+  pub waiting-fresh : (engine : Engine S L J s l j) (unstarted : Unstarted S L J s l j) (made : EngineMade) (past : List Did) → engine.stage ≡ stages.Waiting unstarted
+      → StandsFor engine made past → has_begun past ≡ true → ⊥
+  unfolding StandsFor
+  waiting-fresh engine unstarted made past e h r =
       let held = rw e at h in
       false≢true (rw held.0 at r)
 

@@ -1,7 +1,7 @@
 //! The engine.
 #![tactic(auto, unfolding(crate::specs::Stands::StandsFor))]
 
-ghost use Rattle.std.specs.Prelude.{◌≡◌, ◌<◌, ◌≤◌, ◌^◌, List, [], true, false, Some, None, OnOk, IfOk, IfErr, IfSome};
+ghost use Rattle.std.specs.Prelude.{◌≡◌, ◌<◌, ◌≤◌, ◌^◌, List, [], true, false, Some, None, Err, OnOk, IfOk, IfErr, IfSome};
 ghost use Rattle.simplex_rules.specs.Views.{current_of};
 ghost use Rattle.simplex_journal.specs.Order.{no_order};
 ghost use Rattle.simplex_messages.specs.Step.{no_out};
@@ -9,7 +9,7 @@ ghost use Rattle.simplex_steps.specs.VoterLife.{place_of};
 ghost use Rattle.simplex_steps.specs.Engine.{EngineMade, Did, begun, runs, sections_of, voter_in, voter_past};
 ghost use Rattle.simplex_engine.specs.Config.{engine_made, first_bad, Refused};
 ghost use Rattle.simplex_engine.specs.Polled.{polled, refusal_of, is_memory};
-ghost use Rattle.simplex_engine.specs.Stands.{StandsFor, Takes, Stays, Gives, Answers, Starts, GivesFirst, FailsAfter, has_failed};
+ghost use Rattle.simplex_engine.specs.Stands.{StandsFor, Takes, Stays, Gives, Answers, Starts, GivesFirst, FailsAfter, has_begun, has_failed};
 
 use crate::boxes::Boxes;
 use crate::config::EngineConfig;
@@ -101,6 +101,7 @@ impl<S: Scheme + Drop, L: Elector + Drop, J: Journal + Drop> Engine<S, L, J> {
         ensures stands { IfOk result (λ _. Starts self.old self.new (λ made. begun made now stop.now)) }
         ensures gives { IfOk result (λ outcome. GivesFirst self.old (λ made. begun made now stop.now) outcome out.new) }
         ensures refused { IfErr result (λ error. (made : EngineMade) → StandsFor self.old made [] → is_memory error ≡ true) }
+        ensures again { (made : EngineMade) (past : List Did) → StandsFor self.old made past → has_begun past ≡ true → result ≡ Err PollError.Stopped }
         ensures stays { IfErr result (λ error. is_memory error ≡ false → Stays self.old self.new) }
         ensures failed { IfErr result (FailsAfter self.old self.new) }
         ensures sound { OnOk result (has_failed self.old ≡ false) }
