@@ -2,7 +2,9 @@
 mod alone;
 mod cuts;
 mod floors;
+mod followers;
 mod handoffs;
+mod readers;
 mod restarts;
 mod script;
 mod terms;

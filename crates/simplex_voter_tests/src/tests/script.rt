@@ -9,14 +9,14 @@ use simplex_types::elector::Config as _;
 use simplex_types::{
     Answer, Certificate, Digest, Epoch, Finalization, Floor, Keyed, Notarization, Nullification,
     Participant, Proposal, Round, RoundRobin, RoundRobinElector, Signatures, TermLength, Terms,
-    View, ViewDelta,
+    TimeoutReason, View, ViewDelta,
 };
 use simplex_voter::{Actor, Config};
 use std::alloc::{AllocError, Global};
 use std::process::Abort;
 use std::test::Fail;
 
-type Voter = Actor<Keyed, RoundRobinElector, MemoryJournal>;
+pub(super) type Voter = Actor<Keyed, RoundRobinElector, MemoryJournal>;
 
 /// A member: number `me` of so many, with terms of so many views, that prepares for the next term or not.
 #[derive(Clone, Copy)]
@@ -35,16 +35,19 @@ pub(super) const ALONE: Member = Member {
     handoff: false,
 };
 
-/// What is done with a voter. A certificate comes by the mailbox, with the view of its parent.
+/// What is done with a voter. A proposal or a certificate comes by the mailbox, with the view of its parent.
 #[derive(Clone, Copy)]
 pub(super) enum Move {
     Start,
     Answer(u64, Answer),
+    Proposed(u64, u64),
+    Hint(u64, TimeoutReason),
     Notarized(u64, u64),
     Nullified(u64),
     Finalized(u64, u64),
     Timer,
     Propose,
+    Verify,
     Certify,
 }
 
@@ -69,7 +72,7 @@ fn round(view: u64) -> Round {
     }
 }
 
-/// The proposal of the view that all certificates are for.
+/// The proposal of the view, which all certificates are for.
 fn block(view: u64, parent: u64) -> Proposal {
     Proposal {
         round: round(view),
@@ -103,7 +106,17 @@ fn mail(certificate: Certificate) -> VoterInput {
     VoterInput::Mail(voter::Message::Verified { certificate })
 }
 
-fn floor(alloc: Global, view: Option<u64>) -> Floor {
+fn proposed(view: u64, parent: u64) -> VoterInput {
+    let proposal = block(view, parent);
+    VoterInput::Mail(voter::Message::Proposal { proposal })
+}
+
+fn hint(view: u64, reason: TimeoutReason) -> VoterInput {
+    let round = round(view);
+    VoterInput::Mail(voter::Message::Timeout { round, reason })
+}
+
+pub(super) fn floor(alloc: Global, view: Option<u64>) -> Floor {
     match view {
         None => Floor::Genesis(Digest([0; 32])),
         Some(view) => Floor::Finalized(finalization(alloc, view, 0)),
@@ -111,7 +124,7 @@ fn floor(alloc: Global, view: Option<u64>) -> Floor {
 }
 
 /// The voter of the member over the journal.
-fn made(
+pub(super) fn made(
     alloc: Global,
     member: Member,
     floor: Floor,
@@ -202,7 +215,7 @@ fn answered(
 }
 
 /// What comes of the move.
-fn said(
+pub(super) fn said(
     alloc: Global,
     voter: &mut Voter,
     next: Move,
@@ -214,6 +227,8 @@ fn said(
     let input = match next {
         Move::Start => return started(alloc, voter, now, stop),
         Move::Answer(number, answer) => return answered(alloc, voter, number, answer),
+        Move::Proposed(view, parent) => proposed(view, parent),
+        Move::Hint(view, reason) => hint(view, reason),
         Move::Notarized(view, parent) => mail(notarized(alloc, view, parent)),
         Move::Nullified(view) => mail(nullified(alloc, view)),
         Move::Finalized(view, parent) => {
@@ -221,6 +236,7 @@ fn said(
         }
         Move::Timer => VoterInput::Timer,
         Move::Propose => VoterInput::Propose,
+        Move::Verify => VoterInput::Verify,
         Move::Certify => VoterInput::Certify,
     };
     stepped(alloc, voter, input, now, stop)
