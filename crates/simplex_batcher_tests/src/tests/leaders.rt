@@ -1,7 +1,7 @@
 //! What the batcher tells the voter of the leader. At clock 1000 members 1 and 2 were seen.
-use super::script::{Given, last};
+use super::script::{Given, behind, last};
 use simplex_messages::{Handed, StepOut, voter};
-use simplex_types::TimeoutReason;
+use simplex_types::{Participant, TimeoutReason};
 use std::test::Fail;
 
 /// The hint that is handed on last.
@@ -66,5 +66,16 @@ fn a_hint_comes_once(rt: HostRuntime) -> Result<(), Fail> {
     let out = last(rt.alloc(), &GIVEN_UP)?;
     let hint = last_hint(&out);
     assert_eq!(rt; hint, None);
+    Ok(())
+}
+
+/// For 100 milliseconds behind clock 1000 two others were seen, which is enough to tell.
+#[test]
+fn who_is_active(rt: HostRuntime) -> Result<(), Fail> {
+    let batcher = behind(rt.alloc(), &led_by(3))?;
+    for (member, now, wanted) in [(1, 1100, true), (3, 1100, false), (3, 1101, true)] {
+        let active = batcher.is_active(Participant(member), 100, now);
+        assert_eq!(rt; active, wanted, "member {member} at {now}");
+    }
     Ok(())
 }

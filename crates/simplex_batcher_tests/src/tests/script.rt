@@ -154,7 +154,18 @@ pub fn last_of(alloc: Global, made: Config<Keyed>, script: &[Given]) -> Result<S
     Ok(out)
 }
 
-/// The same by member 0 of four.
+/// Member 0 of four behind the script, at clock 1000.
+pub fn behind(alloc: Global, script: &[Given]) -> Result<Actor<Keyed>, Fail> {
+    let scheme = Keyed::new(alloc, 7, 4, Some(Participant(0)))?;
+    let mut batcher = Actor::new(alloc, config(scheme))?;
+    for given in script {
+        let input = given.input(alloc)?;
+        let _out = step(alloc, &mut batcher, input)?;
+    }
+    Ok(batcher)
+}
+
+/// What the last step of the script gives, by member 0 of four.
 pub fn last(alloc: Global, script: &[Given]) -> Result<StepOut, Fail> {
     let scheme = Keyed::new(alloc, 7, 4, Some(Participant(0)))?;
     last_of(alloc, config(scheme), script)
