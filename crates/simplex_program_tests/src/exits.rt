@@ -1,6 +1,6 @@
 //! The text and the status of each exit that comes before a run, and reads and writes that fail in turn.
 use simplex_io::{MemorySink, MemorySource};
-use simplex_program::{LIMIT, program};
+use simplex_program::{Exit, LIMIT, program};
 use std::alloc::{AllocError, Global};
 use std::test::Fail;
 
@@ -97,6 +97,12 @@ fn one_byte_more_than_the_limit_is_too_long(rt: HostRuntime) -> Result<(), Fail>
     assert_eq!(rt; text.as_slice(), "input too long\n".as_bytes());
     assert_eq!(rt; status, 4);
     Ok(())
+}
+
+#[test]
+fn want_of_memory_is_told_by_the_status(rt: HostRuntime) {
+    let exit = Exit::Memory;
+    assert_eq!(rt; exit.status(), 7);
 }
 
 // Ten thousand bytes come in reads of 4,096, 4,096, 1,808 and none; a fifth is not made.
