@@ -29,11 +29,12 @@ pub fn run_network(alloc: Global, setup: &Setup, events: &[Event]) -> Result<Tra
     ensures done { IfOk result (λ transcript. runs.Run setup.now events.now ≡ Ok transcript.entries) }
     ensures network { IfOk result (λ transcript. MadeBy transcript.network setup.now (runs.run setup.now [] events.now)) }
     ensures refused { IfErr result (λ refusal. is_memory refusal.error ≡ false → runs.Run setup.now events.now ≡ Err refusal) }
-    // Each certificate that stands in the transcript is backed, no two of them conflict, and each vote was stored first.
+    // Each certificate that stands in the transcript is backed and of the setup's epoch, no two of them conflict, each vote
+    // was stored first, and the votes of each event that no stop broke are those that the rules give.
     ensures safe { IfOk result (λ transcript. RunsSafely setup.now events.now) }
     // One entry for each event: as many, numbered from 1, each of the node that its event names.
     ensures entries { IfOk result (λ transcript. IsOneEach transcript.entries events.now) }
-    // A valid setup and events that each meet their conditions make a transcript, or want memory; and nothing else makes one.
+    // A valid setup and events that each meet their conditions make a transcript, or want memory; and nothing else does.
     ensures complete { IfErr result (λ refusal. IsProper setup.now events.now → is_memory refusal.error ≡ true) }
     ensures proper { IfOk result (λ transcript. IsProper setup.now events.now) }
 {

@@ -3,15 +3,18 @@ use Rattle.std.specs.Prelude.{◌≡◌, ℕ, List, [], Ok}
 use Rattle.simplex_form.specs.declared.input.Input.{Input}
 use Rattle.simplex_form.specs.Input.{input_of}
 use Rattle.simplex_run.specs.Run.{Run, run}
+use Rattle.simplex_run_laws.specs.Complete.{IsOneEach}
 use Rattle.simplex_safety.specs.Safe.{RunsSafely}
 use Rattle.simplex_network.specs.declared.run.Transcript.{Transcript}
 use Rattle.simplex_network.specs.Stands.{MadeBy}
 
--- The bytes say a setup and events, the run of these has the transcript's entries and network, and it is safe: each
--- certificate that stands in it is backed, no two of them conflict, and each vote was stored before it went out
+-- The bytes say a setup and events, the run of these has the transcript's entries, one for each event, and its network,
+-- and it is safe: each certificate that stands in it is backed, no two of them conflict, each vote was stored before it
+-- went out, and the votes are those that the rules give
 pub record WholeRun (bytes : List ℕ) (transcript : Transcript) : Type 0 where
   pub input : Input
   pub says : input_of bytes ≡ Ok input
   pub entries : Run input.setup input.events ≡ Ok transcript.entries
+  pub each : IsOneEach transcript.entries input.events
   pub network : MadeBy transcript.network input.setup (run input.setup [] input.events)
   pub safe : RunsSafely input.setup input.events

@@ -19,6 +19,7 @@ use crate::text::text;
 use simplex_form::read_input;
 use simplex_io::{InputError, Sink, SinkError, Source, read_to_end, write_all};
 use simplex_network::run_network;
+use simplex_run_laws::transcripts_have_one_entry_each;
 use simplex_safety::runs_are_safe;
 use simplex_transcript::{Event, RunError};
 use simplex_types::Sequence;
@@ -61,6 +62,7 @@ fn answer(alloc: Global, bytes: &[u8]) -> Result<Decision, AllocError>
     ensures whole { IfOk result (λ decision. (transcript : Transcript) → decision.exit ≡ Exit.Done transcript → WholeRun bytes.now transcript) }
 {
     runs_are_safe();
+    transcripts_have_one_entry_each();
     let input = match read_input(alloc, bytes)? {
         Err(place) => return Ok(at_once(alloc, Exit::BadInput { place })),
         Ok(input) => input,
@@ -155,8 +157,9 @@ pub fn program<S: Source, K: Sink>(
         × ((input : Input) × (input_of bytes ≡ Ok input)
         × (Run input.setup input.events ≡ Err (record { error = error; event = event }))) }
 
-    // It says a setup and events of which the run has these entries and this network, and what is printed of them was
-    // written. The run is safe: each certificate is backed, no two of them conflict, and each vote was stored first.
+    // It says a setup and events of which the run has these entries, one for each event, and this network, and what is
+    // printed of them was written. The run is safe: each certificate is backed, no two of them conflict, each vote was
+    // stored first, and the votes are those that the rules give.
     ensures done { (transcript : Transcript) → result ≡ Exit.Done transcript
         → (bytes : List ℕ) × TakesAll (S.left source.old) bytes (S.left source.new)
         × ((whole : WholeRun bytes transcript)
