@@ -117,10 +117,6 @@ run_refused : (ran : Result (List Entry) Refusal) (error : RunError) (event : �
 run_refused (Ok entries) error event is = absurd (cc)
 run_refused (Err refusal) error event is = ap Err (same_refusal refusal.error error refusal.event event (cc) (cc))
 
-run_done : (ran : Result (List Entry) Refusal) (entries : List Entry) → ending_of_run ran ≡ Ran entries → ran ≡ Ok entries
-run_done (Ok ran) entries is = cc
-run_done (Err refusal) entries is = absurd (cc)
-
 run_of_the_form : (ran : Result (List Entry) Refusal) (place : ℕ) → ending_of_run ran ≡ BadInput place → ⊥
 run_of_the_form (Ok entries) place is = cc
 run_of_the_form (Err refusal) place is = cc
@@ -133,11 +129,6 @@ input_refused : (said : Result Input ℕ) (error : RunError) (event : ℕ) → e
     → (input : Input) × (said ≡ Ok input) × (Run input.setup input.events ≡ Err (record { error = error; event = event }))
 input_refused (Ok input) error event is = (input, refl, run_refused (Run input.setup input.events) error event is)
 input_refused (Err place) error event is = absurd (cc)
-
-input_ran : (said : Result Input ℕ) (entries : List Entry) (events : List Event) → ending_of_input said ≡ Ran entries → events_in said ≡ events
-    → (input : Input) × (said ≡ Ok input) × (Run input.setup input.events ≡ Ok entries) × (input.events ≡ events)
-input_ran (Ok input) entries events is says = (input, refl, run_done (Run input.setup input.events) entries is, says)
-input_ran (Err place) entries events is says = absurd (cc)
 
 -- what was told had its cause, where neither writing nor memory failed
 cause_of : (words : List (String Global)) (old new : Option (List ℕ)) (before now : ℕ) (events : List Event) (result exit : Exit) (X : Type 0) (ending : Ending)

@@ -19,8 +19,6 @@ use crate::text::text;
 use simplex_form::read_input;
 use simplex_io::{InputError, Sink, SinkError, Source, read_to_end, write_all};
 use simplex_network::run_network;
-use simplex_run_laws::transcripts_have_one_entry_each;
-use simplex_safety::runs_are_safe;
 use simplex_transcript::{Event, RunError};
 use simplex_types::Sequence;
 use std::alloc::{AllocError, Global};
@@ -61,8 +59,6 @@ fn answer(alloc: Global, bytes: &[u8]) -> Result<Decision, AllocError>
     ensures events { IfOk result (λ decision. events_of bytes.now ≡ decision.events) }
     ensures whole { IfOk result (λ decision. (transcript : Transcript) → decision.exit ≡ Exit.Done transcript → WholeRun bytes.now transcript) }
 {
-    runs_are_safe();
-    transcripts_have_one_entry_each();
     let input = match read_input(alloc, bytes)? {
         Err(place) => return Ok(at_once(alloc, Exit::BadInput { place })),
         Ok(input) => input,

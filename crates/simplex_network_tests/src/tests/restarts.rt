@@ -122,28 +122,35 @@ fn reported(alloc: Global, entry: &Entry) -> Result<Option<Finalization>, AllocE
 const WHOLE: &str =
     "report notarize 1,report notarization 1,report certification 1,report finalize 1,report finalization 1,propose 2,done";
 
+/// The view's last event. The finalization that it reports.
+fn ends(rt: &impl Abort, alloc: Global, network: &mut Network) -> Result<Finalization, Fail> {
+    let (deed, does) = VIEW[8];
+    let last = makes(rt, alloc, network, &event(deed), does, true)?;
+    Ok(reported(alloc, &last)?.ok_or("a finalization is reported")?)
+}
+
+/// The member crashes, and starts at the floor.
+fn crashes(
+    rt: &impl Abort,
+    alloc: Global,
+    network: &mut Network,
+    floor: Option<Finalization>,
+    wanted: &str,
+) -> Result<(), Fail> {
+    let crash = Event::Crash { node: NODE };
+    makes(rt, alloc, network, &crash, "done", false)?;
+    makes(rt, alloc, network, &start(floor), wanted, true)?;
+    Ok(())
+}
+
 #[test]
 fn a_crash_and_a_start_at_the_reported_floor(rt: HostRuntime) -> Result<(), Fail> {
     let alloc = rt.alloc();
     let mut network = within(&rt, alloc, 8)?;
-    let (deed, does) = VIEW[8];
-    let last = makes(&rt, alloc, &mut network, &event(deed), does, true)?;
-    let floor = reported(alloc, &last)?;
-    assert!(rt; floor.is_some());
-    let crash = Event::Crash { node: NODE };
-    makes(&rt, alloc, &mut network, &crash, "done", false)?;
-    let again = start(floor);
-    makes(
-        &rt,
-        alloc,
-        &mut network,
-        &again,
-        "report finalization 1,propose 2,done",
-        true,
-    )?;
-    makes(&rt, alloc, &mut network, &crash, "done", false)?;
-    makes(&rt, alloc, &mut network, &start(None), WHOLE, true)?;
-    Ok(())
+    let floor = Some(ends(&rt, alloc, &mut network)?);
+    let behind = "report finalization 1,propose 2,done";
+    crashes(&rt, alloc, &mut network, floor, behind)?;
+    crashes(&rt, alloc, &mut network, None, WHOLE)
 }
 
 /// The verdict is taken with a journal whose call of this number fails, and one pending record is kept.
