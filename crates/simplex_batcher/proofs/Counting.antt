@@ -1,5 +1,5 @@
 -- Counting the members that were seen.
-use Rattle.std.proofs.Common.{arith, zero-add, refl, ap, nat_le, ℕ, zero, suc, ◌≡◌, ◌+◌, List, [], ◌∷◌, ◌++◌, Bool, length, filter, if◌then◌else◌}
+use Rattle.std.proofs.Common.{arith, zero-add, refl, ap, nat_le, ℕ, zero, suc, ◌≡◌, ◌+◌, ◌≤◌, List, [], ◌∷◌, ◌++◌, Bool, length, filter, if◌then◌else◌}
 use Rattle.std.specs.List.{range_with_len}
 use Rattle.std.proofs.lemmas.Grind.{common_steps}
 use Rattle.std.specs.BTreeMap.{BTreeMap}
@@ -22,6 +22,15 @@ count_more test n = rw (filter_range_more test 0 n, zero-add n) (grind (arith, c
 pub filter_same : {A : Type 0} (p q : A → Bool) → ((x : A) → p x ≡ q x) → (xs : List A) → filter p xs ≡ filter q xs
 filter_same p q same [] = grind (arith, common_steps)
 filter_same p q same (x ∷ xs) = let rest = filter_same p q same xs in let is = same x in grind (arith, common_steps, rest, is)
+
+-- and tests that agree from a number on leave the same of a range from there
+pub filter_same_from : (p q : ℕ → Bool) (n a : ℕ) → ((x : ℕ) → a ≤ x → p x ≡ q x) → filter p (range_with_len a n) ≡ filter q (range_with_len a n)
+filter_same_from p q zero a same = refl
+filter_same_from p q (suc n) a same =
+    let from : a ≤ a = omega arith in
+    let is = same a from in
+    let rest = filter_same_from p q n (a + 1) (λ x after. let before : a ≤ x = omega arith in same x before) in
+    grind (arith, common_steps, rest, is)
 
 -- as many were seen by the map as by the batcher's standing
 pub seen-same : (seen : BTreeMap ℕ ℕ) (standing : Standing) (since : ℕ) → ((q : ℕ) → found seen q ≡ standing.seen q) → (n m : ℕ) → n ≡ m

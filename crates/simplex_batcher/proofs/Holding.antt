@@ -1,7 +1,6 @@
 -- A view that is worked with its round in hand.
 use Rattle.std.proofs.Common.{◌≡◌, ℕ, zero, suc, ◌==◌, Bool, false, refl, sym, ap, ◌∙◌, List, Option, Some, None, inl, inr, arith}
 use Rattle.std.specs.Option.{option_map, option_map_or}
-use Rattle.std.specs.BTreeMap.{BTreeMap}
 use Rattle.std.proofs.lemmas.Grind.{common_steps}
 use Rattle.std.proofs.lemmas.Bool.{cases_eq}
 use Rattle.std.proofs.lemmas.Bool.Decides.{nat_tests}
@@ -10,8 +9,9 @@ use Rattle.simplex_wire.specs.declared.attestation.Attestation.{Attestation}
 use Rattle.simplex_round.specs.Known as low
 use Rattle.simplex_steps.specs.Batcher.{Made, Standing, Doing, RoundHistory, constructing, constructing_times}
 use Rattle.simplex_batcher.specs.declared.actor.Actor.{Actor}
+use Rattle.simplex_batcher.specs.declared.rounds.Rounds.{Rounds}
 use Rattle.simplex_batcher.specs.declared.work.Work.{Work}
-use Rattle.simplex_batcher.specs.Rounds.{found, round_of}
+use Rattle.simplex_batcher.specs.Rounds.{round_at, round_of}
 use Rattle.simplex_batcher.specs.Stands.{IsAt, Stands, work_of}
 use Rattle.simplex_batcher.specs.Holding.{Holds, StaysBeside}
 use Rattle.simplex_batcher.specs.Working.{forwarded_at, constructing_at, worked_near}
@@ -35,9 +35,9 @@ holds-set round work worked view before doing next now history h is standing dir
 }
 
 -- the view is begun
-pub holds-start : (rounds : BTreeMap ℕ low.Standing) (work : Work) (view : ℕ) (doing : Doing)
-    → found rounds view ≡ option_map round_of (doing.standing.rounds view) → work ≡ work_of doing → Holds (found rounds view) work view doing doing
-holds-start rounds work view doing is does = record {
+pub holds-start : (round : Option low.Standing) (work : Work) (view : ℕ) (doing : Doing)
+    → round ≡ option_map round_of (doing.standing.rounds view) → work ≡ work_of doing → Holds round work view doing doing
+holds-start round work view doing is does = record {
   round_is = is;
   others_are = λ q apart. refl;
   rest_is = refl;
@@ -74,14 +74,14 @@ near-is made view doing = refl
 
 -- where the batcher stood as the view was begun, it stands once the view's round is put back
 pub held-stands : {S : Type 0} (verifies : S → Subject → Attestation → Bool) (recovers : S → Bool) (members : S → ℕ) (member : S → Option ℕ)
-    (actor : Actor S) (made : Made) (before doing : Doing) (view : ℕ) (rounds : BTreeMap ℕ low.Standing) (work : Work) (dirty : List ℕ)
+    (actor : Actor S) (made : Made) (before doing : Doing) (view : ℕ) (rounds : Rounds) (work : Work) (dirty : List ℕ)
     → IsAt verifies recovers members member actor made before.standing → dirty ≡ before.dirty
-    → StaysBeside actor.rounds rounds view → Holds (found rounds view) work view before doing
+    → rounds.current ≡ actor.rounds.current → StaysBeside (round_at actor.rounds) (round_at rounds) view → Holds (round_at rounds view) work view before doing
     → Stands verifies recovers members member (record actor { rounds = rounds }) work dirty made doing
-held-stands verifies recovers members member actor made before doing view rounds work dirty s marks stays h = record {
+held-stands verifies recovers members member actor made before doing view rounds work dirty s marks current stays h = record {
   stands = record {
     made_is = s.made_is;
-    current_is = ap (λ (x : Standing). x.current) h.rest_is ∙ s.current_is;
+    current_is = ap (λ (x : Standing). x.current) h.rest_is ∙ s.current_is ∙ sym current;
     leader_is = ap (λ (x : Standing). x.leader) h.rest_is ∙ s.leader_is;
     finalized_is = ap (λ (x : Standing). x.finalized) h.rest_is ∙ s.finalized_is;
     hinted_is = ap (λ (x : Standing). x.hinted) h.rest_is ∙ s.hinted_is;

@@ -1,4 +1,5 @@
 pub mod Accepting
+pub mod Apart
 pub mod Batches
 pub mod Cases
 pub mod Counting

@@ -16,8 +16,7 @@ use Rattle.simplex_round.specs.Known as low
 use Rattle.simplex_steps.specs.Batcher.{Made, Standing, RoundHistory, led, window_views, with_leader, round_for}
 use Rattle.simplex_batcher.specs.Rounds.{round_of}
 use Rattle.simplex_batcher.specs.Working.{put, with_lead, with_leads, with_window}
-use Rattle.simplex_batcher.proofs.Counting.{filter_same}
-use Rattle.simplex_batcher.proofs.Placing.{Stand}
+use Rattle.simplex_batcher.proofs.Counting.{filter_same, filter_same_from}
 use Rattle.simplex_batcher.proofs.Window.{Rising, has, span, span-is, between-span, is_some-map}
 
 -- giving rounds the leader leaves all else
@@ -169,7 +168,7 @@ window-empty made s current limit at last none =
 -- these are the views ahead that have a round
 pub window-found : (made : Made) (s : Standing) (current limit : ℕ) (entries : List (ℕ × low.Standing))
     → s.current ≡ current → limit ≡ admission_limit made.lookahead.length made.lookahead.views s.current → current < limit
-    → Rising entries → Stand (λ q. lookup (is_at (nat_cmp q)) entries) s.rounds
+    → Rising entries → ((q : ℕ) → current < q → lookup (is_at (nat_cmp q)) entries ≡ option_map round_of (s.rounds q))
     → map (λ e. e.0) (entries_between nat_cmp (Included (current + 1)) (Included limit) entries) ≡ window_views made s
 unfolding window_views
 window-found made s current limit entries at last more rises stand =
@@ -177,5 +176,6 @@ window-found made s current limit entries at last more rises stand =
     between-span (current + 1) limit entries (omega arith)
     ∙ ap (λ n. span (current + 1) n entries) width
     ∙ span-is (admission_limit made.lookahead.length made.lookahead.views s.current - s.current) (current + 1) entries rises
-    ∙ filter_same (has entries) (λ v. is_some (s.rounds v)) (λ v. ap is_some (stand v) ∙ is_some-map round_of (s.rounds v)) (range_with_len (current + 1) (admission_limit made.lookahead.length made.lookahead.views s.current - s.current))
+    ∙ filter_same_from (has entries) (λ v. is_some (s.rounds v)) (admission_limit made.lookahead.length made.lookahead.views s.current - s.current) (current + 1)
+    (λ v after. let above : current < v = omega arith in ap is_some (stand v above) ∙ is_some-map round_of (s.rounds v))
     ∙ ap (λ n. filter (λ v. is_some (s.rounds v)) (range_with_len (n + 1) (admission_limit made.lookahead.length made.lookahead.views s.current - s.current))) (sym at)

@@ -1,11 +1,10 @@
 -- The round of one view in hand, while the view is worked.
 use Rattle.std.specs.Prelude.{◌≡◌, ℕ, ◌==◌, false, Option, Some}
 use Rattle.std.specs.Option.{option_map}
-use Rattle.std.specs.BTreeMap.{BTreeMap}
 use Rattle.simplex_round.specs.Known as low
 use Rattle.simplex_steps.specs.Batcher.{Doing}
 use Rattle.simplex_batcher.specs.declared.work.Work.{Work}
-use Rattle.simplex_batcher.specs.Rounds.{found, round_of}
+use Rattle.simplex_batcher.specs.Rounds.{round_of}
 use Rattle.simplex_batcher.specs.Stands.{work_of}
 
 -- The view has this round, if any, and the work is what the step has done. Since `before` it did no more than that
@@ -22,11 +21,11 @@ abbrev pub Works : low.Standing → Work → low.Standing → Work → (ℕ → 
 Works old work new worked change =
     (view : ℕ) (before doing : Doing) → Holds (Some old) work view before doing → Holds (Some new) worked view before (change view doing)
 
--- the same with the round that the view has among these, if any
-abbrev pub WorksAt : BTreeMap ℕ low.Standing → Work → BTreeMap ℕ low.Standing → Work → ℕ → (Doing → Doing) → Type 0
+-- the same with the round that the view has, if any
+abbrev pub WorksAt : Option low.Standing → Work → Option low.Standing → Work → ℕ → (Doing → Doing) → Type 0
 WorksAt old work new worked view change =
-    (before doing : Doing) → Holds (found old view) work view before doing → Holds (found new view) worked view before (change doing)
+    (before doing : Doing) → Holds old work view before doing → Holds new worked view before (change doing)
 
 -- the other views have the rounds that they had
-abbrev pub StaysBeside : BTreeMap ℕ low.Standing → BTreeMap ℕ low.Standing → ℕ → Type 0
-StaysBeside old new view = (q : ℕ) → (q == view) ≡ false → found new q ≡ found old q
+abbrev pub StaysBeside : (ℕ → Option low.Standing) → (ℕ → Option low.Standing) → ℕ → Type 0
+StaysBeside old new view = (q : ℕ) → (q == view) ≡ false → new q ≡ old q

@@ -7,10 +7,15 @@ use Rattle.std.specs.BTreeMap.{BTreeMap}
 use Rattle.simplex_round.specs.Known.{Made, Known, Standing}
 use Rattle.simplex_round.specs.Calls.{Call, SetLeader}
 use Rattle.simplex_steps.specs.Batcher.{RoundHistory, known_in, called}
+use Rattle.simplex_batcher.specs.declared.rounds.Rounds.{Rounds}
 
 -- what the map has at a number
 unfoldable pub found : {V : Type 0} → BTreeMap ℕ V → ℕ → Option V
 found values number = tree.get nat_cmp values number
+
+-- the round of the view, if there is one
+unfoldable pub round_at : Rounds → ℕ → Option Standing
+round_at rounds view = if view == rounds.current then rounds.here else found rounds.others view
 
 -- the round as it stands behind the calls of its history
 unfoldable pub round_of : RoundHistory → Standing
@@ -21,27 +26,27 @@ abbrev pub given : Option ℕ → RoundHistory → RoundHistory
 given leader history = option_map_or (λ it. called (SetLeader it) history) leader history
 
 -- whatever history the round of the view has, it has this one now, and the others stay
-abbrev pub ChangesAt : BTreeMap ℕ Standing → BTreeMap ℕ Standing → ℕ → (RoundHistory → RoundHistory) → Type 0
+abbrev pub ChangesAt : (ℕ → Option Standing) → (ℕ → Option Standing) → ℕ → (RoundHistory → RoundHistory) → Type 0
 ChangesAt old new view change =
-    (history : RoundHistory) → found old view ≡ Some (round_of history)
-    → (q : ℕ) → found new q ≡ (if q == view then Some (round_of (change history)) else found old q)
+    (history : RoundHistory) → old view ≡ Some (round_of history)
+    → (q : ℕ) → new q ≡ (if q == view then Some (round_of (change history)) else old q)
 
 -- whatever history the round of the view has, it has it with the call behind it, and the others stay
-abbrev pub TakesAt : BTreeMap ℕ Standing → BTreeMap ℕ Standing → ℕ → Call → Type 0
+abbrev pub TakesAt : (ℕ → Option Standing) → (ℕ → Option Standing) → ℕ → Call → Type 0
 TakesAt old new view call =
-    (history : RoundHistory) → found old view ≡ Some (round_of history)
-    → (q : ℕ) → found new q ≡ (if q == view then Some (round_of (called call history)) else found old q)
+    (history : RoundHistory) → old view ≡ Some (round_of history)
+    → (q : ℕ) → new q ≡ (if q == view then Some (round_of (called call history)) else old q)
 
 -- where the view has no round, all stay
-abbrev pub StaysWithout : BTreeMap ℕ Standing → BTreeMap ℕ Standing → ℕ → Type 0
-StaysWithout old new view = found old view ≡ None → (q : ℕ) → found new q ≡ found old q
+abbrev pub StaysWithout : (ℕ → Option Standing) → (ℕ → Option Standing) → ℕ → Type 0
+StaysWithout old new view = old view ≡ None → (q : ℕ) → new q ≡ old q
 
 -- whatever history the round of the view has, the answer is the rule's
-abbrev pub AnswersAt : {R : Type 0} → BTreeMap ℕ Standing → ℕ → (Made → Known → R) → R → Type 0
+abbrev pub AnswersAt : {R : Type 0} → (ℕ → Option Standing) → ℕ → (Made → Known → R) → R → Type 0
 AnswersAt rounds view rule answer =
-    (history : RoundHistory) → found rounds view ≡ Some (round_of history) → answer ≡ rule history.made (known_in history)
+    (history : RoundHistory) → rounds view ≡ Some (round_of history) → answer ≡ rule history.made (known_in history)
 
 -- the same, where the rule goes by the history
-abbrev pub HistoryAnswersAt : {R : Type 0} → BTreeMap ℕ Standing → ℕ → (RoundHistory → R) → R → Type 0
+abbrev pub HistoryAnswersAt : {R : Type 0} → (ℕ → Option Standing) → ℕ → (RoundHistory → R) → R → Type 0
 HistoryAnswersAt rounds view rule answer =
-    (history : RoundHistory) → found rounds view ≡ Some (round_of history) → answer ≡ rule history
+    (history : RoundHistory) → rounds view ≡ Some (round_of history) → answer ≡ rule history

@@ -9,7 +9,7 @@ use Rattle.simplex_steps.specs.Batcher.{Made, Timed, Standing, Doing, RoundHisto
 use Rattle.simplex_batcher.specs.declared.config.Config.{Config}
 use Rattle.simplex_batcher.specs.declared.actor.Actor.{Actor}
 use Rattle.simplex_batcher.specs.declared.work.Work.{Work}
-use Rattle.simplex_batcher.specs.Rounds.{found, round_of}
+use Rattle.simplex_batcher.specs.Rounds.{found, round_at, round_of}
 
 -- the work of a step that has done so much
 abbrev pub work_of : Doing → Work
@@ -34,12 +34,12 @@ module _ {S : Type 0} where
   -- the batcher stands there: each round of it stands for the history that the view's round has
   pub record IsAt (verifies : S → Subject → Attestation → Bool) (recovers : S → Bool) (members : S → ℕ) (member : S → Option ℕ) (actor : Actor S) (made : Made) (standing : Standing) : Type 0 where
     pub made_is : made ≡ batcher_made verifies recovers members member actor.config
-    pub current_is : standing.current ≡ actor.current
+    pub current_is : standing.current ≡ actor.rounds.current
     pub leader_is : standing.leader ≡ actor.leader
     pub finalized_is : standing.finalized ≡ actor.finalized
     pub hinted_is : standing.hinted ≡ actor.hinted
     pub seen_is : (q : ℕ) → found actor.seen q ≡ standing.seen q
-    pub round_is : (q : ℕ) → found actor.rounds q ≡ option_map round_of (standing.rounds q)
+    pub round_is : (q : ℕ) → round_at actor.rounds q ≡ option_map round_of (standing.rounds q)
 
   -- the batcher stands where the step is, the work is what the step has done, and these views are to be worked
   pub record Stands (verifies : S → Subject → Attestation → Bool) (recovers : S → Bool) (members : S → ℕ) (member : S → Option ℕ) (actor : Actor S) (work : Work) (dirty : List ℕ) (made : Made) (doing : Doing) : Type 0 where

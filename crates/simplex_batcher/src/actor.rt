@@ -24,8 +24,7 @@ use std::collections::BTreeMap;
 pub struct Actor<S> {
     pub(crate) alloc: Global,
     pub(crate) config: Config<S>,
-    /// The view that the voter is in, and its leader.
-    pub(crate) current: View,
+    /// The leader of the view that the voter is in.
     pub(crate) leader: Option<Participant>,
     /// The last final view.
     pub(crate) finalized: View,
@@ -44,12 +43,11 @@ impl<S: Scheme + Drop> Actor<S> {
     {
         Ok(Actor {
             alloc,
-            current: View(0),
             leader: None,
             finalized: config.floor,
             hinted: false,
             seen: BTreeMap::new(alloc),
-            rounds: BTreeMap::new(alloc),
+            rounds: Rounds::new(alloc),
             config,
         })
     }

@@ -8,7 +8,6 @@ ghost use Rattle.simplex_batcher.specs.Stands.{Marks, Reads};
 
 use crate::actor::Actor;
 use crate::marks::Marked;
-use crate::rounds;
 use crate::work::Work;
 use simplex_messages::voter;
 use simplex_types::{Certificate, Participant, Scheme, Signatures};
@@ -31,7 +30,8 @@ impl<S: Scheme + Drop> Actor<S> {
     fn holds_kind(&self, certificate: &Certificate) -> bool
         ensures { Reads S.verifies S.recovers S.members S.member self.now (λ made standing. holds_kind standing certificate.now) result }
     {
-        rounds::has_certificate(&self.rounds, certificate.view().0, certificate.kind())
+        self.rounds
+            .has_certificate(certificate.view(), certificate.kind())
     }
 
     /// Whether a quorum signed the certificate.
@@ -56,12 +56,9 @@ impl<S: Scheme + Drop> Actor<S> {
     {
         let view = certificate.view();
         self.make_round(view)?;
-        let is_marked = rounds::record_certificate(
-            &mut self.rounds,
-            view.0,
-            self.alloc,
-            certificate,
-        )?;
+        let is_marked = self
+            .rounds
+            .record_certificate(view, self.alloc, certificate)?;
         dirty.mark(is_marked, view)?;
         Ok(())
     }

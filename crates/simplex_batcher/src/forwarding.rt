@@ -138,8 +138,7 @@ impl<S: Scheme + Drop> Actor<S> {
         let Some(proposal) = proposal else {
             return Ok(());
         };
-        let view = proposal.round.view;
-        let Some(round) = self.rounds.get(&view.0) else {
+        let Some(round) = self.rounds.get(proposal.round.view) else {
             return Ok(());
         };
         let targets = self.targets(leader, proposal, round)?;

@@ -4,7 +4,6 @@ ghost use Rattle.simplex_steps.specs.Batcher.{Made, Standing, Doing, leader_null
 ghost use Rattle.simplex_batcher.specs.Stands.{Does, IsAt, Reads, Stands};
 
 use crate::actor::Actor;
-use crate::rounds;
 use crate::work::Work;
 use simplex_messages::voter;
 use simplex_types::{Participant, Round, Scheme, SkipPolicy, TimeoutReason, View};
@@ -28,7 +27,7 @@ impl<S: Scheme + Drop> Actor<S> {
     {
         match self.leader {
             None => false,
-            Some(leader) => rounds::has_nullify(&self.rounds, self.current.0, leader),
+            Some(leader) => self.rounds.has_nullify(self.rounds.current, leader),
         }
     }
 
@@ -50,7 +49,7 @@ impl<S: Scheme + Drop> Actor<S> {
     {
         let round = Round {
             epoch: self.config.epoch,
-            view: self.current,
+            view: self.rounds.current,
         };
         work.hand(voter::Message::Timeout { round, reason })?;
         Ok(())
@@ -69,7 +68,7 @@ impl<S: Scheme + Drop> Actor<S> {
     fn is_nullified(&self, view: View, nullified: bool) -> bool
         ensures { (made : Made) (standing : Standing) → IsAt S.verifies S.recovers S.members S.member self.now made standing → (view ≡ standing.current → nullified ≡ leader_nullified standing) → result ≡ leader_nullified standing }
     {
-        if view == self.current {
+        if view == self.rounds.current {
             return nullified;
         }
         self.leader_nullified()

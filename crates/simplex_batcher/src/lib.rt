@@ -13,6 +13,7 @@ mod forwarding;
 mod hints;
 mod making;
 mod marks;
+mod others;
 mod rounds;
 mod steps;
 mod updates;

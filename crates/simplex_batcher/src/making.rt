@@ -6,7 +6,6 @@ ghost use Rattle.simplex_batcher.specs.Working.{put, with_lead, lead_of};
 ghost use Rattle.simplex_batcher.specs.Stands.{Moves, Reads};
 
 use crate::actor::Actor;
-use crate::rounds;
 use simplex_round::Round;
 use simplex_types::{Participant, Round as ViewRound, Scheme, View, Viewport, quorum};
 use std::alloc::AllocError;
@@ -14,11 +13,11 @@ use std::alloc::AllocError;
 impl<S: Scheme + Drop> Actor<S> {
     /// Which views the batcher still cares for.
     fn viewport(&self) -> Viewport
-        ensures { result ≡ record { finalized = self.now.finalized; current = self.now.current; view_retention = self.now.config.view_retention; lookahead = self.now.config.lookahead } }
+        ensures { result ≡ record { finalized = self.now.finalized; current = self.now.rounds.current; view_retention = self.now.config.view_retention; lookahead = self.now.config.lookahead } }
     {
         Viewport {
             finalized: self.finalized,
-            current: self.current,
+            current: self.rounds.current,
             view_retention: self.config.view_retention,
             lookahead: self.config.lookahead,
         }
@@ -37,7 +36,7 @@ impl<S: Scheme + Drop> Actor<S> {
     pub(crate) fn admits(&self, view: View) -> bool
         ensures { Reads S.verifies S.recovers S.members S.member self.now (λ made standing. admits_view made standing view) result }
     {
-        self.config.lookahead.admits(self.current, view)
+        self.config.lookahead.admits(self.rounds.current, view)
     }
 
     /// Whether a vote of the view is of use: the view is kept and admitted.
@@ -58,7 +57,7 @@ impl<S: Scheme + Drop> Actor<S> {
             view,
         };
         let members = self.config.scheme.participants();
-        if view < self.current && !self.config.track_historical_votes {
+        if view < self.rounds.current && !self.config.track_historical_votes {
             return Round::skipped(self.alloc, round, members);
         }
         let track = self.config.track_historical_votes;
@@ -70,12 +69,11 @@ impl<S: Scheme + Drop> Actor<S> {
     fn make_bare_round(&mut self, view: View) -> Result<(), AllocError>
         ensures { OnOk result (Moves S.verifies S.recovers S.members S.member self.old self.new (λ made standing. put view (unwrap_or (standing.rounds view) (new_round made standing view)) standing)) }
     {
-        let number = view.0;
-        if self.rounds.contains_key(&number) {
+        if self.rounds.has(view) {
             return Ok(());
         }
         let round = self.new_round(view)?;
-        rounds::put(&mut self.rounds, number, round)?;
+        self.rounds.put(view, round)?;
         Ok(())
     }
 
@@ -84,11 +82,11 @@ impl<S: Scheme + Drop> Actor<S> {
     pub(crate) fn leader_at(&self, view: View) -> Option<Participant>
         ensures { Reads S.verifies S.recovers S.members S.member self.now (λ made standing. lead_of made standing view) result }
     {
-        if view == self.current {
+        if view == self.rounds.current {
             return self.leader;
         }
         let lookahead = self.config.lookahead;
-        if lookahead.in_admission_window(self.current, view) {
+        if lookahead.in_admission_window(self.rounds.current, view) {
             return self.leader;
         }
         None
@@ -101,7 +99,7 @@ impl<S: Scheme + Drop> Actor<S> {
         let Some(leader) = self.leader_at(view) else {
             return;
         };
-        rounds::set_leader(&mut self.rounds, view.0, leader);
+        self.rounds.set_leader(view, leader);
     }
 
     /// The view has a round from now on, with the leader where the view is current or in the admission window.

@@ -1,228 +1,231 @@
 //! The rounds by view.
-#![tactic(auto, unfolding(crate::specs::Rounds::found, crate::specs::Rounds::round_of, simplex_round::specs::Stands::StandsFor))]
+#![tactic(auto, unfolding(crate::specs::Rounds::found, crate::specs::Rounds::round_at, crate::specs::Rounds::round_of, simplex_round::specs::Stands::StandsFor))]
 
-ghost use Rattle.std.specs.Prelude.{◌≡◌, ◌≤◌, ◌==◌, ◌++◌, ℕ, [], None, Some, false, nat_le, not, ◌&&◌, length, map, if◌then◌else◌, IfOk, OnOk};
-ghost use Rattle.std.specs.BTreeMap.Range.{entries_between};
-ghost use Rattle.std.specs.List.Sorted.{IsStrictlySortedBy};
-ghost use Rattle.std.specs.Map.{keys_of};
-ghost use Rattle.std.specs.Ordering.{nat_cmp};
-ghost use Rattle.std.specs.declared.ops.Bound.TheVariants.{Included};
+ghost use Rattle.std.specs.Prelude.{◌≡◌, ◌==◌, ◌++◌, ℕ, [], None, Some, false, nat_le, if◌then◌else◌, IfOk, OnOk};
+ghost use Rattle.std.specs.Option.{is_some, option_copied};
 ghost use Rattle.simplex_round.specs.Acceptance.{heard, heard_from, has_nullify};
-ghost use Rattle.std.specs.Option.{is_some};
-ghost use Rattle.simplex_steps.specs.Batcher.{some_passes};
-ghost use Rattle.simplex_batcher.specs.Hearing.{voted, heard_of};
-ghost use Rattle.simplex_round.specs.Calls.{AddNetwork, AcceptVote, SetLeader, RecordCertificate};
+ghost use Rattle.simplex_round.specs.Calls.{AcceptVote, SetLeader, RecordCertificate};
 ghost use Rattle.simplex_round.specs.Forwarding.{gives_proposal, is_held};
-ghost use Rattle.simplex_steps.specs.Batcher.{RoundHistory, called, known_in};
-ghost use Rattle.simplex_batcher.specs.Rounds.{found, round_of, given, ChangesAt, TakesAt, StaysWithout, AnswersAt, HistoryAnswersAt};
+ghost use Rattle.simplex_steps.specs.Batcher.{known_in};
+ghost use Rattle.simplex_batcher.specs.Hearing.{voted, heard_of};
+ghost use Rattle.simplex_batcher.specs.Rounds.{round_at, given, ChangesAt, TakesAt, StaysWithout, AnswersAt, HistoryAnswersAt};
 
+use crate::others::{self, Heard, Others, hear, was_accepted};
 use simplex_round::{Round, RoundOut};
-use simplex_types::{Certificate, CertificateKind, Participant, Vote};
+use simplex_types::{Certificate, CertificateKind, Participant, View, Vote};
 use std::alloc::{AllocError, Global};
 use std::collections::BTreeMap;
+use std::mem::replace;
 
-/// The rounds by view.
-pub(crate) type Rounds = BTreeMap<u64, Round>;
-
-/// The view's round takes the leader.
-pub(crate) fn set_leader(rounds: &mut Rounds, view: u64, leader: Participant)
-    ensures stands { TakesAt rounds.old rounds.new view (SetLeader leader) }
-    ensures none { StaysWithout rounds.old rounds.new view }
-{
-    if let Some(round) = rounds.get_mut(&view) {
-        round.set_leader(leader);
-    }
+/// The rounds by view. That of the current view lies apart, since most votes are for it.
+#[derive(Drop)]
+pub(crate) struct Rounds {
+    /// The view that the voter is in.
+    pub(crate) current: View,
+    /// Its round, if there is one.
+    pub(crate) here: Option<Round>,
+    /// The rounds of the other views.
+    pub(crate) others: Others,
 }
 
-/// The round takes the leader, if there is one.
-fn give(round: &mut Round, leader: &Option<Participant>)
-    ensures { (history : RoundHistory) → round.old ≡ round_of history → round.new ≡ round_of (given leader.now history) }
-{
-    if let Some(leader) = leader {
-        round.set_leader(*leader);
-    }
-}
-
-/// What came of a vote from the network.
-#[derive(Clone, Copy)]
-pub(crate) struct Heard {
-    /// Whether the vote is accepted.
-    pub(crate) accepted: bool,
-    /// Whether a nullify of the leader that the round was given is accepted, this vote counted.
-    pub(crate) nullified: bool,
-}
-
-/// Whether the round accepted a nullify of the member, if there is one.
-fn has_nullify_of(round: &Round, member: &Option<Participant>) -> bool
-    ensures { (history : RoundHistory) → round.now ≡ round_of history → result ≡ some_passes (has_nullify (known_in history)) member.now }
-{
-    match member {
-        None => false,
-        Some(member) => round.has_nullify(*member),
-    }
-}
-
-/// The round takes the leader, if there is one, and a vote from the network.
-pub(crate) fn hear(
-    round: &mut Round,
-    leader: &Option<Participant>,
-    sender: Participant,
-    vote: &Vote,
-    out: &mut RoundOut,
-) -> Result<Heard, AllocError>
-    ensures stands { OnOk result ((history : RoundHistory) → round.old ≡ round_of history → round.new ≡ round_of (voted leader.now sender vote.now history)) }
-    ensures answer { IfOk result (λ heard. (history : RoundHistory) → round.old ≡ round_of history → heard ≡ heard_of leader.now sender vote.now history) }
-    ensures reports { OnOk result ((history : RoundHistory) → round.old ≡ round_of history → out.new.reports ≡ out.old.reports ++ (heard_from (known_in (given leader.now history)) sender vote.now).reports) }
-    ensures blocks { OnOk result ((history : RoundHistory) → round.old ≡ round_of history → out.new.blocks ≡ out.old.blocks ++ (heard_from (known_in (given leader.now history)) sender vote.now).blocks) }
-{
-    give(round, leader);
-    let accepted = round.add_network(sender, *vote, out)?;
-    let nullified = has_nullify_of(round, leader);
-    Ok(Heard {
-        accepted,
-        nullified,
-    })
-}
-
-/// The view's round, if there is one, takes the leader, if there is one, and a vote from the network.
-pub(crate) fn add_network(
-    rounds: &mut Rounds,
-    view: u64,
-    leader: &Option<Participant>,
-    sender: Participant,
-    vote: &Vote,
-    out: &mut RoundOut,
-) -> Result<Option<Heard>, AllocError>
-    ensures stands { OnOk result (ChangesAt rounds.old rounds.new view (voted leader.now sender vote.now)) }
-    ensures answer { IfOk result (HistoryAnswersAt rounds.old view (λ history. Some (heard_of leader.now sender vote.now history))) }
-    ensures reports { OnOk result (HistoryAnswersAt rounds.old view (λ history. out.old.reports ++ (heard_from (known_in (given leader.now history)) sender vote.now).reports) out.new.reports) }
-    ensures blocks { OnOk result (HistoryAnswersAt rounds.old view (λ history. out.old.blocks ++ (heard_from (known_in (given leader.now history)) sender vote.now).blocks) out.new.blocks) }
-    ensures some { IfOk result (λ heard. is_some heard ≡ is_some (found rounds.old view)) }
-    ensures none { OnOk result (StaysWithout rounds.old rounds.new view) }
-    ensures out { OnOk result (found rounds.old view ≡ None → out.new ≡ out.old) }
-{
-    match rounds.get_mut(&view) {
-        None => Ok(None),
-        Some(round) => {
-            let heard = hear(round, leader, sender, vote, out)?;
-            Ok(Some(heard))
+impl Rounds {
+    /// No rounds.
+    pub(crate) fn new(alloc: Global) -> Rounds
+        ensures current { result.current ≡ 0 }
+        ensures rounds { (q : ℕ) → round_at result q ≡ None }
+    {
+        Rounds {
+            current: View(0),
+            here: None,
+            others: BTreeMap::new(alloc),
         }
     }
-}
 
-/// The view's round takes an own vote: whether it is accepted. What comes of it is put into an empty `out`.
-pub(crate) fn accept_vote(
-    rounds: &mut Rounds,
-    view: u64,
-    vote: Vote,
-    out: &mut RoundOut,
-) -> Result<bool, AllocError>
-    requires reports { out.old.reports ≡ [] }
-    requires blocks { out.old.blocks ≡ [] }
-    ensures stands { OnOk result (TakesAt rounds.old rounds.new view (AcceptVote vote)) }
-    ensures answer { IfOk result (AnswersAt rounds.old view (λ made known. (heard known vote).accepted)) }
-    ensures reports { OnOk result (AnswersAt rounds.old view (λ made known. (heard known vote).reports) out.new.reports) }
-    ensures blocks { OnOk result (AnswersAt rounds.old view (λ made known. (heard known vote).blocks) out.new.blocks) }
-{
-    take_own(rounds, view, vote, out)?;
-    Ok(was_accepted(out))
-}
-
-/// The view's round takes an own vote.
-fn take_own(
-    rounds: &mut Rounds,
-    view: u64,
-    vote: Vote,
-    out: &mut RoundOut,
-) -> Result<(), AllocError>
-    ensures stands { OnOk result (TakesAt rounds.old rounds.new view (AcceptVote vote)) }
-    ensures reports { OnOk result (AnswersAt rounds.old view (λ made known. out.old.reports ++ (heard known vote).reports) out.new.reports) }
-    ensures blocks { OnOk result (AnswersAt rounds.old view (λ made known. out.old.blocks ++ (heard known vote).blocks) out.new.blocks) }
-{
-    match rounds.get_mut(&view) {
-        None => Ok(()),
-        Some(round) => round.accept_vote(vote, out),
-    }
-}
-
-/// Whether the vote that this came of was accepted: it is reported, and nobody is blocked for it.
-fn was_accepted(out: &RoundOut) -> bool
-    ensures { result ≡ (not (length out.now.reports == 0) && length out.now.blocks == 0) }
-{
-    !out.reports.is_empty() && out.blocks.is_empty()
-}
-
-/// The view's round takes a certificate: whether it gives the round another proposal than before.
-pub(crate) fn record_certificate(
-    rounds: &mut Rounds,
-    view: u64,
-    alloc: Global,
-    certificate: &Certificate,
-) -> Result<bool, AllocError>
-    ensures stands { OnOk result (TakesAt rounds.old rounds.new view (RecordCertificate certificate.now)) }
-    ensures answer { IfOk result (AnswersAt rounds.old view (λ made known. gives_proposal known certificate.now)) }
-{
-    match rounds.get_mut(&view) {
-        None => Ok(false),
-        Some(round) => round.record_certificate(alloc, certificate),
-    }
-}
-
-/// Whether the view's round holds a certificate of the kind.
-pub(crate) fn has_certificate(rounds: &Rounds, view: u64, kind: CertificateKind) -> bool
-    ensures answer { AnswersAt rounds.now view (λ made known. is_held known kind) result }
-    ensures none { found rounds.now view ≡ None → result ≡ false }
-{
-    match rounds.get(&view) {
-        None => false,
-        Some(round) => round.has_certificate(kind),
-    }
-}
-
-/// Whether the view's round accepted a nullify of the member.
-pub(crate) fn has_nullify(rounds: &Rounds, view: u64, member: Participant) -> bool
-    ensures answer { AnswersAt rounds.now view (λ made known. has_nullify known member) result }
-    ensures none { found rounds.now view ≡ None → result ≡ false }
-{
-    match rounds.get(&view) {
-        None => false,
-        Some(round) => round.has_nullify(member),
-    }
-}
-
-/// Puts a round at a view.
-pub(crate) fn put(rounds: &mut Rounds, view: u64, round: Round) -> Result<(), AllocError>
-    ensures { OnOk result ((q : ℕ) → found rounds.new q ≡ (if q == view then Some round else found rounds.old q)) }
-{
-    rounds.insert(view, round)?;
-    Ok(())
-}
-
-/// Drops the rounds below a view.
-pub(crate) fn drop_below(rounds: &mut Rounds, least: u64)
-    ensures { (q : ℕ) → found rounds.new q ≡ (if nat_le least q then found rounds.old q else None) }
-{
-    while let Some((first, _)) = rounds.first_key_value() {
-        if *first >= least {
-            break;
+    /// The voter is in this view now.
+    pub(crate) fn enter(&mut self, current: View) -> Result<(), AllocError>
+        ensures current { OnOk result (self.new.current ≡ current) }
+        ensures rounds { OnOk result ((q : ℕ) → round_at self.new q ≡ round_at self.old q) }
+    {
+        if current == self.current {
+            return Ok(());
         }
-        rounds.pop_first();
+        let here = self.others.remove(&current.0);
+        let before = replace(&mut self.here, here);
+        let left = replace(&mut self.current, current);
+        others::put_back(&mut self.others, left.0, before)?;
+        Ok(())
     }
-}
 
-/// The views from the first of these to the last that have a round, in rising order.
-pub(crate) fn views_between(
-    alloc: Global,
-    rounds: &Rounds,
-    first: u64,
-    last: u64,
-) -> Result<Vec<u64>, AllocError>
-    requires { first ≤ last }
-    ensures rising { IsStrictlySortedBy nat_cmp (keys_of rounds.now.entries) }
-    ensures views { IfOk result (λ views. views.items ≡ map (λ e. e.0) (entries_between nat_cmp (Included first) (Included last) rounds.now.entries)) }
-{
-    rounds
-        .range(first..=last)
-        .map(|(view, _)| *view)
-        .collect(alloc)
+    /// The round of the view.
+    pub(crate) fn get(&self, view: View) -> Option<&Round>
+        ensures { option_copied result ≡ round_at self.now view }
+    {
+        if view == self.current {
+            return self.here.as_ref();
+        }
+        self.others.get(&view.0)
+    }
+
+    /// Whether the view has a round.
+    pub(crate) fn has(&self, view: View) -> bool
+        ensures { result ≡ is_some (round_at self.now view) }
+    {
+        self.get(view).is_some()
+    }
+
+    /// Whether the view's round holds a certificate of the kind.
+    pub(crate) fn has_certificate(&self, view: View, kind: CertificateKind) -> bool
+        ensures answer { AnswersAt (round_at self.now) view (λ made known. is_held known kind) result }
+        ensures none { round_at self.now view ≡ None → result ≡ false }
+    {
+        match self.get(view) {
+            None => false,
+            Some(round) => round.has_certificate(kind),
+        }
+    }
+
+    /// Whether the view's round accepted a nullify of the member.
+    pub(crate) fn has_nullify(&self, view: View, member: Participant) -> bool
+        ensures answer { AnswersAt (round_at self.now) view (λ made known. has_nullify known member) result }
+        ensures none { round_at self.now view ≡ None → result ≡ false }
+    {
+        match self.get(view) {
+            None => false,
+            Some(round) => round.has_nullify(member),
+        }
+    }
+
+    /// Puts a round at a view.
+    pub(crate) fn put(&mut self, view: View, round: Round) -> Result<(), AllocError>
+        ensures current { OnOk result (self.new.current ≡ self.old.current) }
+        ensures rounds { OnOk result ((q : ℕ) → round_at self.new q ≡ (if q == view then Some round else round_at self.old q)) }
+    {
+        if view == self.current {
+            self.here = Some(round);
+            return Ok(());
+        }
+        others::put(&mut self.others, view.0, round)?;
+        Ok(())
+    }
+
+    /// Drops the rounds below a view.
+    pub(crate) fn drop_below(&mut self, least: View)
+        ensures current { self.new.current ≡ self.old.current }
+        ensures rounds { (q : ℕ) → round_at self.new q ≡ (if nat_le least q then round_at self.old q else None) }
+    {
+        if self.current < least {
+            self.here = None;
+        }
+        others::drop_below(&mut self.others, least.0);
+    }
+
+    /// The view's round takes the leader.
+    pub(crate) fn set_leader(&mut self, view: View, leader: Participant)
+        ensures stands { TakesAt (round_at self.old) (round_at self.new) view (SetLeader leader) }
+        ensures none { StaysWithout (round_at self.old) (round_at self.new) view }
+        ensures current { self.new.current ≡ self.old.current }
+    {
+        if view != self.current {
+            others::set_leader(&mut self.others, view.0, leader);
+            return;
+        }
+        if let Some(round) = &mut self.here {
+            round.set_leader(leader);
+        }
+    }
+
+    /// The view's round, if there is one, takes the leader, if there is one, and a vote from the network.
+    pub(crate) fn add_network(
+        &mut self,
+        view: View,
+        leader: &Option<Participant>,
+        sender: Participant,
+        vote: &Vote,
+        out: &mut RoundOut,
+    ) -> Result<Option<Heard>, AllocError>
+        ensures stands { OnOk result (ChangesAt (round_at self.old) (round_at self.new) view (voted leader.now sender vote.now)) }
+        ensures answer { IfOk result (HistoryAnswersAt (round_at self.old) view (λ history. Some (heard_of leader.now sender vote.now history))) }
+        ensures reports { OnOk result (HistoryAnswersAt (round_at self.old) view (λ history. out.old.reports ++ (heard_from (known_in (given leader.now history)) sender vote.now).reports) out.new.reports) }
+        ensures blocks { OnOk result (HistoryAnswersAt (round_at self.old) view (λ history. out.old.blocks ++ (heard_from (known_in (given leader.now history)) sender vote.now).blocks) out.new.blocks) }
+        ensures some { IfOk result (λ heard. is_some heard ≡ is_some (round_at self.old view)) }
+        ensures none { OnOk result (StaysWithout (round_at self.old) (round_at self.new) view) }
+        ensures out { OnOk result (round_at self.old view ≡ None → out.new ≡ out.old) }
+        ensures current { OnOk result (self.new.current ≡ self.old.current) }
+    {
+        if view != self.current {
+            let rounds = &mut self.others;
+            let heard = others::add_network(rounds, view.0, leader, sender, vote, out)?;
+            return Ok(heard);
+        }
+        match &mut self.here {
+            None => Ok(None),
+            Some(round) => {
+                let heard = hear(round, leader, sender, vote, out)?;
+                Ok(Some(heard))
+            }
+        }
+    }
+
+    /// The view's round takes an own vote: whether it is accepted. What comes of it is put into an empty `out`.
+    pub(crate) fn accept_vote(
+        &mut self,
+        view: View,
+        vote: Vote,
+        out: &mut RoundOut,
+    ) -> Result<bool, AllocError>
+        requires reports { out.old.reports ≡ [] }
+        requires blocks { out.old.blocks ≡ [] }
+        ensures stands { OnOk result (TakesAt (round_at self.old) (round_at self.new) view (AcceptVote vote)) }
+        ensures answer { IfOk result (AnswersAt (round_at self.old) view (λ made known. (heard known vote).accepted)) }
+        ensures reports { OnOk result (AnswersAt (round_at self.old) view (λ made known. (heard known vote).reports) out.new.reports) }
+        ensures blocks { OnOk result (AnswersAt (round_at self.old) view (λ made known. (heard known vote).blocks) out.new.blocks) }
+        ensures current { OnOk result (self.new.current ≡ self.old.current) }
+    {
+        self.take_own(view, vote, out)?;
+        Ok(was_accepted(out))
+    }
+
+    /// The view's round takes an own vote.
+    fn take_own(&mut self, view: View, vote: Vote, out: &mut RoundOut) -> Result<(), AllocError>
+        ensures stands { OnOk result (TakesAt (round_at self.old) (round_at self.new) view (AcceptVote vote)) }
+        ensures reports { OnOk result (AnswersAt (round_at self.old) view (λ made known. out.old.reports ++ (heard known vote).reports) out.new.reports) }
+        ensures blocks { OnOk result (AnswersAt (round_at self.old) view (λ made known. out.old.blocks ++ (heard known vote).blocks) out.new.blocks) }
+        ensures current { OnOk result (self.new.current ≡ self.old.current) }
+    {
+        if view != self.current {
+            others::take_own(&mut self.others, view.0, vote, out)?;
+            return Ok(());
+        }
+        match &mut self.here {
+            None => Ok(()),
+            Some(round) => {
+                round.accept_vote(vote, out)?;
+                Ok(())
+            }
+        }
+    }
+
+    /// The view's round takes a certificate: whether it gives the round another proposal than before.
+    pub(crate) fn record_certificate(
+        &mut self,
+        view: View,
+        alloc: Global,
+        certificate: &Certificate,
+    ) -> Result<bool, AllocError>
+        ensures stands { OnOk result (TakesAt (round_at self.old) (round_at self.new) view (RecordCertificate certificate.now)) }
+        ensures answer { IfOk result (AnswersAt (round_at self.old) view (λ made known. gives_proposal known certificate.now)) }
+        ensures current { OnOk result (self.new.current ≡ self.old.current) }
+    {
+        if view != self.current {
+            let is_new = others::record_certificate(&mut self.others, view.0, alloc, certificate)?;
+            return Ok(is_new);
+        }
+        match &mut self.here {
+            None => Ok(false),
+            Some(round) => {
+                let is_new = round.record_certificate(alloc, certificate)?;
+                Ok(is_new)
+            }
+        }
+    }
 }

@@ -6,33 +6,39 @@ ghost use Rattle.simplex_batcher.specs.Stands.{Marks, Moves, Reads};
 
 use crate::actor::Actor;
 use crate::marks::Marked;
-use crate::rounds;
+use crate::others;
 use crate::work::Work;
 use simplex_types::{Participant, Proposal, Scheme, View};
 use std::alloc::AllocError;
 
 impl<S: Scheme + Drop> Actor<S> {
     /// The voter is in a view now.
-    fn enter(&mut self, current: View, leader: Participant, finalized: View)
-        ensures { Moves S.verifies S.recovers S.members S.member self.old self.new (λ made. entered current leader finalized) }
+    fn enter(
+        &mut self,
+        current: View,
+        leader: Participant,
+        finalized: View,
+    ) -> Result<(), AllocError>
+        ensures { OnOk result (Moves S.verifies S.recovers S.members S.member self.old self.new (λ made. entered current leader finalized)) }
     {
-        self.current = current;
+        self.rounds.enter(current)?;
         self.leader = Some(leader);
         self.finalized = finalized;
         self.hinted = false;
+        Ok(())
     }
 
     /// The views of the admission window that have a round, in rising order.
     fn window_views(&self) -> Result<Vec<u64>, AllocError>
         ensures { IfOk result (λ views. Reads S.verifies S.recovers S.members S.member self.now (λ made standing. window_views made standing) views.items) }
     {
-        let current = self.current;
+        let current = self.rounds.current;
         let limit = self.config.lookahead.admission_limit(current);
         if limit <= current {
             return Ok(Vec::new(self.alloc));
         }
         let first = current.0 + 1;
-        let views = rounds::views_between(self.alloc, &self.rounds, first, limit.0)?;
+        let views = others::views_between(self.alloc, &self.rounds.others, first, limit.0)?;
         Ok(views)
     }
 
@@ -61,7 +67,7 @@ impl<S: Scheme + Drop> Actor<S> {
         ensures stands { OnOk result (Moves S.verifies S.recovers S.members S.member self.old self.new (λ made. with_leader made)) }
         ensures views { IfOk result (λ views. Reads S.verifies S.recovers S.members S.member self.old (λ made standing. window_views made (with_leader made standing)) views.items) }
     {
-        self.make_round(self.current)?;
+        self.make_round(self.rounds.current)?;
         let views = self.lead_window()?;
         Ok(views)
     }
@@ -80,7 +86,7 @@ impl<S: Scheme + Drop> Actor<S> {
     ) -> Result<(), AllocError>
         ensures { OnOk result (Marks S.verifies S.recovers S.members S.member self.old work.old dirty.old self.new work.new dirty.new (λ made. took_update made current leader finalized proposal.now now)) }
     {
-        self.enter(current, leader, finalized);
+        self.enter(current, leader, finalized)?;
         let window = self.lead_current()?;
         *dirty = Marked::of(self.alloc, current, &window)?;
         self.hint_at_update(leader, now, work)?;

@@ -10,7 +10,7 @@ ghost use Rattle.simplex_batcher.specs.Stands.{Marks, Moves, Reads};
 
 use crate::actor::Actor;
 use crate::marks::Marked;
-use crate::rounds::{self, Heard, add_network, hear};
+use crate::others::{Heard, hear};
 use crate::work::Work;
 use simplex_round::RoundOut;
 use simplex_types::{Participant, Scheme, View, Vote};
@@ -32,12 +32,12 @@ impl<S: Scheme + Drop> Actor<S> {
         ensures blocks { OnOk result (Reads S.verifies S.recovers S.members S.member self.old (λ made standing. out.old.blocks ++ (heard_from (known_in (given leader.now (bare_round made standing view))) sender vote.now).blocks) out.new.blocks) }
     {
         let rounds = &mut self.rounds;
-        if let Some(heard) = add_network(rounds, view.0, leader, sender, vote, out)? {
+        if let Some(heard) = rounds.add_network(view, leader, sender, vote, out)? {
             return Ok(heard);
         }
         let mut round = self.new_round(view)?;
         let heard = hear(&mut round, leader, sender, vote, out)?;
-        rounds::put(&mut self.rounds, view.0, round)?;
+        self.rounds.put(view, round)?;
         Ok(heard)
     }
 
@@ -97,7 +97,7 @@ impl<S: Scheme + Drop> Actor<S> {
         let view = vote.view();
         self.make_round(view)?;
         let mut out = RoundOut::new(self.alloc);
-        let accepted = rounds::accept_vote(&mut self.rounds, view.0, vote, &mut out)?;
+        let accepted = self.rounds.accept_vote(view, vote, &mut out)?;
         work.publish(out)?;
         dirty.mark(accepted, view)?;
         Ok(())

@@ -6,13 +6,15 @@ ghost use Rattle.simplex_messages.specs.declared.voter.Message.TheVariants.{Veri
 ghost use Rattle.simplex_round.specs.Assembly.{as_scheme};
 ghost use Rattle.simplex_steps.specs.Batcher.{Made, Doing, worked, worked_all, finished, dropped, number_of, with_batch};
 ghost use Rattle.simplex_batcher.specs.Holding.{Works, WorksAt, StaysBeside};
+ghost use Rattle.simplex_batcher.specs.Rounds.{found, round_at};
 ghost use Rattle.simplex_batcher.specs.Working.{forwarded_at, constructing_at, worked_near};
 ghost use Rattle.simplex_batcher.specs.Stands.{Does, Marks, Reads, work_of};
 ghost use Rattle.simplex_batcher.specs.declared.work.Work.{Work};
 
 use crate::actor::Actor;
 use crate::marks::Marked;
-use crate::rounds::{self, Rounds};
+use crate::others::Others;
+use crate::rounds::Rounds;
 use crate::work::{Work, block_each};
 use simplex_messages::voter;
 use simplex_round::{Batch, Round};
@@ -101,13 +103,13 @@ fn work_round<S: Scheme>(
 /// The round of the view, if there is one, hands its proposal to the voter, once.
 #[tactic(auto, unfolding(crate::specs::Rounds::found))]
 fn forward_at(
-    rounds: &mut Rounds,
+    rounds: &mut Others,
     view: u64,
     me: Participant,
     work: &mut Work,
 ) -> Result<(), AllocError>
-    ensures works { OnOk result ((made : Made) → me ≡ number_of made → WorksAt rounds.old work.old rounds.new work.new view (forwarded_at made view)) }
-    ensures others { OnOk result (StaysBeside rounds.old rounds.new view) }
+    ensures works { OnOk result ((made : Made) → me ≡ number_of made → WorksAt (found rounds.old view) work.old (found rounds.new view) work.new view (forwarded_at made view)) }
+    ensures others { OnOk result (StaysBeside (found rounds.old) (found rounds.new) view) }
 {
     match rounds.get_mut(&view) {
         None => Ok(()),
@@ -121,21 +123,70 @@ fn forward_at(
 /// The round of the view, if there is one, hands on its proposal, and then the three kinds follow each other.
 #[tactic(auto, unfolding(crate::specs::Rounds::found))]
 fn work_at<S: Scheme>(
-    rounds: &mut Rounds,
+    rounds: &mut Others,
     view: u64,
     alloc: Global,
     scheme: &S,
     me: Participant,
     work: &mut Work,
 ) -> Result<(), AllocError>
-    ensures works { OnOk result ((made : Made) → me ≡ number_of made → made.scheme ≡ as_scheme (S.verifies scheme.now) (S.recovers scheme.now) (S.members scheme.now) → WorksAt rounds.old work.old rounds.new work.new view (worked_near made view)) }
-    ensures others { OnOk result (StaysBeside rounds.old rounds.new view) }
+    ensures works { OnOk result ((made : Made) → me ≡ number_of made → made.scheme ≡ as_scheme (S.verifies scheme.now) (S.recovers scheme.now) (S.members scheme.now) → WorksAt (found rounds.old view) work.old (found rounds.new view) work.new view (worked_near made view)) }
+    ensures others { OnOk result (StaysBeside (found rounds.old) (found rounds.new) view) }
 {
     match rounds.get_mut(&view) {
         None => Ok(()),
         Some(round) => {
             work_round(round, alloc, scheme, me, work)?;
             Ok(())
+        }
+    }
+}
+
+impl Rounds {
+    /// The round of the view, if there is one, hands its proposal to the voter, once.
+    #[tactic(auto, unfolding(crate::specs::Rounds::round_at))]
+    fn forward_at(&mut self, view: View, me: Participant, work: &mut Work) -> Result<(), AllocError>
+        ensures works { OnOk result ((made : Made) → me ≡ number_of made → WorksAt (round_at self.old view) work.old (round_at self.new view) work.new view (forwarded_at made view)) }
+        ensures others { OnOk result (StaysBeside (round_at self.old) (round_at self.new) view) }
+        ensures current { OnOk result (self.new.current ≡ self.old.current) }
+    {
+        if view != self.current {
+            forward_at(&mut self.others, view.0, me, work)?;
+            return Ok(());
+        }
+        match &mut self.here {
+            None => Ok(()),
+            Some(round) => {
+                forward_proposal(round, me, work)?;
+                Ok(())
+            }
+        }
+    }
+
+    /// The round of the view, if there is one, hands on its proposal, and then the three kinds follow each other.
+    #[tactic(auto, unfolding(crate::specs::Rounds::round_at))]
+    fn work_at<S: Scheme>(
+        &mut self,
+        view: View,
+        alloc: Global,
+        scheme: &S,
+        me: Participant,
+        work: &mut Work,
+    ) -> Result<(), AllocError>
+        ensures works { OnOk result ((made : Made) → me ≡ number_of made → made.scheme ≡ as_scheme (S.verifies scheme.now) (S.recovers scheme.now) (S.members scheme.now) → WorksAt (round_at self.old view) work.old (round_at self.new view) work.new view (worked_near made view)) }
+        ensures others { OnOk result (StaysBeside (round_at self.old) (round_at self.new) view) }
+        ensures current { OnOk result (self.new.current ≡ self.old.current) }
+    {
+        if view != self.current {
+            work_at(&mut self.others, view.0, alloc, scheme, me, work)?;
+            return Ok(());
+        }
+        match &mut self.here {
+            None => Ok(()),
+            Some(round) => {
+                work_round(round, alloc, scheme, me, work)?;
+                Ok(())
+            }
         }
     }
 }
@@ -160,11 +211,11 @@ impl<S: Scheme + Drop> Actor<S> {
         }
         let me = self.number();
         if !self.admits(view) {
-            forward_at(&mut self.rounds, view.0, me, work)?;
+            self.rounds.forward_at(view, me, work)?;
             return Ok(());
         }
         let scheme = &self.config.scheme;
-        work_at(&mut self.rounds, view.0, self.alloc, scheme, me, work)?;
+        self.rounds.work_at(view, self.alloc, scheme, me, work)?;
         Ok(())
     }
 
@@ -184,7 +235,7 @@ impl<S: Scheme + Drop> Actor<S> {
         ensures { (work : Work) → Does S.verifies S.recovers S.members S.member self.old work self.new work (λ made. dropped made) }
     {
         let least = self.finalized.saturating_sub(self.config.view_retention);
-        rounds::drop_below(&mut self.rounds, least.0);
+        self.rounds.drop_below(least);
     }
 
     /// The marked views are worked, in this order.

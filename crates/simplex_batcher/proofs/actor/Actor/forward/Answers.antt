@@ -1,17 +1,16 @@
 use Rattle.std.proofs.Common.{◌≡◌, ◌∙◌, ap, refl, Some, None}
 use Rattle.std.specs.Option.{option_map}
 use Rattle.simplex_steps.specs.Batcher.{forwarding}
-use Rattle.simplex_batcher.specs.Rounds.{found, round_of}
+use Rattle.simplex_batcher.specs.Rounds.{round_of}
 use Rattle.simplex_batcher.specs.Stands.{Stands}
 use Rattle.simplex_batcher.proofs.Cases.{forward-at}
 use Rattle.simplex_batcher.proofs.Placing.{same-some}
 use Rattle.simplex_batcher.proofs.actor.Actor.forward.Goals as goal
 
 pub returns : goal.returns
-unfolding found
 returns g c = λ dirty made doing s.
     let at : Some c.in-Some-get.round.now ≡ option_map round_of (doing.standing.rounds c.in-Some.proposal.round.view) =
-    (rw c.view.view_is at c.in-Some-get.ensures.value) ∙ s.stands.round_is c.in-Some.proposal.round.view in
+    c.in-Some-get.ensures ∙ s.stands.round_is c.in-Some.proposal.round.view in
     elim (doing.standing.rounds c.in-Some.proposal.round.view) as (λ o. doing.standing.rounds c.in-Some.proposal.round.view ≡ o
     → Stands g.S.Scheme.verifies g.S.Scheme.recovers g.S.Scheme.members g.S.Scheme.member c.args.self.now c.relay.new.self dirty made (forwarding made c.args.leader c.args.proposal.now doing)) [
       | None ↦ λ is. absurd (let bad : Some c.in-Some-get.round.now ≡ None = at ∙ ap (option_map round_of) is in cc)

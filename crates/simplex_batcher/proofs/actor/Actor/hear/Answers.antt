@@ -1,7 +1,7 @@
 use Rattle.std.proofs.Common.{◌≡◌, ap, refl, ◌∙◌}
 use Rattle.simplex_round.specs.Acceptance.{heard_from}
 use Rattle.simplex_steps.specs.Batcher.{with_heard, round_for, known_in}
-use Rattle.simplex_batcher.specs.declared.rounds.Heard.{Heard}
+use Rattle.simplex_batcher.specs.declared.others.Heard.{Heard}
 use Rattle.simplex_batcher.specs.Rounds.{given}
 use Rattle.simplex_batcher.specs.Working.{heard_at, bare_round, lead_of}
 use Rattle.simplex_batcher.proofs.Placing.{given-is}

@@ -1,4 +1,4 @@
-use Rattle.simplex_batcher.specs.Rounds.{found}
+use Rattle.simplex_batcher.specs.Rounds.{round_at}
 use Rattle.simplex_batcher.proofs.Placing.{made-led}
 use Rattle.simplex_batcher.proofs.actor.Actor.make_round.Goals as goal
 
@@ -12,5 +12,5 @@ returns g c = λ made standing s.
       finalized_is = led.finalized_is;
       hinted_is = led.hinted_is;
       seen_is = led.seen_is;
-      round_is = made-led made standing c.args.view (found c.lead.new.self.rounds) led.round_is;
+      round_is = made-led made standing c.args.view (round_at c.lead.new.self.rounds) led.round_is;
     }

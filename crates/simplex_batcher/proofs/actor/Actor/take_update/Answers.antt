@@ -7,7 +7,7 @@ pub returns : goal.returns
 unfolding took_update
 returns g c = λ made doing s.
     let start = entered c.args.current c.args.leader c.args.finalized doing.standing in
-    let at = c.enter.ensures made doing.standing s.stands in
+    let at = c.in_ok-enter.ensures made doing.standing s.stands in
     let led = c.in_ok-window.ensures.stands made start at in
     let views = c.in_ok-window.ensures.views made start at in
     let marked = record doing { standing = with_leader made start; dirty = c.args.current ∷ window_views made (with_leader made start) } in

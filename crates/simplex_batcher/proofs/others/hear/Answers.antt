@@ -2,7 +2,7 @@ use Rattle.std.proofs.Common.{refl}
 use Rattle.simplex_round.specs.Stands.{StandsFor}
 use Rattle.simplex_batcher.specs.Hearing.{voted}
 use Rattle.simplex_batcher.specs.Rounds.{round_of, given}
-use Rattle.simplex_batcher.proofs.rounds.hear.Goals as goal
+use Rattle.simplex_batcher.proofs.others.hear.Goals as goal
 
 pub returns-clause-answer : goal.returns-clause-answer
 unfolding round_of StandsFor

@@ -2,7 +2,7 @@ use Rattle.std.proofs.Common.{◌≡◌, ◌∙◌, ◌==◌, ◌&&◌, not, len
 use Rattle.simplex_round.specs.Acceptance.{heard}
 use Rattle.simplex_steps.specs.Batcher.{known_in}
 use Rattle.simplex_batcher.proofs.Accepting.{heard-shows}
-use Rattle.simplex_batcher.proofs.rounds.accept_vote.Goals as goal
+use Rattle.simplex_batcher.proofs.rounds.Rounds.accept_vote.Goals as goal
 
 pub returns-clause-answer : goal.returns-clause-answer
 returns-clause-answer c = λ history at.

@@ -1,7 +1,7 @@
 use Rattle.std.proofs.Common.{◌≡◌, ℕ, ◌≤◌}
 use Rattle.std.specs.BTreeMap.{btree_map_len}
 use Rattle.simplex_batcher.specs.Rounds.{found}
-use Rattle.simplex_batcher.proofs.rounds.drop_below.Given as goal
+use Rattle.simplex_batcher.proofs.others.drop_below.Given as goal
 
 abbrev pub invariant-loop-first : goal.invariant-loop-first
 invariant-loop-first l = (q : ℕ) → l.least ≤ q → found l.rounds q ≡ found l.fn.rounds q
