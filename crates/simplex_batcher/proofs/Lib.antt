@@ -8,5 +8,6 @@ pub mod Holding
 pub mod Leading
 pub mod Moving
 pub mod Placing
+pub mod Quiet
 pub mod Updating
 pub mod Window

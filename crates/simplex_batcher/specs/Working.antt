@@ -56,6 +56,10 @@ forwarded_at made view doing = option_map_or (λ round. forwarded made view roun
 unfoldable pub constructing_at : Made → ℕ → Doing → Doing
 constructing_at made view doing = option_map_or (λ round. constructing made view round doing) (doing.standing.rounds view) doing
 
+-- the three kinds follow each other
+abbrev pub constructing_thrice : Made → ℕ → Doing → Doing
+constructing_thrice made view doing = constructing_at made view (constructing_at made view (constructing_at made view doing))
+
 -- the round of the view, if there is one, hands on its proposal, and then the three kinds follow each other
 unfoldable pub worked_near : Made → ℕ → Doing → Doing
 worked_near made view doing = constructing_times 3 made view (forwarded_at made view doing)

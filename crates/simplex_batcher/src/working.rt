@@ -1,13 +1,13 @@
 //! The work on the marked views, at the end of a step.
-ghost use Rattle.std.specs.Prelude.{◌≡◌, ◌++◌, map, OnOk};
+ghost use Rattle.std.specs.Prelude.{◌≡◌, ◌++◌, false, None, map, IfOk, OnOk};
 ghost use Rattle.std.specs.Option.{option_to_list};
 ghost use Rattle.simplex_messages.specs.declared.handed.Handed.TheVariants.{Voter};
 ghost use Rattle.simplex_messages.specs.declared.voter.Message.TheVariants.{Verified, Proposal as ProposalMessage};
-ghost use Rattle.simplex_round.specs.Assembly.{as_scheme};
-ghost use Rattle.simplex_steps.specs.Batcher.{Made, Doing, worked, worked_all, finished, dropped, number_of, with_batch};
+ghost use Rattle.simplex_round.specs.Assembly.{as_scheme, constructed};
+ghost use Rattle.simplex_steps.specs.Batcher.{Made, Doing, RoundHistory, known_in, worked, worked_all, finished, dropped, number_of, with_batch};
 ghost use Rattle.simplex_batcher.specs.Holding.{Works, WorksAt, StaysBeside};
-ghost use Rattle.simplex_batcher.specs.Rounds.{found, round_at};
-ghost use Rattle.simplex_batcher.specs.Working.{forwarded_at, constructing_at, worked_near};
+ghost use Rattle.simplex_batcher.specs.Rounds.{found, round_at, round_of};
+ghost use Rattle.simplex_batcher.specs.Working.{forwarded_at, constructing_at, constructing_thrice, worked_near};
 ghost use Rattle.simplex_batcher.specs.Stands.{Does, Marks, Reads, work_of};
 ghost use Rattle.simplex_batcher.specs.declared.work.Work.{Work};
 
@@ -69,17 +69,41 @@ fn forward_proposal(round: &mut Round, me: Participant, work: &mut Work) -> Resu
     Ok(())
 }
 
-/// The round checks the votes of the first kind for which there is something to do, and assembles their certificate.
+/// The round checks the votes of the first kind for which there is something to do, and assembles their certificate:
+/// whether there was something to do.
 fn construct<S: Scheme>(
     round: &mut Round,
     alloc: Global,
     scheme: &S,
     work: &mut Work,
-) -> Result<(), AllocError>
-    ensures { OnOk result ((made : Made) → made.scheme ≡ as_scheme (S.verifies scheme.now) (S.recovers scheme.now) (S.members scheme.now) → Works round.old work.old round.new work.new (constructing_at made)) }
+) -> Result<bool, AllocError>
+    ensures works { OnOk result ((made : Made) → made.scheme ≡ as_scheme (S.verifies scheme.now) (S.recovers scheme.now) (S.members scheme.now) → Works round.old work.old round.new work.new (constructing_at made)) }
+    ensures quiet { IfOk result (λ did. did ≡ false → (made : Made) → made.scheme ≡ as_scheme (S.verifies scheme.now) (S.recovers scheme.now) (S.members scheme.now) → (history : RoundHistory) → round.old ≡ round_of history → constructed history.made made.scheme (known_in history) ≡ None) }
 {
     let batch = round.try_construct(alloc, scheme)?;
+    let did = batch.is_some();
     work.publish_batch(batch)?;
+    Ok(did)
+}
+
+/// The three kinds follow each other. Once there is nothing to do, there is nothing behind it.
+fn construct_each<S: Scheme>(
+    round: &mut Round,
+    alloc: Global,
+    scheme: &S,
+    work: &mut Work,
+) -> Result<(), AllocError>
+    ensures { OnOk result ((made : Made) → made.scheme ≡ as_scheme (S.verifies scheme.now) (S.recovers scheme.now) (S.members scheme.now) → Works round.old work.old round.new work.new (constructing_thrice made)) }
+{
+    let first = construct(round, alloc, scheme, work)?;
+    if !first {
+        return Ok(());
+    }
+    let second = construct(round, alloc, scheme, work)?;
+    if !second {
+        return Ok(());
+    }
+    construct(round, alloc, scheme, work)?;
     Ok(())
 }
 
@@ -94,9 +118,7 @@ fn work_round<S: Scheme>(
     ensures { OnOk result ((made : Made) → me ≡ number_of made → made.scheme ≡ as_scheme (S.verifies scheme.now) (S.recovers scheme.now) (S.members scheme.now) → Works round.old work.old round.new work.new (worked_near made)) }
 {
     forward_proposal(round, me, work)?;
-    construct(round, alloc, scheme, work)?;
-    construct(round, alloc, scheme, work)?;
-    construct(round, alloc, scheme, work)?;
+    construct_each(round, alloc, scheme, work)?;
     Ok(())
 }
 

@@ -1,4 +1,5 @@
-use Rattle.std.proofs.Common.{◌≡◌, ◌∙◌, ap, refl, Option, Some, None}
+use Rattle.std.proofs.Common.{◌≡◌, ◌∙◌, ap, sym, refl, Option, Some, None, arith}
+use Rattle.std.proofs.lemmas.Grind.{common_steps}
 use Rattle.std.specs.Option.{option_map, option_map_or}
 use Rattle.simplex_round.specs.Assembly.{constructed}
 use Rattle.simplex_round.specs.Calls.{TryConstruct}
@@ -13,9 +14,9 @@ use Rattle.simplex_batcher.proofs.Batches.{batch-standing, batch-dirty}
 use Rattle.simplex_batcher.proofs.Holding.{holds-set}
 use Rattle.simplex_batcher.proofs.working.construct.Goals as goal
 
-pub returns : goal.returns
+pub returns-clause-works : goal.returns-clause-works
 unfolding constructing_at constructing round_of StandsFor
-returns g c = λ made same view before doing h.
+returns-clause-works g c = λ made same view before doing h.
     elim (doing.standing.rounds view) as (λ (o : Option RoundHistory). doing.standing.rounds view ≡ o
     → Holds (Some c.try_construct.new.self) c.publish_batch.new.self view before (option_map_or (λ round. constructing made view round doing) o doing)) [
       | None ↦ λ is. absurd (let bad : Some c.args.round.now ≡ None = h.round_is ∙ ap (option_map round_of) is in cc)
@@ -29,3 +30,10 @@ returns g c = λ made same view before doing h.
           (rw (← same) at taken) (ap (λ (s : Standing). record s { rounds = set view (called (TryConstruct made.scheme) history) s.rounds }) (batch-standing batch doing)) (batch-dirty batch doing)
           (c.in_ok-publish_batch.ensures doing h.does ∙ ap (λ b. work_of (with_batch b doing)) (rw (← same) at answer))
     ] refl
+
+pub returns-clause-quiet : goal.returns-clause-quiet
+unfolding round_of StandsFor
+returns-clause-quiet g c = λ idle made same history is.
+    let answer = c.in_ok-batch.ensures.answer history.made history.calls is in
+    let none : c.in_ok-batch.batch ≡ None = grind (arith, common_steps) in
+    sym (rw (← same) at answer) ∙ none

@@ -4,7 +4,5 @@ use Rattle.simplex_batcher.proofs.working.work_round.Goals as goal
 pub returns : goal.returns
 returns g c = λ made me same view before doing h.
     rw (near-is made view doing) (
-    c.in_ok-construct-3.ensures made same view before _ (
-    c.in_ok-construct-2.ensures made same view before _ (
-    c.in_ok-construct.ensures made same view before _ (
-    c.in_ok-forward_proposal.ensures made me view before doing h))))
+    c.in_ok-construct_each.ensures made same view before _ (
+    c.in_ok-forward_proposal.ensures made me view before doing h))
