@@ -7,13 +7,16 @@ use simplex_round::{Round, RoundOut};
 use simplex_types::{Keyed, Participant, quorum};
 use std::alloc::Global;
 
-/// How many certificates the round makes now, where each of the three kinds has its turn.
+/// How many certificates the round makes now, where each of the three kinds has its turn. Once it has nothing to do,
+/// it is not asked again.
 fn made(alloc: Global, round: &mut Round, scheme: &Keyed) -> Result<u64> {
     let _proposal = round.try_forward_proposal(Participant(0));
     let mut made = 0u64;
     for _ in 0..3 {
-        let batch = round.try_construct(alloc, scheme)?;
-        if batch.is_some_and(|batch| batch.certificate.is_some()) {
+        let Some(batch) = round.try_construct(alloc, scheme)? else {
+            break;
+        };
+        if batch.certificate.is_some() {
             made = made.saturating_add(1);
         }
     }
