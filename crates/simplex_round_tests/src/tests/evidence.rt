@@ -8,24 +8,50 @@ use std::alloc::{AllocError, Global};
 use std::process::Abort;
 use std::test::Fail;
 
+/// The network brings these votes of member 3.
+fn bring(round: &mut Round, votes: &[Vote], out: &mut RoundOut) -> Result<(), AllocError> {
+    for vote in votes {
+        let _accepted = round.add_network(Participant(3), *vote, out)?;
+    }
+    Ok(())
+}
+
 /// What a round makes of these votes of member 3 from the network.
 fn heard(alloc: Global, votes: &[Vote]) -> Result<RoundOut, AllocError> {
     let mut round = Round::new(alloc, view_one(), 4, 3, true)?;
     let mut out = RoundOut::new(alloc);
-    for vote in votes {
-        let _accepted = round.add_network(Participant(3), *vote, &mut out)?;
-    }
+    bring(&mut round, votes, &mut out)?;
     Ok(out)
+}
+
+/// The member itself makes these votes.
+fn make(round: &mut Round, votes: &[Vote], out: &mut RoundOut) -> Result<(), AllocError> {
+    for vote in votes {
+        round.accept_vote(*vote, out)?;
+    }
+    Ok(())
 }
 
 /// What a round makes of these votes where they are own ones.
 fn heard_own(alloc: Global, votes: &[Vote]) -> Result<RoundOut, AllocError> {
     let mut round = Round::new(alloc, view_one(), 4, 3, true)?;
     let mut out = RoundOut::new(alloc);
-    for vote in votes {
-        round.accept_vote(*vote, &mut out)?;
-    }
+    make(&mut round, votes, &mut out)?;
     Ok(out)
+}
+
+/// Member 3, so many times.
+fn blocked(alloc: Global, blocks: u32) -> Result<Vec<Participant>, AllocError> {
+    let mut members = Vec::new(alloc);
+    for _ in 0..blocks {
+        members.push(Participant(3))?;
+    }
+    Ok(members)
+}
+
+fn assert_same(rt: &impl Abort, out: &RoundOut, reports: &[Activity], blocks: &[Participant]) {
+    assert_eq!(rt; out.reports.as_slice(), reports);
+    assert_eq!(rt; out.blocks.as_slice(), blocks);
 }
 
 /// These reports, and member 3 blocked so often.
@@ -36,12 +62,8 @@ fn assert_out(
     reports: &[Activity],
     blocks: u32,
 ) -> Result<(), AllocError> {
-    assert_eq!(rt; out.reports.as_slice(), reports);
-    let mut members = Vec::new(alloc);
-    for _ in 0..blocks {
-        members.push(Participant(3))?;
-    }
-    assert_eq!(rt; out.blocks.as_slice(), members.as_slice());
+    let members = blocked(alloc, blocks)?;
+    assert_same(rt, out, reports, &members);
     Ok(())
 }
 
@@ -152,31 +174,48 @@ fn each_kind_of_evidence_is_given(rt: HostRuntime) -> Result<(), Fail> {
     Ok(())
 }
 
+/// A vote of member 3 that the network brings, and then an own one that conflicts with it.
+fn assert_conflict(
+    rt: &impl Abort,
+    round: &mut Round,
+    out: &mut RoundOut,
+) -> Result<(), AllocError> {
+    let brought = Vote::Notarize(notarize(3, 9));
+    assert!(rt; round.add_network(Participant(3), brought, out)?);
+    round.accept_vote(Vote::Notarize(notarize(3, 8)), out)
+}
+
 /// An own vote beside another of this member that the network brought: the member blocks itself.
 #[test]
-fn an_own_vote_beside_a_conflicting_one_is_evidence(rt: HostRuntime) -> Result<(), Fail> {
+fn an_own_vote_beside_a_conflicting_one_is_evidence(rt: HostRuntime) -> Result<(), AllocError> {
     let alloc = rt.alloc();
     let mut round = Round::new(alloc, view_one(), 4, 3, true)?;
     let mut out = RoundOut::new(alloc);
-    let brought = Vote::Notarize(notarize(3, 9));
-    assert!(rt; round.add_network(Participant(3), brought, &mut out)?);
-    round.accept_vote(Vote::Notarize(notarize(3, 8)), &mut out)?;
+    assert_conflict(&rt, &mut round, &mut out)?;
     let reports = [Activity::Notarize(notarize(3, 9)), two_notarizes(9, 8)];
-    assert_out(&rt, alloc, &out, &reports, 1)?;
+    assert_out(&rt, alloc, &out, &reports, 1)
+}
+
+/// Member 3 sends a vote of member 1, who then sends another one.
+fn assert_foreign(
+    rt: &impl Abort,
+    round: &mut Round,
+    out: &mut RoundOut,
+) -> Result<(), AllocError> {
+    let sent = Vote::Notarize(notarize(1, 8));
+    assert!(rt; !round.add_network(Participant(3), sent, out)?);
+    let own = Vote::Notarize(notarize(1, 9));
+    assert!(rt; round.add_network(Participant(1), own, out)?);
     Ok(())
 }
 
 /// A vote that another member sends is nobody's: its sender is blocked, and its signer may still vote otherwise.
 #[test]
-fn a_vote_of_another_sender_is_no_evidence(rt: HostRuntime) -> Result<(), Fail> {
+fn a_vote_of_another_sender_is_no_evidence(rt: HostRuntime) -> Result<(), AllocError> {
     let alloc = rt.alloc();
     let mut round = Round::new(alloc, view_one(), 4, 3, true)?;
     let mut out = RoundOut::new(alloc);
-    let sent = Vote::Notarize(notarize(1, 8));
-    assert!(rt; !round.add_network(Participant(3), sent, &mut out)?);
-    let own = Vote::Notarize(notarize(1, 9));
-    assert!(rt; round.add_network(Participant(1), own, &mut out)?);
+    assert_foreign(&rt, &mut round, &mut out)?;
     let reports = [Activity::Notarize(notarize(1, 9))];
-    assert_out(&rt, alloc, &out, &reports, 1)?;
-    Ok(())
+    assert_out(&rt, alloc, &out, &reports, 1)
 }

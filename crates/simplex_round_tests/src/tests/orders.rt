@@ -1,7 +1,7 @@
 //! Votes in several orders, one of them with a signature that is invalid.
 ghost use Rattle.std.specs.Prelude.{◌<◌};
 
-use super::votes::{block, member, notarize_by, verifier, view_one};
+use super::votes::{block, notarize_by, verifier, view_one};
 use simplex_round::{Batch, Round, RoundOut};
 use simplex_values::{Participant, Subject, quorum};
 use simplex_wire::{Attestation, Certificate, Vote};
@@ -13,8 +13,7 @@ use std::test::Fail;
 fn notarizes(alloc: Global, key_base: u64, n: u32) -> Result<Vec<Vote>, AllocError> {
     let mut votes = Vec::new(alloc);
     for signer in 0..n {
-        let scheme = member(alloc, key_base, n, signer)?;
-        if let Some(vote) = notarize_by(&scheme) {
+        if let Some(vote) = notarize_by(alloc, key_base, n, signer)? {
             votes.push(vote)?;
         }
     }
@@ -50,17 +49,23 @@ fn in_order(
     Ok(ordered)
 }
 
+/// The network brings these votes.
+fn bring(round: &mut Round, votes: &[Vote], out: &mut RoundOut) -> Result<(), AllocError> {
+    for vote in votes {
+        let _accepted = round.add_network(vote.signer(), *vote, out)?;
+    }
+    Ok(())
+}
+
 /// What a round of `n` members makes of these votes, as they come. The leader is member 0.
 fn batch_of(alloc: Global, n: u32, votes: &[Vote]) -> Result<Option<Batch>, AllocError>
     requires { 0 < n }
 {
+    let scheme = verifier(alloc, n)?;
     let mut round = Round::new(alloc, view_one(), n, quorum(n), true)?;
     let mut out = RoundOut::new(alloc);
     round.set_leader(Participant(0));
-    for vote in votes {
-        let _accepted = round.add_network(vote.signer(), *vote, &mut out)?;
-    }
-    let scheme = verifier(alloc, n)?;
+    bring(&mut round, votes, &mut out)?;
     round.try_construct(alloc, &scheme)
 }
 
@@ -98,13 +103,13 @@ fn assert_without(
     alloc: Global,
     n: u32,
     wrong: u32,
-    batch: Batch,
+    batch: &Batch,
 ) -> Result<(), Fail> {
     assert_eq!(rt; batch.processed, u64::from(n));
     assert_eq!(rt; batch.invalid.as_slice(), [Participant(wrong)].as_slice());
-    let certificate = batch.certificate.ok_or("a quorum is valid")?;
+    let certificate = batch.certificate.as_ref().ok_or("a quorum is valid")?;
     assert_eq!(rt; certificate.subject(), Subject::Notarize(block(9)));
-    let signers = signers(alloc, &certificate)?;
+    let signers = signers(alloc, certificate)?;
     let others = others(alloc, n, wrong)?;
     assert_eq!(rt; signers, others, "without {wrong}");
     Ok(())
@@ -122,7 +127,7 @@ fn assert_votes(
 {
     let batch = batch_of(alloc, n, votes)?;
     let batch = batch.ok_or("a quorum is valid")?;
-    assert_without(rt, alloc, n, wrong, batch)
+    assert_without(rt, alloc, n, wrong, &batch)
 }
 
 /// Whichever vote is invalid, all orders give one certificate: the rising one, the falling one, and one that

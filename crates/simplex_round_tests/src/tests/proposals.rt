@@ -4,17 +4,23 @@ use simplex_round::{Round, RoundOut};
 use simplex_values::Participant;
 use simplex_wire::{Certificate, Finalization, Notarization, Signatures, Vote};
 use std::alloc::{AllocError, Global};
-use std::test::Fail;
+use std::process::Abort;
+
+/// Votes of all four members for block 8.
+fn vote(round: &mut Round, out: &mut RoundOut) -> Result<(), AllocError> {
+    for member in 0..4 {
+        let vote = Vote::Notarize(notarize(member, 8));
+        let _accepted = round.add_network(Participant(member), vote, out)?;
+    }
+    Ok(())
+}
 
 /// A round in which all four members voted for block 8, and member 0 leads.
 fn voted(alloc: Global) -> Result<Round, AllocError> {
     let mut round = Round::new(alloc, view_one(), 4, 3, true)?;
     let mut out = RoundOut::new(alloc);
     round.set_leader(Participant(0));
-    for member in 0..4 {
-        let vote = Vote::Notarize(notarize(member, 8));
-        let _accepted = round.add_network(Participant(member), vote, &mut out)?;
-    }
+    vote(&mut round, &mut out)?;
     Ok(round)
 }
 
@@ -54,43 +60,48 @@ fn is_missing(round: &Round, member: u32) -> bool {
     round.is_missing_voter(&block(9), Participant(member))
 }
 
-#[test]
-fn a_certificate_replaces_the_leaders_proposal(rt: HostRuntime) -> Result<(), Fail> {
-    let alloc = rt.alloc();
-    let mut round = voted(alloc)?;
-    let is_new = notarized(alloc, &mut round, 9)?;
-    assert!(rt; is_new);
-    let is_new = finalized(alloc, &mut round, 7)?;
-    assert!(rt; !is_new);
-    let payload = forwarded(&mut round, 1);
-    assert_eq!(rt; payload, Some(9));
+fn assert_replaced(rt: &impl Abort, alloc: Global, round: &mut Round) -> Result<(), AllocError> {
+    assert!(rt; notarized(alloc, round, 9)?);
+    assert!(rt; !finalized(alloc, round, 7)?);
+    assert_eq!(rt; forwarded(round, 1), Some(9));
     Ok(())
 }
 
 #[test]
-fn the_leaders_proposal_is_handed_on_once(rt: HostRuntime) -> Result<(), Fail> {
-    let alloc = rt.alloc();
-    let mut round = voted(alloc)?;
+fn a_certificate_replaces_the_leaders_proposal(rt: HostRuntime) -> Result<(), AllocError> {
+    let mut round = voted(rt.alloc())?;
+    assert_replaced(&rt, rt.alloc(), &mut round)
+}
+
+fn assert_handed_on_once(
+    rt: &impl Abort,
+    alloc: Global,
+    round: &mut Round,
+) -> Result<(), AllocError> {
     for (me, payload) in [(0, None), (1, Some(8)), (1, None)] {
-        let found = forwarded(&mut round, me);
-        assert_eq!(rt; found, payload);
+        assert_eq!(rt; forwarded(round, me), payload);
     }
-    let is_new = notarized(alloc, &mut round, 9)?;
-    assert!(rt; is_new);
-    let found = forwarded(&mut round, 1);
-    assert_eq!(rt; found, None);
+    assert!(rt; notarized(alloc, round, 9)?);
+    assert_eq!(rt; forwarded(round, 1), None);
     Ok(())
 }
 
 #[test]
-fn voters_of_another_proposal_are_missing(rt: HostRuntime) -> Result<(), Fail> {
-    let alloc = rt.alloc();
-    let round = voted(alloc)?;
-    let count = missing(alloc, &round, 8)?;
-    assert_eq!(rt; count, 0);
-    let count = missing(alloc, &round, 9)?;
-    assert_eq!(rt; count, 4);
-    assert!(rt; is_missing(&round, 3));
-    assert!(rt; !is_missing(&round, 4));
+fn the_leaders_proposal_is_handed_on_once(rt: HostRuntime) -> Result<(), AllocError> {
+    let mut round = voted(rt.alloc())?;
+    assert_handed_on_once(&rt, rt.alloc(), &mut round)
+}
+
+fn assert_missing(rt: &impl Abort, alloc: Global, round: &Round) -> Result<(), AllocError> {
+    assert_eq!(rt; missing(alloc, round, 8)?, 0);
+    assert_eq!(rt; missing(alloc, round, 9)?, 4);
+    assert!(rt; is_missing(round, 3));
+    assert!(rt; !is_missing(round, 4));
     Ok(())
+}
+
+#[test]
+fn voters_of_another_proposal_are_missing(rt: HostRuntime) -> Result<(), AllocError> {
+    let round = voted(rt.alloc())?;
+    assert_missing(&rt, rt.alloc(), &round)
 }

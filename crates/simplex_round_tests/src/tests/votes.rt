@@ -1,6 +1,7 @@
 //! Votes of view 1, signed by members of a scheme or by nobody.
 ghost use Rattle.std.specs.Prelude.{◌<◌};
 
+use simplex_round::{Round, RoundOut};
 use simplex_types::Keyed;
 use simplex_values::{Digest, Epoch, Participant, Proposal, Round as ViewRound, View};
 use simplex_wire::{Attestation, Finalize, Notarize, Nullify, Vote};
@@ -60,24 +61,52 @@ pub(super) fn verifier(alloc: Global, n: u32) -> Result<Keyed, AllocError>
 }
 
 /// The member's scheme, under keys from the base.
-pub(super) fn member(alloc: Global, key_base: u64, n: u32, signer: u32) -> Result<Keyed, AllocError>
+fn member(alloc: Global, key_base: u64, n: u32, signer: u32) -> Result<Keyed, AllocError>
     requires { signer < n }
 {
     Keyed::new(alloc, key_base, n, Some(Participant(signer)))
 }
 
-/// The member's notarize of block 9.
-pub(super) fn notarize_by(scheme: &Keyed) -> Option<Vote> {
-    match Notarize::sign(scheme, block(9)) {
-        Some(vote) => Some(Vote::Notarize(vote)),
-        None => None,
+/// The member's notarize of block 9, under keys from the base.
+pub(super) fn notarize_by(
+    alloc: Global,
+    key_base: u64,
+    n: u32,
+    signer: u32,
+) -> Result<Option<Vote>, AllocError>
+    requires { signer < n }
+{
+    let scheme = member(alloc, key_base, n, signer)?;
+    match Notarize::sign(&scheme, block(9)) {
+        Some(vote) => Ok(Some(Vote::Notarize(vote))),
+        None => Ok(None),
     }
 }
 
-/// The member's nullify.
-pub(super) fn nullify_by(scheme: &Keyed) -> Option<Vote> {
-    match Nullify::sign(scheme, view_one()) {
-        Some(vote) => Some(Vote::Nullify(vote)),
-        None => None,
+/// The member's nullify, under keys from the base.
+pub(super) fn nullify_by(
+    alloc: Global,
+    key_base: u64,
+    n: u32,
+    signer: u32,
+) -> Result<Option<Vote>, AllocError>
+    requires { signer < n }
+{
+    let scheme = member(alloc, key_base, n, signer)?;
+    match Nullify::sign(&scheme, view_one()) {
+        Some(vote) => Ok(Some(Vote::Nullify(vote))),
+        None => Ok(None),
+    }
+}
+
+/// The round takes the vote as an own one, where there is one.
+pub(super) fn accept(
+    round: &mut Round,
+    vote: Option<Vote>,
+    out: &mut RoundOut,
+) -> Result<(), AllocError> {
+    match vote {
+        Some(vote) => round.accept_vote(vote, out),
+        None => Ok(()),
     }
 }
