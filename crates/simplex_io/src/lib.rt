@@ -11,8 +11,6 @@ mod read;
 mod reader_source;
 mod sink;
 mod source;
-#[cfg(test)]
-mod tests;
 mod write;
 mod writer_sink;
 
