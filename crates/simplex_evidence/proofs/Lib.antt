@@ -1,0 +1,4 @@
+pub mod Conflicts
+pub mod Blaming
+pub mod Reading
+pub mod Arriving

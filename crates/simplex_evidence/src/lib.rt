@@ -1,0 +1,10 @@
+//! Evidence blames no honest member.
+//!
+//! What a batcher reports as evidence is founded on votes that came from the member that it names, and the votes of
+//! an honest member go together. So whatever a batcher is given, it reports no evidence against an honest member, as
+//! long as what comes under that member's name is what the member sent. These are laws over the definitions alone.
+#![tactic(auto)]
+
+mod evidence;
+
+pub use evidence::evidence_names_no_honest_member;
