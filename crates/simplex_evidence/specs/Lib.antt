@@ -1,2 +1,3 @@
 pub mod Evidence
+pub mod Samples
 pub mod Wire
