@@ -1,3 +1,4 @@
 pub mod Evidence
+pub mod Runs
 pub mod Samples
 pub mod Wire

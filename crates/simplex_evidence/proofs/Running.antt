@@ -1,0 +1,36 @@
+-- A node of a run is a member that no batcher blames.
+use Rattle.std.proofs.Common.{◌≡◌, ◌<◌, Bool, true, false, List, [], ◌∷◌, ◌++◌, refl, if◌then◌else◌}
+use Rattle.simplex_transcript.specs.declared.node.Node.{Node}
+use Rattle.simplex_transcript.specs.declared.setup.Setup.{Setup}
+use Rattle.simplex_run.specs.Life.{Noted, is_of}
+use Rattle.simplex_agreement.specs.World.{Sent}
+use Rattle.simplex_lives.specs.Member.{newborn, run}
+use Rattle.simplex_lives.proofs.Invariant.{sent_in_order}
+use Rattle.simplex_conduct.specs.Life.{AreVotesSent}
+use Rattle.simplex_conduct.proofs.Constructing.{AreVotesSent-append}
+use Rattle.simplex_safety.specs.Histories.{AreConstructed, IsLivedBy, calls_of}
+use Rattle.simplex_evidence.specs.Runs.{handed_of, IsNotBlamed}
+use Rattle.simplex_evidence.proofs.Arriving.{authentic}
+use Rattle.simplex_evidence.proofs.Blaming.{not_blamed}
+
+-- each own vote that the node handed on was sent
+handed_sent : (node : Node) (noted : List Noted) (sent : List Sent) → AreConstructed node noted sent → AreVotesSent sent (handed_of node noted)
+unfolding handed_of AreConstructed
+handed_sent node [] sent h = tt
+handed_sent node (noted ∷ before) sent h = at (is_of node noted.event) refl (handed_sent node before sent h.1)
+  where
+    at : (b : Bool) → is_of node noted.event ≡ b → AreVotesSent sent (handed_of node before)
+        → AreVotesSent sent (if b then handed_of node before ++ noted.entry.handed else handed_of node before)
+    at true e rest = AreVotesSent-append sent (handed_of node before) noted.entry.handed rest (h.0 e)
+    at false e rest = rest
+
+pub node_spared : (setup : Setup) (noted : List Noted) (node : Node) → 0 < setup.term → IsLivedBy setup noted node → IsNotBlamed noted node
+node_spared setup noted node pos lived =
+    let sent : List Sent = (run newborn lived.calls).sent in
+    record {
+      sent = sent;
+      packets = lived.votes;
+      spared = λ fits made past given own.
+          not_blamed made past given node.member setup.term sent (sent_in_order setup.term pos lived.calls lived.legal)
+          (authentic node.member (calls_of node noted) (handed_of node noted) sent fits lived.votes (handed_sent node noted sent lived.constructed) (given ∷ past) own);
+    }
