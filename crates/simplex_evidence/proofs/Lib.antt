@@ -3,3 +3,4 @@ pub mod Blaming
 pub mod Reading
 pub mod Arriving
 pub mod Running
+pub mod Reporting
