@@ -14,7 +14,8 @@ ghost use Rattle.simplex_evidence.specs.Wire.{Fits, AreItsOwn};
 ///
 /// The first clause asks that the member's votes are in order, and that what came under its name is among them. The
 /// second has such votes from any life of a member, over crashes and restarts. The third asks of the network that a
-/// packet of the member is one that its voter sent, and of the mailbox that an own vote is one that its voter handed on.
+/// packet of the member is one that its voter sent, and of the mailbox that an own vote is one that its voter handed on;
+/// the numbers of its votes keep to their types.
 pub fn evidence_names_no_honest_member()
     ensures in_order { (made : Made) (past : List Timed) (given : Timed) (member length : ℕ) (sent : List Sent)
         → AreInOrder length sent → IsAuthentic member (given ∷ past) sent

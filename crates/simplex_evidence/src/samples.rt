@@ -39,7 +39,7 @@ pub fn other_reports_name_nobody()
     ensures finalization { (c : Finalization) (member : ℕ) → names (activities.Finalization c) member ≡ false }
 {}
 
-/// A member that sends two votes that conflict is named, whichever comes last, and no other member is.
+/// A member under whose name two votes that conflict come is named, whichever comes last, and no other member is.
 pub fn conflicting_votes_are_reported()
     ensures notarizes { blame (step_out four (arrived (notarize first) ∷ []) (arrived (notarize rival))).calls 1 ≡ true }
     ensures finalizes { blame (step_out four (arrived (finalize first) ∷ []) (arrived (finalize rival))).calls 1 ≡ true }

@@ -1,32 +1,40 @@
-use Rattle.std.proofs.Common.{refl}
-use Rattle.simplex_steps.specs.Batcher as u_steps_batcher
-use Rattle.simplex_round.specs.Acceptance as u_round_acceptance
-use Rattle.simplex_round.specs.Assembly as u_round_assembly
-use Rattle.simplex_round.specs.Calls as u_round_calls
-use Rattle.simplex_round.specs.Forwarding as u_round_forwarding
-use Rattle.simplex_round.specs.Known as u_round_known
-use Rattle.simplex_values.specs.Terms as u_values_terms
-use Rattle.simplex_wire.specs.Message as u_wire_message
-use Rattle.simplex_wire.specs.Number as u_wire_number
-use Rattle.simplex_wire.specs.Certified as u_wire_certified
+use Rattle.std.proofs.Common.{◌≡◌, ℕ, Bool, true, false, [], ◌∷◌, refl}
+use Rattle.simplex_wire.specs.declared.vote.Vote.{Vote}
+use Rattle.simplex_steps.specs.Batcher.{at_first, seen_now, retains_view, admits_view, led, new_round, round_for, leader_nullified, hinted_at_vote, with_heard, took_vote, forwarded, constructing, constructing_times, worked, worked_all, dropped, heard_vote, acted, finished, step, standing_after, step_out}
+use Rattle.simplex_round.specs.Acceptance.{placed, with_accepted, accused, heard_beside, heard, heard_from}
+use Rattle.simplex_round.specs.Assembly.{subject_of, is_candidate, is_unchecked, is_valid, checked, valid_on, assembled_on, work_on, work_if_any, work_of, first_work, constructed, after_work}
+use Rattle.simplex_round.specs.Calls.{after_call, known_after}
+use Rattle.simplex_round.specs.Forwarding.{leader_proposal, proposal_of, forwarded_to_voter}
+use Rattle.simplex_round.specs.Known.{ballot_of}
+use Rattle.simplex_values.specs.Terms.{next_of, term_index, term_start, term_end, next_term_start, admission_limit, is_in_window, admits}
+use Rattle.simplex_wire.specs.Message.{round, proposal, attestation, notarize, nullify, finalize, vote}
+use Rattle.simplex_wire.specs.Number.{varint_by, number_from}
+use Rattle.simplex_agreement.specs.Examples.{first, rival, round_of}
+use Rattle.simplex_evidence.specs.Samples as sample
+use Rattle.simplex_evidence.specs.Samples.{four, arrived, blame}
 use Rattle.simplex_evidence.proofs.samples.conflicting_votes_are_reported.Goals as goal
 
+-- whether the step that takes the second vote behind the first names the member
+abbrev named : Vote → Vote → ℕ → Bool
+named one other member = blame (step_out four (arrived one ∷ []) (arrived other)).calls member
+
+computed : (named (sample.notarize first) (sample.notarize rival) 1 ≡ true) × (named (sample.finalize first) (sample.finalize rival) 1 ≡ true)
+    × (named (sample.nullify (round_of 1)) (sample.finalize first) 1 ≡ true) × (named (sample.finalize first) (sample.nullify (round_of 1)) 1 ≡ true)
+    × (named (sample.notarize first) (sample.notarize rival) 2 ≡ false)
+unfolding at_first seen_now retains_view admits_view led new_round round_for leader_nullified hinted_at_vote with_heard took_vote forwarded constructing constructing_times worked worked_all dropped heard_vote acted finished step standing_after step_out placed with_accepted accused heard_beside heard heard_from subject_of is_candidate is_unchecked is_valid checked valid_on assembled_on work_on work_if_any work_of first_work constructed after_work after_call known_after leader_proposal proposal_of forwarded_to_voter ballot_of next_of term_index term_start term_end next_term_start admission_limit is_in_window admits round proposal attestation notarize nullify finalize vote varint_by number_from
+computed = (refl, refl, refl, refl, refl)
+
 pub returns-clause-notarizes : goal.returns-clause-notarizes
-unfolding u_steps_batcher.at_first u_steps_batcher.was_seen u_steps_batcher.required_active u_steps_batcher.is_active u_steps_batcher.seen_now u_steps_batcher.retains_view u_steps_batcher.admits_view u_steps_batcher.led u_steps_batcher.new_round u_steps_batcher.round_for u_steps_batcher.leader_nullified u_steps_batcher.hinted_at_vote u_steps_batcher.hinted_at_update u_steps_batcher.targets_of u_steps_batcher.forwarding u_steps_batcher.with_heard u_steps_batcher.took_vote u_steps_batcher.took_constructed u_steps_batcher.holds_kind u_steps_batcher.kept_certificate u_steps_batcher.took_certificate u_steps_batcher.window_views u_steps_batcher.with_leader u_steps_batcher.took_update u_steps_batcher.forwarded u_steps_batcher.constructing u_steps_batcher.constructing_times u_steps_batcher.worked u_steps_batcher.worked_all u_steps_batcher.dropped u_steps_batcher.heard_vote u_steps_batcher.heard_certificate u_steps_batcher.acted u_steps_batcher.finished u_steps_batcher.step u_steps_batcher.standing_after u_steps_batcher.step_out u_steps_batcher.active_after u_round_acceptance.placed u_round_acceptance.with_accepted u_round_acceptance.accused u_round_acceptance.heard_beside u_round_acceptance.heard u_round_acceptance.heard_from u_round_acceptance.has_nullify u_round_assembly.subject_of u_round_assembly.is_candidate u_round_assembly.is_unchecked u_round_assembly.is_valid u_round_assembly.checked u_round_assembly.valid_on u_round_assembly.assembled_on u_round_assembly.work_on u_round_assembly.work_if_any u_round_assembly.work_of u_round_assembly.first_work u_round_assembly.constructed u_round_assembly.after_work u_round_calls.after_call u_round_calls.known_after u_round_forwarding.leader_proposal u_round_forwarding.proposal_of u_round_forwarding.gives_proposal u_round_forwarding.forwarded_to_voter u_round_forwarding.is_missing_voter u_round_forwarding.missing_voters u_round_known.ballot_of u_values_terms.next_of u_values_terms.term_index u_values_terms.term_start u_values_terms.term_end u_values_terms.next_term_start u_values_terms.admission_limit u_values_terms.is_in_window u_values_terms.admits u_wire_message.round u_wire_message.proposal u_wire_message.attestation u_wire_message.notarize u_wire_message.nullify u_wire_message.finalize u_wire_message.vote u_wire_message.attestation_from u_wire_message.attestations_from u_wire_message.signatures u_wire_message.notarization u_wire_message.nullification u_wire_message.finalization u_wire_message.certificate u_wire_number.varint_by u_wire_number.number_from u_wire_certified.is_certified
-returns-clause-notarizes c = refl
+returns-clause-notarizes c = computed.0
 
 pub returns-clause-finalizes : goal.returns-clause-finalizes
-unfolding u_steps_batcher.at_first u_steps_batcher.was_seen u_steps_batcher.required_active u_steps_batcher.is_active u_steps_batcher.seen_now u_steps_batcher.retains_view u_steps_batcher.admits_view u_steps_batcher.led u_steps_batcher.new_round u_steps_batcher.round_for u_steps_batcher.leader_nullified u_steps_batcher.hinted_at_vote u_steps_batcher.hinted_at_update u_steps_batcher.targets_of u_steps_batcher.forwarding u_steps_batcher.with_heard u_steps_batcher.took_vote u_steps_batcher.took_constructed u_steps_batcher.holds_kind u_steps_batcher.kept_certificate u_steps_batcher.took_certificate u_steps_batcher.window_views u_steps_batcher.with_leader u_steps_batcher.took_update u_steps_batcher.forwarded u_steps_batcher.constructing u_steps_batcher.constructing_times u_steps_batcher.worked u_steps_batcher.worked_all u_steps_batcher.dropped u_steps_batcher.heard_vote u_steps_batcher.heard_certificate u_steps_batcher.acted u_steps_batcher.finished u_steps_batcher.step u_steps_batcher.standing_after u_steps_batcher.step_out u_steps_batcher.active_after u_round_acceptance.placed u_round_acceptance.with_accepted u_round_acceptance.accused u_round_acceptance.heard_beside u_round_acceptance.heard u_round_acceptance.heard_from u_round_acceptance.has_nullify u_round_assembly.subject_of u_round_assembly.is_candidate u_round_assembly.is_unchecked u_round_assembly.is_valid u_round_assembly.checked u_round_assembly.valid_on u_round_assembly.assembled_on u_round_assembly.work_on u_round_assembly.work_if_any u_round_assembly.work_of u_round_assembly.first_work u_round_assembly.constructed u_round_assembly.after_work u_round_calls.after_call u_round_calls.known_after u_round_forwarding.leader_proposal u_round_forwarding.proposal_of u_round_forwarding.gives_proposal u_round_forwarding.forwarded_to_voter u_round_forwarding.is_missing_voter u_round_forwarding.missing_voters u_round_known.ballot_of u_values_terms.next_of u_values_terms.term_index u_values_terms.term_start u_values_terms.term_end u_values_terms.next_term_start u_values_terms.admission_limit u_values_terms.is_in_window u_values_terms.admits u_wire_message.round u_wire_message.proposal u_wire_message.attestation u_wire_message.notarize u_wire_message.nullify u_wire_message.finalize u_wire_message.vote u_wire_message.attestation_from u_wire_message.attestations_from u_wire_message.signatures u_wire_message.notarization u_wire_message.nullification u_wire_message.finalization u_wire_message.certificate u_wire_number.varint_by u_wire_number.number_from u_wire_certified.is_certified
-returns-clause-finalizes c = refl
+returns-clause-finalizes c = computed.1
 
 pub returns-clause-nullified : goal.returns-clause-nullified
-unfolding u_steps_batcher.at_first u_steps_batcher.was_seen u_steps_batcher.required_active u_steps_batcher.is_active u_steps_batcher.seen_now u_steps_batcher.retains_view u_steps_batcher.admits_view u_steps_batcher.led u_steps_batcher.new_round u_steps_batcher.round_for u_steps_batcher.leader_nullified u_steps_batcher.hinted_at_vote u_steps_batcher.hinted_at_update u_steps_batcher.targets_of u_steps_batcher.forwarding u_steps_batcher.with_heard u_steps_batcher.took_vote u_steps_batcher.took_constructed u_steps_batcher.holds_kind u_steps_batcher.kept_certificate u_steps_batcher.took_certificate u_steps_batcher.window_views u_steps_batcher.with_leader u_steps_batcher.took_update u_steps_batcher.forwarded u_steps_batcher.constructing u_steps_batcher.constructing_times u_steps_batcher.worked u_steps_batcher.worked_all u_steps_batcher.dropped u_steps_batcher.heard_vote u_steps_batcher.heard_certificate u_steps_batcher.acted u_steps_batcher.finished u_steps_batcher.step u_steps_batcher.standing_after u_steps_batcher.step_out u_steps_batcher.active_after u_round_acceptance.placed u_round_acceptance.with_accepted u_round_acceptance.accused u_round_acceptance.heard_beside u_round_acceptance.heard u_round_acceptance.heard_from u_round_acceptance.has_nullify u_round_assembly.subject_of u_round_assembly.is_candidate u_round_assembly.is_unchecked u_round_assembly.is_valid u_round_assembly.checked u_round_assembly.valid_on u_round_assembly.assembled_on u_round_assembly.work_on u_round_assembly.work_if_any u_round_assembly.work_of u_round_assembly.first_work u_round_assembly.constructed u_round_assembly.after_work u_round_calls.after_call u_round_calls.known_after u_round_forwarding.leader_proposal u_round_forwarding.proposal_of u_round_forwarding.gives_proposal u_round_forwarding.forwarded_to_voter u_round_forwarding.is_missing_voter u_round_forwarding.missing_voters u_round_known.ballot_of u_values_terms.next_of u_values_terms.term_index u_values_terms.term_start u_values_terms.term_end u_values_terms.next_term_start u_values_terms.admission_limit u_values_terms.is_in_window u_values_terms.admits u_wire_message.round u_wire_message.proposal u_wire_message.attestation u_wire_message.notarize u_wire_message.nullify u_wire_message.finalize u_wire_message.vote u_wire_message.attestation_from u_wire_message.attestations_from u_wire_message.signatures u_wire_message.notarization u_wire_message.nullification u_wire_message.finalization u_wire_message.certificate u_wire_number.varint_by u_wire_number.number_from u_wire_certified.is_certified
-returns-clause-nullified c = refl
+returns-clause-nullified c = computed.2
 
 pub returns-clause-finalized : goal.returns-clause-finalized
-unfolding u_steps_batcher.at_first u_steps_batcher.was_seen u_steps_batcher.required_active u_steps_batcher.is_active u_steps_batcher.seen_now u_steps_batcher.retains_view u_steps_batcher.admits_view u_steps_batcher.led u_steps_batcher.new_round u_steps_batcher.round_for u_steps_batcher.leader_nullified u_steps_batcher.hinted_at_vote u_steps_batcher.hinted_at_update u_steps_batcher.targets_of u_steps_batcher.forwarding u_steps_batcher.with_heard u_steps_batcher.took_vote u_steps_batcher.took_constructed u_steps_batcher.holds_kind u_steps_batcher.kept_certificate u_steps_batcher.took_certificate u_steps_batcher.window_views u_steps_batcher.with_leader u_steps_batcher.took_update u_steps_batcher.forwarded u_steps_batcher.constructing u_steps_batcher.constructing_times u_steps_batcher.worked u_steps_batcher.worked_all u_steps_batcher.dropped u_steps_batcher.heard_vote u_steps_batcher.heard_certificate u_steps_batcher.acted u_steps_batcher.finished u_steps_batcher.step u_steps_batcher.standing_after u_steps_batcher.step_out u_steps_batcher.active_after u_round_acceptance.placed u_round_acceptance.with_accepted u_round_acceptance.accused u_round_acceptance.heard_beside u_round_acceptance.heard u_round_acceptance.heard_from u_round_acceptance.has_nullify u_round_assembly.subject_of u_round_assembly.is_candidate u_round_assembly.is_unchecked u_round_assembly.is_valid u_round_assembly.checked u_round_assembly.valid_on u_round_assembly.assembled_on u_round_assembly.work_on u_round_assembly.work_if_any u_round_assembly.work_of u_round_assembly.first_work u_round_assembly.constructed u_round_assembly.after_work u_round_calls.after_call u_round_calls.known_after u_round_forwarding.leader_proposal u_round_forwarding.proposal_of u_round_forwarding.gives_proposal u_round_forwarding.forwarded_to_voter u_round_forwarding.is_missing_voter u_round_forwarding.missing_voters u_round_known.ballot_of u_values_terms.next_of u_values_terms.term_index u_values_terms.term_start u_values_terms.term_end u_values_terms.next_term_start u_values_terms.admission_limit u_values_terms.is_in_window u_values_terms.admits u_wire_message.round u_wire_message.proposal u_wire_message.attestation u_wire_message.notarize u_wire_message.nullify u_wire_message.finalize u_wire_message.vote u_wire_message.attestation_from u_wire_message.attestations_from u_wire_message.signatures u_wire_message.notarization u_wire_message.nullification u_wire_message.finalization u_wire_message.certificate u_wire_number.varint_by u_wire_number.number_from u_wire_certified.is_certified
-returns-clause-finalized c = refl
+returns-clause-finalized c = computed.3
 
 pub returns-clause-no_other : goal.returns-clause-no_other
-unfolding u_steps_batcher.at_first u_steps_batcher.was_seen u_steps_batcher.required_active u_steps_batcher.is_active u_steps_batcher.seen_now u_steps_batcher.retains_view u_steps_batcher.admits_view u_steps_batcher.led u_steps_batcher.new_round u_steps_batcher.round_for u_steps_batcher.leader_nullified u_steps_batcher.hinted_at_vote u_steps_batcher.hinted_at_update u_steps_batcher.targets_of u_steps_batcher.forwarding u_steps_batcher.with_heard u_steps_batcher.took_vote u_steps_batcher.took_constructed u_steps_batcher.holds_kind u_steps_batcher.kept_certificate u_steps_batcher.took_certificate u_steps_batcher.window_views u_steps_batcher.with_leader u_steps_batcher.took_update u_steps_batcher.forwarded u_steps_batcher.constructing u_steps_batcher.constructing_times u_steps_batcher.worked u_steps_batcher.worked_all u_steps_batcher.dropped u_steps_batcher.heard_vote u_steps_batcher.heard_certificate u_steps_batcher.acted u_steps_batcher.finished u_steps_batcher.step u_steps_batcher.standing_after u_steps_batcher.step_out u_steps_batcher.active_after u_round_acceptance.placed u_round_acceptance.with_accepted u_round_acceptance.accused u_round_acceptance.heard_beside u_round_acceptance.heard u_round_acceptance.heard_from u_round_acceptance.has_nullify u_round_assembly.subject_of u_round_assembly.is_candidate u_round_assembly.is_unchecked u_round_assembly.is_valid u_round_assembly.checked u_round_assembly.valid_on u_round_assembly.assembled_on u_round_assembly.work_on u_round_assembly.work_if_any u_round_assembly.work_of u_round_assembly.first_work u_round_assembly.constructed u_round_assembly.after_work u_round_calls.after_call u_round_calls.known_after u_round_forwarding.leader_proposal u_round_forwarding.proposal_of u_round_forwarding.gives_proposal u_round_forwarding.forwarded_to_voter u_round_forwarding.is_missing_voter u_round_forwarding.missing_voters u_round_known.ballot_of u_values_terms.next_of u_values_terms.term_index u_values_terms.term_start u_values_terms.term_end u_values_terms.next_term_start u_values_terms.admission_limit u_values_terms.is_in_window u_values_terms.admits u_wire_message.round u_wire_message.proposal u_wire_message.attestation u_wire_message.notarize u_wire_message.nullify u_wire_message.finalize u_wire_message.vote u_wire_message.attestation_from u_wire_message.attestations_from u_wire_message.signatures u_wire_message.notarization u_wire_message.nullification u_wire_message.finalization u_wire_message.certificate u_wire_number.varint_by u_wire_number.number_from u_wire_certified.is_certified
-returns-clause-no_other c = refl
+returns-clause-no_other c = computed.4
