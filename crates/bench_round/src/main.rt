@@ -5,7 +5,7 @@
 ghost use Rattle.std.specs.Prelude.{◌<◌, ◌^◌};
 
 use anyhow::{Context, Result, bail};
-use simplex_round::{Round, RoundOut};
+use simplex_round::{Batch, Round, RoundOut};
 use simplex_types::{
     Digest, Epoch, Finalize, Keyed, Notarize, Nullify, Participant, Proposal, Round as ViewRound,
     View, Vote, quorum,
@@ -57,45 +57,82 @@ fn signed_votes(alloc: Global, members: u32) -> Result<Votes>
     Ok(Votes { kept, given_up })
 }
 
-/// A round that took these votes, each from its signer.
+/// The round takes these votes, each from its signer.
+fn hear_each(round: &mut Round, votes: &[Vote], out: &mut RoundOut) -> Result<()> {
+    for vote in votes {
+        if !round.add_network(vote.signer(), *vote, out)? {
+            bail!("each vote is accepted");
+        }
+    }
+    Ok(())
+}
+
+/// The round takes the leader and these votes.
+fn take(alloc: Global, round: &mut Round, votes: &[Vote]) -> Result<()> {
+    let mut out = RoundOut::new(alloc);
+    round.set_leader(Participant(0));
+    hear_each(round, votes, &mut out)
+}
+
+/// A round that took these votes.
 fn taken(alloc: Global, round: ViewRound, members: u32, votes: &[Vote]) -> Result<Round>
     requires { 0 < members }
 {
     let mut taken = Round::new(alloc, round, members, quorum(members), true)?;
-    let mut out = RoundOut::new(alloc);
-    taken.set_leader(Participant(0));
-    for vote in votes {
-        if !taken.add_network(vote.signer(), *vote, &mut out)? {
-            bail!("each vote is accepted");
-        }
-    }
+    take(alloc, &mut taken, votes)?;
     Ok(taken)
 }
 
+/// Whether it holds a certificate.
+fn certifies(batch: &Option<Batch>) -> bool {
+    match batch {
+        None => false,
+        Some(batch) => batch.certificate.is_some(),
+    }
+}
+
 /// How many certificates the round makes.
-fn made(alloc: Global, round: Round, scheme: &Keyed) -> Result<u64> {
-    let mut round = round;
+fn made(alloc: Global, round: &mut Round, scheme: &Keyed) -> Result<u64> {
     let mut made = 0u64;
     for _ in 0..3 {
         let batch = round.try_construct(alloc, scheme)?;
-        if batch.is_some_and(|batch| batch.certificate.is_some()) {
-            made = made.saturating_add(1);
-        }
+        made = made.saturating_add(u64::from(certifies(&batch)));
     }
     Ok(made)
 }
 
-/// How many certificates come out of both views; none where the votes are only taken.
-fn turn(alloc: Global, scheme: &Keyed, members: u32, votes: &Votes, makes: bool) -> Result<u64>
+/// How many certificates come out of a view with these votes; none where they are only taken.
+fn view(
+    alloc: Global,
+    scheme: &Keyed,
+    round: ViewRound,
+    members: u32,
+    votes: &[Vote],
+    makes: bool,
+) -> Result<u64>
     requires { 0 < members }
 {
-    let kept = taken(alloc, round_of(300), members, &votes.kept)?;
-    let given_up = taken(alloc, round_of(301), members, &votes.given_up)?;
+    let mut round = taken(alloc, round, members, votes)?;
     if !makes {
         return Ok(0);
     }
-    let certificates = made(alloc, kept, scheme)?;
-    Ok(certificates.saturating_add(made(alloc, given_up, scheme)?))
+    made(alloc, &mut round, scheme)
+}
+
+/// The same of both views.
+fn turn(alloc: Global, scheme: &Keyed, members: u32, votes: &Votes, makes: bool) -> Result<u64>
+    requires { 0 < members }
+{
+    let kept = view(alloc, scheme, round_of(300), members, &votes.kept, makes)?;
+    let given_up = view(
+        alloc,
+        scheme,
+        round_of(301),
+        members,
+        &votes.given_up,
+        makes,
+    )?;
+    Ok(kept.saturating_add(given_up))
 }
 
 fn turns(alloc: Global, members: u32, times: u32, makes: bool) -> Result<u64>
