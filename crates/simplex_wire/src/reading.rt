@@ -1,7 +1,7 @@
 //! Reading from left to right.
 //!
 //! A reading answers the value alone, or the first fault and its place.
-ghost use Rattle.std.specs.Prelude.{◌≡◌, ◌-◌, ◌≤◌, ◌==◌, IfOk, length};
+ghost use Rattle.std.specs.Prelude.{◌≡◌, ◌-◌, ◌<◌, ◌≤◌, ◌^◌, ◌==◌, ℕ, IfOk, IfSome, None, Ok, length};
 ghost use Rattle.simplex_wire.specs.Format.{Gives, GivesBy, GivesUnlessMemory, GivesItemsUnlessMemory, fault_at, raw, byte};
 ghost use Rattle.simplex_wire.specs.Number.{IsLimit, number_from, number32, number64};
 ghost use Rattle.simplex_wire.specs.Artifact.{flag, artifact};
@@ -100,10 +100,34 @@ impl<'a> Reader<'a> {
         }
     }
 
+    /// The number at the front, if it has one byte or two, as most numbers have: what `number_at` would read.
+    #[tactic(auto, unfolding(crate::specs::Number::number_from))]
+    fn short_number(&mut self) -> Option<u64>
+        ensures read { IfSome result (λ n. (place most : ℕ) → 2 ^ 14 ≤ most → number_from place most self.old.bytes ≡ Ok (n, self.new.bytes)) }
+        ensures bound { IfSome result (λ n. n < 2 ^ 14) }
+        ensures end { self.new.end ≡ self.old.end }
+        ensures none { result ≡ None → self.new ≡ self.old }
+    {
+        match self.bytes {
+            [byte, rest @ ..] if *byte < 128 => {
+                self.bytes = rest;
+                Some(u64::from(*byte))
+            }
+            [low, high, rest @ ..] if 0 < *high && *high < 128 => {
+                self.bytes = rest;
+                Some(u64::from(*low - 128) + 128 * u64::from(*high))
+            }
+            _ => None,
+        }
+    }
+
     #[tactic(auto, using(crate::proofs::Numbers::limit64))]
     fn u64(&mut self) -> Result<u64, DecodeError>
         ensures { Gives self.new result (number64.reading self.old) }
     {
+        if let Some(value) = self.short_number() {
+            return Ok(value);
+        }
         let (value, rest) = number_at(self.place(), u64::MAX, self.bytes)?;
         self.bytes = rest;
         Ok(value)
@@ -113,6 +137,9 @@ impl<'a> Reader<'a> {
     fn u32(&mut self) -> Result<u32, DecodeError>
         ensures { Gives self.new result (number32.reading self.old) }
     {
+        if let Some(value) = self.short_number() {
+            return Ok(value as u32);
+        }
         let (value, rest) = number_at(self.place(), u64::from(u32::MAX), self.bytes)?;
         self.bytes = rest;
         Ok(value as u32)
