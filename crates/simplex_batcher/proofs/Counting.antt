@@ -2,10 +2,9 @@
 use Rattle.std.proofs.Common.{arith, zero-add, refl, ap, nat_le, ℕ, zero, suc, ◌≡◌, ◌+◌, ◌≤◌, List, [], ◌∷◌, ◌++◌, Bool, length, filter, if◌then◌else◌}
 use Rattle.std.specs.List.{range_with_len}
 use Rattle.std.proofs.lemmas.Grind.{common_steps}
-use Rattle.std.specs.BTreeMap.{BTreeMap}
 use Rattle.simplex_steps.specs.Batcher.{Standing, was_seen, some_passes}
-use Rattle.simplex_batcher.specs.Rounds.{found}
-use Rattle.simplex_batcher.specs.Activity.{seen_in}
+use Rattle.simplex_batcher.specs.declared.seen.Seen.{Seen}
+use Rattle.simplex_batcher.specs.Activity.{last_seen, seen_in}
 
 -- one more number of a range
 pub filter_range_more : (test : ℕ → Bool) (a n : ℕ)
@@ -32,8 +31,8 @@ filter_same_from p q (suc n) a same =
     let rest = filter_same_from p q n (a + 1) (λ x after. let before : a ≤ x = omega arith in same x before) in
     grind (arith, common_steps, rest, is)
 
--- as many were seen by the map as by the batcher's standing
-pub seen-same : (seen : BTreeMap ℕ ℕ) (standing : Standing) (since : ℕ) → ((q : ℕ) → found seen q ≡ standing.seen q) → (n m : ℕ) → n ≡ m
+-- as many were seen by what is held as by the batcher's standing
+pub seen-same : (seen : Seen) (standing : Standing) (since : ℕ) → ((q : ℕ) → last_seen seen q ≡ standing.seen q) → (n m : ℕ) → n ≡ m
     → length (filter (seen_in seen since) (range_with_len 0 n)) ≡ length (filter (was_seen standing since) (range_with_len 0 m))
 unfolding seen_in was_seen
 seen-same seen standing since is n m same =

@@ -10,7 +10,7 @@ use Rattle.simplex_round.specs.Known as low
 use Rattle.simplex_steps.specs.Batcher.{Made, Standing, Doing, RoundHistory, constructing, constructing_times}
 use Rattle.simplex_batcher.specs.declared.actor.Actor.{Actor}
 use Rattle.simplex_batcher.specs.declared.rounds.Rounds.{Rounds}
-use Rattle.simplex_batcher.specs.declared.work.Work.{Work}
+use Rattle.simplex_messages.specs.declared.step.StepOut.{StepOut}
 use Rattle.simplex_batcher.specs.Rounds.{round_at, round_of}
 use Rattle.simplex_batcher.specs.Stands.{IsAt, Stands, work_of}
 use Rattle.simplex_batcher.specs.Holding.{Holds, StaysBeside}
@@ -21,7 +21,7 @@ set-apart : {A : Type 0} → (view : ℕ) (one : A) (others : ℕ → Option A) 
 set-apart view one others q apart = rw apart refl
 
 -- the round changed, and the step did more
-pub holds-set : (round : Option low.Standing) (work worked : Work) (view : ℕ) (before doing next : Doing) (now : low.Standing) (history : RoundHistory)
+pub holds-set : (round : Option low.Standing) (work worked : StepOut) (view : ℕ) (before doing next : Doing) (now : low.Standing) (history : RoundHistory)
     → Holds round work view before doing → now ≡ round_of history
     → next.standing ≡ record doing.standing { rounds = set view history doing.standing.rounds }
     → next.dirty ≡ doing.dirty → worked ≡ work_of next
@@ -35,7 +35,7 @@ holds-set round work worked view before doing next now history h is standing dir
 }
 
 -- the view is begun
-pub holds-start : (round : Option low.Standing) (work : Work) (view : ℕ) (doing : Doing)
+pub holds-start : (round : Option low.Standing) (work : StepOut) (view : ℕ) (doing : Doing)
     → round ≡ option_map round_of (doing.standing.rounds view) → work ≡ work_of doing → Holds round work view doing doing
 holds-start round work view doing is does = record {
   round_is = is;
@@ -74,7 +74,7 @@ near-is made view doing = refl
 
 -- where the batcher stood as the view was begun, it stands once the view's round is put back
 pub held-stands : {S : Type 0} (verifies : S → Subject → Attestation → Bool) (recovers : S → Bool) (members : S → ℕ) (member : S → Option ℕ)
-    (actor : Actor S) (made : Made) (before doing : Doing) (view : ℕ) (rounds : Rounds) (work : Work) (dirty : List ℕ)
+    (actor : Actor S) (made : Made) (before doing : Doing) (view : ℕ) (rounds : Rounds) (work : StepOut) (dirty : List ℕ)
     → IsAt verifies recovers members member actor made before.standing → dirty ≡ before.dirty
     → rounds.current ≡ actor.rounds.current → StaysBeside (round_at actor.rounds) (round_at rounds) view → Holds (round_at rounds view) work view before doing
     → Stands verifies recovers members member (record actor { rounds = rounds }) work dirty made doing

@@ -5,7 +5,7 @@ use Rattle.simplex_round.specs.Known as low
 use Rattle.simplex_round.specs.Assembly.{Scheme, first_work, after_work, constructed, batch_of}
 use Rattle.simplex_round.specs.Calls.{TryConstruct, known_after, after_call}
 use Rattle.simplex_steps.specs.Batcher.{Made, Doing, RoundHistory, constructing, called, known_in, with_batch}
-use Rattle.simplex_batcher.specs.declared.work.Work.{Work}
+use Rattle.simplex_messages.specs.declared.step.StepOut.{StepOut}
 use Rattle.simplex_batcher.specs.Rounds.{round_of}
 use Rattle.simplex_batcher.specs.Holding.{Holds}
 use Rattle.simplex_batcher.specs.Working.{constructing_at}
@@ -37,7 +37,7 @@ unfolding round_of
 quiet-round made h none = ap (λ (known : low.Known). record { made = h.made; known = known }) (quiet-known made h none)
 
 -- so the round in hand may stand for one more call
-pub quiet-holds : (made : Made) (view : ℕ) (before doing : Doing) (round : low.Standing) (work : Work)
+pub quiet-holds : (made : Made) (view : ℕ) (before doing : Doing) (round : low.Standing) (work : StepOut)
     → Holds (Some round) work view before doing → Quiet made view doing → Holds (Some round) work view before (constructing_at made view doing)
 unfolding constructing_at constructing
 quiet-holds made view before doing round work holds quiet =
@@ -66,7 +66,7 @@ quiet-stays made view doing quiet h at =
     ] refl at
 
 -- what a call answered of the round in hand
-pub quiet-now : (made : Made) (view : ℕ) (before doing : Doing) (round : low.Standing) (work : Work)
+pub quiet-now : (made : Made) (view : ℕ) (before doing : Doing) (round : low.Standing) (work : StepOut)
     → Holds (Some round) work view before doing
     → ((h : RoundHistory) → round ≡ round_of h → constructed h.made made.scheme (known_in h) ≡ None) → Quiet made view doing
 quiet-now made view before doing round work holds none h is =

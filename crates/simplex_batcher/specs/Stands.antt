@@ -8,12 +8,14 @@ use Rattle.simplex_round.specs.Known as low
 use Rattle.simplex_steps.specs.Batcher.{Made, Timed, Standing, Doing, RoundHistory, standing_after}
 use Rattle.simplex_batcher.specs.declared.config.Config.{Config}
 use Rattle.simplex_batcher.specs.declared.actor.Actor.{Actor}
-use Rattle.simplex_batcher.specs.declared.work.Work.{Work}
-use Rattle.simplex_batcher.specs.Rounds.{found, round_at, round_of}
+use Rattle.simplex_messages.specs.Step.{no_out}
+use Rattle.simplex_messages.specs.declared.step.StepOut.{StepOut}
+use Rattle.simplex_batcher.specs.Rounds.{round_at, round_of}
+use Rattle.simplex_batcher.specs.Activity.{last_seen}
 
 -- the work of a step that has done so much
-abbrev pub work_of : Doing → Work
-work_of doing = record { handed = doing.handed; calls = doing.calls }
+abbrev pub work_of : Doing → StepOut
+work_of doing = record no_out { handed = doing.handed; calls = doing.calls }
 
 module _ {S : Type 0} where
   -- what the rules say a batcher of this configuration was made with
@@ -38,11 +40,11 @@ module _ {S : Type 0} where
     pub leader_is : standing.leader ≡ actor.leader
     pub finalized_is : standing.finalized ≡ actor.finalized
     pub hinted_is : standing.hinted ≡ actor.hinted
-    pub seen_is : (q : ℕ) → found actor.seen q ≡ standing.seen q
+    pub seen_is : (q : ℕ) → last_seen actor.seen q ≡ standing.seen q
     pub round_is : (q : ℕ) → round_at actor.rounds q ≡ option_map round_of (standing.rounds q)
 
   -- the batcher stands where the step is, the work is what the step has done, and these views are to be worked
-  pub record Stands (verifies : S → Subject → Attestation → Bool) (recovers : S → Bool) (members : S → ℕ) (member : S → Option ℕ) (actor : Actor S) (work : Work) (dirty : List ℕ) (made : Made) (doing : Doing) : Type 0 where
+  pub record Stands (verifies : S → Subject → Attestation → Bool) (recovers : S → Bool) (members : S → ℕ) (member : S → Option ℕ) (actor : Actor S) (work : StepOut) (dirty : List ℕ) (made : Made) (doing : Doing) : Type 0 where
     pub stands : IsAt verifies recovers members member actor made doing.standing
     pub does : work ≡ work_of doing
     pub marks : dirty ≡ doing.dirty
@@ -80,23 +82,23 @@ module _ {S : Type 0} where
       → round ≡ round_of history → answer ≡ rule made history
 
   -- whatever the step had done before, it has done this with it since
-  abbrev pub Does : (S → Subject → Attestation → Bool) → (S → Bool) → (S → ℕ) → (S → Option ℕ) → Actor S → Work → Actor S → Work → (Made → Doing → Doing) → Type 0
+  abbrev pub Does : (S → Subject → Attestation → Bool) → (S → Bool) → (S → ℕ) → (S → Option ℕ) → Actor S → StepOut → Actor S → StepOut → (Made → Doing → Doing) → Type 0
   Does verifies recovers members member old before new after change =
       (dirty : List ℕ) (made : Made) (doing : Doing) → Stands verifies recovers members member old before dirty made doing
       → Stands verifies recovers members member new after dirty made (change made doing)
 
   -- the same, where it may mark views
-  abbrev pub Marks : (S → Subject → Attestation → Bool) → (S → Bool) → (S → ℕ) → (S → Option ℕ) → Actor S → Work → List ℕ → Actor S → Work → List ℕ → (Made → Doing → Doing) → Type 0
+  abbrev pub Marks : (S → Subject → Attestation → Bool) → (S → Bool) → (S → ℕ) → (S → Option ℕ) → Actor S → StepOut → List ℕ → Actor S → StepOut → List ℕ → (Made → Doing → Doing) → Type 0
   Marks verifies recovers members member old before dirty new after marked change =
       (made : Made) (doing : Doing) → Stands verifies recovers members member old before dirty made doing
       → Stands verifies recovers members member new after marked made (change made doing)
 
   -- wherever the old batcher stood, the step has done what the rule says, and this is its work
-  pub record Worked (verifies : S → Subject → Attestation → Bool) (recovers : S → Bool) (members : S → ℕ) (member : S → Option ℕ) (actor : Actor S) (work : Work) (made : Made) (doing : Doing) : Type 0 where
+  pub record Worked (verifies : S → Subject → Attestation → Bool) (recovers : S → Bool) (members : S → ℕ) (member : S → Option ℕ) (actor : Actor S) (work : StepOut) (made : Made) (doing : Doing) : Type 0 where
     pub stands : IsAt verifies recovers members member actor made doing.standing
     pub does : work ≡ work_of doing
 
-  abbrev pub WorksAs : (S → Subject → Attestation → Bool) → (S → Bool) → (S → ℕ) → (S → Option ℕ) → Actor S → Actor S → Work → (Made → Standing → Doing) → Type 0
+  abbrev pub WorksAs : (S → Subject → Attestation → Bool) → (S → Bool) → (S → ℕ) → (S → Option ℕ) → Actor S → Actor S → StepOut → (Made → Standing → Doing) → Type 0
   WorksAs verifies recovers members member old new work rule =
       (made : Made) (standing : Standing) → IsAt verifies recovers members member old made standing
       → Worked verifies recovers members member new work made (rule made standing)

@@ -6,28 +6,28 @@ ghost use Rattle.simplex_batcher.specs.Activity.{seen_in};
 ghost use Rattle.simplex_batcher.specs.Stands.{Moves, Reads};
 
 use crate::actor::Actor;
+use crate::seen::Seen;
 use simplex_types::{Participant, Scheme, quorum};
 use std::alloc::AllocError;
-use std::collections::BTreeMap;
 
 /// Whether the member was seen since.
-#[tactic(auto, unfolding(crate::specs::Activity::seen_in, crate::specs::Rounds::found))]
-fn was_seen_in(seen: &BTreeMap<u32, u64>, since: u64, member: u32) -> bool
+#[tactic(auto, unfolding(crate::specs::Activity::seen_in))]
+fn was_seen_in(seen: &Seen, since: u64, member: Participant) -> bool
     ensures { result ≡ seen_in seen.now since member }
 {
-    match seen.get(&member) {
+    match seen.last(member) {
         None => false,
-        Some(last) => since <= *last,
+        Some(last) => since <= last,
     }
 }
 
 /// How many of the first members were seen since.
-fn count_seen(seen: &BTreeMap<u32, u64>, since: u64, members: u32) -> u32
+fn count_seen(seen: &Seen, since: u64, members: u32) -> u32
     ensures { result ≡ length (filter (seen_in seen.now since) (range_with_len 0 members)) }
 {
     let mut count = 0;
     for member in 0..members {
-        count += u32::from(was_seen_in(seen, since, member));
+        count += u32::from(was_seen_in(seen, since, Participant(member)));
     }
     count
 }
@@ -51,7 +51,7 @@ impl<S: Scheme + Drop> Actor<S> {
     fn was_seen(&self, since: u64, member: Participant) -> bool
         ensures { Reads S.verifies S.recovers S.members S.member self.now (λ made standing. was_seen standing since member) result }
     {
-        was_seen_in(&self.seen, since, member.0)
+        was_seen_in(&self.seen, since, member)
     }
 
     /// Whether the member was seen within this time, or too few members were to tell.
@@ -75,11 +75,11 @@ impl<S: Scheme + Drop> Actor<S> {
     }
 
     /// The sender is seen now.
-    #[tactic(auto, unfolding(crate::specs::Rounds::found, simplex_steps::specs::Batcher::seen_now))]
+    #[tactic(auto, unfolding(simplex_steps::specs::Batcher::seen_now))]
     pub(crate) fn see(&mut self, sender: Participant, now: u64) -> Result<(), AllocError>
         ensures { OnOk result (Moves S.verifies S.recovers S.members S.member self.old self.new (λ made. seen_now sender now)) }
     {
-        self.seen.insert(sender.0, now)?;
+        self.seen.see(sender, now)?;
         Ok(())
     }
 }

@@ -11,13 +11,12 @@ ghost use Rattle.simplex_batcher.specs.Stands.{StandsFor, Takes, Answers, batche
 
 use crate::config::Config;
 use crate::rounds::Rounds;
+use crate::seen::Seen;
 use crate::steps::post_each;
-use crate::work::Work;
 use simplex_mailbox::Post;
 use simplex_messages::{BatcherInput, Outcome, StepOut, voter};
 use simplex_types::{Participant, Scheme, View};
 use std::alloc::{AllocError, Global};
-use std::collections::BTreeMap;
 
 /// A batcher between two steps.
 #[derive(Drop)]
@@ -31,7 +30,7 @@ pub struct Actor<S> {
     /// Whether the leader's nullify of the current view was hinted at.
     pub(crate) hinted: bool,
     /// When each member was seen last.
-    pub(crate) seen: BTreeMap<u32, u64>,
+    pub(crate) seen: Seen,
     pub(crate) rounds: Rounds,
 }
 
@@ -41,12 +40,13 @@ impl<S: Scheme + Drop> Actor<S> {
     pub fn new(alloc: Global, config: Config<S>) -> Result<Actor<S>, AllocError>
         ensures { IfOk result (λ actor. StandsFor S.verifies S.recovers S.members S.member actor (batcher_made S.verifies S.recovers S.members S.member config) []) }
     {
+        let members = config.scheme.participants();
         Ok(Actor {
             alloc,
             leader: None,
             finalized: config.floor,
             hinted: false,
-            seen: BTreeMap::new(alloc),
+            seen: Seen::new(alloc, members)?,
             rounds: Rounds::new(alloc),
             config,
         })
@@ -75,10 +75,8 @@ impl<S: Scheme + Drop> Actor<S> {
         ensures outcome { IfOk result (λ outcome. outcome ≡ Done) }
         ensures voter { OnOk result (Posted V.puts voter.old (filter_map for_voter out.new.handed) voter.new) }
     {
-        let Work { handed, calls } = self.take(input, now)?;
-        post_each(self.alloc, handed.as_slice(), voter)?;
-        out.handed = handed;
-        out.calls = calls;
+        self.take(&input, now, out)?;
+        post_each(self.alloc, out.handed.as_slice(), voter)?;
         Ok(Outcome::Done)
     }
 }

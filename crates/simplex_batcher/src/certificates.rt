@@ -8,8 +8,8 @@ ghost use Rattle.simplex_batcher.specs.Stands.{Marks, Reads};
 
 use crate::actor::Actor;
 use crate::marks::Marked;
-use crate::work::Work;
-use simplex_messages::voter;
+use crate::work::{block, hand};
+use simplex_messages::{StepOut, voter};
 use simplex_types::{Certificate, Participant, Scheme, Signatures};
 use std::alloc::AllocError;
 
@@ -50,7 +50,7 @@ impl<S: Scheme + Drop> Actor<S> {
         &mut self,
         certificate: &Certificate,
         dirty: &mut Marked,
-        work: &mut Work,
+        work: &mut StepOut,
     ) -> Result<(), AllocError>
         ensures { OnOk result (Marks S.verifies S.recovers S.members S.member self.old work.old dirty.old self.new work.new dirty.new (λ made. recorded_at made certificate.now)) }
     {
@@ -69,12 +69,12 @@ impl<S: Scheme + Drop> Actor<S> {
         &mut self,
         certificate: Certificate,
         dirty: &mut Marked,
-        work: &mut Work,
+        work: &mut StepOut,
     ) -> Result<(), AllocError>
         ensures { OnOk result (Marks S.verifies S.recovers S.members S.member self.old work.old dirty.old self.new work.new dirty.new (λ made. kept_certificate made certificate)) }
     {
         self.record(&certificate, dirty, work)?;
-        work.hand(voter::Message::Verified { certificate })?;
+        hand(work, voter::Message::Verified { certificate })?;
         Ok(())
     }
 
@@ -85,7 +85,7 @@ impl<S: Scheme + Drop> Actor<S> {
         sender: Participant,
         certificate: Certificate,
         dirty: &mut Marked,
-        work: &mut Work,
+        work: &mut StepOut,
     ) -> Result<(), AllocError>
         ensures { OnOk result (Marks S.verifies S.recovers S.members S.member self.old work.old dirty.old self.new work.new dirty.new (λ made. took_certificate made sender certificate)) }
     {
@@ -96,7 +96,7 @@ impl<S: Scheme + Drop> Actor<S> {
             return Ok(());
         }
         if !self.is_certified(&certificate) {
-            work.block(sender)?;
+            block(work, sender)?;
             return Ok(());
         }
         self.keep_certificate(certificate, dirty, work)?;

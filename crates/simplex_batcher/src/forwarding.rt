@@ -5,29 +5,30 @@ ghost use Rattle.simplex_steps.specs.Batcher.{forwarding, targets_of, relayed, s
 ghost use Rattle.simplex_batcher.specs.Stands.{Does, ReadsRound};
 
 use crate::actor::Actor;
-use crate::work::Work;
-use simplex_messages::Call;
+use crate::work::make;
+use simplex_messages::{Call, StepOut};
 use simplex_round::Round;
 use simplex_types::{ForwardPolicy, Participant, Plan, Proposal, Recipients, Scheme, Sequence};
 use std::alloc::{AllocError, Global};
 
-impl Work {
-    /// The proposal is sent to these members, if there is any.
-    fn relay(&mut self, proposal: &Proposal, members: Vec<Participant>) -> Result<(), AllocError>
-        ensures { OnOk result (self.new ≡ record self.old { calls = self.old.calls ++ relayed proposal.now members.items }) }
-    {
-        if members.is_empty() {
-            return Ok(());
-        }
-        self.make(Call::Relay {
-            payload: proposal.payload,
-            plan: Plan::Forward {
-                round: proposal.round,
-                recipients: Recipients::Some(Sequence::from_vec(members)),
-            },
-        })?;
-        Ok(())
+/// The proposal is sent to these members, if there is any.
+fn relay(
+    work: &mut StepOut,
+    proposal: &Proposal,
+    members: Vec<Participant>,
+) -> Result<(), AllocError>
+    ensures { OnOk result (work.new ≡ record work.old { calls = work.old.calls ++ relayed proposal.now members.items }) }
+{
+    if members.is_empty() {
+        return Ok(());
     }
+    let plan = Plan::Forward {
+        round: proposal.round,
+        recipients: Recipients::Some(Sequence::from_vec(members)),
+    };
+    let payload = proposal.payload;
+    make(work, Call::Relay { payload, plan })?;
+    Ok(())
 }
 
 /// Whether it is another member than this.
@@ -131,7 +132,7 @@ impl<S: Scheme + Drop> Actor<S> {
         &self,
         leader: Participant,
         proposal: &Option<Proposal>,
-        work: &mut Work,
+        work: &mut StepOut,
     ) -> Result<(), AllocError>
         ensures { OnOk result (Does S.verifies S.recovers S.members S.member self.now work.old self.now work.new (λ made. forwarding made leader proposal.now)) }
     {
@@ -142,7 +143,7 @@ impl<S: Scheme + Drop> Actor<S> {
             return Ok(());
         };
         let targets = self.targets(leader, proposal, round)?;
-        work.relay(proposal, targets)?;
+        relay(work, proposal, targets)?;
         Ok(())
     }
 }

@@ -4,8 +4,8 @@ ghost use Rattle.simplex_steps.specs.Batcher.{Made, Standing, Doing, leader_null
 ghost use Rattle.simplex_batcher.specs.Stands.{Does, IsAt, Reads, Stands};
 
 use crate::actor::Actor;
-use crate::work::Work;
-use simplex_messages::voter;
+use crate::work::hand;
+use simplex_messages::{StepOut, voter};
 use simplex_types::{Participant, Round, Scheme, SkipPolicy, TimeoutReason, View};
 use std::alloc::AllocError;
 
@@ -44,19 +44,19 @@ impl<S: Scheme + Drop> Actor<S> {
 
     /// The voter is told that the current view is to be given up.
     #[tactic(auto, unfolding(crate::specs::Stands::batcher_made))]
-    fn hint(&self, reason: TimeoutReason, work: &mut Work) -> Result<(), AllocError>
+    fn hint(&self, reason: TimeoutReason, work: &mut StepOut) -> Result<(), AllocError>
         ensures { OnOk result (Does S.verifies S.recovers S.members S.member self.now work.old self.now work.new (λ made. hinting made reason)) }
     {
         let round = Round {
             epoch: self.config.epoch,
             view: self.rounds.current,
         };
-        work.hand(voter::Message::Timeout { round, reason })?;
+        hand(work, voter::Message::Timeout { round, reason })?;
         Ok(())
     }
 
     /// The voter is told that the leader gave the current view up.
-    fn hint_nullify(&mut self, work: &mut Work) -> Result<(), AllocError>
+    fn hint_nullify(&mut self, work: &mut StepOut) -> Result<(), AllocError>
         ensures { OnOk result (Does S.verifies S.recovers S.members S.member self.old work.old self.new work.new (λ made. hinting_nullify made)) }
     {
         self.hinted = true;
@@ -82,7 +82,7 @@ impl<S: Scheme + Drop> Actor<S> {
         view: View,
         accepted: bool,
         nullified: bool,
-        work: &mut Work,
+        work: &mut StepOut,
     ) -> Result<(), AllocError>
         ensures { OnOk result ((dirty : List ℕ) (made : Made) (doing : Doing)
             → (view ≡ doing.standing.current → nullified ≡ leader_nullified doing.standing)
@@ -102,7 +102,7 @@ impl<S: Scheme + Drop> Actor<S> {
         &mut self,
         leader: Participant,
         now: u64,
-        work: &mut Work,
+        work: &mut StepOut,
     ) -> Result<(), AllocError>
         ensures { OnOk result (Does S.verifies S.recovers S.members S.member self.old work.old self.new work.new (λ made. hinted_at_update made made.skip leader now)) }
     {

@@ -15,6 +15,7 @@ mod making;
 mod marks;
 mod others;
 mod rounds;
+mod seen;
 mod steps;
 mod updates;
 mod votes;

@@ -1,5 +1,6 @@
 //! What a step takes, and all that it does with it.
-ghost use Rattle.std.specs.Prelude.{◌==◌, List, filter_map, IfOk, OnOk};
+ghost use Rattle.std.specs.Prelude.{◌≡◌, ◌==◌, List, filter_map, OnOk};
+ghost use Rattle.simplex_messages.specs.Step.{no_out};
 ghost use Rattle.simplex_messages.specs.declared.batcher.BatcherInput.TheVariants.{Mail};
 ghost use Rattle.std.specs.List.{cons_option};
 ghost use Rattle.simplex_messages.specs.declared.voter.Message.{Message};
@@ -13,9 +14,9 @@ ghost use Rattle.simplex_batcher.specs.Stands.{Marks, Reads, WorksAs};
 
 use crate::actor::Actor;
 use crate::marks::Marked;
-use crate::work::Work;
+use crate::work::block;
 use simplex_mailbox::Post;
-use simplex_messages::{BatcherInput, Handed, batcher, voter};
+use simplex_messages::{BatcherInput, Handed, StepOut, batcher, voter};
 use simplex_types::{Certificate, DecodeError, Epoch, Keep, Participant, Scheme, Vote};
 use std::alloc::{AllocError, Global};
 
@@ -33,15 +34,15 @@ impl<S: Scheme + Drop> Actor<S> {
     fn hear_vote(
         &mut self,
         sender: Participant,
-        vote: Vote,
+        vote: &Vote,
         now: u64,
         dirty: &mut Marked,
-        work: &mut Work,
+        work: &mut StepOut,
     ) -> Result<(), AllocError>
-        ensures { OnOk result (Marks S.verifies S.recovers S.members S.member self.old work.old dirty.old self.new work.new dirty.new (λ made. decoded_vote made sender vote now)) }
+        ensures { OnOk result (Marks S.verifies S.recovers S.members S.member self.old work.old dirty.old self.new work.new dirty.new (λ made. decoded_vote made sender vote.now now)) }
     {
         if !self.is_of_epoch(vote.epoch()) {
-            work.block(sender)?;
+            block(work, sender)?;
             return Ok(());
         }
         self.see(sender, now)?;
@@ -57,17 +58,17 @@ impl<S: Scheme + Drop> Actor<S> {
         bytes: &[u8],
         now: u64,
         dirty: &mut Marked,
-        work: &mut Work,
+        work: &mut StepOut,
     ) -> Result<(), AllocError>
         ensures { OnOk result (Marks S.verifies S.recovers S.members S.member self.old work.old dirty.old self.new work.new dirty.new (λ made. heard_vote made sender (whole format.vote bytes.now) now)) }
     {
         match Vote::decode(bytes) {
             Err(_) => {
-                work.block(sender)?;
+                block(work, sender)?;
                 Ok(())
             }
             Ok(vote) => {
-                self.hear_vote(sender, vote, now, dirty, work)?;
+                self.hear_vote(sender, &vote, now, dirty, work)?;
                 Ok(())
             }
         }
@@ -81,12 +82,12 @@ impl<S: Scheme + Drop> Actor<S> {
         certificate: Certificate,
         now: u64,
         dirty: &mut Marked,
-        work: &mut Work,
+        work: &mut StepOut,
     ) -> Result<(), AllocError>
         ensures { OnOk result (Marks S.verifies S.recovers S.members S.member self.old work.old dirty.old self.new work.new dirty.new (λ made. decoded_certificate made sender certificate now)) }
     {
         if !self.is_of_epoch(certificate.epoch()) {
-            work.block(sender)?;
+            block(work, sender)?;
             return Ok(());
         }
         self.see(sender, now)?;
@@ -102,14 +103,14 @@ impl<S: Scheme + Drop> Actor<S> {
         bytes: &[u8],
         now: u64,
         dirty: &mut Marked,
-        work: &mut Work,
+        work: &mut StepOut,
     ) -> Result<(), AllocError>
         ensures { OnOk result (Marks S.verifies S.recovers S.members S.member self.old work.old dirty.old self.new work.new dirty.new (λ made. heard_certificate made sender (whole format.certificate bytes.now) now)) }
     {
         match Certificate::decode(self.alloc, bytes) {
             Err(DecodeError::Memory) => Err(AllocError),
             Err(DecodeError::Fault { .. }) => {
-                work.block(sender)?;
+                block(work, sender)?;
                 Ok(())
             }
             Ok(certificate) => {
@@ -123,12 +124,12 @@ impl<S: Scheme + Drop> Actor<S> {
     #[tactic(auto, unfolding(simplex_steps::specs::Batcher::acted))]
     fn take_mail(
         &mut self,
-        message: batcher::Message,
+        message: &batcher::Message,
         now: u64,
         dirty: &mut Marked,
-        work: &mut Work,
+        work: &mut StepOut,
     ) -> Result<(), AllocError>
-        ensures { OnOk result (Marks S.verifies S.recovers S.members S.member self.old work.old dirty.old self.new work.new dirty.new (λ made. acted made (Mail message) now)) }
+        ensures { OnOk result (Marks S.verifies S.recovers S.members S.member self.old work.old dirty.old self.new work.new dirty.new (λ made. acted made (Mail message.now) now)) }
     {
         match message {
             batcher::Message::Update {
@@ -137,12 +138,13 @@ impl<S: Scheme + Drop> Actor<S> {
                 finalized,
                 forwardable_proposal,
             } => {
-                let proposal = &forwardable_proposal;
+                let (current, leader, finalized) = (*current, *leader, *finalized);
+                let proposal = forwardable_proposal;
                 self.take_update(current, leader, finalized, proposal, now, dirty, work)?;
                 Ok(())
             }
             batcher::Message::Constructed(vote) => {
-                self.take_constructed(vote, dirty, work)?;
+                self.take_constructed(*vote, dirty, work)?;
                 Ok(())
             }
         }
@@ -152,12 +154,12 @@ impl<S: Scheme + Drop> Actor<S> {
     #[tactic(auto, unfolding(simplex_steps::specs::Batcher::acted))]
     fn act(
         &mut self,
-        input: BatcherInput,
+        input: &BatcherInput,
         now: u64,
         dirty: &mut Marked,
-        work: &mut Work,
+        work: &mut StepOut,
     ) -> Result<(), AllocError>
-        ensures { OnOk result (Marks S.verifies S.recovers S.members S.member self.old work.old dirty.old self.new work.new dirty.new (λ made. acted made input now)) }
+        ensures { OnOk result (Marks S.verifies S.recovers S.members S.member self.old work.old dirty.old self.new work.new dirty.new (λ made. acted made input.now now)) }
     {
         match input {
             BatcherInput::Mail(message) => {
@@ -165,26 +167,31 @@ impl<S: Scheme + Drop> Actor<S> {
                 Ok(())
             }
             BatcherInput::Vote { sender, bytes } => {
-                self.hear_vote_packet(sender, bytes.as_slice(), now, dirty, work)?;
+                self.hear_vote_packet(*sender, bytes.as_slice(), now, dirty, work)?;
                 Ok(())
             }
             BatcherInput::Certificate { sender, bytes } => {
-                self.hear_certificate_packet(sender, bytes.as_slice(), now, dirty, work)?;
+                self.hear_certificate_packet(*sender, bytes.as_slice(), now, dirty, work)?;
                 Ok(())
             }
         }
     }
 
-    /// A whole step, but for the posting. What it has done.
+    /// A whole step, but for the posting.
     #[tactic(auto, unfolding(simplex_steps::specs::Batcher::step))]
-    pub(crate) fn take(&mut self, input: BatcherInput, now: u64) -> Result<Work, AllocError>
-        ensures { IfOk result (λ work. WorksAs S.verifies S.recovers S.members S.member self.old self.new work (λ made standing. step made standing (record { input = input; now = now }))) }
+    pub(crate) fn take(
+        &mut self,
+        input: &BatcherInput,
+        now: u64,
+        work: &mut StepOut,
+    ) -> Result<(), AllocError>
+        requires empty { work.old ≡ no_out }
+        ensures { OnOk result (WorksAs S.verifies S.recovers S.members S.member self.old self.new work.new (λ made standing. step made standing (record { input = input.now; now = now }))) }
     {
         let mut dirty = Marked::new(self.alloc);
-        let mut work = Work::new(self.alloc);
-        self.act(input, now, &mut dirty, &mut work)?;
-        self.finish(&dirty, &mut work)?;
-        Ok(work)
+        self.act(input, now, &mut dirty, work)?;
+        self.finish(&dirty, work)?;
+        Ok(())
     }
 }
 

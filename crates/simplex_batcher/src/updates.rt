@@ -7,7 +7,7 @@ ghost use Rattle.simplex_batcher.specs.Stands.{Marks, Moves, Reads};
 use crate::actor::Actor;
 use crate::marks::Marked;
 use crate::others;
-use crate::work::Work;
+use simplex_messages::StepOut;
 use simplex_types::{Participant, Proposal, Scheme, View};
 use std::alloc::AllocError;
 
@@ -82,7 +82,7 @@ impl<S: Scheme + Drop> Actor<S> {
         proposal: &Option<Proposal>,
         now: u64,
         dirty: &mut Marked,
-        work: &mut Work,
+        work: &mut StepOut,
     ) -> Result<(), AllocError>
         ensures { OnOk result (Marks S.verifies S.recovers S.members S.member self.old work.old dirty.old self.new work.new dirty.new (λ made. took_update made current leader finalized proposal.now now)) }
     {

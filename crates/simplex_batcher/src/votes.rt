@@ -11,7 +11,8 @@ ghost use Rattle.simplex_batcher.specs.Stands.{Marks, Moves, Reads};
 use crate::actor::Actor;
 use crate::marks::Marked;
 use crate::others::{Heard, hear};
-use crate::work::Work;
+use crate::work::publish;
+use simplex_messages::StepOut;
 use simplex_round::RoundOut;
 use simplex_types::{Participant, Scheme, View, Vote};
 use std::alloc::AllocError;
@@ -45,19 +46,19 @@ impl<S: Scheme + Drop> Actor<S> {
     fn hear(
         &mut self,
         sender: Participant,
-        vote: Vote,
+        vote: &Vote,
         dirty: &mut Marked,
-        work: &mut Work,
+        work: &mut StepOut,
     ) -> Result<Heard, AllocError>
-        ensures stands { OnOk result (Marks S.verifies S.recovers S.members S.member self.old work.old dirty.old self.new work.new dirty.new (λ made doing. heard_at made sender vote doing)) }
-        ensures accepted { IfOk result (λ heard. Reads S.verifies S.recovers S.members S.member self.old (λ made standing. (heard_from (known_in (round_for made standing (vote_view vote))) sender vote).accepted) heard.accepted) }
-        ensures nullified { IfOk result (λ heard. Reads S.verifies S.recovers S.members S.member self.old (λ made standing. some_passes (has_nullify (known_in (called (AddNetwork sender vote) (round_for made standing (vote_view vote))))) (lead_of made standing (vote_view vote))) heard.nullified) }
+        ensures stands { OnOk result (Marks S.verifies S.recovers S.members S.member self.old work.old dirty.old self.new work.new dirty.new (λ made doing. heard_at made sender vote.now doing)) }
+        ensures accepted { IfOk result (λ heard. Reads S.verifies S.recovers S.members S.member self.old (λ made standing. (heard_from (known_in (round_for made standing (vote_view vote.now))) sender vote.now).accepted) heard.accepted) }
+        ensures nullified { IfOk result (λ heard. Reads S.verifies S.recovers S.members S.member self.old (λ made standing. some_passes (has_nullify (known_in (called (AddNetwork sender vote.now) (round_for made standing (vote_view vote.now))))) (lead_of made standing (vote_view vote.now))) heard.nullified) }
     {
         let view = vote.view();
         let leader = self.leader_at(view);
         let mut out = RoundOut::new(self.alloc);
-        let heard = self.hear_at(view, &leader, sender, &vote, &mut out)?;
-        work.publish(out)?;
+        let heard = self.hear_at(view, &leader, sender, vote, &mut out)?;
+        publish(work, out)?;
         dirty.mark(heard.accepted, view)?;
         Ok(heard)
     }
@@ -67,11 +68,11 @@ impl<S: Scheme + Drop> Actor<S> {
     pub(crate) fn take_vote(
         &mut self,
         sender: Participant,
-        vote: Vote,
+        vote: &Vote,
         dirty: &mut Marked,
-        work: &mut Work,
+        work: &mut StepOut,
     ) -> Result<(), AllocError>
-        ensures { OnOk result (Marks S.verifies S.recovers S.members S.member self.old work.old dirty.old self.new work.new dirty.new (λ made. took_vote made sender vote)) }
+        ensures { OnOk result (Marks S.verifies S.recovers S.members S.member self.old work.old dirty.old self.new work.new dirty.new (λ made. took_vote made sender vote.now)) }
     {
         let view = vote.view();
         if !self.admits_vote(view) {
@@ -90,7 +91,7 @@ impl<S: Scheme + Drop> Actor<S> {
         &mut self,
         vote: Vote,
         dirty: &mut Marked,
-        work: &mut Work,
+        work: &mut StepOut,
     ) -> Result<(), AllocError>
         ensures { OnOk result (Marks S.verifies S.recovers S.members S.member self.old work.old dirty.old self.new work.new dirty.new (λ made doing. own_heard_at made vote doing)) }
     {
@@ -98,7 +99,7 @@ impl<S: Scheme + Drop> Actor<S> {
         self.make_round(view)?;
         let mut out = RoundOut::new(self.alloc);
         let accepted = self.rounds.accept_vote(view, vote, &mut out)?;
-        work.publish(out)?;
+        publish(work, out)?;
         dirty.mark(accepted, view)?;
         Ok(())
     }
@@ -109,7 +110,7 @@ impl<S: Scheme + Drop> Actor<S> {
         &mut self,
         vote: Vote,
         dirty: &mut Marked,
-        work: &mut Work,
+        work: &mut StepOut,
     ) -> Result<(), AllocError>
         ensures { OnOk result (Marks S.verifies S.recovers S.members S.member self.old work.old dirty.old self.new work.new dirty.new (λ made. took_constructed made vote)) }
     {

@@ -1,64 +1,45 @@
-//! What a step has done so far.
+//! What a step does, noted in its [`StepOut`] as it goes.
 ghost use Rattle.std.specs.Prelude.{◌≡◌, ◌++◌, ◌∷◌, [], map, OnOk};
 ghost use Rattle.simplex_messages.specs.declared.call.Call.TheVariants.{Block, Report};
 ghost use Rattle.simplex_messages.specs.declared.handed.Handed.TheVariants.{Voter};
 
-use simplex_messages::{Call, Handed, voter};
+use simplex_messages::{Call, Handed, StepOut, voter};
 use simplex_round::RoundOut;
 use simplex_types::{Activity, Participant, Sequence};
-use std::alloc::{AllocError, Global};
+use std::alloc::AllocError;
 
-/// What a step has done so far: the messages that it hands on, and its calls.
-#[derive(Drop)]
-pub(crate) struct Work {
-    pub(crate) handed: Sequence<Handed>,
-    pub(crate) calls: Sequence<Call>,
+/// A message goes to the voter at the end of the step.
+pub(crate) fn hand(work: &mut StepOut, message: voter::Message) -> Result<(), AllocError>
+    ensures { OnOk result (work.new ≡ record work.old { handed = work.old.handed ++ Voter message ∷ [] }) }
+{
+    work.handed.push(Handed::Voter(message))?;
+    Ok(())
 }
 
-impl Work {
-    /// Nothing yet.
-    pub(crate) fn new(alloc: Global) -> Work
-        ensures { result ≡ record { handed = []; calls = [] } }
-    {
-        Work {
-            handed: Sequence::new(alloc),
-            calls: Sequence::new(alloc),
-        }
-    }
+/// A call is made.
+pub(crate) fn make(work: &mut StepOut, call: Call) -> Result<(), AllocError>
+    ensures { OnOk result (work.new ≡ record work.old { calls = work.old.calls ++ call ∷ [] }) }
+{
+    work.calls.push(call)?;
+    Ok(())
+}
 
-    /// A message goes to the voter at the end of the step.
-    pub(crate) fn hand(&mut self, message: voter::Message) -> Result<(), AllocError>
-        ensures { OnOk result (self.new ≡ record self.old { handed = self.old.handed ++ Voter message ∷ [] }) }
-    {
-        self.handed.push(Handed::Voter(message))?;
-        Ok(())
-    }
+/// The member is blocked.
+pub(crate) fn block(work: &mut StepOut, member: Participant) -> Result<(), AllocError>
+    ensures { OnOk result (work.new ≡ record work.old { calls = work.old.calls ++ Block member ∷ [] }) }
+{
+    make(work, Call::Block(member))?;
+    Ok(())
+}
 
-    /// A call is made.
-    pub(crate) fn make(&mut self, call: Call) -> Result<(), AllocError>
-        ensures { OnOk result (self.new ≡ record self.old { calls = self.old.calls ++ call ∷ [] }) }
-    {
-        self.calls.push(call)?;
-        Ok(())
-    }
-
-    /// The member is blocked.
-    pub(crate) fn block(&mut self, member: Participant) -> Result<(), AllocError>
-        ensures { OnOk result (self.new ≡ record self.old { calls = self.old.calls ++ Block member ∷ [] }) }
-    {
-        self.make(Call::Block(member))?;
-        Ok(())
-    }
-
-    /// What a round reports is reported, and whom it blocks is blocked.
-    pub(crate) fn publish(&mut self, out: RoundOut) -> Result<(), AllocError>
-        ensures { OnOk result (self.new ≡ record self.old { calls = self.old.calls ++ map Report out.reports ++ map Block out.blocks }) }
-    {
-        let RoundOut { reports, blocks } = out;
-        report_each(&mut self.calls, reports)?;
-        block_each(&mut self.calls, blocks.as_slice())?;
-        Ok(())
-    }
+/// What a round reports is reported, and whom it blocks is blocked.
+pub(crate) fn publish(work: &mut StepOut, out: RoundOut) -> Result<(), AllocError>
+    ensures { OnOk result (work.new ≡ record work.old { calls = work.old.calls ++ map Report out.reports ++ map Block out.blocks }) }
+{
+    let RoundOut { reports, blocks } = out;
+    report_each(&mut work.calls, reports)?;
+    block_each(&mut work.calls, blocks.as_slice())?;
+    Ok(())
 }
 
 /// Each activity is reported.

@@ -9,63 +9,65 @@ ghost use Rattle.simplex_batcher.specs.Holding.{Works, WorksAt, StaysBeside};
 ghost use Rattle.simplex_batcher.specs.Rounds.{found, round_at, round_of};
 ghost use Rattle.simplex_batcher.specs.Working.{forwarded_at, constructing_at, constructing_thrice, worked_near};
 ghost use Rattle.simplex_batcher.specs.Stands.{Does, Marks, Reads, work_of};
-ghost use Rattle.simplex_batcher.specs.declared.work.Work.{Work};
+ghost use Rattle.simplex_messages.specs.declared.step.StepOut.{StepOut};
 
 use crate::actor::Actor;
 use crate::marks::Marked;
 use crate::others::Others;
 use crate::rounds::Rounds;
-use crate::work::{Work, block_each};
-use simplex_messages::voter;
+use crate::work::{block_each, hand};
+use simplex_messages::{StepOut, voter};
 use simplex_round::{Batch, Round};
 use simplex_types::{Certificate, Participant, Proposal, Scheme, View};
 use std::alloc::{AllocError, Global};
 
-impl Work {
-    /// The proposal, if there is one, goes to the voter.
-    fn hand_proposal(&mut self, proposal: Option<Proposal>) -> Result<(), AllocError>
-        ensures { OnOk result (self.new ≡ record self.old { handed = self.old.handed ++ map (λ it. Voter (ProposalMessage it)) (option_to_list proposal) }) }
-    {
-        if let Some(proposal) = proposal {
-            self.hand(voter::Message::Proposal { proposal })?;
-        }
-        Ok(())
+/// The proposal, if there is one, goes to the voter.
+fn hand_proposal(work: &mut StepOut, proposal: Option<Proposal>) -> Result<(), AllocError>
+    ensures { OnOk result (work.new ≡ record work.old { handed = work.old.handed ++ map (λ it. Voter (ProposalMessage it)) (option_to_list proposal) }) }
+{
+    if let Some(proposal) = proposal {
+        hand(work, voter::Message::Proposal { proposal })?;
     }
+    Ok(())
+}
 
-    /// The signers of invalid votes are blocked, and the certificate, if there is one, goes to the voter.
-    fn publish_batch(&mut self, batch: Option<Batch>) -> Result<(), AllocError>
-        ensures { OnOk result ((doing : Doing) → self.old ≡ work_of doing → self.new ≡ work_of (with_batch batch doing)) }
-    {
-        let Some(batch) = batch else {
-            return Ok(());
-        };
-        let Batch {
-            invalid,
-            certificate,
-            ..
-        } = batch;
-        block_each(&mut self.calls, invalid.as_slice())?;
-        self.hand_certificate(certificate)?;
-        Ok(())
+/// The certificate, if there is one, goes to the voter.
+fn hand_certificate(work: &mut StepOut, certificate: Option<Certificate>) -> Result<(), AllocError>
+    ensures { OnOk result (work.new ≡ record work.old { handed = work.old.handed ++ map (λ it. Voter (Verified it)) (option_to_list certificate) }) }
+{
+    if let Some(certificate) = certificate {
+        hand(work, voter::Message::Verified { certificate })?;
     }
+    Ok(())
+}
 
-    /// The certificate, if there is one, goes to the voter.
-    fn hand_certificate(&mut self, certificate: Option<Certificate>) -> Result<(), AllocError>
-        ensures { OnOk result (self.new ≡ record self.old { handed = self.old.handed ++ map (λ it. Voter (Verified it)) (option_to_list certificate) }) }
-    {
-        if let Some(certificate) = certificate {
-            self.hand(voter::Message::Verified { certificate })?;
-        }
-        Ok(())
-    }
+/// The signers of invalid votes are blocked, and the certificate, if there is one, goes to the voter.
+fn publish_batch(work: &mut StepOut, batch: Option<Batch>) -> Result<(), AllocError>
+    ensures { OnOk result ((doing : Doing) → work.old ≡ work_of doing → work.new ≡ work_of (with_batch batch doing)) }
+{
+    let Some(batch) = batch else {
+        return Ok(());
+    };
+    let Batch {
+        invalid,
+        certificate,
+        ..
+    } = batch;
+    block_each(&mut work.calls, invalid.as_slice())?;
+    hand_certificate(work, certificate)?;
+    Ok(())
 }
 
 /// The round hands its proposal to the voter, once.
-fn forward_proposal(round: &mut Round, me: Participant, work: &mut Work) -> Result<(), AllocError>
+fn forward_proposal(
+    round: &mut Round,
+    me: Participant,
+    work: &mut StepOut,
+) -> Result<(), AllocError>
     ensures { OnOk result ((made : Made) → me ≡ number_of made → Works round.old work.old round.new work.new (forwarded_at made)) }
 {
     let proposal = round.try_forward_proposal(me);
-    work.hand_proposal(proposal)?;
+    hand_proposal(work, proposal)?;
     Ok(())
 }
 
@@ -75,14 +77,14 @@ fn construct<S: Scheme>(
     round: &mut Round,
     alloc: Global,
     scheme: &S,
-    work: &mut Work,
+    work: &mut StepOut,
 ) -> Result<bool, AllocError>
     ensures works { OnOk result ((made : Made) → made.scheme ≡ as_scheme (S.verifies scheme.now) (S.recovers scheme.now) (S.members scheme.now) → Works round.old work.old round.new work.new (constructing_at made)) }
     ensures quiet { IfOk result (λ did. did ≡ false → (made : Made) → made.scheme ≡ as_scheme (S.verifies scheme.now) (S.recovers scheme.now) (S.members scheme.now) → (history : RoundHistory) → round.old ≡ round_of history → constructed history.made made.scheme (known_in history) ≡ None) }
 {
     let batch = round.try_construct(alloc, scheme)?;
     let did = batch.is_some();
-    work.publish_batch(batch)?;
+    publish_batch(work, batch)?;
     Ok(did)
 }
 
@@ -91,7 +93,7 @@ fn construct_each<S: Scheme>(
     round: &mut Round,
     alloc: Global,
     scheme: &S,
-    work: &mut Work,
+    work: &mut StepOut,
 ) -> Result<(), AllocError>
     ensures { OnOk result ((made : Made) → made.scheme ≡ as_scheme (S.verifies scheme.now) (S.recovers scheme.now) (S.members scheme.now) → Works round.old work.old round.new work.new (constructing_thrice made)) }
 {
@@ -113,7 +115,7 @@ fn work_round<S: Scheme>(
     alloc: Global,
     scheme: &S,
     me: Participant,
-    work: &mut Work,
+    work: &mut StepOut,
 ) -> Result<(), AllocError>
     ensures { OnOk result ((made : Made) → me ≡ number_of made → made.scheme ≡ as_scheme (S.verifies scheme.now) (S.recovers scheme.now) (S.members scheme.now) → Works round.old work.old round.new work.new (worked_near made)) }
 {
@@ -128,7 +130,7 @@ fn forward_at(
     rounds: &mut Others,
     view: u64,
     me: Participant,
-    work: &mut Work,
+    work: &mut StepOut,
 ) -> Result<(), AllocError>
     ensures works { OnOk result ((made : Made) → me ≡ number_of made → WorksAt (found rounds.old view) work.old (found rounds.new view) work.new view (forwarded_at made view)) }
     ensures others { OnOk result (StaysBeside (found rounds.old) (found rounds.new) view) }
@@ -150,7 +152,7 @@ fn work_at<S: Scheme>(
     alloc: Global,
     scheme: &S,
     me: Participant,
-    work: &mut Work,
+    work: &mut StepOut,
 ) -> Result<(), AllocError>
     ensures works { OnOk result ((made : Made) → me ≡ number_of made → made.scheme ≡ as_scheme (S.verifies scheme.now) (S.recovers scheme.now) (S.members scheme.now) → WorksAt (found rounds.old view) work.old (found rounds.new view) work.new view (worked_near made view)) }
     ensures others { OnOk result (StaysBeside (found rounds.old) (found rounds.new) view) }
@@ -167,7 +169,12 @@ fn work_at<S: Scheme>(
 impl Rounds {
     /// The round of the view, if there is one, hands its proposal to the voter, once.
     #[tactic(auto, unfolding(crate::specs::Rounds::round_at))]
-    fn forward_at(&mut self, view: View, me: Participant, work: &mut Work) -> Result<(), AllocError>
+    fn forward_at(
+        &mut self,
+        view: View,
+        me: Participant,
+        work: &mut StepOut,
+    ) -> Result<(), AllocError>
         ensures works { OnOk result ((made : Made) → me ≡ number_of made → WorksAt (round_at self.old view) work.old (round_at self.new view) work.new view (forwarded_at made view)) }
         ensures others { OnOk result (StaysBeside (round_at self.old) (round_at self.new) view) }
         ensures current { OnOk result (self.new.current ≡ self.old.current) }
@@ -193,7 +200,7 @@ impl Rounds {
         alloc: Global,
         scheme: &S,
         me: Participant,
-        work: &mut Work,
+        work: &mut StepOut,
     ) -> Result<(), AllocError>
         ensures works { OnOk result ((made : Made) → me ≡ number_of made → made.scheme ≡ as_scheme (S.verifies scheme.now) (S.recovers scheme.now) (S.members scheme.now) → WorksAt (round_at self.old view) work.old (round_at self.new view) work.new view (worked_near made view)) }
         ensures others { OnOk result (StaysBeside (round_at self.old) (round_at self.new) view) }
@@ -225,7 +232,7 @@ impl<S: Scheme + Drop> Actor<S> {
 
     /// The view is worked, where it is not final. Its round is looked up once.
     #[tactic(auto, unfolding(simplex_steps::specs::Batcher::worked))]
-    fn work(&mut self, view: View, work: &mut Work) -> Result<(), AllocError>
+    fn work(&mut self, view: View, work: &mut StepOut) -> Result<(), AllocError>
         ensures { OnOk result (Does S.verifies S.recovers S.members S.member self.old work.old self.new work.new (λ made. worked made view)) }
     {
         if view <= self.finalized {
@@ -242,7 +249,7 @@ impl<S: Scheme + Drop> Actor<S> {
     }
 
     /// These views are worked, in this order.
-    fn work_each(&mut self, views: &[View], work: &mut Work) -> Result<(), AllocError>
+    fn work_each(&mut self, views: &[View], work: &mut StepOut) -> Result<(), AllocError>
         ensures { OnOk result (Does S.verifies S.recovers S.members S.member self.old work.old self.new work.new (λ made. worked_all made views.now)) }
     {
         for view in views {
@@ -254,14 +261,14 @@ impl<S: Scheme + Drop> Actor<S> {
     /// Rounds that are not kept are dropped.
     #[tactic(auto, unfolding(crate::specs::Stands::batcher_made, simplex_steps::specs::Batcher::dropped, simplex_steps::specs::Batcher::retains_view))]
     fn drop_old(&mut self)
-        ensures { (work : Work) → Does S.verifies S.recovers S.members S.member self.old work self.new work (λ made. dropped made) }
+        ensures { (work : StepOut) → Does S.verifies S.recovers S.members S.member self.old work self.new work (λ made. dropped made) }
     {
         let least = self.finalized.saturating_sub(self.config.view_retention);
         self.rounds.drop_below(least);
     }
 
     /// The marked views are worked, in this order.
-    fn work_marked(&mut self, dirty: &Marked, work: &mut Work) -> Result<(), AllocError>
+    fn work_marked(&mut self, dirty: &Marked, work: &mut StepOut) -> Result<(), AllocError>
         ensures { OnOk result (Does S.verifies S.recovers S.members S.member self.old work.old self.new work.new (λ made. worked_all made dirty.now)) }
     {
         let (first, others) = dirty.parts();
@@ -274,7 +281,7 @@ impl<S: Scheme + Drop> Actor<S> {
 
     /// The marked views are worked, and rounds that are not kept are dropped.
     #[tactic(auto, unfolding(simplex_steps::specs::Batcher::finished))]
-    pub(crate) fn finish(&mut self, dirty: &Marked, work: &mut Work) -> Result<(), AllocError>
+    pub(crate) fn finish(&mut self, dirty: &Marked, work: &mut StepOut) -> Result<(), AllocError>
         ensures { OnOk result (Marks S.verifies S.recovers S.members S.member self.old work.old dirty.now self.new work.new dirty.now (λ made. finished made)) }
     {
         self.work_marked(dirty, work)?;

@@ -18,7 +18,7 @@ pub returns-clause-works : goal.returns-clause-works
 unfolding constructing_at constructing round_of StandsFor
 returns-clause-works g c = λ made same view before doing h.
     elim (doing.standing.rounds view) as (λ (o : Option RoundHistory). doing.standing.rounds view ≡ o
-    → Holds (Some c.try_construct.new.self) c.publish_batch.new.self view before (option_map_or (λ round. constructing made view round doing) o doing)) [
+    → Holds (Some c.try_construct.new.self) c.publish_batch.new.work view before (option_map_or (λ round. constructing made view round doing) o doing)) [
       | None ↦ λ is. absurd (let bad : Some c.args.round.now ≡ None = h.round_is ∙ ap (option_map round_of) is in cc)
       | Some history ↦ λ is.
           let round : c.args.round.now ≡ round_of history = same-some _ _ (h.round_is ∙ ap (option_map round_of) is) in
@@ -26,7 +26,7 @@ returns-clause-works g c = λ made same view before doing h.
           let answer = c.in_ok-batch.ensures.answer history.made history.calls round in
           let batch = constructed history.made made.scheme (known_in history) in
           let rounds = set view (called (TryConstruct made.scheme) history) doing.standing.rounds in
-          holds-set (Some c.args.round.now) c.args.work.now c.publish_batch.new.self view before doing (constructing made view history doing) c.try_construct.new.self (called (TryConstruct made.scheme) history) h
+          holds-set (Some c.args.round.now) c.args.work.now c.publish_batch.new.work view before doing (constructing made view history doing) c.try_construct.new.self (called (TryConstruct made.scheme) history) h
           (rw (← same) at taken) (ap (λ (s : Standing). record s { rounds = set view (called (TryConstruct made.scheme) history) s.rounds }) (batch-standing batch doing)) (batch-dirty batch doing)
           (c.in_ok-publish_batch.ensures doing h.does ∙ ap (λ b. work_of (with_batch b doing)) (rw (← same) at answer))
     ] refl

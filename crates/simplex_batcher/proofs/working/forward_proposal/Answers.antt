@@ -14,12 +14,12 @@ pub returns : goal.returns
 unfolding forwarded_at forwarded round_of StandsFor
 returns c = λ made me view before doing h.
     elim (doing.standing.rounds view) as (λ (o : Option RoundHistory). doing.standing.rounds view ≡ o
-    → Holds (Some c.try_forward_proposal-proposal.new.self) c.hand_proposal.new.self view before (option_map_or (λ round. forwarded made view round doing) o doing)) [
+    → Holds (Some c.try_forward_proposal-proposal.new.self) c.hand_proposal.new.work view before (option_map_or (λ round. forwarded made view round doing) o doing)) [
       | None ↦ λ is. absurd (let bad : Some c.args.round.now ≡ None = h.round_is ∙ ap (option_map round_of) is in cc)
       | Some history ↦ λ is.
           let round : c.args.round.now ≡ round_of history = same-some _ _ (h.round_is ∙ ap (option_map round_of) is) in
           let taken = c.try_forward_proposal-proposal.ensures.stands history.made history.calls round in
           let answer = c.try_forward_proposal-proposal.ensures.answer history.made history.calls round in
-          holds-set (Some c.args.round.now) c.args.work.now c.hand_proposal.new.self view before doing (forwarded made view history doing) c.try_forward_proposal-proposal.new.self (called (TryForward (number_of made)) history) h
+          holds-set (Some c.args.round.now) c.args.work.now c.hand_proposal.new.work view before doing (forwarded made view history doing) c.try_forward_proposal-proposal.new.self (called (TryForward (number_of made)) history) h
           (rw me at taken) refl refl (c.in_ok-hand_proposal.ensures ∙ rw (h.does, answer, me) refl)
     ] refl

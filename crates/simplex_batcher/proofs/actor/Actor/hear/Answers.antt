@@ -12,9 +12,9 @@ unfolding heard_at with_heard
 returns-clause-stands g c = λ made doing s.
     let lead : c.leader_at-leader.result ≡ lead_of made doing.standing c.view-view.result = c.leader_at-leader.ensures made doing.standing s.stands in
     let round : given c.leader_at-leader.result (bare_round made doing.standing c.view-view.result) ≡ round_for made doing.standing c.view-view.result = given-is made doing.standing c.view-view.result c.leader_at-leader.result lead in
-    let accepted : c.in_ok-heard.heard.accepted ≡ (heard_from (known_in (round_for made doing.standing c.view-view.result)) c.args.sender c.args.vote).accepted = rw round at (ap (λ (h : Heard). h.accepted) (c.in_ok-heard.ensures.answer made doing.standing s.stands)) in
-    let reports : c.hear_at.new.out.reports ≡ (heard_from (known_in (round_for made doing.standing c.view-view.result)) c.args.sender c.args.vote).reports = rw (c.new-out.ensures.reports, round) at (c.in_ok-heard.ensures.reports made doing.standing s.stands) in
-    let blocks : c.hear_at.new.out.blocks ≡ (heard_from (known_in (round_for made doing.standing c.view-view.result)) c.args.sender c.args.vote).blocks = rw (c.new-out.ensures.blocks, round) at (c.in_ok-heard.ensures.blocks made doing.standing s.stands) in
+    let accepted : c.in_ok-heard.heard.accepted ≡ (heard_from (known_in (round_for made doing.standing c.view-view.result)) c.args.sender c.args.vote.now).accepted = rw round at (ap (λ (h : Heard). h.accepted) (c.in_ok-heard.ensures.answer made doing.standing s.stands)) in
+    let reports : c.hear_at.new.out.reports ≡ (heard_from (known_in (round_for made doing.standing c.view-view.result)) c.args.sender c.args.vote.now).reports = rw (c.new-out.ensures.reports, round) at (c.in_ok-heard.ensures.reports made doing.standing s.stands) in
+    let blocks : c.hear_at.new.out.blocks ≡ (heard_from (known_in (round_for made doing.standing c.view-view.result)) c.args.sender c.args.vote.now).blocks = rw (c.new-out.ensures.blocks, round) at (c.in_ok-heard.ensures.blocks made doing.standing s.stands) in
     rw (← c.view-view.ensures) (record {
       stands = rw round at (c.in_ok-heard.ensures.stands made doing.standing s.stands);
       does = c.in_ok-publish.ensures ∙ rw (s.does, reports, blocks) refl;

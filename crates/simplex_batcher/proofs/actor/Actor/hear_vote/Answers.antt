@@ -5,11 +5,11 @@ use Rattle.simplex_batcher.proofs.actor.Actor.hear_vote.Goals as goal
 
 pub returns-then-not-is_of_epoch : goal.returns-then-not-is_of_epoch
 returns-then-not-is_of_epoch g c = λ made doing s.
-    rw (vote-foreign made doing c.args.sender c.args.vote c.args.now (sym (rw c.epoch.ensures at c.is_of_epoch.ensures made doing.standing s.stands) ∙ c.if-not-is_of_epoch.true))
+    rw (vote-foreign made doing c.args.sender c.args.vote.now c.args.now (sym (rw c.epoch.ensures at c.is_of_epoch.ensures made doing.standing s.stands) ∙ c.if-not-is_of_epoch.true))
     (record { stands = s.stands; does = rw s.does at c.in_ok-block.ensures; marks = s.marks })
 
 pub returns : goal.returns
 returns g c = λ made doing s.
-    rw (vote-own made doing c.args.sender c.args.vote c.args.now (sym (rw c.epoch.ensures at c.is_of_epoch.ensures made doing.standing s.stands) ∙ c.if-not-is_of_epoch.false))
+    rw (vote-own made doing c.args.sender c.args.vote.now c.args.now (sym (rw c.epoch.ensures at c.is_of_epoch.ensures made doing.standing s.stands) ∙ c.if-not-is_of_epoch.false))
     (c.in_ok-take_vote.ensures made (record doing { standing = seen_now c.args.sender c.args.now doing.standing })
     (record { stands = c.in_ok-see.ensures made doing.standing s.stands; does = s.does; marks = s.marks }))
