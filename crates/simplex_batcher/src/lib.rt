@@ -11,6 +11,7 @@ mod certificates;
 mod config;
 mod forwarding;
 mod hints;
+mod kept;
 mod making;
 mod marks;
 mod others;

@@ -6,6 +6,7 @@ ghost use Rattle.simplex_batcher.specs.Working.{put, with_lead, lead_of};
 ghost use Rattle.simplex_batcher.specs.Stands.{Moves, Reads};
 
 use crate::actor::Actor;
+use crate::kept::Kept;
 use simplex_round::Round;
 use simplex_types::{Participant, Round as ViewRound, Scheme, View, Viewport, quorum};
 use std::alloc::AllocError;
@@ -49,7 +50,7 @@ impl<S: Scheme + Drop> Actor<S> {
 
     /// A new round of the view: it is skipped where the view is below current and votes are not tracked.
     #[tactic(auto, unfolding(crate::specs::Stands::batcher_made, crate::specs::Rounds::round_of, simplex_round::specs::Stands::StandsFor, simplex_steps::specs::Batcher::new_round))]
-    pub(crate) fn new_round(&self, view: View) -> Result<Round, AllocError>
+    fn new_round(&self, view: View) -> Result<Round, AllocError>
         ensures { IfOk result (λ round. Reads S.verifies S.recovers S.members S.member self.now (λ made standing. round_of (new_round made standing view)) round) }
     {
         let round = ViewRound {
@@ -64,6 +65,14 @@ impl<S: Scheme + Drop> Actor<S> {
         Round::new(self.alloc, round, members, quorum(members), track)
     }
 
+    /// A new round of the view, in its place.
+    pub(crate) fn new_kept(&self, view: View) -> Result<Kept, AllocError>
+        ensures { IfOk result (λ kept. Reads S.verifies S.recovers S.members S.member self.now (λ made standing. round_of (new_round made standing view)) kept) }
+    {
+        let round = self.new_round(view)?;
+        Kept::new(self.alloc, round)
+    }
+
     /// The view has a round from now on.
     #[tactic(auto, unfolding(crate::specs::Rounds::found))]
     fn make_bare_round(&mut self, view: View) -> Result<(), AllocError>
@@ -72,7 +81,7 @@ impl<S: Scheme + Drop> Actor<S> {
         if self.rounds.has(view) {
             return Ok(());
         }
-        let round = self.new_round(view)?;
+        let round = self.new_kept(view)?;
         self.rounds.put(view, round)?;
         Ok(())
     }

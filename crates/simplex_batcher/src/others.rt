@@ -16,21 +16,22 @@ ghost use Rattle.simplex_round.specs.Forwarding.{gives_proposal};
 ghost use Rattle.simplex_steps.specs.Batcher.{RoundHistory, called, known_in};
 ghost use Rattle.simplex_batcher.specs.Rounds.{found, round_of, given, ChangesAt, TakesAt, StaysWithout, AnswersAt, HistoryAnswersAt};
 
+use crate::kept::Kept;
 use simplex_round::{Round, RoundOut};
 use simplex_types::{Certificate, Participant, Vote};
 use std::alloc::{AllocError, Global};
 use std::collections::BTreeMap;
 
 /// Rounds by view.
-pub(crate) type Others = BTreeMap<u64, Round>;
+pub(crate) type Others = BTreeMap<u64, Kept>;
 
 /// The view's round takes the leader.
 pub(crate) fn set_leader(rounds: &mut Others, view: u64, leader: Participant)
     ensures stands { TakesAt (found rounds.old) (found rounds.new) view (SetLeader leader) }
     ensures none { StaysWithout (found rounds.old) (found rounds.new) view }
 {
-    if let Some(round) = rounds.get_mut(&view) {
-        round.set_leader(leader);
+    if let Some(kept) = rounds.get_mut(&view) {
+        kept.round.set_leader(leader);
     }
 }
 
@@ -103,8 +104,8 @@ pub(crate) fn add_network(
 {
     match rounds.get_mut(&view) {
         None => Ok(None),
-        Some(round) => {
-            let heard = hear(round, leader, sender, vote, out)?;
+        Some(kept) => {
+            let heard = hear(&mut kept.round, leader, sender, vote, out)?;
             Ok(Some(heard))
         }
     }
@@ -123,7 +124,7 @@ pub(crate) fn take_own(
 {
     match rounds.get_mut(&view) {
         None => Ok(()),
-        Some(round) => round.accept_vote(vote, out),
+        Some(kept) => kept.round.accept_vote(vote, out),
     }
 }
 
@@ -146,12 +147,12 @@ pub(crate) fn record_certificate(
 {
     match rounds.get_mut(&view) {
         None => Ok(false),
-        Some(round) => round.record_certificate(alloc, certificate),
+        Some(kept) => kept.round.record_certificate(alloc, certificate),
     }
 }
 
 /// Puts a round at a view.
-pub(crate) fn put(rounds: &mut Others, view: u64, round: Round) -> Result<(), AllocError>
+pub(crate) fn put(rounds: &mut Others, view: u64, round: Kept) -> Result<(), AllocError>
     ensures { OnOk result ((q : ℕ) → found rounds.new q ≡ (if q == view then Some round else found rounds.old q)) }
 {
     rounds.insert(view, round)?;
@@ -162,7 +163,7 @@ pub(crate) fn put(rounds: &mut Others, view: u64, round: Round) -> Result<(), Al
 pub(crate) fn put_back(
     rounds: &mut Others,
     view: u64,
-    round: Option<Round>,
+    round: Option<Kept>,
 ) -> Result<(), AllocError>
     ensures { OnOk result ((q : ℕ) → found rounds.new q ≡ (if q == view then round else found rounds.old q)) }
 {

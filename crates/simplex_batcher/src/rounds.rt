@@ -10,6 +10,7 @@ ghost use Rattle.simplex_steps.specs.Batcher.{known_in};
 ghost use Rattle.simplex_batcher.specs.Hearing.{voted, heard_of};
 ghost use Rattle.simplex_batcher.specs.Rounds.{round_at, given, ChangesAt, TakesAt, StaysWithout, AnswersAt, HistoryAnswersAt};
 
+use crate::kept::Kept;
 use crate::others::{self, Heard, Others, hear, was_accepted};
 use simplex_round::{Round, RoundOut};
 use simplex_types::{Certificate, CertificateKind, Participant, View, Vote};
@@ -23,7 +24,7 @@ pub(crate) struct Rounds {
     /// The view that the voter is in.
     pub(crate) current: View,
     /// Its round, if there is one.
-    pub(crate) here: Option<Round>,
+    pub(crate) here: Option<Kept>,
     /// The rounds of the other views.
     pub(crate) others: Others,
 }
@@ -60,10 +61,15 @@ impl Rounds {
     pub(crate) fn get(&self, view: View) -> Option<&Round>
         ensures { option_copied result ≡ round_at self.now view }
     {
-        if view == self.current {
-            return self.here.as_ref();
+        let kept = if view == self.current {
+            self.here.as_ref()
+        } else {
+            self.others.get(&view.0)
+        };
+        match kept {
+            None => None,
+            Some(kept) => Some(&kept.round),
         }
-        self.others.get(&view.0)
     }
 
     /// Whether the view has a round.
@@ -96,7 +102,7 @@ impl Rounds {
     }
 
     /// Puts a round at a view.
-    pub(crate) fn put(&mut self, view: View, round: Round) -> Result<(), AllocError>
+    pub(crate) fn put(&mut self, view: View, round: Kept) -> Result<(), AllocError>
         ensures current { OnOk result (self.new.current ≡ self.old.current) }
         ensures rounds { OnOk result ((q : ℕ) → round_at self.new q ≡ (if q == view then Some round else round_at self.old q)) }
     {
@@ -129,8 +135,8 @@ impl Rounds {
             others::set_leader(&mut self.others, view.0, leader);
             return;
         }
-        if let Some(round) = &mut self.here {
-            round.set_leader(leader);
+        if let Some(kept) = &mut self.here {
+            kept.round.set_leader(leader);
         }
     }
 
@@ -159,8 +165,8 @@ impl Rounds {
         }
         match &mut self.here {
             None => Ok(None),
-            Some(round) => {
-                let heard = hear(round, leader, sender, vote, out)?;
+            Some(kept) => {
+                let heard = hear(&mut kept.round, leader, sender, vote, out)?;
                 Ok(Some(heard))
             }
         }
@@ -198,8 +204,8 @@ impl Rounds {
         }
         match &mut self.here {
             None => Ok(()),
-            Some(round) => {
-                round.accept_vote(vote, out)?;
+            Some(kept) => {
+                kept.round.accept_vote(vote, out)?;
                 Ok(())
             }
         }
@@ -222,8 +228,8 @@ impl Rounds {
         }
         match &mut self.here {
             None => Ok(false),
-            Some(round) => {
-                let is_new = round.record_certificate(alloc, certificate)?;
+            Some(kept) => {
+                let is_new = kept.round.record_certificate(alloc, certificate)?;
                 Ok(is_new)
             }
         }

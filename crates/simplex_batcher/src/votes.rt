@@ -36,9 +36,9 @@ impl<S: Scheme + Drop> Actor<S> {
         if let Some(heard) = rounds.add_network(view, leader, sender, vote, out)? {
             return Ok(heard);
         }
-        let mut round = self.new_round(view)?;
-        let heard = hear(&mut round, leader, sender, vote, out)?;
-        self.rounds.put(view, round)?;
+        let mut kept = self.new_kept(view)?;
+        let heard = hear(&mut kept.round, leader, sender, vote, out)?;
+        self.rounds.put(view, kept)?;
         Ok(heard)
     }
 

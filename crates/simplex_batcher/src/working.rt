@@ -137,8 +137,8 @@ fn forward_at(
 {
     match rounds.get_mut(&view) {
         None => Ok(()),
-        Some(round) => {
-            forward_proposal(round, me, work)?;
+        Some(kept) => {
+            forward_proposal(&mut kept.round, me, work)?;
             Ok(())
         }
     }
@@ -159,8 +159,8 @@ fn work_at<S: Scheme>(
 {
     match rounds.get_mut(&view) {
         None => Ok(()),
-        Some(round) => {
-            work_round(round, alloc, scheme, me, work)?;
+        Some(kept) => {
+            work_round(&mut kept.round, alloc, scheme, me, work)?;
             Ok(())
         }
     }
@@ -185,8 +185,8 @@ impl Rounds {
         }
         match &mut self.here {
             None => Ok(()),
-            Some(round) => {
-                forward_proposal(round, me, work)?;
+            Some(kept) => {
+                forward_proposal(&mut kept.round, me, work)?;
                 Ok(())
             }
         }
@@ -212,8 +212,8 @@ impl Rounds {
         }
         match &mut self.here {
             None => Ok(()),
-            Some(round) => {
-                work_round(round, alloc, scheme, me, work)?;
+            Some(kept) => {
+                work_round(&mut kept.round, alloc, scheme, me, work)?;
                 Ok(())
             }
         }

@@ -12,4 +12,4 @@ pub returns-in_ok-forward_proposal-in-Some-clause-works : goal.returns-in_ok-for
 unfolding found
 returns-in_ok-forward_proposal-in-Some-clause-works c = λ made me before doing h.
     let put = ((c.get_mut.follows.holds c.forward_proposal.new.round).3 (search rules)).1 in
-    rw put (c.in_ok-forward_proposal-in-Some.ensures made me c.args.view before doing (rw (← c.in-Some.ensures.value) at h))
+    rw put (c.in_ok-forward_proposal-in-Some.ensures made me c.args.view before doing (rw (c.deref_mut.ensures.value, c.kept.view_is) (rw (← c.in-Some.ensures.value) at h)))

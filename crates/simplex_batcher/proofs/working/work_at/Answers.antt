@@ -12,4 +12,4 @@ pub returns-in_ok-work_round-in-Some-clause-works : goal.returns-in_ok-work_roun
 unfolding found
 returns-in_ok-work_round-in-Some-clause-works g c = λ made me same before doing h.
     let put = ((c.get_mut.follows.holds c.work_round.new.round).3 (search rules)).1 in
-    rw put (c.in_ok-work_round-in-Some.ensures made me same c.args.view before doing (rw (← c.in-Some.ensures.value) at h))
+    rw put (c.in_ok-work_round-in-Some.ensures made me same c.args.view before doing (rw (c.deref_mut.ensures.value, c.kept.view_is) (rw (← c.in-Some.ensures.value) at h)))

@@ -27,4 +27,5 @@ returns-in_ok-forward_proposal-in-Some-clause-works c = λ made me before doing 
     subst (λ (o : Option low.Standing). Holds o c.forward_proposal.new.work c.args.view before (forwarded_at made c.args.view doing))
     (sym (here-is (record c.args.self.now { here = Some c.forward_proposal.new.round }) c.args.view here))
     (c.in_ok-forward_proposal-in-Some.ensures made me c.args.view before doing
-    (subst (λ (o : Option low.Standing). Holds o c.args.work.now c.args.view before doing) (here-is c.args.self.now c.args.view here ∙ c.in-Some.is) h))
+    (rw (c.deref_mut.ensures.value, c.kept.view_is)
+    (subst (λ (o : Option low.Standing). Holds o c.args.work.now c.args.view before doing) (here-is c.args.self.now c.args.view here ∙ c.in-Some.is) h)))

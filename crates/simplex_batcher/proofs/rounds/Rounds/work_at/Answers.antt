@@ -27,4 +27,5 @@ returns-in_ok-work_round-in-Some-clause-works g c = λ made me same before doing
     subst (λ (o : Option low.Standing). Holds o c.work_round.new.work c.args.view before (worked_near made c.args.view doing))
     (sym (here-is (record c.args.self.now { here = Some c.work_round.new.round }) c.args.view here))
     (c.in_ok-work_round-in-Some.ensures made me same c.args.view before doing
-    (subst (λ (o : Option low.Standing). Holds o c.args.work.now c.args.view before doing) (here-is c.args.self.now c.args.view here ∙ c.in-Some.is) h))
+    (rw (c.deref_mut.ensures.value, c.kept.view_is)
+    (subst (λ (o : Option low.Standing). Holds o c.args.work.now c.args.view before doing) (here-is c.args.self.now c.args.view here ∙ c.in-Some.is) h)))
