@@ -8,8 +8,6 @@ mod events;
 mod input;
 mod pieces;
 mod setup;
-#[cfg(test)]
-mod tests;
 
 pub use input::{Input, read_input};
 pub use pieces::{FromData, flag_at, has_items, has_members, number_at, read_list, text_at};

@@ -10,6 +10,3 @@ mod sections;
 pub use error::JournalError;
 pub use journal::Journal;
 pub use memory::MemoryJournal;
-
-#[cfg(test)]
-mod tests;

@@ -20,6 +20,3 @@ pub use pending::Pending;
 pub use policy::Policy;
 pub use post::Post;
 pub use requested::Requested;
-
-#[cfg(test)]
-mod tests;

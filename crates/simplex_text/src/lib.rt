@@ -3,8 +3,6 @@
 
 mod lines;
 mod refusals;
-#[cfg(test)]
-mod tests;
 mod transcript;
 
 pub use refusals::refusal_text;

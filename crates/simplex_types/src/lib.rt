@@ -36,6 +36,3 @@ pub use simplex_wire::{
     Finalization, Finalize, Notarization, Notarize, Nullification, Nullify, ResolverBody,
     ResolverMessage, Scheme, Signatures, Vote, a_verifying_quorum_certifies,
 };
-
-#[cfg(test)]
-mod tests;

@@ -39,6 +39,3 @@ pub use terms::{Lookahead, Terms};
 pub use timeout::TimeoutReason;
 pub use view::{View, ViewDelta};
 pub use viewport::Viewport;
-
-#[cfg(test)]
-mod tests;

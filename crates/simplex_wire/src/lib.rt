@@ -28,6 +28,3 @@ pub use resolver::{ResolverBody, ResolverMessage};
 pub use scheme::{AssemblyError, Scheme, a_verifying_quorum_certifies};
 pub use signatures::Signatures;
 pub use vote::{Finalize, Notarize, Nullify, Vote};
-
-#[cfg(test)]
-mod tests;

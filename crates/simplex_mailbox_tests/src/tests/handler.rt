@@ -1,4 +1,5 @@
 //! A resolver's mail from its fetcher.
+use super::same;
 use simplex_mailbox::Mailbox;
 use simplex_messages::resolver::HandlerMessage;
 use simplex_types::{Sequence, View};
@@ -36,10 +37,9 @@ fn a_response_whose_requester_left_is_dropped(rt: HostRuntime) -> Result<(), Fai
     let mut mailbox = filled(alloc)?;
     mailbox.leave(2);
     for id in [9, 3] {
-        let message = mailbox.recv();
-        assert_eq!(rt; message, Some(deliver(alloc, id)));
+        let wanted = Some(deliver(alloc, id));
+        same(&rt, "the next message", &mailbox.recv(), &wanted);
     }
-    let last = mailbox.recv();
-    assert_eq!(rt; last, None);
+    same(&rt, "nothing is left", &mailbox.recv(), &None);
     Ok(())
 }

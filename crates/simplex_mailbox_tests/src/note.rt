@@ -2,7 +2,7 @@
 ghost use Rattle.std.specs.Prelude.{◌≡◌, ◌==◌, ◌&&◌, if◌then◌else◌, not, Option};
 ghost use Rattle.simplex_mailbox.specs.Waiting.{put_last};
 
-use crate::{Pending, Policy, Requested};
+use simplex_mailbox::{Pending, Policy, Requested};
 use std::alloc::AllocError;
 
 /// A note of a writer.

@@ -1,6 +1,6 @@
 //! A line of each kind, and the text of each refusal.
-use super::*;
 use simplex_messages::{Call, Outcome};
+use simplex_text::{printed, printed_run, refusal_text};
 use simplex_transcript::{Entry, Event, Field, Node, Refusal, RunError};
 use simplex_types::{
     Activity, Attestation, ConflictingFinalize, ConflictingNotarize, Digest, Epoch, Finalization,
@@ -8,7 +8,14 @@ use simplex_types::{
     Signatures, Subject, View,
 };
 use std::alloc::{AllocError, Global};
+use std::fmt::Debug;
+use std::process::Abort;
 use std::test::Fail;
+
+/// The test ends here where the two differ, and says in which case.
+fn same<T: PartialEq + Debug>(rt: &impl Abort, case: &str, got: &T, wanted: &T) {
+    assert_eq!(rt; got, wanted, "{case}");
+}
 
 const NODE: Node = Node { member: 3, half: 1 };
 
@@ -28,10 +35,11 @@ const ATTESTATION: Attestation = Attestation {
     signature: [0; 32],
 };
 
-const REPORTED: &str =
-    "event 7 node 3.1 finalized 12 abababababababababababababababababababababababababababababababab\nevent 7 node 3.1 evidence ConflictingNotarize 2 12\nevent 7 node 3.1 evidence ConflictingFinalize 2 12\nevent 7 node 3.1 evidence NullifyFinalize 2 12\n";
+/// The lines of each kind.
+const LINES: &str =
+    "event 7 node 3.1 finalized 12 abababababababababababababababababababababababababababababababab\nevent 7 node 3.1 evidence ConflictingNotarize 2 12\nevent 7 node 3.1 evidence ConflictingFinalize 2 12\nevent 7 node 3.1 evidence NullifyFinalize 2 12\nevent 7 node 3.1 stopped cut\nevent 7 node 3.1 stopped journal\n";
 
-// An entry of event 7 at the node, with these calls.
+/// An entry of event 7 at the node, with these calls.
 fn entry(alloc: Global, who: Option<Node>, calls: Vec<Call>, outcome: Outcome) -> Entry {
     Entry {
         event: 7,
@@ -68,7 +76,7 @@ fn finalize() -> Finalize {
     }
 }
 
-// A report of each kind that has a line, between two calls that have none.
+/// A report of each kind that has a line, between two calls that have none.
 fn reports(alloc: Global) -> Result<Vec<Call>, AllocError> {
     let calls = vec![in alloc;
         Call::Report(Activity::Finalize(finalize())),
@@ -93,27 +101,28 @@ fn reports(alloc: Global) -> Result<Vec<Call>, AllocError> {
     Ok(calls)
 }
 
-#[test]
-fn a_line_of_each_kind(rt: HostRuntime) -> Result<(), Fail> {
-    let alloc = rt.alloc();
+/// What is printed of a run with each kind of line, and with entries that have none.
+fn printed_lines(alloc: Global) -> Result<String, AllocError> {
+    let reports = reports(alloc)?;
     let entries = [
         entry(alloc, None, Vec::new(alloc), Outcome::Done),
-        entry(alloc, Some(NODE), reports(alloc)?, Outcome::Done),
+        entry(alloc, Some(NODE), reports, Outcome::Done),
         entry(alloc, Some(NODE), Vec::new(alloc), Outcome::Idle),
         entry(alloc, Some(NODE), Vec::new(alloc), Outcome::Cut),
         entry(alloc, Some(NODE), Vec::new(alloc), Outcome::Journal),
     ];
-    let text = printed(alloc, entries.as_slice())?;
-    let want = format!(in alloc;
-        "{REPORTED}event 7 node 3.1 stopped cut\nevent 7 node 3.1 stopped journal\n"
-    )?;
-    assert_eq!(rt; text.as_str(), want.as_str());
-    Ok(())
+    printed(alloc, entries.as_slice())
 }
 
 #[test]
-fn a_crash_has_a_line_where_the_node_ran(rt: HostRuntime) -> Result<(), Fail> {
-    let alloc = rt.alloc();
+fn a_line_of_each_kind(rt: HostRuntime) -> Result<(), Fail> {
+    let text = printed_lines(rt.alloc())?;
+    same(&rt, "lines", &text.as_str(), &LINES);
+    Ok(())
+}
+
+/// What is printed of a crash of a node that ran, and of one of a node that did not.
+fn printed_crashes(alloc: Global) -> Result<String, AllocError> {
     let events = [
         Event::Tick { ms: 5 },
         Event::Crash { node: NODE },
@@ -124,31 +133,33 @@ fn a_crash_has_a_line_where_the_node_ran(rt: HostRuntime) -> Result<(), Fail> {
         entry(alloc, Some(NODE), Vec::new(alloc), Outcome::Done),
         entry(alloc, Some(NODE), Vec::new(alloc), Outcome::Idle),
     ];
-    let text = printed_run(alloc, events.as_slice(), entries.as_slice())?;
-    assert_eq!(rt; text.as_str(), "event 7 node 3.1 stopped crash\n");
+    printed_run(alloc, events.as_slice(), entries.as_slice())
+}
+
+#[test]
+fn a_crash_has_a_line_where_the_node_ran(rt: HostRuntime) -> Result<(), Fail> {
+    let text = printed_crashes(rt.alloc())?;
+    let wanted = "event 7 node 3.1 stopped crash\n";
+    same(&rt, "crashes", &text.as_str(), &wanted);
     Ok(())
 }
 
 #[test]
 fn refusals_are_named(rt: HostRuntime) -> Result<(), Fail> {
-    let alloc = rt.alloc();
     let forged = RunError::Forged {
         member: 1,
         subject: Subject::Nullify(ROUND),
     };
+    let setup = RunError::BadSetup(Field::LeaderTimeout);
     let texts = [
-        (
-            RunError::BadSetup(Field::LeaderTimeout),
-            0,
-            "refused BadSetup:leader_timeout at 0\n",
-        ),
+        (setup, 0, "refused BadSetup:leader_timeout at 0\n"),
         (RunError::NotYet, 1, "refused NotYet at 1\n"),
         (RunError::NotPending, 12, "refused NotPending at 12\n"),
         (forged, 3, "refused Forged at 3\n"),
     ];
-    for (error, event, want) in texts {
-        let text = refusal_text(alloc, &Refusal { error, event })?;
-        assert_eq!(rt; text.as_str(), want);
+    for (error, event, wanted) in texts {
+        let text = refusal_text(rt.alloc(), &Refusal { error, event })?;
+        same(&rt, "a refusal", &text.as_str(), &wanted);
     }
     Ok(())
 }

@@ -1,8 +1,18 @@
 //! Bytes written out by hand: what they mean, which fault they have, and where.
-use super::*;
 use simplex_values::{Bytes, Digest, Epoch, Keep, Participant, Proposal, Round, View};
+use simplex_wire::{
+    Artifact, AssemblyError, Attestation, Certificate, CertificateKind, DecodeCause, DecodeError,
+    Finalize, Notarize, Nullify, ResolverBody, ResolverMessage, Vote,
+};
 use std::alloc::{AllocError, Global};
+use std::fmt::Debug;
+use std::process::Abort;
 use std::test::Fail;
+
+/// The test ends here where the two differ, and says in which case.
+fn same<T: PartialEq + Debug>(rt: &impl Abort, case: &str, got: &T, wanted: &T) {
+    assert_eq!(rt; got, wanted, "{case}");
+}
 
 /// The nullify of epoch 0, view 1, signed by member 2 with 32 zeros: 36 bytes, and one more that is not its own.
 const NULLIFY: [u8; 37] = [
@@ -55,45 +65,79 @@ enum Form {
     RoundJudged(u8),
 }
 
-/// The bytes of a message about the round or the proposal, signed by member 128, or by 128 and 2^32 - 1.
-fn message(alloc: Global, tag: u8, form: Form) -> Result<Vec<u8>, AllocError> {
-    let mut bytes = vec![in alloc; tag, 3, 172, 2]?;
-    if matches!(form, Form::ProposalSigned | Form::ProposalListed) {
-        bytes.extend_from_slice(&[171, 2])?;
-        bytes.extend_from_slice(&[17; 32])?;
-    }
-    if matches!(form, Form::ProposalListed | Form::RoundListed) {
-        bytes.push(2)?;
-    }
-    if let Form::RoundJudged(verdict) = form {
-        bytes.push(verdict)?;
-    } else {
-        bytes.extend_from_slice(&[128, 1])?;
-        bytes.extend_from_slice(&[7; 32])?;
-    }
-    if matches!(form, Form::ProposalListed | Form::RoundListed) {
-        bytes.extend_from_slice(&[255, 255, 255, 255, 15])?;
-        bytes.extend_from_slice(&[8; 32])?;
+/// The parts behind one another.
+fn joined(alloc: Global, parts: &[&[u8]]) -> Result<Vec<u8>, AllocError> {
+    let mut bytes = Vec::new(alloc);
+    for part in parts {
+        bytes.extend_from_slice(part)?;
     }
     Ok(bytes)
+}
+
+/// The bytes of a message about the round or the proposal, signed by member 128, or by 128 and 2^32 - 1.
+fn message(alloc: Global, tag: u8, form: Form) -> Result<Vec<u8>, AllocError> {
+    let round: &[u8] = &[tag, 3, 172, 2];
+    let parent: &[u8] = &[171, 2];
+    let payload: &[u8] = &[17; 32];
+    let signer: &[u8] = &[128, 1];
+    let signature: &[u8] = &[7; 32];
+    let count: &[u8] = &[2];
+    let last: &[u8] = &[255, 255, 255, 255, 15];
+    let second: &[u8] = &[8; 32];
+    match form {
+        Form::ProposalSigned => joined(alloc, &[round, parent, payload, signer, signature]),
+        Form::RoundSigned => joined(alloc, &[round, signer, signature]),
+        Form::ProposalListed => joined(
+            alloc,
+            &[
+                round, parent, payload, count, signer, signature, last, second,
+            ],
+        ),
+        Form::RoundListed => joined(alloc, &[round, count, signer, signature, last, second]),
+        Form::RoundJudged(verdict) => joined(alloc, &[round, &[verdict]]),
+    }
 }
 
 /// The bytes of a nullification: a count, and the signatures of member 2 and another.
 fn nullification(alloc: Global, count: u8, second: u8) -> Result<Vec<u8>, AllocError> {
-    let mut bytes = vec![in alloc; 1, 0, 1, count, 2]?;
-    bytes.extend_from_slice(&[7; 32])?;
-    bytes.push(second)?;
-    bytes.extend_from_slice(&[8; 32])?;
-    Ok(bytes)
+    joined(
+        alloc,
+        &[&[1, 0, 1, count, 2], &[7; 32], &[second], &[8; 32]],
+    )
 }
 
 /// The bytes of a nullify of epoch 0 whose view, or whose signer, is spelled so.
 fn nullify_bytes(alloc: Global, view: &[u8], signer: &[u8]) -> Result<Vec<u8>, AllocError> {
-    let mut bytes = vec![in alloc; 1, 0]?;
-    bytes.extend_from_slice(view)?;
-    bytes.extend_from_slice(signer)?;
-    bytes.extend_from_slice(&[0; 32])?;
-    Ok(bytes)
+    joined(alloc, &[&[1, 0], view, signer, &[0; 32]])
+}
+
+/// The vote has these bytes, and they are read as the vote.
+fn assert_spelled(
+    rt: &impl Abort,
+    alloc: Global,
+    vote: &Vote,
+    bytes: &[u8],
+) -> Result<(), AllocError> {
+    let spelled = vote.encode(alloc)?;
+    same(rt, "a vote's bytes", &spelled.as_slice(), &bytes);
+    same(rt, "a vote as read", &Vote::decode(bytes), &Ok(*vote));
+    Ok(())
+}
+
+/// A view is spelled so, and a signer where the number is one.
+fn assert_number(
+    rt: &impl Abort,
+    alloc: Global,
+    number: u64,
+    spelled: &[u8],
+) -> Result<(), AllocError> {
+    let bytes = nullify_bytes(alloc, spelled, &[2])?;
+    assert_spelled(rt, alloc, &nullify(number, 2), &bytes)?;
+    if let Ok(signer) = u32::try_from(number) {
+        let bytes = nullify_bytes(alloc, &[1], spelled)?;
+        assert_spelled(rt, alloc, &nullify(1, signer), &bytes)?;
+    }
+    Ok(())
 }
 
 #[test]
@@ -109,16 +153,7 @@ fn numbers_are_as_short_as_they_can_be(rt: HostRuntime) -> Result<(), Fail> {
         (u64::MAX, &[255, 255, 255, 255, 255, 255, 255, 255, 255, 1]),
     ];
     for (number, spelled) in table {
-        let vote = nullify(number, 2);
-        let bytes = nullify_bytes(alloc, spelled, &[2])?;
-        assert_eq!(rt; vote.encode(alloc)?, bytes, "view {number}");
-        assert_eq!(rt; Vote::decode(&bytes), Ok(vote), "view {number}");
-        if let Ok(signer) = u32::try_from(number) {
-            let vote = nullify(1, signer);
-            let bytes = nullify_bytes(alloc, &[1], spelled)?;
-            assert_eq!(rt; vote.encode(alloc)?, bytes, "signer {number}");
-            assert_eq!(rt; Vote::decode(&bytes), Ok(vote), "signer {number}");
-        }
+        assert_number(&rt, alloc, number, spelled)?;
     }
     Ok(())
 }
@@ -179,32 +214,41 @@ fn faults_of_votes(rt: HostRuntime) {
         (&[0, 0, 172, 2, 128, 0], DecodeCause::LongNumber, 4),
     ];
     for (bytes, cause, place) in table {
-        assert_eq!(rt; Vote::decode(bytes), Err(fault(cause, place)), "{bytes:?}");
+        let read = Vote::decode(bytes).err();
+        let wanted = Some(fault(cause, place));
+        same(&rt, "a vote's fault", &(bytes, read), &(bytes, wanted));
     }
 }
 
 #[test]
 fn a_vote_cut_and_lengthened(rt: HostRuntime) {
     let (vote, rest) = NULLIFY.split_at(36);
-    assert_eq!(rt; rest.len(), 1);
-    assert_eq!(rt; Vote::decode(vote), Ok(nullify(1, 2)));
+    same(&rt, "how many bytes are left", &rest.len(), &1);
+    same(&rt, "whole", &Vote::decode(vote), &Ok(nullify(1, 2)));
     for length in 0..36 {
         // Tag, epoch, view and signer have a byte each, and then comes the signature.
         let place = if length < 4 { length as u64 } else { 4 };
         let (front, _) = vote.split_at(length);
-        let cut = Vote::decode(front);
-        assert_eq!(rt;
-            cut,
-            Err(fault(DecodeCause::Short, place)),
-            "cut to {length}"
-        );
+        let read = Vote::decode(front).err();
+        let wanted = Some(fault(DecodeCause::Short, place));
+        same(&rt, "cut to a length", &(length, read), &(length, wanted));
     }
-    let lengthened = Vote::decode(&NULLIFY);
-    assert_eq!(rt; lengthened, Err(fault(DecodeCause::Rest, 36)));
+    let wanted = Err(fault(DecodeCause::Rest, 36));
+    same(&rt, "lengthened", &Vote::decode(&NULLIFY), &wanted);
+}
+
+/// The fault of a certificate's bytes, if they have one.
+fn certificate_fault(alloc: Global, bytes: &[u8]) -> Option<DecodeError> {
+    Certificate::decode(alloc, bytes).err()
+}
+
+/// The fault of a record's bytes, if they have one.
+fn artifact_fault(alloc: Global, bytes: &[u8]) -> Option<DecodeError> {
+    Artifact::decode(alloc, bytes).err()
 }
 
 #[test]
-fn faults_of_lists_and_verdicts(rt: HostRuntime) -> Result<(), Fail> {
+fn faults_of_lists(rt: HostRuntime) -> Result<(), Fail> {
     let alloc = rt.alloc();
     // The signers 2 and 1, then 2 and 2: the second stands at byte 37. Then a count above the signatures, and
     // one below.
@@ -215,17 +259,30 @@ fn faults_of_lists_and_verdicts(rt: HostRuntime) -> Result<(), Fail> {
         (1, 3, DecodeCause::Rest, 37),
     ] {
         let bytes = nullification(alloc, count, second)?;
-        let read = Certificate::decode(alloc, &bytes);
-        assert_eq!(rt; read, Err(fault(cause, place)), "{count} with {second}");
+        let read = certificate_fault(alloc, &bytes);
+        let wanted = Some(fault(cause, place));
+        same(
+            &rt,
+            "a count and the second signer",
+            &(count, second, read),
+            &(count, second, wanted),
+        );
     }
-    // A tag above the last, and a verdict that is neither 0 nor 1.
-    let read = Certificate::decode(alloc, &[3, 0, 1]);
-    assert_eq!(rt; read, Err(fault(DecodeCause::Tag, 0)));
-    let read = Artifact::decode(alloc, &[7, 0, 1]);
-    assert_eq!(rt; read, Err(fault(DecodeCause::Tag, 0)));
-    let read = Artifact::decode(alloc, &[2, 0, 1, 2]);
-    assert_eq!(rt; read, Err(fault(DecodeCause::Tag, 3)));
     Ok(())
+}
+
+/// A tag above the last, and a verdict that is neither 0 nor 1.
+#[test]
+fn faults_of_tags_and_verdicts(rt: HostRuntime) {
+    let alloc = rt.alloc();
+    let read = certificate_fault(alloc, &[3, 0, 1]);
+    let wanted = Some(fault(DecodeCause::Tag, 0));
+    same(&rt, "a certificate's tag", &read, &wanted);
+    let read = artifact_fault(alloc, &[7, 0, 1]);
+    same(&rt, "a record's tag", &read, &wanted);
+    let read = artifact_fault(alloc, &[2, 0, 1, 2]);
+    let wanted = Some(fault(DecodeCause::Tag, 3));
+    same(&rt, "a verdict", &read, &wanted);
 }
 
 #[test]
@@ -247,9 +304,30 @@ fn faults_of_responses(rt: HostRuntime) {
         (&[0, 0, 0, 0, 0, 0, 0], DecodeCause::Short, 0),
     ];
     for (bytes, cause, place) in table {
-        let read = ResolverMessage::decode(rt.alloc(), bytes);
-        assert_eq!(rt; read, Err(fault(cause, place)), "{bytes:?}");
+        let read = ResolverMessage::decode(rt.alloc(), bytes).err();
+        let wanted = Some(fault(cause, place));
+        same(&rt, "a message's fault", &(bytes, read), &(bytes, wanted));
     }
+}
+
+/// What the certificate of round 300 in epoch 3 is about, its bytes, and a copy of it.
+fn assert_certificate(
+    rt: &impl Abort,
+    alloc: Global,
+    kind: CertificateKind,
+    certificate: &Certificate,
+    bytes: &[u8],
+) -> Result<(), AllocError> {
+    same(
+        rt,
+        "a certificate's kind, epoch and view",
+        &(certificate.kind(), certificate.epoch(), certificate.view()),
+        &(kind, Epoch(3), View(300)),
+    );
+    let spelled = certificate.encode(alloc)?;
+    same(rt, "its bytes", &spelled.as_slice(), &bytes);
+    same(rt, "its copy", &certificate.keep(alloc)?, certificate);
+    Ok(())
 }
 
 #[test]
@@ -262,12 +340,26 @@ fn certificates_there_and_back(rt: HostRuntime) -> Result<(), Fail> {
     ] {
         let bytes = message(alloc, tag, form)?;
         let certificate = Certificate::decode(alloc, &bytes)?;
-        assert_eq!(rt; certificate.kind(), kind);
-        assert_eq!(rt; certificate.epoch(), Epoch(3), "{kind:?}");
-        assert_eq!(rt; certificate.view(), View(300), "{kind:?}");
-        assert_eq!(rt; certificate.encode(alloc)?, bytes, "{kind:?}");
-        assert_eq!(rt; certificate.keep(alloc)?, certificate);
+        assert_certificate(&rt, alloc, kind, &certificate, &bytes)?;
     }
+    Ok(())
+}
+
+/// What the record of round 300 in epoch 3 is about, its bytes, and a copy of it.
+fn assert_record(
+    rt: &impl Abort,
+    alloc: Global,
+    artifact: &Artifact,
+    bytes: &[u8],
+) -> Result<(), AllocError> {
+    let spelled = artifact.encode(alloc)?;
+    same(
+        rt,
+        "a record's bytes and round",
+        &(spelled.as_slice(), artifact.round()),
+        &(bytes, proposal().round),
+    );
+    same(rt, "its copy", &artifact.keep(alloc)?, artifact);
     Ok(())
 }
 
@@ -286,22 +378,46 @@ fn records_there_and_back(rt: HostRuntime) -> Result<(), Fail> {
     ] {
         let bytes = message(alloc, tag, form)?;
         let artifact = Artifact::decode(alloc, &bytes)?;
-        assert_eq!(rt; artifact.round(), proposal().round, "record {tag}");
-        assert_eq!(rt; artifact.encode(alloc)?, bytes, "record {tag}");
-        assert_eq!(rt; artifact.keep(alloc)?, artifact);
+        assert_record(&rt, alloc, &artifact, &bytes)?;
     }
     Ok(())
 }
 
+/// The message has these bytes, they are read as the message, and a copy of it is the same.
+fn assert_sent(
+    rt: &impl Abort,
+    alloc: Global,
+    message: &ResolverMessage,
+    bytes: &[u8],
+) -> Result<(), Fail> {
+    let spelled = message.encode(alloc)?;
+    same(rt, "a message's bytes", &spelled.as_slice(), &bytes);
+    let read = ResolverMessage::decode(alloc, bytes)?;
+    same(rt, "a message as read", &read, message);
+    same(rt, "its copy", &message.keep(alloc)?, message);
+    Ok(())
+}
+
 #[test]
-fn requests_and_responses_there_and_back(rt: HostRuntime) -> Result<(), Fail> {
+fn requests_and_errors_there_and_back(rt: HostRuntime) -> Result<(), Fail> {
     let alloc = rt.alloc();
     let request = ResolverMessage {
         id: 5,
         body: ResolverBody::Request { view: View(7) },
     };
     let bytes = [0, 0, 0, 0, 0, 0, 0, 5, 0, 0, 0, 0, 0, 0, 0, 0, 7];
-    assert_eq!(rt; request.encode(alloc)?.as_slice(), bytes.as_slice());
+    assert_sent(&rt, alloc, &request, &bytes)?;
+    let error = ResolverMessage {
+        id: 256,
+        body: ResolverBody::Error,
+    };
+    let bytes = [0, 0, 0, 0, 0, 0, 1, 0, 2];
+    assert_sent(&rt, alloc, &error, &bytes)
+}
+
+#[test]
+fn responses_there_and_back(rt: HostRuntime) -> Result<(), Fail> {
+    let alloc = rt.alloc();
     let response = ResolverMessage {
         id: u64::MAX,
         body: ResolverBody::Response {
@@ -309,19 +425,24 @@ fn requests_and_responses_there_and_back(rt: HostRuntime) -> Result<(), Fail> {
         },
     };
     let bytes = [255, 255, 255, 255, 255, 255, 255, 255, 1, 2, 8, 9];
-    assert_eq!(rt; response.encode(alloc)?.as_slice(), bytes.as_slice());
-    let error = ResolverMessage {
-        id: 256,
-        body: ResolverBody::Error,
-    };
-    let bytes = [0, 0, 0, 0, 0, 0, 1, 0, 2];
-    assert_eq!(rt; error.encode(alloc)?.as_slice(), bytes.as_slice());
-    for message in [request, response, error] {
-        let bytes = message.encode(alloc)?;
-        assert_eq!(rt; ResolverMessage::decode(alloc, &bytes)?, message);
-        assert_eq!(rt; message.keep(alloc)?, message);
-    }
-    Ok(())
+    assert_sent(&rt, alloc, &response, &bytes)
+}
+
+/// The round and the signer of the vote of member 128, its bytes, and a copy of it.
+fn assert_vote(
+    rt: &impl Abort,
+    alloc: Global,
+    vote: &Vote,
+    bytes: &[u8],
+) -> Result<(), AllocError> {
+    let copy = vote.keep(alloc)?;
+    same(
+        rt,
+        "a vote's round, signer and copy",
+        &(vote.round(), vote.signer(), copy),
+        &(proposal().round, Participant(128), *vote),
+    );
+    assert_spelled(rt, alloc, vote, bytes)
 }
 
 #[test]
@@ -353,10 +474,7 @@ fn votes_there_and_back(rt: HostRuntime) -> Result<(), Fail> {
         ),
     ] {
         let bytes = message(alloc, tag, form)?;
-        assert_eq!(rt; vote.encode(alloc)?, bytes, "vote {tag}");
-        assert_eq!(rt; vote.round(), proposal().round, "vote {tag}");
-        assert_eq!(rt; vote.signer(), Participant(128), "vote {tag}");
-        assert_eq!(rt; Vote::decode(&bytes), Ok(vote.keep(alloc)?), "vote {tag}");
+        assert_vote(&rt, alloc, &vote, &bytes)?;
     }
     Ok(())
 }
@@ -382,9 +500,10 @@ fn errors_as_they_are_read(rt: HostRuntime) -> Result<(), Fail> {
         (DecodeError::Memory, "out of memory"),
     ] {
         let shown = format!(in alloc; "{error}")?;
-        assert_eq!(rt; shown.as_str(), text);
+        same(&rt, "why bytes are no message", &shown.as_str(), &text);
     }
     let shown = format!(in alloc; "{}", AssemblyError::NotEnough)?;
-    assert_eq!(rt; shown.as_str(), "fewer attestations than a quorum");
+    let text = "fewer attestations than a quorum";
+    same(&rt, "why there is no certificate", &shown.as_str(), &text);
     Ok(())
 }

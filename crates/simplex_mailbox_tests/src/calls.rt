@@ -2,17 +2,16 @@
 ghost use Rattle.std.specs.Prelude.{OnOk};
 ghost use Rattle.simplex_mailbox.specs.Post.{Posted};
 
-mod note;
-
-use crate::{Mailbox, Post};
-use note::Note;
+use crate::note::Note;
+use crate::tests::same;
+use simplex_mailbox::{Mailbox, Post};
 use simplex_values::Feedback;
-use std::alloc::AllocError;
+use std::alloc::{AllocError, Global};
 use std::process::Abort;
 use std::test::Fail;
 
 /// A call, and what it is to answer.
-#[derive(Clone, Copy)]
+#[derive(Clone, Copy, Debug, PartialEq, Eq)]
 enum Call {
     Put(Note, Feedback),
     Take(Option<Note>),
@@ -44,25 +43,35 @@ fn of_one_who_left(writer: u64) -> Note {
     }
 }
 
-fn run(rt: &impl Abort, mailbox: &mut Mailbox<Note>, calls: &[Call]) -> Result<(), AllocError> {
-    for (at, call) in calls.iter().enumerate() {
-        match call {
-            Call::Put(note, feedback) => {
-                assert_eq!(rt; mailbox.enqueue(*note)?, *feedback, "call {at}");
-            }
-            Call::Take(note) => assert_eq!(rt; mailbox.recv(), *note, "call {at}"),
-            Call::Leave(id) => mailbox.leave(*id),
-            Call::Close => mailbox.close(),
+/// Makes the call: it stands with what it answers then.
+fn make(mailbox: &mut Mailbox<Note>, call: Call) -> Result<Call, AllocError> {
+    match call {
+        Call::Put(note, _) => Ok(Call::Put(note, mailbox.enqueue(note)?)),
+        Call::Take(_) => Ok(Call::Take(mailbox.recv())),
+        Call::Leave(id) => {
+            mailbox.leave(id);
+            Ok(call)
+        }
+        Call::Close => {
+            mailbox.close();
+            Ok(call)
         }
     }
-    assert!(rt; mailbox.is_empty());
+}
+
+/// Each call answers what it is to answer, and nothing is left.
+fn run(rt: &impl Abort, mailbox: &mut Mailbox<Note>, calls: &[Call]) -> Result<(), AllocError> {
+    for (at, call) in calls.iter().enumerate() {
+        let made = make(mailbox, *call)?;
+        same(rt, "a call of the table", &(at, made), &(at, *call));
+    }
+    same(rt, "nothing is left", &mailbox.is_empty(), &true);
     Ok(())
 }
 
 #[test]
-fn calls_are_answered(rt: HostRuntime) -> Result<(), Fail> {
-    let mut one = Mailbox::new(rt.alloc(), 1)?;
-    let newest_urgent_goes_first = [
+fn the_newest_urgent_note_goes_first(rt: HostRuntime) -> Result<(), Fail> {
+    let calls = [
         Call::Take(None),
         Call::Put(plain(1), Feedback::Ok),
         Call::Put(plain(2), Feedback::Backoff),
@@ -79,9 +88,14 @@ fn calls_are_answered(rt: HostRuntime) -> Result<(), Fail> {
         Call::Take(Some(plain(6))),
         Call::Take(None),
     ];
-    run(&rt, &mut one, &newest_urgent_goes_first)?;
-    let mut two = Mailbox::new(rt.alloc(), 2)?;
-    let skipped_while_it_waits = [
+    let mut mailbox = Mailbox::new(rt.alloc(), 1)?;
+    run(&rt, &mut mailbox, &calls)?;
+    Ok(())
+}
+
+#[test]
+fn a_note_whose_writer_left_is_skipped_while_it_waits(rt: HostRuntime) -> Result<(), Fail> {
+    let calls = [
         Call::Put(plain(1), Feedback::Ok),
         Call::Put(plain(2), Feedback::Ok),
         Call::Put(plain(3), Feedback::Backoff),
@@ -95,7 +109,8 @@ fn calls_are_answered(rt: HostRuntime) -> Result<(), Fail> {
         Call::Take(Some(plain(5))),
         Call::Take(None),
     ];
-    run(&rt, &mut two, &skipped_while_it_waits)?;
+    let mut mailbox = Mailbox::new(rt.alloc(), 2)?;
+    run(&rt, &mut mailbox, &calls)?;
     Ok(())
 }
 
@@ -108,17 +123,28 @@ fn put_all<P: Post<Note>>(post: &mut P, notes: &[Note]) -> Result<(), AllocError
     Ok(())
 }
 
-#[test]
-fn a_thousand_notes_keep_their_order(rt: HostRuntime) -> Result<(), Fail> {
-    let mut notes = Vec::new(rt.alloc());
+/// A note of each of the first thousand writers.
+fn thousand_notes(alloc: Global) -> Result<Vec<Note>, AllocError> {
+    let mut notes = Vec::new(alloc);
     for writer in 0..1000 {
         notes.push(plain(writer))?;
     }
+    Ok(notes)
+}
+
+/// The notes come out in their order, and nothing is left.
+fn assert_taken(rt: &impl Abort, mailbox: &mut Mailbox<Note>, notes: &[Note]) {
+    for note in notes {
+        same(rt, "the next note", &mailbox.recv(), &Some(*note));
+    }
+    same(rt, "nothing is left", &mailbox.is_empty(), &true);
+}
+
+#[test]
+fn a_thousand_notes_keep_their_order(rt: HostRuntime) -> Result<(), Fail> {
+    let notes = thousand_notes(rt.alloc())?;
     let mut mailbox = Mailbox::new(rt.alloc(), 16)?;
     put_all(&mut mailbox, notes.as_slice())?;
-    for note in &notes {
-        assert_eq!(rt; mailbox.recv(), Some(*note));
-    }
-    assert!(rt; mailbox.is_empty());
+    assert_taken(&rt, &mut mailbox, notes.as_slice());
     Ok(())
 }

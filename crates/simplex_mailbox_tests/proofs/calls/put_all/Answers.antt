@@ -1,7 +1,7 @@
 use Rattle.std.proofs.Common.{false, arith}
 use Rattle.std.proofs.lemmas.Fn.{FoldsTo-push}
 use Rattle.std.proofs.lemmas.List.{take_more}
-use Rattle.simplex_mailbox.proofs.tests.put_all.Goals as goal
+use Rattle.simplex_mailbox_tests.proofs.calls.put_all.Goals as goal
 
 pub loop-note-preserved : goal.loop-note-preserved
 loop-note-preserved g c =
