@@ -58,7 +58,7 @@ impl<S: Scheme + Drop> Actor<S> {
         let leader = self.leader_at(view);
         let mut out = RoundOut::new(self.alloc);
         let heard = self.hear_at(view, &leader, sender, vote, &mut out)?;
-        publish(work, out)?;
+        publish(self.alloc, work, out)?;
         dirty.mark(heard.accepted, view)?;
         Ok(heard)
     }
@@ -99,7 +99,7 @@ impl<S: Scheme + Drop> Actor<S> {
         self.make_round(view)?;
         let mut out = RoundOut::new(self.alloc);
         let accepted = self.rounds.accept_vote(view, vote, &mut out)?;
-        publish(work, out)?;
+        publish(self.alloc, work, out)?;
         dirty.mark(accepted, view)?;
         Ok(())
     }

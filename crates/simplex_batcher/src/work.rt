@@ -6,7 +6,8 @@ ghost use Rattle.simplex_messages.specs.declared.handed.Handed.TheVariants.{Vote
 use simplex_messages::{Call, Handed, StepOut, voter};
 use simplex_round::RoundOut;
 use simplex_types::{Activity, Participant, Sequence};
-use std::alloc::AllocError;
+use std::alloc::{AllocError, Global};
+use std::mem::replace;
 
 /// A message goes to the voter at the end of the step.
 pub(crate) fn hand(work: &mut StepOut, message: voter::Message) -> Result<(), AllocError>
@@ -33,22 +34,29 @@ pub(crate) fn block(work: &mut StepOut, member: Participant) -> Result<(), Alloc
 }
 
 /// What a round reports is reported, and whom it blocks is blocked.
-pub(crate) fn publish(work: &mut StepOut, out: RoundOut) -> Result<(), AllocError>
+pub(crate) fn publish(alloc: Global, work: &mut StepOut, out: RoundOut) -> Result<(), AllocError>
     ensures { OnOk result (work.new ≡ record work.old { calls = work.old.calls ++ map Report out.reports ++ map Block out.blocks }) }
 {
     let RoundOut { reports, blocks } = out;
-    report_each(&mut work.calls, reports)?;
+    report_each(alloc, &mut work.calls, reports)?;
     block_each(&mut work.calls, blocks.as_slice())?;
     Ok(())
 }
 
-/// Each activity is reported.
-fn report_each(calls: &mut Sequence<Call>, reports: Sequence<Activity>) -> Result<(), AllocError>
+/// Each activity is reported. The calls get the room for just these, since most steps make no other.
+fn report_each(
+    alloc: Global,
+    calls: &mut Sequence<Call>,
+    reports: Sequence<Activity>,
+) -> Result<(), AllocError>
     ensures { OnOk result (calls.new ≡ calls.old ++ map Report reports) }
 {
+    let mut made = replace(calls, Sequence::new(alloc)).into_vec();
+    made.reserve_exact(reports.len())?;
     for activity in reports.into_vec() {
-        calls.push(Call::Report(activity))?;
+        made.push(Call::Report(activity))?;
     }
+    *calls = Sequence::from_vec(made);
     Ok(())
 }
 

@@ -5,4 +5,4 @@ use Rattle.simplex_batcher.proofs.work.report_each.Given as goal
 
 abbrev pub invariant-loop-activity : goal.invariant-loop-activity
 invariant-loop-activity l =
-    l.calls ++ map Report (into_iter_items l.activity-iterator) ≡ l.fn.calls ++ map Report l.fn.reports
+    l.made.items ++ map Report (into_iter_items l.activity-iterator) ≡ l.fn.calls ++ map Report l.fn.reports
