@@ -1,13 +1,6 @@
-use Rattle.std.proofs.Common.{◌≡◌, ◌<◌, ℕ, zero, suc, [], ◌∷◌, slice_index_or, refl, sym, ◌∙◌, arith}
-use Rattle.simplex_wire.specs.declared.vote.Nullify.{Nullify}
+use Rattle.std.proofs.Common.{◌≡◌, refl, sym, ◌∙◌}
+use Rattle.simplex_types_tests.proofs.Votes.{at_each}
 use Rattle.simplex_types_tests.proofs.tests.nullification.Goals as goal
-
--- a fact of three votes, at each place of their list
-at_each : (P : Nullify → Type 0) (x y z : Nullify) → P x → P y → P z → (k : ℕ) (d : Nullify) → k < 3 → P (slice_index_or {A = Nullify} (x ∷ y ∷ z ∷ []) k d)
-at_each P x y z a b c zero d h = a
-at_each P x y z a b c (suc zero) d h = b
-at_each P x y z a b c (suc (suc zero)) d h = c
-at_each P x y z a b c (suc (suc (suc k))) d h = absurd (omega arith)
 
 pub from_nullifies-requires-clause-one : goal.from_nullifies-requires-clause-one
 from_nullifies-requires-clause-one c =
