@@ -1,4 +1,4 @@
-//! Terms at both ends of the numbers, and what is printed.
+//! Terms at both ends of the numbers, and what is printed and copied of plain values.
 use crate::tests::same;
 use simplex_values::{
     Digest, Epoch, Handoff, Keep, Members, Participant, Recipients, Round, TermLength, Terms, View,
