@@ -1,8 +1,9 @@
 //! View after view by one batcher.
-ghost use Rattle.std.specs.Prelude.{◌<◌, ◌^◌};
+ghost use Rattle.std.specs.Prelude.{◌≡◌, ◌<◌, ◌^◌, []};
+ghost use Rattle.simplex_messages.specs.Step.{no_out};
 
 use crate::votes::{EPOCH, Sent, Turn, scheme};
-use anyhow::{Result, bail};
+use anyhow::Result;
 use simplex_batcher::{Actor, Config};
 use simplex_mailbox::Post;
 use simplex_messages::{BatcherInput, StepOut, batcher, voter};
@@ -11,6 +12,7 @@ use simplex_types::{
     ViewDelta, Vote,
 };
 use std::alloc::{AllocError, Global};
+use std::mem::replace;
 
 /// A voter's place that counts the certificates that are put there, and drops all.
 #[derive(Drop)]
@@ -29,12 +31,36 @@ impl Post<voter::Message> for Counter {
     }
 }
 
-/// Member 0's batcher.
+/// Member 0's batcher, and what its last step gave.
 #[derive(Drop)]
 pub struct Member {
     alloc: Global,
     batcher: Actor<Keyed>,
     voter: Counter,
+    out: StepOut,
+}
+
+/// The list loses what it holds, and keeps the room for it.
+fn clear<T: Drop>(alloc: Global, list: &mut Sequence<T>)
+    ensures { list.new ≡ [] }
+{
+    if list.is_empty() {
+        return;
+    }
+    let mut items = replace(list, Sequence::new(alloc)).into_vec();
+    items.clear();
+    *list = Sequence::from_vec(items);
+}
+
+/// What a step gave is dropped, and the next one finds the room.
+fn clear_out(alloc: Global, out: &mut StepOut)
+    ensures { out.new ≡ no_out }
+{
+    clear(alloc, &mut out.added);
+    clear(alloc, &mut out.asked);
+    clear(alloc, &mut out.dropped);
+    clear(alloc, &mut out.handed);
+    clear(alloc, &mut out.calls);
 }
 
 /// The voter is in the view. All votes of the view before came in, so that it is final, and its proposal is worth
@@ -47,6 +73,21 @@ fn update(turn: &Turn) -> BatcherInput {
         finalized: before.view,
         forwardable_proposal: Some(before.proposal()),
     })
+}
+
+/// A vote's packet, from its signer.
+fn packet(sent: Sent) -> BatcherInput {
+    BatcherInput::Vote {
+        sender: sent.vote.signer(),
+        bytes: Sequence::from_vec(sent.bytes),
+    }
+}
+
+/// The clock is the view: a millisecond for each.
+fn clock(turn: &Turn) -> u64
+    ensures { result < 2 ^ 63 }
+{
+    turn.view.0.min((1 << 63) - 1)
 }
 
 impl Member {
@@ -75,6 +116,7 @@ impl Member {
             alloc,
             batcher: Actor::new(alloc, config)?,
             voter: Counter { certificates: 0 },
+            out: StepOut::new(alloc),
         })
     }
 
@@ -83,30 +125,22 @@ impl Member {
         self.voter.certificates
     }
 
-    /// The clock is the view: a millisecond for each.
-    fn step(&mut self, turn: &Turn, input: BatcherInput) -> Result<()> {
-        let now = turn.view.0;
-        if now >= 1 << 63 {
-            bail!("the clock ends");
-        }
-        let mut out = StepOut::new(self.alloc);
-        self.batcher.step(input, now, &mut self.voter, &mut out)?;
+    /// The update that begins the view.
+    pub fn begin(&mut self, turn: &Turn) -> Result<(), AllocError> {
+        clear_out(self.alloc, &mut self.out);
+        let now = clock(turn);
+        self.batcher
+            .step(update(turn), now, &mut self.voter, &mut self.out)?;
         Ok(())
     }
 
-    /// The update that begins the view.
-    pub fn begin(&mut self, turn: &Turn) -> Result<()> {
-        self.step(turn, update(turn))
-    }
-
     /// All votes of the view, as packets.
-    pub fn take(&mut self, turn: &Turn, votes: Vec<Sent>) -> Result<()> {
+    pub fn take(&mut self, turn: &Turn, votes: Vec<Sent>) -> Result<(), AllocError> {
+        let now = clock(turn);
         for sent in votes {
-            let input = BatcherInput::Vote {
-                sender: sent.vote.signer(),
-                bytes: Sequence::from_vec(sent.bytes),
-            };
-            self.step(turn, input)?;
+            clear_out(self.alloc, &mut self.out);
+            self.batcher
+                .step(packet(sent), now, &mut self.voter, &mut self.out)?;
         }
         Ok(())
     }

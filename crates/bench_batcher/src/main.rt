@@ -17,11 +17,11 @@ ghost use Rattle.std.specs.Prelude.{◌<◌};
 
 use actor::{Member, decoded};
 use anyhow::{Context, Result, bail};
-use simplex_types::View;
+use simplex_types::{Keyed, View};
 use std::alloc::Global;
 use std::env;
 use std::io::Print;
-use votes::{Signers, Turn, scheme};
+use votes::{Sent, Signers, Turn, scheme};
 
 /// What is done with the votes of each view.
 #[derive(Clone, Copy)]
@@ -33,32 +33,73 @@ enum Work {
     Decode,
 }
 
+/// So many views are signed before they are worked.
+const AHEAD: u32 = 64;
+
+/// What works the views, and how much came out.
+#[derive(Drop)]
+struct Bench {
+    alloc: Global,
+    work: Work,
+    member: Member,
+    done: u64,
+}
+
+impl Bench {
+    fn new(alloc: Global, work: Work, members: u32) -> Result<Bench>
+        requires { 0 < members }
+    {
+        Ok(Bench {
+            alloc,
+            work,
+            member: Member::new(alloc, members)?,
+            done: 0,
+        })
+    }
+
+    /// A view whose votes all come in.
+    fn view(&mut self, scheme: &Keyed, turn: &Turn, votes: Vec<Sent>) -> Result<()>
+        requires { 0 < turn.now.members }
+    {
+        match self.work {
+            Work::Votes => {}
+            Work::Round => self.add(round::turn(self.alloc, scheme, turn, votes)?),
+            Work::Actor => {
+                self.member.begin(turn)?;
+                self.member.take(turn, votes)?;
+            }
+            Work::Updates => self.member.begin(turn)?,
+            Work::Decode => self.add(decoded(&votes)),
+        }
+        Ok(())
+    }
+
+    fn add(&mut self, done: u64) {
+        self.done = self.done.saturating_add(done);
+    }
+}
+
 /// How many certificates come out of so many views, or how many packets are decoded.
 fn views(alloc: Global, work: Work, members: u32, views: u32) -> Result<u64>
     requires { 0 < members }
 {
     let signers = Signers::new(alloc, members)?;
     let scheme = scheme(alloc, members, 0)?;
-    let mut member = Member::new(alloc, members)?;
-    let mut done = 0u64;
-    for number in 0..views {
-        let view = View(u64::from(number).saturating_add(1));
-        let turn = Turn { members, view };
-        let votes = signers.votes(&turn)?;
-        match work {
-            Work::Votes => {}
-            Work::Round => {
-                done = done.saturating_add(round::turn(alloc, &scheme, &turn, votes)?);
-            }
-            Work::Actor => {
-                member.begin(&turn)?;
-                member.take(&turn, votes)?;
-            }
-            Work::Updates => member.begin(&turn)?,
-            Work::Decode => done = done.saturating_add(decoded(&votes)),
+    let mut bench = Bench::new(alloc, work, members)?;
+    for batch in 0..views.div_ceil(AHEAD) {
+        let first = batch.saturating_mul(AHEAD);
+        let last = first.saturating_add(AHEAD).min(views);
+        let mut view = first;
+        for votes in signers.ahead(members, first, last)? {
+            view = view.saturating_add(1);
+            let turn = Turn {
+                members,
+                view: View(u64::from(view)),
+            };
+            bench.view(&scheme, &turn, votes)?;
         }
     }
-    Ok(done.saturating_add(member.certificates()))
+    Ok(bench.done.saturating_add(bench.member.certificates()))
 }
 
 fn run(rt: &impl Print, alloc: Global, word: &str, members: u32, times: u32) -> Result<()> {

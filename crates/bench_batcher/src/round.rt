@@ -5,11 +5,11 @@ use crate::votes::{Sent, Turn};
 use anyhow::{Result, bail};
 use simplex_round::{Round, RoundOut};
 use simplex_types::{Keyed, Participant, quorum};
-use std::alloc::Global;
+use std::alloc::{AllocError, Global};
 
 /// How many certificates the round makes now, where each of the three kinds has its turn. Once it has nothing to do,
 /// it is not asked again.
-fn made(alloc: Global, round: &mut Round, scheme: &Keyed) -> Result<u64> {
+fn made(alloc: Global, round: &mut Round, scheme: &Keyed) -> Result<u64, AllocError> {
     let _proposal = round.try_forward_proposal(Participant(0));
     let mut made = 0u64;
     for _ in 0..3 {

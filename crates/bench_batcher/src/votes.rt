@@ -103,4 +103,14 @@ impl Signers {
         }
         Ok(sent)
     }
+
+    /// The votes of the views from behind the first of these numbers to the last, view by view.
+    pub fn ahead(&self, members: u32, first: u32, last: u32) -> Result<Vec<Vec<Sent>>> {
+        let mut ahead = Vec::new(self.alloc);
+        for number in first..last {
+            let view = View(u64::from(number).saturating_add(1));
+            ahead.push(self.votes(&Turn { members, view })?)?;
+        }
+        Ok(ahead)
+    }
 }

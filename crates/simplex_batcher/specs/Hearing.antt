@@ -1,7 +1,8 @@
 -- A vote from the network, by a round that is given the leader first.
-use Rattle.std.specs.Prelude.{ℕ, Option}
+use Rattle.std.specs.Prelude.{◌≡◌, ◌∷◌, ℕ, Bool, List, Option, [], true}
 use Rattle.simplex_wire.specs.declared.vote.Vote.{Vote}
-use Rattle.simplex_round.specs.Acceptance.{heard_from, has_nullify}
+use Rattle.simplex_types.specs.declared.activity.Activity.{Activity}
+use Rattle.simplex_round.specs.Acceptance.{heard_from, has_nullify, vote_activity}
 use Rattle.simplex_round.specs.Calls.{AddNetwork}
 use Rattle.simplex_steps.specs.Batcher.{RoundHistory, called, known_in, some_passes}
 use Rattle.simplex_batcher.specs.declared.others.Heard.{Heard}
@@ -17,3 +18,7 @@ heard_of leader sender vote history = record {
   accepted = (heard_from (known_in (given leader history)) sender vote).accepted;
   nullified = some_passes (has_nullify (known_in (voted leader sender vote history))) leader;
 }
+
+-- an accepted vote is all that is reported, and nobody is blocked for it
+abbrev pub IsAlone : Bool → Vote → List Activity → List ℕ → Type 0
+IsAlone accepted vote reports blocks = accepted ≡ true → (reports ≡ vote_activity vote ∷ []) × (blocks ≡ [])

@@ -11,7 +11,7 @@ ghost use Rattle.simplex_batcher.specs.Stands.{Marks, Moves, Reads};
 use crate::actor::Actor;
 use crate::marks::Marked;
 use crate::others::{Heard, hear};
-use crate::work::publish;
+use crate::work::{publish, publish_heard};
 use simplex_messages::StepOut;
 use simplex_round::RoundOut;
 use simplex_types::{Participant, Scheme, View, Vote};
@@ -58,7 +58,7 @@ impl<S: Scheme + Drop> Actor<S> {
         let leader = self.leader_at(view);
         let mut out = RoundOut::new(self.alloc);
         let heard = self.hear_at(view, &leader, sender, vote, &mut out)?;
-        publish(self.alloc, work, out)?;
+        publish_heard(self.alloc, work, heard.accepted, vote, out)?;
         dirty.mark(heard.accepted, view)?;
         Ok(heard)
     }

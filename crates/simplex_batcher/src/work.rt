@@ -2,10 +2,12 @@
 ghost use Rattle.std.specs.Prelude.{◌≡◌, ◌++◌, ◌∷◌, [], map, OnOk};
 ghost use Rattle.simplex_messages.specs.declared.call.Call.TheVariants.{Block, Report};
 ghost use Rattle.simplex_messages.specs.declared.handed.Handed.TheVariants.{Voter};
+ghost use Rattle.simplex_round.specs.Acceptance.{vote_activity};
+ghost use Rattle.simplex_batcher.specs.Hearing.{IsAlone};
 
 use simplex_messages::{Call, Handed, StepOut, voter};
 use simplex_round::RoundOut;
-use simplex_types::{Activity, Participant, Sequence};
+use simplex_types::{Activity, Participant, Sequence, Vote};
 use std::alloc::{AllocError, Global};
 use std::mem::replace;
 
@@ -40,6 +42,36 @@ pub(crate) fn publish(alloc: Global, work: &mut StepOut, out: RoundOut) -> Resul
     let RoundOut { reports, blocks } = out;
     report_each(alloc, &mut work.calls, reports)?;
     block_each(&mut work.calls, blocks.as_slice())?;
+    Ok(())
+}
+
+/// The vote is reported.
+fn report_vote(work: &mut StepOut, vote: &Vote) -> Result<(), AllocError>
+    ensures { OnOk result (work.new ≡ record work.old { calls = work.old.calls ++ Report (vote_activity vote.now) ∷ [] }) }
+{
+    match vote {
+        Vote::Notarize(it) => make(work, Call::Report(Activity::Notarize(*it))),
+        Vote::Nullify(it) => make(work, Call::Report(Activity::Nullify(*it))),
+        Vote::Finalize(it) => make(work, Call::Report(Activity::Finalize(*it))),
+    }
+}
+
+/// What a round reports of a vote is reported, and whom it blocks is blocked. Of an accepted vote that is the vote
+/// alone, which is at hand.
+pub(crate) fn publish_heard(
+    alloc: Global,
+    work: &mut StepOut,
+    accepted: bool,
+    vote: &Vote,
+    out: RoundOut,
+) -> Result<(), AllocError>
+    ensures { OnOk result (IsAlone accepted vote.now out.reports out.blocks → work.new ≡ record work.old { calls = work.old.calls ++ map Report out.reports ++ map Block out.blocks }) }
+{
+    if accepted {
+        report_vote(work, vote)?;
+        return Ok(());
+    }
+    publish(alloc, work, out)?;
     Ok(())
 }
 

@@ -2,8 +2,10 @@ use Rattle.std.proofs.Common.{◌≡◌, ap, refl, ◌∙◌}
 use Rattle.simplex_round.specs.Acceptance.{heard_from}
 use Rattle.simplex_steps.specs.Batcher.{with_heard, round_for, known_in}
 use Rattle.simplex_batcher.specs.declared.others.Heard.{Heard}
+use Rattle.simplex_batcher.specs.Hearing.{IsAlone}
 use Rattle.simplex_batcher.specs.Rounds.{given}
 use Rattle.simplex_batcher.specs.Working.{heard_at, bare_round, lead_of}
+use Rattle.simplex_batcher.proofs.Accepting.{heard-alone}
 use Rattle.simplex_batcher.proofs.Placing.{given-is}
 use Rattle.simplex_batcher.proofs.actor.Actor.hear.Goals as goal
 
@@ -15,9 +17,10 @@ returns-clause-stands g c = λ made doing s.
     let accepted : c.in_ok-heard.heard.accepted ≡ (heard_from (known_in (round_for made doing.standing c.view-view.result)) c.args.sender c.args.vote.now).accepted = rw round at (ap (λ (h : Heard). h.accepted) (c.in_ok-heard.ensures.answer made doing.standing s.stands)) in
     let reports : c.hear_at.new.out.reports ≡ (heard_from (known_in (round_for made doing.standing c.view-view.result)) c.args.sender c.args.vote.now).reports = rw (c.new-out.ensures.reports, round) at (c.in_ok-heard.ensures.reports made doing.standing s.stands) in
     let blocks : c.hear_at.new.out.blocks ≡ (heard_from (known_in (round_for made doing.standing c.view-view.result)) c.args.sender c.args.vote.now).blocks = rw (c.new-out.ensures.blocks, round) at (c.in_ok-heard.ensures.blocks made doing.standing s.stands) in
+    let alone : IsAlone c.in_ok-heard.heard.accepted c.args.vote.now c.hear_at.new.out.reports c.hear_at.new.out.blocks = rw (accepted, reports, blocks) (heard-alone (known_in (round_for made doing.standing c.view-view.result)) c.args.sender c.args.vote.now) in
     rw (← c.view-view.ensures) (record {
       stands = rw round at (c.in_ok-heard.ensures.stands made doing.standing s.stands);
-      does = c.in_ok-publish.ensures ∙ rw (s.does, reports, blocks) refl;
+      does = c.in_ok-publish_heard.ensures alone ∙ rw (s.does, reports, blocks) refl;
       marks = c.in_ok-mark.ensures ∙ rw (s.marks, accepted) refl;
     })
 
