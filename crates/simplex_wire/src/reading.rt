@@ -145,17 +145,15 @@ impl<'a> Reader<'a> {
         Ok(value as u32)
     }
 
-    fn bytes32(&mut self) -> Result<[u8; 32], DecodeError>
-        ensures { Gives self.new result ((raw 32).reading self.old) }
+    /// The 32 bytes at the front, where they lie.
+    fn bytes32(&mut self) -> Result<&'a [u8; 32], DecodeError>
+        ensures { GivesBy (λ x. (x.now, self.new)) result ((raw 32).reading self.old) }
     {
-        if self.bytes.len() < 32 {
+        let Some((front, rest)) = self.bytes.split_first_chunk() else {
             return Err(self.fault(DecodeCause::Short));
-        }
-        let (front, rest) = self.bytes.split_at(32);
-        let mut array = [0; 32];
-        array.copy_from_slice(front);
+        };
         self.bytes = rest;
-        Ok(array)
+        Ok(front)
     }
 
     #[tactic(auto, unfolding(crate::specs::Message::round))]
@@ -173,7 +171,7 @@ impl<'a> Reader<'a> {
     {
         let round = self.round()?;
         let parent = View(self.u64()?);
-        let payload = Digest(self.bytes32()?);
+        let payload = Digest(*self.bytes32()?);
         Ok(Proposal {
             round,
             parent,
@@ -186,7 +184,7 @@ impl<'a> Reader<'a> {
         ensures { Gives self.new result (attestation.reading self.old) }
     {
         let signer = Participant(self.u32()?);
-        let signature = self.bytes32()?;
+        let signature = *self.bytes32()?;
         Ok(Attestation { signer, signature })
     }
 
@@ -256,7 +254,7 @@ impl<'a> Reader<'a> {
         if u64::from(signer) < least {
             return Err(misplaced);
         }
-        let signature = self.bytes32()?;
+        let signature = *self.bytes32()?;
         Ok(Attestation {
             signer: Participant(signer),
             signature,
