@@ -1,6 +1,5 @@
 //! View after view by one batcher.
 ghost use Rattle.std.specs.Prelude.{◌≡◌, ◌<◌, ◌^◌, []};
-ghost use Rattle.simplex_messages.specs.Step.{no_out};
 
 use crate::votes::{EPOCH, Sent, Turn, scheme};
 use anyhow::Result;
@@ -12,7 +11,6 @@ use simplex_types::{
     ViewDelta, Vote,
 };
 use std::alloc::{AllocError, Global};
-use std::mem::replace;
 
 /// A voter's place that counts the certificates that are put there, and drops all.
 #[derive(Drop)]
@@ -34,33 +32,9 @@ impl Post<voter::Message> for Counter {
 /// Member 0's batcher, and what its last step gave.
 #[derive(Drop)]
 pub struct Member {
-    alloc: Global,
     batcher: Actor<Keyed>,
     voter: Counter,
     out: StepOut,
-}
-
-/// The list loses what it holds, and keeps the room for it.
-fn clear<T: Drop>(alloc: Global, list: &mut Sequence<T>)
-    ensures { list.new ≡ [] }
-{
-    if list.is_empty() {
-        return;
-    }
-    let mut items = replace(list, Sequence::new(alloc)).into_vec();
-    items.clear();
-    *list = Sequence::from_vec(items);
-}
-
-/// What a step gave is dropped, and the next one finds the room.
-fn clear_out(alloc: Global, out: &mut StepOut)
-    ensures { out.new ≡ no_out }
-{
-    clear(alloc, &mut out.added);
-    clear(alloc, &mut out.asked);
-    clear(alloc, &mut out.dropped);
-    clear(alloc, &mut out.handed);
-    clear(alloc, &mut out.calls);
 }
 
 /// The voter is in the view. All votes of the view before came in, so that it is final, and its proposal is worth
@@ -113,7 +87,6 @@ impl Member {
             floor: View(0),
         };
         Ok(Member {
-            alloc,
             batcher: Actor::new(alloc, config)?,
             voter: Counter { certificates: 0 },
             out: StepOut::new(alloc),
@@ -127,7 +100,7 @@ impl Member {
 
     /// The update that begins the view.
     pub fn begin(&mut self, turn: &Turn) -> Result<(), AllocError> {
-        clear_out(self.alloc, &mut self.out);
+        self.out.clear();
         let now = clock(turn);
         self.batcher
             .step(update(turn), now, &mut self.voter, &mut self.out)?;
@@ -138,7 +111,7 @@ impl Member {
     pub fn take(&mut self, turn: &Turn, votes: Vec<Sent>) -> Result<(), AllocError> {
         let now = clock(turn);
         for sent in votes {
-            clear_out(self.alloc, &mut self.out);
+            self.out.clear();
             self.batcher
                 .step(packet(sent), now, &mut self.voter, &mut self.out)?;
         }

@@ -36,6 +36,17 @@ impl StepOut {
             calls: Sequence::new(alloc),
         }
     }
+
+    /// Drops what a step gave, and keeps the room for what the next one gives.
+    pub fn clear(&mut self)
+        ensures { self.new ≡ no_out }
+    {
+        self.added.clear();
+        self.asked.clear();
+        self.dropped.clear();
+        self.handed.clear();
+        self.calls.clear();
+    }
 }
 
 /// How a step ended.

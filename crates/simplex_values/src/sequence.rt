@@ -84,6 +84,13 @@ impl<T: Drop> Sequence<T> {
     {
         self.items.push(item).map_err(AllocError::from)
     }
+
+    /// Drops all items, and keeps the room for others.
+    pub fn clear(&mut self)
+        ensures { self.new ≡ [] }
+    {
+        self.items.clear();
+    }
 }
 
 impl<T: PartialEq> PartialEq for Sequence<T> {
