@@ -21,6 +21,10 @@ use crate::resolver::ResolverMessage;
 use crate::vote::Vote;
 use std::alloc::{AllocError, Global};
 
+/// The room that is taken before anything is written: the most bytes that a vote or its record may need, and what stands
+/// in a certificate before its signatures.
+const ROOM: usize = 101;
+
 fn whole_vote(bytes: &[u8]) -> Result<Vote, DecodeError>
     ensures { result ≡ whole vote bytes.now }
 {
@@ -39,7 +43,7 @@ impl Vote {
         // It is read again.
         ensures again { IfOk result (λ bytes. whole vote bytes.items ≡ Ok self.now) }
     {
-        let mut out = Vec::new(alloc);
+        let mut out = Vec::with_capacity(alloc, ROOM)?;
         self.push(&mut out)?;
         Ok(out)
     }
@@ -75,7 +79,7 @@ impl Certificate {
         // It is read again.
         ensures again { IfOk result (λ bytes. whole certificate bytes.items ≡ Ok self.now) }
     {
-        let mut out = Vec::new(alloc);
+        let mut out = Vec::with_capacity(alloc, ROOM)?;
         self.push(&mut out)?;
         Ok(out)
     }
@@ -111,7 +115,7 @@ impl Artifact {
         // It is read again.
         ensures again { IfOk result (λ bytes. whole artifact bytes.items ≡ Ok self.now) }
     {
-        let mut out = Vec::new(alloc);
+        let mut out = Vec::with_capacity(alloc, ROOM)?;
         self.push(&mut out)?;
         Ok(out)
     }

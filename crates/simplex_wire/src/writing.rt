@@ -16,6 +16,9 @@ use crate::vote::{Finalize, Notarize, Nullify, Vote};
 use simplex_values::{Proposal, Round};
 use std::alloc::AllocError;
 
+/// The most bytes that an attestation may need.
+const ATTESTATION_ROOM: usize = 37;
+
 /// Writes the number in its shortest form.
 fn push_number(out: &mut Vec<u8>, number: u64) -> Result<(), AllocError>
     ensures { OnOk result (out.new.items ≡ out.old.items ++ varint number) }
@@ -140,6 +143,7 @@ impl Signatures {
         ensures fits { OnOk result (FitsSignatures self.now) }
     {
         let attestations = self.as_slice();
+        out.reserve(attestations.len().saturating_mul(ATTESTATION_ROOM))?;
         push_number(out, attestations.len() as u64)?;
         push_attestations(out, attestations)
     }

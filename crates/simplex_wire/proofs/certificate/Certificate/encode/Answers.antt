@@ -7,4 +7,4 @@ use Rattle.simplex_wire.proofs.Certificates.{certificate_is}
 use Rattle.simplex_wire.proofs.certificate.Certificate.encode.Goals as goal
 
 pub returns-clause-again : goal.returns-clause-again
-returns-clause-again c = ap (whole certificate) (rw c.new-out.ensures.items at c.in_ok-push.ensures.spelled) ∙ whole_again certificate FitsCertificate certificate_is c.args.self.now c.in_ok-push.ensures.fits
+returns-clause-again c = ap (whole certificate) (rw c.in_ok-out.ensures.items at c.in_ok-push.ensures.spelled) ∙ whole_again certificate FitsCertificate certificate_is c.args.self.now c.in_ok-push.ensures.fits
