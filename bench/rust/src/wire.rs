@@ -60,6 +60,10 @@ pub struct Fault {
 
 // ---- writing
 
+/// The most bytes that stand before the signatures, and that an attestation needs.
+const ROOM: usize = 101;
+const ATTESTATION_ROOM: usize = 37;
+
 fn push_number(out: &mut Vec<u8>, mut number: u64) {
     while number >= 128 {
         out.push((number % 128) as u8 + 128);
@@ -80,6 +84,7 @@ fn push_proposal(out: &mut Vec<u8>, proposal: &Proposal) {
 }
 
 fn push_signatures(out: &mut Vec<u8>, signatures: &[Attestation]) {
+    out.reserve(signatures.len() * ATTESTATION_ROOM);
     push_number(out, signatures.len() as u64);
     for attestation in signatures {
         push_number(out, u64::from(attestation.signer));
@@ -89,7 +94,7 @@ fn push_signatures(out: &mut Vec<u8>, signatures: &[Attestation]) {
 
 impl Certificate {
     pub fn encode(&self) -> Vec<u8> {
-        let mut out = Vec::new();
+        let mut out = Vec::with_capacity(ROOM);
         match self {
             Certificate::Notarization(it) => {
                 out.push(0);

@@ -2,5 +2,4 @@ pub mod Conflicts
 pub mod Blaming
 pub mod Reading
 pub mod Arriving
-pub mod Running
 pub mod Reporting

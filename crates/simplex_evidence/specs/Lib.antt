@@ -1,4 +1,3 @@
 pub mod Evidence
-pub mod Runs
 pub mod Samples
 pub mod Wire

@@ -6,12 +6,10 @@
 #![tactic(auto)]
 
 mod evidence;
-mod runs;
 mod samples;
 mod voters;
 
 pub use evidence::evidence_names_no_honest_member;
-pub use runs::runs_blame_no_node;
 pub use samples::{
     conflicting_votes_are_reported, evidence_names_its_signers, other_reports_name_nobody,
     premises_can_be_met,

@@ -139,7 +139,7 @@ reported_above setup before pos one ran floors f e =
     let stands = good.1 in
     sent_above setup.term b.calls (subjects.Finalize f.proposal) b.legal stands.sent f.proposal refl
 
-floors_hold : (setup : Setup) (noted : List Noted) → 0 < setup.term → members_of setup ≡ 1 → IsRun setup noted → AreFloors noted
+pub floors_hold : (setup : Setup) (noted : List Noted) → 0 < setup.term → members_of setup ≡ 1 → IsRun setup noted → AreFloors noted
 unfolding IsRun AreFloors
 floors_hold setup [] pos one ran = tt
 floors_hold setup (noted ∷ before) pos one ran =

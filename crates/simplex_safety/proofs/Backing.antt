@@ -103,7 +103,7 @@ pub record IsFineEngine (sent : Own) (made : EngineMade) (past : List Did) : Typ
   pub history : Each (IsFineDid sent) past
   pub place : IsPlaceFine sent (place_in made past)
 
-abbrev IsLifeFine : Own → Life → Type 0
+abbrev pub IsLifeFine : Own → Life → Type 0
 IsLifeFine sent (Stopped sections) = InJournal (IsFineRecord sent) sections
 IsLifeFine sent (Running made past) = IsFineEngine sent made past
 
@@ -118,7 +118,7 @@ pub record IsFineRun (setup : Setup) (sent : Own) (noted : List Noted) : Type 0 
   pub nobody : Each (λ (n : Noted). Each IsForNobody n.entry.packets) noted
   pub life : IsLifeFine sent (life_in setup noted only)
 
-is_only : (setup : Setup) (at : Node) → members_of setup ≡ 1 → is_node setup at ≡ true → only ≡ at
+pub is_only : (setup : Setup) (at : Node) → members_of setup ≡ 1 → is_node setup at ≡ true → only ≡ at
 is_only setup at one e = same_node only at (grind (arith, nat_tests, common_steps, eqb-true, one, e))
 
 -- ---- packets: what is sent to all is sent to nobody
@@ -155,7 +155,7 @@ packet_nobody (noted ∷ before) ref p h e = at (length before + 1 == ref.event)
 if_nobody : (node : Node) (p : Packet) → IsForNobody p → if_for node p ≡ None
 if_nobody node p e = ap (λ to. if list_any (is_same_node node) to then Some p else None) e
 
-no_packet : (before : List Noted) (node : Node) (ref : Ref) → Each (λ (n : Noted). Each IsForNobody n.entry.packets) before → packet_for before node ref ≡ None
+pub no_packet : (before : List Noted) (node : Node) (ref : Ref) → Each (λ (n : Noted). Each IsForNobody n.entry.packets) before → packet_for before node ref ≡ None
 unfolding packet_for
 no_packet before node ref h = at (packet_at before ref) refl
   where

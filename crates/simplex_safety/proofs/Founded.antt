@@ -105,10 +105,10 @@ voter_mail_fine sent made (did ∷ past) h =
 
 -- ---- the batcher's inputs
 
-abbrev IsFineTimed : Own → batcher.Timed → Type 0
+abbrev pub IsFineTimed : Own → batcher.Timed → Type 0
 IsFineTimed sent given = IsFineInput sent given.input
 
-inputs_fine : (sent : Own) (past : List Did) → Each (IsFineDid sent) past → Each (IsFineTimed sent) (batcher_past past)
+pub inputs_fine : (sent : Own) (past : List Did) → Each (IsFineDid sent) past → Each (IsFineTimed sent) (batcher_past past)
 unfolding batcher_past
 inputs_fine sent [] h = tt
 inputs_fine sent (did ∷ past) h = at (input_of_batcher did.taken) refl (inputs_fine sent past h.1)
@@ -130,7 +130,7 @@ brings_sent sent (inputs.Mail (batcher_messages.Update current leader finalized 
 brings_sent sent (inputs.Vote sender bytes) v f b = absurd f
 brings_sent sent (inputs.Certificate sender bytes) v f b = absurd f
 
-came_sent : (sent : Own) (past : List batcher.Timed) (v : Vote) → Each (IsFineTimed sent) past → Came past v → StandsFor sent (vote_subject v)
+pub came_sent : (sent : Own) (past : List batcher.Timed) (v : Vote) → Each (IsFineTimed sent) past → Came past v → StandsFor sent (vote_subject v)
 unfolding Came
 came_sent sent [] v f c = absurd c
 came_sent sent (given ∷ past) v f c = elim c [ inl b ↦ brings_sent sent given.input v f.0 b | inr r ↦ came_sent sent past v f.1 r ]

@@ -1,6 +1,7 @@
 mod Above
 mod Agreeing
 mod Backing
+mod Blamed
 mod Epochs
 mod Events
 mod Founded
@@ -16,5 +17,6 @@ mod Reading
 mod Ruling
 mod Safely
 mod Single
+mod Spared
 mod Speaking
 mod Telling

@@ -16,6 +16,7 @@ use Rattle.simplex_safety.specs.Histories.{IsRun}
 use Rattle.simplex_safety.specs.Safe.{IsSafe, RunsSafely}
 use Rattle.simplex_safety.proofs.Agreeing.{backed_by_one, epochs_hold, standing_agree}
 use Rattle.simplex_safety.proofs.Ruling.{run_by_rule}
+use Rattle.simplex_safety.proofs.Spared.{one_blames_nobody}
 use Rattle.simplex_safety.proofs.Nodes.{node_lives}
 
 ok_is : {E A : Type 0} (a b : A) → ◌≡◌ {A = Result A E} (Ok a) (Ok b) → a ≡ b
@@ -59,6 +60,7 @@ safe_run setup events noted taken e =
       epoch = epochs_hold setup noted pos one ran;
       stored = λ node. (node_lives setup noted node pos ran backed.floors).stored;
       ruled = λ node. run_by_rule setup noted node ran;
+      evidence = one_blames_nobody setup noted pos one ran;
     }
 
 -- a run that is not refused is of a setup that is taken

@@ -1,4 +1,5 @@
 pub mod Alone
+pub mod Evidence
 pub mod Histories
 pub mod Ruled
 pub mod Safe

@@ -9,7 +9,7 @@ use Rattle.simplex_lives.proofs.Invariant.{sent_in_order}
 use Rattle.simplex_conduct.specs.Life.{AreVotesSent}
 use Rattle.simplex_conduct.proofs.Constructing.{AreVotesSent-append}
 use Rattle.simplex_safety.specs.Histories.{AreConstructed, IsLivedBy, calls_of}
-use Rattle.simplex_evidence.specs.Runs.{handed_of, IsNotBlamed}
+use Rattle.simplex_safety.specs.Evidence.{handed_of, IsNotBlamed}
 use Rattle.simplex_evidence.proofs.Arriving.{authentic}
 use Rattle.simplex_evidence.proofs.Blaming.{not_blamed}
 
