@@ -5,6 +5,7 @@ use Rattle.simplex_wire.specs.declared.certificate.Finalization.{Finalization}
 use Rattle.simplex_messages.specs.declared.step.Outcome.{Outcome}
 use Rattle.simplex_messages.specs.declared.step.StepOut.{StepOut}
 use Rattle.simplex_transcript.specs.declared.entry.Entry.{Entry}
+use Rattle.simplex_transcript.specs.declared.entry.Packet.{Packet}
 use Rattle.simplex_transcript.specs.declared.entry.Took.{Took}
 use Rattle.simplex_transcript.specs.declared.node.Ref.{Ref}
 use Rattle.simplex_transcript.specs.declared.setup.Setup.{Setup}
@@ -49,6 +50,11 @@ abbrev pub TakesIn : Book → Book → ℕ → Bool → Entry → Type 0
 TakesIn old new member starts entry =
     (before : List Noted) (noted : Noted) → noted.entry ≡ entry → IsOf noted.event member starts
     → BookStands old before → BookStands new (noted ∷ before)
+
+-- the same of each entry that has these packets, and the requests and calls that a step gave
+abbrev pub TakesInStep : Book → Book → ℕ → Bool → List Packet → StepOut → Type 0
+TakesInStep old new member starts packets out =
+    (entry : Entry) → entry.packets ≡ packets → entry.asked ≡ out.asked → entry.calls ≡ out.calls → TakesIn old new member starts entry
 
 -- the same of an entry in which nothing happens
 abbrev pub PassesBy : Book → Book → Entry → Type 0

@@ -7,14 +7,14 @@ ghost use Rattle.simplex_run.specs.Life.{Noted};
 ghost use Rattle.simplex_run.specs.Entries as entries;
 ghost use Rattle.simplex_run.specs.Requests as requests;
 ghost use Rattle.simplex_book.specs.Packets.{as_packet};
-ghost use Rattle.simplex_book.specs.Events.{IsOf, AreFrom};
-ghost use Rattle.simplex_book.specs.Stands.{BookStands, DesksStand, Answers, Enters, TakesIn, PassesBy, members_in};
+ghost use Rattle.simplex_book.specs.Events.{IsOf, AreFrom, entry_of};
+ghost use Rattle.simplex_book.specs.Stands.{BookStands, DesksStand, Answers, Enters, TakesIn, TakesInStep, PassesBy, members_in};
 
 use crate::packets::{Sent, node_of, packet_for, packets_of, sent_of};
 use crate::reported::Reported;
 use crate::requests::Requests;
 use simplex_messages::{Outcome, StepOut};
-use simplex_transcript::{Entry, Node, Ref, Setup, Took};
+use simplex_transcript::{Entry, Node, Packet, Ref, Setup, Took};
 use simplex_types::{Finalization, Participant, Sequence};
 use std::alloc::{AllocError, Global};
 
@@ -101,28 +101,9 @@ impl Book {
         ensures entry { IfOk result (λ entry. Enters self.old setup.now member took out outcome entry) }
         ensures stands { IfOk result (λ entry. TakesIn self.old self.new member starts entry) }
     {
-        let packets = packets_of(alloc, setup, member, out.calls.as_slice())?;
-        let StepOut {
-            added,
-            asked,
-            dropped,
-            handed,
-            calls,
-        } = out;
-        let entry = Entry {
-            event: self.next(),
-            who: Some(node_of(member)),
-            took,
-            added,
-            asked,
-            dropped,
-            handed,
-            calls,
-            packets,
-            outcome,
-        };
-        self.add(alloc, member, starts, &entry)?;
-        Ok(entry)
+        let event = self.next();
+        let packets = self.take_in(alloc, setup, member, starts, &out)?;
+        Ok(entry_of(event, member, took, out, packets, outcome))
     }
 
     /// The entry of an event at which no engine did anything, and that is no start. The entry is taken in.
@@ -136,25 +117,45 @@ impl Book {
         Ok(blank(alloc, event, who))
     }
 
-    // Takes in the entry of an event of the member's node, which starts it or not.
+    // Takes in what an engine did at an event of the member's node, which starts it or not. Gives its packets.
+    fn take_in(
+        &mut self,
+        alloc: Global,
+        setup: &Setup,
+        member: Participant,
+        starts: bool,
+        out: &StepOut,
+    ) -> Result<Sequence<Packet>, AllocError>
+        requires { member < members_in self.old }
+        ensures count { members_in self.new ≡ members_in self.old }
+        ensures packets { IfOk result (λ packets. packets ≡ entries.packets_of setup.now (entries.node_of member) out.now.calls) }
+        ensures stands { IfOk result (λ packets. TakesInStep self.old self.new member starts packets out.now) }
+    {
+        let packets = packets_of(alloc, setup, member, out.calls.as_slice())?;
+        self.add(alloc, member, starts, packets.as_slice(), out)?;
+        Ok(packets)
+    }
+
+    // Takes in what an engine did at an event of the member's node, which starts it or not, and these packets of it.
     fn add(
         &mut self,
         alloc: Global,
         member: Participant,
         starts: bool,
-        entry: &Entry,
+        packets: &[Packet],
+        out: &StepOut,
     ) -> Result<(), AllocError>
         requires { member < members_in self.old }
         ensures count { members_in self.new ≡ members_in self.old }
-        ensures stands { OnOk result (AreFrom member entry.now.packets
-            → TakesIn self.old self.new member starts entry.now) }
+        ensures stands { OnOk result (AreFrom member packets.now
+            → TakesInStep self.old self.new member starts packets.now out.now) }
     {
         let event = self.next();
-        let sent = sent_of(alloc, member, entry.packets.as_slice())?;
-        let asked = entry.asked.len() as u64;
+        let sent = sent_of(alloc, member, packets)?;
+        let asked = out.asked.len() as u64;
         push_sent(&mut self.packets, sent)?;
         add_asked(&mut self.desks, alloc, member, starts, event, asked)?;
-        self.reported.add(alloc, entry.calls.as_slice())?;
+        self.reported.add(alloc, out.calls.as_slice())?;
         Ok(())
     }
 }
@@ -204,6 +205,38 @@ fn add_asked(
     let at = place_of(member);
     desks[at].enter(alloc, starts, event, asked)?;
     Ok(())
+}
+
+// The entry of what an engine of the member's node did, whose packets these are.
+fn entry_of(
+    event: u64,
+    member: Participant,
+    took: Option<Took>,
+    out: StepOut,
+    packets: Sequence<Packet>,
+    outcome: Outcome,
+) -> Entry
+    ensures { result ≡ entry_of event member took out packets outcome }
+{
+    let StepOut {
+        added,
+        asked,
+        dropped,
+        handed,
+        calls,
+    } = out;
+    Entry {
+        event,
+        who: Some(node_of(member)),
+        took,
+        added,
+        asked,
+        dropped,
+        handed,
+        calls,
+        packets,
+        outcome,
+    }
 }
 
 // An entry in which nothing happens.
