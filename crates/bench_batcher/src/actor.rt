@@ -1,5 +1,5 @@
 //! View after view by one batcher.
-ghost use Rattle.std.specs.Prelude.{◌≡◌, ◌<◌, ◌^◌, []};
+ghost use Rattle.std.specs.Prelude.{◌<◌, ◌^◌};
 
 use crate::votes::{EPOCH, Sent, Turn, scheme};
 use anyhow::Result;

@@ -74,6 +74,26 @@ impl Bench {
         Ok(())
     }
 
+    /// So many views, whose votes are signed some views ahead.
+    fn views(&mut self, signers: &Signers, scheme: &Keyed, members: u32, views: u32) -> Result<()>
+        requires { 0 < members }
+    {
+        for batch in 0..views.div_ceil(AHEAD) {
+            let first = batch.saturating_mul(AHEAD);
+            let last = first.saturating_add(AHEAD).min(views);
+            let mut view = first;
+            for votes in signers.ahead(members, first, last)? {
+                view = view.saturating_add(1);
+                let turn = Turn {
+                    members,
+                    view: View(u64::from(view)),
+                };
+                self.view(scheme, &turn, votes)?;
+            }
+        }
+        Ok(())
+    }
+
     fn add(&mut self, done: u64) {
         self.done = self.done.saturating_add(done);
     }
@@ -86,19 +106,7 @@ fn views(alloc: Global, work: Work, members: u32, views: u32) -> Result<u64>
     let signers = Signers::new(alloc, members)?;
     let scheme = scheme(alloc, members, 0)?;
     let mut bench = Bench::new(alloc, work, members)?;
-    for batch in 0..views.div_ceil(AHEAD) {
-        let first = batch.saturating_mul(AHEAD);
-        let last = first.saturating_add(AHEAD).min(views);
-        let mut view = first;
-        for votes in signers.ahead(members, first, last)? {
-            view = view.saturating_add(1);
-            let turn = Turn {
-                members,
-                view: View(u64::from(view)),
-            };
-            bench.view(&scheme, &turn, votes)?;
-        }
-    }
+    bench.views(&signers, &scheme, members, views)?;
     Ok(bench.done.saturating_add(bench.member.certificates()))
 }
 
