@@ -172,7 +172,7 @@ struct Reader<'a> {
     end: usize,
 }
 
-impl Reader<'_> {
+impl<'a> Reader<'a> {
     fn fault(&self, cause: Cause) -> Fault {
         Fault {
             cause,
@@ -214,15 +214,12 @@ impl Reader<'_> {
         }
     }
 
-    fn bytes32(&mut self) -> Result<[u8; 32], Fault> {
-        if self.bytes.len() < 32 {
+    fn bytes32(&mut self) -> Result<&'a [u8; 32], Fault> {
+        let Some((front, rest)) = self.bytes.split_first_chunk() else {
             return Err(self.fault(Cause::Short));
-        }
-        let (front, rest) = self.bytes.split_at(32);
-        let mut array = [0; 32];
-        array.copy_from_slice(front);
+        };
         self.bytes = rest;
-        Ok(array)
+        Ok(front)
     }
 
     fn round(&mut self) -> Result<Round, Fault> {
@@ -236,7 +233,7 @@ impl Reader<'_> {
         Ok(Proposal {
             round: self.round()?,
             parent: self.number(u64::MAX)?,
-            payload: self.bytes32()?,
+            payload: *self.bytes32()?,
         })
     }
 
@@ -253,7 +250,7 @@ impl Reader<'_> {
             least = u64::from(signer) + 1;
             signatures.push(Attestation {
                 signer,
-                signature: self.bytes32()?,
+                signature: *self.bytes32()?,
             });
         }
         Ok(signatures)
