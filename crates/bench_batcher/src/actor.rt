@@ -30,11 +30,21 @@ impl Post<voter::Message> for Counter {
 }
 
 /// Member 0's batcher, and what its last step gave.
-#[derive(Drop)]
 pub struct Member {
     batcher: Actor<Keyed>,
     voter: Counter,
     out: StepOut,
+}
+
+// By hand, so that who holds a member lets it go by one call.
+impl Drop for Member {
+    fn drop(self) {
+        let Member {
+            batcher: _batcher,
+            voter: _voter,
+            out: _out,
+        } = self;
+    }
 }
 
 /// The voter is in the view. All votes of the view before came in, so that it is final, and its proposal is worth

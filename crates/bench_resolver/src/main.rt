@@ -43,20 +43,34 @@ fn jump(alloc: Global, peers: &Peers, terms: u32) -> Result<Member> {
     Ok(member)
 }
 
+/// A turn behind a jump, of this number.
+fn turn(
+    alloc: Global,
+    peers: &Peers,
+    member: &mut Member,
+    work: Work,
+    terms: u32,
+    at: u32,
+) -> Result<()>
+    requires { 0 < terms }
+{
+    match work {
+        Work::Jump | Work::Packet => Ok(()),
+        Work::Climb => member.know(peers.further(alloc, terms, at)?),
+        Work::Wave => member.time_out(),
+        Work::Fill => member.hear(peers.answer(alloc, at)?),
+        Work::Serve => member.hear(peers.request(alloc, peers::first_view(terms))?),
+        Work::Retry => member.wait(peers.refusal(alloc, at % terms, at / terms, at)?),
+    }
+}
+
 /// So many turns behind a jump. How many calls and messages there were.
 fn behind(alloc: Global, peers: &Peers, work: Work, terms: u32, times: u32) -> Result<u64>
     requires { 0 < terms }
 {
     let mut member = jump(alloc, peers, terms)?;
     for at in 0..times {
-        match work {
-            Work::Jump | Work::Packet => (),
-            Work::Climb => member.know(peers.further(alloc, terms, at)?)?,
-            Work::Wave => member.time_out()?,
-            Work::Fill => member.hear(peers.answer(alloc, at)?)?,
-            Work::Serve => member.hear(peers.request(alloc, peers::first_view(terms))?)?,
-            Work::Retry => member.wait(peers.refusal(alloc, at % terms, at / terms, at)?)?,
-        }
+        turn(alloc, peers, &mut member, work, terms, at)?;
     }
     Ok(member.made())
 }
