@@ -36,8 +36,13 @@ impl<S: Scheme + Drop, L: Elector + Drop, J: Journal + Drop> Drop for Engine<S, 
     fn drop(self) {
         let Engine {
             alloc: _alloc,
-            stage: _stage,
+            stage,
         } = self;
+        match stage {
+            Stage::Waiting(unstarted) => drop(unstarted),
+            Stage::Running(crew) | Stage::Stopped(crew) => drop(crew),
+            Stage::Failed => {}
+        }
     }
 }
 

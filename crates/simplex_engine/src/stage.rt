@@ -74,7 +74,10 @@ pub(crate) fn stage_with<S: Scheme + Drop, L: Elector + Drop, J: Journal + Drop>
 {
     match given {
         Ok(polled) => stage_after(crew, polled.outcome),
-        Err(PollError::Memory) => Stage::Failed,
+        Err(PollError::Memory) => {
+            drop(crew);
+            Stage::Failed
+        }
         Err(PollError::Failed | PollError::Stopped | PollError::NotPending) => Stage::Running(crew),
     }
 }

@@ -145,7 +145,14 @@ impl<S: Scheme + Drop, L: Elector + Drop, J: Journal + Drop> Crew<S, L, J> {
     pub(crate) fn into_journal(self) -> J
         ensures { Tells self (λ parts. (place_of parts.voter parts.given).sections) (J.sections result) }
     {
-        let Crew { voter, .. } = self;
+        let Crew {
+            voter,
+            batcher,
+            boxes,
+            ..
+        } = self;
+        drop(batcher);
+        drop(boxes);
         voter.into_journal()
     }
 
