@@ -1,14 +1,21 @@
 -- What a source gives, what a sink takes, and when a count of faults rose.
-use Rattle.std.specs.Prelude.{◌≡◌, ◌<◌, ◌≤◌, ◌+◌, ◌-◌, ◌^◌, ℕ, List, [], ◌++◌, length, min, Option, option_map, IfSome}
+use Rattle.std.specs.Prelude.{◌≡◌, ◌<◌, ◌≤◌, ◌+◌, ◌-◌, ◌^◌, ℕ, List, [], ◌++◌, length, min, Option, Some, None, IfSome}
 
--- The bytes were taken from the front of what was left. A source that does not tell what is left says
--- nothing, and goes on telling nothing.
+-- The bytes were taken from the front of what was left. A source that does not tell what is left says nothing.
 abbrev pub Takes : Option (List ℕ) → List ℕ → Option (List ℕ) → Type 0
-Takes old bytes new = old ≡ option_map (λ rest. bytes ++ rest) new
+Takes None bytes new = Unit {0}
+Takes (Some rest) bytes None = ⊥
+Takes (Some rest) bytes (Some left) = rest ≡ bytes ++ left
 
 -- The bytes were all that was left.
 abbrev pub TakesAll : Option (List ℕ) → List ℕ → Option (List ℕ) → Type 0
 TakesAll old bytes new = Takes old bytes new × IfSome new (λ rest. rest ≡ [])
+
+-- What is told is as it was: of what is left nothing was taken, to what was written nothing was added.
+abbrev pub Stays : Option (List ℕ) → Option (List ℕ) → Type 0
+Stays None new = Unit {0}
+Stays (Some bytes) None = ⊥
+Stays (Some bytes) (Some same) = same ≡ bytes
 
 -- More bytes than the limit were taken.
 abbrev pub TakesOver : ℕ → Option (List ℕ) → Option (List ℕ) → Type 0
@@ -18,10 +25,11 @@ TakesOver limit old new = (bytes : List ℕ) × Takes old bytes new × (limit < 
 abbrev pub TakesWithin : ℕ → Option (List ℕ) → Option (List ℕ) → Type 0
 TakesWithin limit old new = (bytes : List ℕ) × Takes old bytes new × (length bytes ≤ limit)
 
--- The bytes were added behind what was written. A sink that does not tell what was written says nothing,
--- and goes on telling nothing.
+-- The bytes were added behind what was written. A sink that does not tell what was written says nothing.
 abbrev pub Adds : Option (List ℕ) → List ℕ → Option (List ℕ) → Type 0
-Adds old bytes new = new ≡ option_map (λ done. done ++ bytes) old
+Adds None bytes new = Unit {0}
+Adds (Some done) bytes None = ⊥
+Adds (Some done) bytes (Some all) = all ≡ done ++ bytes
 
 -- Some first bytes of the text were added.
 abbrev pub AddsPart : Option (List ℕ) → List ℕ → Option (List ℕ) → Type 0

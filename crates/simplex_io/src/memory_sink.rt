@@ -1,6 +1,6 @@
 // A sink in memory, whose writes fail as it is told.
 ghost use Rattle.std.specs.Prelude.{◌≡◌, ◌≤◌, ◌↔◌, Some, [], length, take, IfOk, OnErr, IsErrOf, IsTrue};
-ghost use Rattle.simplex_io.specs.Io.{Adds, Rose};
+ghost use Rattle.simplex_io.specs.Io.{Adds, Stays, Rose};
 ghost use Rattle.simplex_io.specs.Memory.{SinkContent, no_calls, next_fails, after_call};
 
 use crate::calls::Calls;
@@ -67,11 +67,12 @@ impl Sink for MemorySink {
         ensures within { IfOk result (λ n. n ≤ length bytes.now) }
         ensures bytes { IfOk result (λ n.
             Adds (Some self.old.written) (take n bytes.now) (Some self.new.written)) }
-        ensures err { OnErr result (Some self.new.written ≡ Some self.old.written) }
+        ensures err { OnErr result (Stays (Some self.old.written) (Some self.new.written)) }
 
         ensures later { self.old.writes.faults ≤ self.new.writes.faults }
         ensures failed { IsErrOf result SinkError.Failed
             → Rose self.old.writes.faults self.new.writes.faults }
+        ensures quiet { ¬ IsErrOf result SinkError.Failed → self.new.writes.faults ≡ self.old.writes.faults }
 
         // It fails exactly where it was told to.
         ensures listed { IsErrOf result SinkError.Failed ↔ IsTrue (next_fails self.old.writes) }

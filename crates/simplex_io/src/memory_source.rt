@@ -1,6 +1,6 @@
 // A source in memory, whose reads fail as it is told.
 ghost use Rattle.std.specs.Prelude.{◌≡◌, ◌≤◌, ◌+◌, ◌↔◌, ◌++◌, Some, [], length, take, drop, vec_len, IfOk, OnErr, IsErrOf, IsTrue};
-ghost use Rattle.simplex_io.specs.Io.{Takes, TakesAll, Rose};
+ghost use Rattle.simplex_io.specs.Io.{Takes, TakesAll, Stays, Rose};
 ghost use Rattle.simplex_io.specs.Memory.{SourceContent, no_calls, next_fails, after_call};
 
 use crate::calls::Calls;
@@ -61,11 +61,12 @@ impl Source for MemorySource {
         ensures few { IfOk result (λ bytes. vec_len bytes ≤ max) }
         ensures end { IfOk result (λ bytes. bytes.items ≡ []
             → TakesAll (Some self.old.left) [] (Some self.new.left)) }
-        ensures err { OnErr result (Some self.new.left ≡ Some self.old.left) }
+        ensures err { OnErr result (Stays (Some self.old.left) (Some self.new.left)) }
 
         ensures later { self.old.reads.faults ≤ self.new.reads.faults }
         ensures failed { IsErrOf result SourceError.Failed
             → Rose self.old.reads.faults self.new.reads.faults }
+        ensures quiet { ¬ IsErrOf result SourceError.Failed → self.new.reads.faults ≡ self.old.reads.faults }
 
         // It fails exactly where it was told to.
         ensures listed { IsErrOf result SourceError.Failed ↔ IsTrue (next_fails self.old.reads) }

@@ -63,6 +63,7 @@ pub fn read_to_end<S: Source>(
 
     ensures failed { IsErrOf result InputError.Failed
         → Rose (S.fault_count source.old) (S.fault_count source.new) }
+    ensures quiet { ¬ IsErrOf result InputError.Failed → S.fault_count source.new ≡ S.fault_count source.old }
     ensures later { S.fault_count source.old ≤ S.fault_count source.new }
 {
     let mut input = Vec::new(alloc);

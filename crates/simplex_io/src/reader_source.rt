@@ -1,12 +1,12 @@
 // A reader of the standard library as a source.
-ghost use Rattle.std.specs.Prelude.{◌≡◌, None};
+ghost use Rattle.std.specs.Prelude.{◌≡◌};
 
 use crate::source::{Source, SourceError};
 use std::alloc::Global;
 use std::io::{Read, Stdin};
 
-/// A reader as a source. It tells no bytes, since nothing is known of what the outside sends. Each error
-/// counts as a fault, an interrupted read too.
+/// A reader as a source. It tells the bytes that the reader tells; of standard input nothing is known. Each
+/// error counts as a fault, an interrupted read too, and no read that failed is tried again.
 #[derive(Drop)]
 pub struct ReaderSource<R: Read + Drop> {
     alloc: Global,
@@ -31,7 +31,7 @@ impl<R: Read + Drop> ReaderSource<R> {
 }
 
 impl<R: Read + Drop> Source for ReaderSource<R> {
-    ghost left = { λ _. None };
+    ghost left = { λ source. R.remaining source.reader };
 
     ghost fault_count = { λ source. source.faults };
 

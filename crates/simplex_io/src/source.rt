@@ -1,6 +1,6 @@
 // Where bytes come from.
 ghost use Rattle.std.specs.Prelude.{◌≡◌, ◌≤◌, List, [], ℕ, Option, IfOk, OnErr, IsErrOf, vec_len};
-ghost use Rattle.simplex_io.specs.Io.{Takes, TakesAll, Rose};
+ghost use Rattle.simplex_io.specs.Io.{Takes, TakesAll, Stays, Rose};
 
 use thiserror::Error;
 
@@ -18,7 +18,8 @@ pub trait Source {
     /// The bytes that are still to come, if the source tells them.
     ghost left: { Self → Option (List ℕ) };
 
-    /// How many reads have failed. The count stops at the greatest `u64`.
+    /// How many reads have failed. The count stops at the greatest `u64`, and rises where one fails
+    /// alone.
     ghost fault_count: { Self → ℕ };
 
     /// Takes the next bytes, at most `max`, and none only at the end. A read that fails takes nothing.
@@ -29,11 +30,12 @@ pub trait Source {
         ensures few { IfOk result (λ bytes. vec_len bytes ≤ max) }
         ensures end { IfOk result (λ bytes. bytes.items ≡ []
             → TakesAll (left self.old) [] (left self.new)) }
-        ensures err { OnErr result (left self.new ≡ left self.old) }
+        ensures err { OnErr result (Stays (left self.old) (left self.new)) }
 
         ensures later { fault_count self.old ≤ fault_count self.new }
         ensures failed { IsErrOf result SourceError.Failed
-            → Rose (fault_count self.old) (fault_count self.new) };
+            → Rose (fault_count self.old) (fault_count self.new) }
+        ensures quiet { ¬ IsErrOf result SourceError.Failed → fault_count self.new ≡ fault_count self.old };
 
     /// How many reads have failed.
     fn faults(&self) -> u64

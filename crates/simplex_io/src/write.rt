@@ -19,6 +19,7 @@ pub fn write_all<K: Sink>(sink: &mut K, bytes: &[u8]) -> Result<(), SinkError>
 
     ensures failed { IsErrOf result SinkError.Failed
         → Rose (K.fault_count sink.old) (K.fault_count sink.new) }
+    ensures quiet { ¬ IsErrOf result SinkError.Failed → K.fault_count sink.new ≡ K.fault_count sink.old }
     ensures later { K.fault_count sink.old ≤ K.fault_count sink.new }
 {
     let mut rest = bytes;

@@ -1,5 +1,5 @@
 // A writer of the standard library as a sink.
-ghost use Rattle.std.specs.Prelude.{◌≡◌, ◌≤◌, None, length};
+ghost use Rattle.std.specs.Prelude.{◌≡◌, ◌≤◌, length, take};
 
 use crate::sink::{Sink, SinkError};
 use std::io::{Stdout, Write};
@@ -11,12 +11,14 @@ const PIECE: usize = 65_536;
 fn first_piece(bytes: &[u8]) -> &[u8]
     ensures few { length result.now ≤ PIECE }
     ensures within { length result.now ≤ length bytes.now }
+    ensures first { result.now ≡ take (length result.now) bytes.now }
 {
     &bytes[..bytes.len().min(PIECE)]
 }
 
-/// A writer as a sink. It tells no bytes, since nothing is known of what the outside keeps. Each error
-/// counts as a fault, an interrupted write too, and so does a write that takes nothing.
+/// A writer as a sink. It tells the bytes that the writer tells; of standard output nothing is known. Each error
+/// counts as a fault, an interrupted write too, and so does a write that takes nothing. No write that failed is
+/// tried again.
 #[derive(Drop)]
 pub struct WriterSink<W: Write + Drop> {
     writer: W,
@@ -36,7 +38,7 @@ impl<W: Write + Drop> WriterSink<W> {
 }
 
 impl<W: Write + Drop> Sink for WriterSink<W> {
-    ghost written = { λ _. None };
+    ghost written = { λ sink. W.contents sink.writer };
 
     ghost fault_count = { λ sink. sink.faults };
 

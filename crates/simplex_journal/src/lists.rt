@@ -1,5 +1,5 @@
 //! The records of one section.
-ghost use Rattle.std.specs.Prelude.{◌≡◌, ◌≤◌, ◌++◌, ◌∷◌, [], OnOk, OnErr, IfOk, take, drop, vec_len};
+ghost use Rattle.std.specs.Prelude.{◌≡◌, ◌≤◌, ◌++◌, ◌∷◌, [], OnOk, OnErr, take, drop, vec_len};
 ghost use Rattle.simplex_journal.specs.Memory.{Lists};
 
 use simplex_values::Keep;

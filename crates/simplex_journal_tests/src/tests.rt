@@ -1,6 +1,6 @@
 //! A stop over any journal, and each call failing in turn beside a plain list of lines.
-ghost use Rattle.std.specs.Prelude.{◌≡◌, ◌≤◌, ◌∷◌, [], IfOk, IsErrOf};
-ghost use Rattle.simplex_journal.specs.Faults.{Rose};
+ghost use Rattle.std.specs.Prelude.{◌≡◌, ◌∷◌, [], IfOk};
+ghost use Rattle.simplex_journal.specs.Faults.{Counts};
 
 use simplex_journal::{Journal, JournalError, MemoryJournal};
 use simplex_values::{Epoch, Round, View};
@@ -25,8 +25,7 @@ fn replay_after_stop<J: Journal>(
 ) -> Result<Vec<Artifact>, JournalError>
     requires { J.sections journal.old ≡ [] }
     ensures records { IfOk result (λ records. records.items ≡ first.now ∷ []) }
-    ensures later { J.fault_count journal.old ≤ J.fault_count journal.new }
-    ensures failed { IsErrOf result JournalError.Failed → Rose (J.fault_count journal.old) (J.fault_count journal.new) }
+    ensures faults { Counts (J.fault_count journal.old) result (J.fault_count journal.new) }
 {
     journal.append(alloc, 2, first)?;
     journal.append(alloc, 1, second)?;

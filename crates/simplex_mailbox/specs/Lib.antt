@@ -1,4 +1,5 @@
 pub mod Mail
 pub mod Pending
 pub mod Post
+pub mod Samples
 pub mod Waiting

@@ -12,6 +12,7 @@ mod pending;
 mod policy;
 mod post;
 mod requested;
+mod samples;
 
 pub use laws::{all_goes_in_turn, order_is_kept, place_is_forgotten, posted_are_enqueued};
 pub use mailbox::Mailbox;
@@ -20,3 +21,4 @@ pub use pending::Pending;
 pub use policy::Policy;
 pub use post::Post;
 pub use requested::Requested;
+pub use samples::{mail_comes_and_goes, waiting_goes_in_turn};

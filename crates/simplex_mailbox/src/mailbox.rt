@@ -1,5 +1,5 @@
 //! A bounded mailbox for one thread.
-ghost use Rattle.std.specs.Prelude.{◌≡◌, ◌-◌, ◌<◌, ◌≤◌, ◌↔◌, ◌++◌, length, IsTrue, IsNone, IsOk, IfOk, OnOk, OnErr};
+ghost use Rattle.std.specs.Prelude.{◌≡◌, ◌-◌, ◌<◌, ◌≤◌, ◌↔◌, ◌++◌, length, IsTrue, IsNone, IfOk, OnOk, OnErr};
 ghost use Rattle.std.specs.VecDeque.{deque_capacity};
 ghost use Rattle.simplex_values.specs.declared.feedback.Feedback.TheVariants as feedback;
 ghost use Rattle.simplex_mailbox.specs.Waiting.{is_clear, drained, undrained};

@@ -1,5 +1,5 @@
 //! What waits for room in a mailbox.
-ghost use Rattle.std.specs.Prelude.{◌≡◌, ℕ};
+ghost use Rattle.std.specs.Prelude.{◌≡◌};
 ghost use Rattle.simplex_mailbox.specs.Waiting.{Waiting, nothing, is_clear, front, in_turn, undrained, without};
 
 use crate::requested::Requested;

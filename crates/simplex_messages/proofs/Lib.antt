@@ -1,5 +1,6 @@
 pub mod ByKind
 pub mod Finality
+pub mod Halves
 pub mod Replays
 pub mod Twice
 pub mod Updates

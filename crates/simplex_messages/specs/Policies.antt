@@ -9,9 +9,8 @@ use Rattle.simplex_wire.specs.declared.certificate.Certificate.{Certificate}
 use Rattle.simplex_wire.specs.declared.certificate.Certificate.TheVariants as certificates
 use Rattle.simplex_wire.specs.declared.vote.Vote.{Vote}
 use Rattle.simplex_wire.specs.declared.vote.Vote.TheVariants as votes
-use Rattle.simplex_wire.specs.declared.certificate.CertificateKind.{CertificateKind}
-use Rattle.simplex_wire.specs.declared.certificate.CertificateKind.TheVariants as kinds
-use Rattle.simplex_wire.specs.Fields.{certificate_subject, certificate_kind, subject_round, vote_subject}
+use Rattle.simplex_wire.specs.Fields.{certificate_kind}
+pub use Rattle.simplex_wire.specs.Fields.{certificate_view, vote_kind, vote_view}
 use Rattle.simplex_rules.specs.Known.{is_same_kind}
 use Rattle.simplex_mailbox.specs.Waiting.{Waiting, put_last}
 use Rattle.simplex_messages.specs.declared.batcher.Message as batcher_message
@@ -25,22 +24,10 @@ use Rattle.simplex_messages.specs.declared.resolver.HandlerMessage.TheVariants a
 
 -- ---- what certificates and votes are about
 
-abbrev pub certificate_view : Certificate → ℕ
-certificate_view certificate = (subject_round (certificate_subject certificate)).view
-
-abbrev pub vote_view : Vote → ℕ
-vote_view vote = (subject_round (vote_subject vote)).view
-
 -- whether it finalizes
 abbrev pub is_finalization : Certificate → Bool
 is_finalization (certificates.Finalization c) = true
 is_finalization _ = false
-
--- which of the three votes it is
-abbrev pub vote_kind : Vote → CertificateKind
-vote_kind (votes.Notarize v) = kinds.Notarization
-vote_kind (votes.Nullify v) = kinds.Nullification
-vote_kind (votes.Finalize v) = kinds.Finalization
 
 -- whether two certificates are of one view and kind
 abbrev pub are_alike : Certificate → Certificate → Bool

@@ -1,9 +1,9 @@
 //! Messages that are about the same.
 ghost use Rattle.std.specs.Prelude.{◌≡◌};
 ghost use Rattle.simplex_rules.specs.Known.{is_same_kind};
-ghost use Rattle.simplex_messages.specs.Policies.{are_alike, are_same_ask, vote_kind};
+ghost use Rattle.simplex_messages.specs.Policies.{are_alike, are_same_ask};
 
-use simplex_types::{Certificate, CertificateKind, Kind, Vote};
+use simplex_types::{Certificate, CertificateKind, Kind};
 
 /// Whether both are one kind.
 pub(crate) fn is_same_kind(a: CertificateKind, b: CertificateKind) -> bool
@@ -32,16 +32,5 @@ pub(crate) fn are_same_ask(a: Kind, b: Kind) -> bool
         (Kind::Nullification, Kind::Nullification) => true,
         (Kind::Notarization, Kind::Notarization) => true,
         _ => false,
-    }
-}
-
-/// Which of the three votes it is.
-pub(crate) fn kind_of(vote: &Vote) -> CertificateKind
-    ensures { result ≡ vote_kind vote.now }
-{
-    match vote {
-        Vote::Notarize(_) => CertificateKind::Notarization,
-        Vote::Nullify(_) => CertificateKind::Nullification,
-        Vote::Finalize(_) => CertificateKind::Finalization,
     }
 }

@@ -84,10 +84,20 @@ fn keep_beside<M: ByView>(rest: &mut VecDeque<M>, last: &M)
 }
 
 /// Whether one is queued that stands for the message.
+#[tactic(auto, using(crate::proofs::Halves::any_of_both))]
 fn has_one_for<M: ByView>(rest: &VecDeque<M>, message: &M) -> bool
     ensures { result ≡ list_any (λ queued. M.stands_for queued message.now) rest.now.items }
 {
-    rest.iter().any(|queued| queued.stands_for(message))
+    // Two slices are gone through faster than a queue.
+    let (front, back) = rest.as_slices();
+    is_one_for(front, message) || is_one_for(back, message)
+}
+
+/// Whether one of them stands for the message.
+fn is_one_for<M: ByView>(queued: &[M], message: &M) -> bool
+    ensures { result ≡ list_any (λ queued. M.stands_for queued message.now) queued.now }
+{
+    queued.iter().any(|queued| queued.stands_for(message))
 }
 
 /// Lets each take up what the message says beyond it.

@@ -1,12 +1,13 @@
 //! What a step gives, and where it stops.
-ghost use Rattle.std.specs.Prelude.{◌≡◌};
-ghost use Rattle.simplex_messages.specs.Step.{no_out};
+ghost use Rattle.std.specs.Prelude.{◌≡◌, MatchResult};
+ghost use Rattle.simplex_messages.specs.declared.call.Call.TheVariants.{Block};
+ghost use Rattle.simplex_messages.specs.Step.{no_out, with_call};
 
 use crate::call::Call;
 use crate::handed::Handed;
 use simplex_rules::Asked;
-use simplex_types::{Certificate, Sequence};
-use std::alloc::Global;
+use simplex_types::{Blocker, Certificate, Participant, Sequence};
+use std::alloc::{AllocError, Global};
 
 /// All that a step does.
 #[derive(Debug, PartialEq, Eq, Drop)]
@@ -46,6 +47,15 @@ impl StepOut {
         self.dropped.clear();
         self.handed.clear();
         self.calls.clear();
+    }
+}
+
+impl Blocker for StepOut {
+    // The call is noted behind the others, or nothing is for want of memory.
+    ghost blocks = { λ before member answer after. MatchResult answer (λ _. after ≡ with_call (Block member) before) (λ _. after ≡ before) };
+
+    fn block(&mut self, member: Participant) -> Result<(), AllocError> {
+        self.calls.push(Call::Block(member))
     }
 }
 

@@ -2,7 +2,7 @@
 use Rattle.std.specs.Prelude.{ℕ, zero, suc, nat_le, Bool, false, Option}
 use Rattle.std.specs.Option.{option_or, option_map_or}
 use Rattle.simplex_repair.specs.declared.taken.Taken.{Taken}
-use Rattle.simplex_repair.specs.Maps.{found}
+use Rattle.simplex_values.specs.Maps.{found}
 
 -- the last view of the range whose first view is the greatest up to this one
 unfoldable pub last_at : (ℕ → Option ℕ) → ℕ → Option ℕ

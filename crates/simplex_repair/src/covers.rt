@@ -1,13 +1,14 @@
 //! The nullifications that cover views: of each term the one of the least view.
-#![tactic(auto, unfolding(crate::specs::Maps::found, crate::specs::Maps::reaching, simplex_values::specs::Covers::covers))]
+#![tactic(auto, unfolding(simplex_values::specs::Maps::found, crate::specs::Maps::reaching, simplex_values::specs::Covers::covers))]
 
 ghost use Rattle.std.specs.Prelude.{◌≡◌, ℕ, ◌&&◌, nat_lt, true, Some, if◌then◌else◌, OnOk, IfOk};
 ghost use Rattle.std.specs.Option.{is_some, option_map_or};
 ghost use Rattle.simplex_values.specs.Terms.{term_index};
 ghost use Rattle.simplex_values.specs.Covers.{covers};
-ghost use Rattle.simplex_repair.specs.Maps.{found, reaching};
+ghost use Rattle.simplex_values.specs.Maps.{found};
+ghost use Rattle.simplex_repair.specs.Maps.{reaching};
 
-use crate::maps::{copy_at, put};
+use simplex_values::maps::{copy_at, put};
 use simplex_values::{Keep, TermLength, View};
 use simplex_wire::Nullification;
 use std::alloc::{AllocError, Global};

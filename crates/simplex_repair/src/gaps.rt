@@ -8,10 +8,10 @@ ghost use Rattle.simplex_rules.specs.Repair.{RepairCall, is_gap, is_first_above,
 ghost use Rattle.simplex_repair.specs.Gaps.{gaps_between, asked_to};
 ghost use Rattle.simplex_repair.specs.Stands.{StandsFor, Answers};
 
-use crate::maps::{contains, first_from};
 use crate::notes::later;
 use crate::repair::RepairState;
 use simplex_rules::Effect;
+use simplex_values::maps::{contains, first_from};
 use simplex_values::{TermLength, View};
 use std::alloc::AllocError;
 

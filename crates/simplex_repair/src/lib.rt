@@ -9,7 +9,6 @@ mod covers;
 mod effects;
 mod gaps;
 mod laws;
-mod maps;
 mod notes;
 mod repair;
 mod taken;

@@ -9,9 +9,9 @@ ghost use Rattle.simplex_rules.specs.Repair.{Updated, Certified, Replayed};
 ghost use Rattle.simplex_repair.specs.Stands.{Takes};
 
 use crate::covers::cover;
-use crate::maps::{add, drop_below, remove_below};
 use crate::repair::RepairState;
 use crate::taken::hold;
+use simplex_values::maps::{add, drop_below, remove_below};
 use simplex_values::{Keep, View};
 use simplex_wire::{Finalization, Notarization, Nullification};
 use std::alloc::AllocError;

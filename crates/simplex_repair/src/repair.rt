@@ -6,12 +6,12 @@ ghost use Rattle.std.specs.Option.{option_map};
 ghost use Rattle.simplex_wire.specs.Message as messages;
 ghost use Rattle.simplex_wire.specs.declared.certificate.Certificate.TheVariants as certificates;
 ghost use Rattle.simplex_rules.specs.Repair.{RepairCall, is_final, is_nullified, is_settled, is_key_settled, is_uncertifiable, is_failed, final_view, produced};
-ghost use Rattle.simplex_repair.specs.Maps.{found};
+ghost use Rattle.simplex_values.specs.Maps.{found};
 ghost use Rattle.simplex_repair.specs.Stands.{StandsFor, Answers};
 
 use crate::covers::{copy_covering, is_covered};
-use crate::maps::{contains, copy_at, empty_map, empty_set};
 use crate::taken::Taken;
+use simplex_values::maps::{contains, copy_at, empty_map, empty_set};
 use simplex_values::{Keep, Kind, TermLength, View};
 use simplex_wire::{Certificate, Finalization, Notarization, Nullification};
 use std::alloc::{AllocError, Global};

@@ -1,12 +1,12 @@
 //! Views as ranges, so that a long row of views takes the room of one.
-#![tactic(auto, unfolding(crate::specs::Maps::found, crate::specs::Taken::is_taken))]
+#![tactic(auto, unfolding(simplex_values::specs::Maps::found, crate::specs::Taken::is_taken))]
 
 ghost use Rattle.std.specs.Prelude.{◌≡◌, ◌≤◌, ◌<◌, ◌+◌, ◌==◌, ◌||◌, ◌&&◌, ℕ, max, not, false, IfSome, IfNone, None, Some, if◌then◌else◌, true, unwrap_or, OnOk};
 ghost use Rattle.std.specs.Option.{is_some, option_map};
-ghost use Rattle.simplex_repair.specs.Maps.{found};
+ghost use Rattle.simplex_values.specs.Maps.{found};
 ghost use Rattle.simplex_repair.specs.Taken.{is_taken, last_at, reaches};
 
-use crate::maps::put;
+use simplex_values::maps::put;
 use std::alloc::{AllocError, Global};
 use std::collections::BTreeMap;
 
@@ -19,7 +19,7 @@ pub(crate) struct Taken {
 
 impl Taken {
     /// No views.
-    #[tactic(auto, unfolding(crate::specs::Maps::found, crate::specs::Taken::is_taken, crate::specs::Taken::reaches), using(crate::proofs::Spans::last_none))]
+    #[tactic(auto, unfolding(simplex_values::specs::Maps::found, crate::specs::Taken::is_taken, crate::specs::Taken::reaches), using(crate::proofs::Spans::last_none))]
     pub(crate) fn new(alloc: Global) -> Taken
         ensures { (q : ℕ) → is_taken result q ≡ false }
     {

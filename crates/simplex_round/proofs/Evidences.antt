@@ -6,7 +6,6 @@ use Rattle.simplex_wire.specs.declared.vote.Vote.{Vote}
 use Rattle.simplex_wire.specs.declared.vote.Vote.TheVariants as votes
 use Rattle.simplex_round.specs.declared.ballot.Ballot.{Ballot}
 use Rattle.simplex_round.specs.declared.evidence.Evidence.{Evidence}
-use Rattle.simplex_round.specs.declared.evidence.Evidence.TheVariants as proofs
 use Rattle.simplex_round.specs.Votes.{vote_kind, vote_signer}
 use Rattle.simplex_round.specs.Known.{Known, side_of, ballot_of}
 use Rattle.simplex_round.specs.Acceptance.{evidence_of}

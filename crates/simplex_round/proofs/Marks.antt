@@ -1,5 +1,5 @@
 -- What one pass over the accepted votes leaves.
-use Rattle.std.proofs.Common.{rules, arith, ℕ, ◌≡◌, List, [], ◌∷◌, Bool, true, refl, map, filter, drop, if◌then◌else◌}
+use Rattle.std.proofs.Common.{arith, ℕ, ◌≡◌, List, [], ◌∷◌, Bool, true, refl, map, filter, drop, if◌then◌else◌}
 use Rattle.std.proofs.lemmas.Grind.{common_steps}
 use Rattle.std.specs.List.{slice_get}
 use Rattle.std.specs.Map.{values_of}

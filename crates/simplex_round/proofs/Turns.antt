@@ -1,5 +1,5 @@
 -- One turn of a loop that adds to a list what the item gives.
-use Rattle.std.proofs.Common.{rules, arith, ◌≡◌, List, [], ◌∷◌, ◌++◌, append_assoc, Bool, map, filter, if◌then◌else◌}
+use Rattle.std.proofs.Common.{arith, ◌≡◌, List, [], ◌∷◌, ◌++◌, append_assoc, Bool, map, filter, if◌then◌else◌}
 use Rattle.std.proofs.lemmas.Grind.{common_steps}
 use Rattle.std.specs.Prelude.{◌&&◌}
 use Rattle.simplex_values.specs.declared.proposal.Subject.{Subject}

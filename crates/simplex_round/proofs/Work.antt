@@ -1,5 +1,5 @@
 -- What is done for a kind is the work that the definitions name.
-use Rattle.std.proofs.Common.{rules, arith, refl, ◌≡◌, ℕ, List, [], ◌∷◌, Bool, true, length, map, filter, nat_lt, nat_le}
+use Rattle.std.proofs.Common.{arith, refl, ◌≡◌, ℕ, List, [], ◌∷◌, Bool, true, length, map, filter, nat_lt, nat_le}
 use Rattle.std.proofs.lemmas.Grind.{common_steps}
 use Rattle.std.specs.Prelude.{not, ◌||◌, Option, Some}
 use Rattle.std.specs.Option.{is_some}

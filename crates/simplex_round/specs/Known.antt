@@ -1,5 +1,5 @@
 -- What a round is made with, and what is known in it.
-use Rattle.std.specs.Prelude.{ℕ, ◌==◌, Bool, false, List, [], find, Option, Some, None}
+use Rattle.std.specs.Prelude.{ℕ, ◌==◌, Bool, false, List, [], find, Option, None}
 use Rattle.simplex_values.specs.declared.round.Round.{Round}
 use Rattle.simplex_wire.specs.declared.certificate.Notarization.{Notarization}
 use Rattle.simplex_wire.specs.declared.certificate.Nullification.{Nullification}

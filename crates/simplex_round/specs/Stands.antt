@@ -1,5 +1,5 @@
 -- Which histories a round stands for.
-use Rattle.std.specs.Prelude.{◌≡◌, List, ◌∷◌, ◌++◌}
+use Rattle.std.specs.Prelude.{◌≡◌, List, ◌∷◌, ◌++◌, ◌⊎◌}
 use Rattle.simplex_round.specs.declared.batch.RoundOut.{RoundOut}
 use Rattle.simplex_round.specs.Known.{Made, Known, Standing}
 use Rattle.simplex_round.specs.Acceptance.{Heard}
@@ -29,3 +29,14 @@ AddsReports round old new heard =
 abbrev pub AddsBlocks : Standing → RoundOut → RoundOut → (Known → Heard) → Type 0
 AddsBlocks round old new heard =
     (made : Made) (calls : List Call) → StandsFor round made calls → new.blocks ≡ old.blocks ++ (heard (known_after made calls)).blocks
+
+-- all of the list was added, or nothing
+abbrev pub AddsAllOrNothing : {A : Type 0} → List A → List A → List A → Type 0
+AddsAllOrNothing added old new = (new ≡ old) ⊎ (new ≡ old ++ added)
+
+-- whatever history the round stands for, of the rule's reports all are added to what goes out or none, and so of its blocks
+abbrev pub AddsInPart : Standing → RoundOut → RoundOut → (Known → Heard) → Type 0
+AddsInPart round old new heard =
+    (made : Made) (calls : List Call) → StandsFor round made calls
+    → AddsAllOrNothing (heard (known_after made calls)).reports old.reports new.reports
+    × AddsAllOrNothing (heard (known_after made calls)).blocks old.blocks new.blocks

@@ -1,5 +1,5 @@
 -- What votes and certificates have in common.
-use Rattle.std.specs.Prelude.{ℕ, Bool, true, false, List, Option, Some, None}
+use Rattle.std.specs.Prelude.{Bool, true, false, List, Option, Some, None}
 use Rattle.simplex_values.specs.declared.proposal.Proposal.{Proposal}
 use Rattle.simplex_values.specs.declared.proposal.Subject.{Subject}
 use Rattle.simplex_values.specs.declared.proposal.Subject.TheVariants as subjects
@@ -9,9 +9,7 @@ use Rattle.simplex_wire.specs.declared.vote.Vote.{Vote}
 use Rattle.simplex_wire.specs.declared.vote.Vote.TheVariants as votes
 use Rattle.simplex_wire.specs.declared.certificate.Certificate.{Certificate}
 use Rattle.simplex_wire.specs.declared.certificate.Certificate.TheVariants as certificates
-use Rattle.simplex_wire.specs.declared.certificate.CertificateKind.{CertificateKind}
-use Rattle.simplex_wire.specs.declared.certificate.CertificateKind.TheVariants as kinds
-use Rattle.simplex_wire.specs.Fields.{vote_attestation}
+pub use Rattle.simplex_wire.specs.Fields.{vote_kind, vote_signer}
 
 -- whether two subjects are one
 abbrev pub is_same_subject : Subject → Subject → Bool
@@ -25,16 +23,6 @@ abbrev pub vote_proposal : Vote → Option Proposal
 vote_proposal (votes.Notarize v) = Some v.proposal
 vote_proposal (votes.Nullify v) = None
 vote_proposal (votes.Finalize v) = Some v.proposal
-
--- the certificate that votes of the kind make
-abbrev pub vote_kind : Vote → CertificateKind
-vote_kind (votes.Notarize v) = kinds.Notarization
-vote_kind (votes.Nullify v) = kinds.Nullification
-vote_kind (votes.Finalize v) = kinds.Finalization
-
--- whose vote it is
-abbrev pub vote_signer : Vote → ℕ
-vote_signer vote = (vote_attestation vote).signer
 
 -- whether it is a nullify
 abbrev pub is_nullify : Vote → Bool

@@ -10,14 +10,14 @@ ghost use Rattle.simplex_round.specs.Assembly.{as_scheme, batch_of, work_of, wor
 ghost use Rattle.simplex_round.specs.Ballots.{marked};
 ghost use Rattle.std.specs.Option.{option_map, is_some};
 ghost use Rattle.simplex_round.specs.Calls.{AddNetwork, AcceptVote, SetLeader, RecordCertificate, TryConstruct, TryForward};
-ghost use Rattle.simplex_round.specs.Stands.{StandsFor, Takes, Stays, Answers, AddsReports, AddsBlocks};
+ghost use Rattle.simplex_round.specs.Stands.{StandsFor, Takes, Stays, Answers, AddsReports, AddsBlocks, AddsInPart, AddsAllOrNothing};
 
 use crate::accused::Accused;
 use crate::assembly::assemble;
 use crate::ballots::Ballots;
 use crate::batch::{Batch, RoundOut};
 use crate::evidence::Evidence;
-use crate::votes::{self, activity_of, is_another, is_same_subject, kind_of};
+use crate::votes::{self, activity_of, is_another, is_same_subject};
 use simplex_values::{Keep, Participant, Proposal, Round as ViewRound, Subject};
 use simplex_wire::{
     Certificate, CertificateKind, Finalization, Notarization, Nullification, Scheme, Vote,
@@ -102,7 +102,8 @@ impl Round {
         }
     }
 
-    /// Takes a vote from the network: whether it is accepted. A sender that is not its signer is blocked.
+    /// Takes a vote from the network: whether it is accepted. A sender that is not its signer is blocked. For
+    /// want of memory the round stays as it was, and `out` may have what was to be reported or blocked.
     #[tactic(auto, unfolding(crate::specs::Stands::StandsFor, crate::specs::Calls::known_after, crate::specs::Calls::after_call, crate::specs::Acceptance::heard_from))]
     pub fn add_network(
         &mut self,
@@ -114,6 +115,7 @@ impl Round {
         ensures answer { IfOk result (Answers self.old (λ made known. (heard_from known sender vote).accepted)) }
         ensures reports { OnOk result (AddsReports self.old out.old out.new (λ known. heard_from known sender vote)) }
         ensures blocks { OnOk result (AddsBlocks self.old out.old out.new (λ known. heard_from known sender vote)) }
+        ensures in_part { OnErr result (AddsInPart self.old out.old out.new (λ known. heard_from known sender vote)) }
         ensures err { OnErr result (Stays self.old self.new) }
     {
         if vote.signer() != sender {
@@ -123,11 +125,13 @@ impl Round {
         self.hear(vote, out)
     }
 
-    /// Takes an own vote, which has no sender.
+    /// Takes an own vote, which has no sender. For want of memory the round stays as it was, and `out` may have
+    /// what was to be reported or blocked.
     pub fn accept_vote(&mut self, vote: Vote, out: &mut RoundOut) -> Result<(), AllocError>
         ensures stands { OnOk result (Takes self.old self.new (AcceptVote vote)) }
         ensures reports { OnOk result (AddsReports self.old out.old out.new (λ known. heard known vote)) }
         ensures blocks { OnOk result (AddsBlocks self.old out.old out.new (λ known. heard known vote)) }
+        ensures in_part { OnErr result (AddsInPart self.old out.old out.new (λ known. heard known vote)) }
         ensures err { OnErr result (Stays self.old self.new) }
     {
         let _accepted = self.hear(vote, out)?;
@@ -155,7 +159,7 @@ impl Round {
     {
         match self.others.get(member) {
             None => false,
-            Some(ballot) => kind_of(&ballot.vote) == CertificateKind::Nullification,
+            Some(ballot) => ballot.vote.kind() == CertificateKind::Nullification,
         }
     }
 
@@ -186,9 +190,11 @@ impl Round {
         ensures answer { IfOk result (λ accepted. accepted ≡ (heard self.old.known vote).accepted) }
         ensures reports { OnOk result (out.new.reports ≡ out.old.reports ++ (heard self.old.known vote).reports) }
         ensures blocks { OnOk result (out.new.blocks ≡ out.old.blocks ++ (heard self.old.known vote).blocks) }
+        ensures some_reports { OnErr result (AddsAllOrNothing (heard self.old.known vote).reports out.old.reports out.new.reports) }
+        ensures some_blocks { OnErr result (AddsAllOrNothing (heard self.old.known vote).blocks out.old.blocks out.new.blocks) }
         ensures err { OnErr result (self.new ≡ self.old) }
     {
-        let Some(accepted) = self.side(kind_of(&vote)).get(vote.signer()) else {
+        let Some(accepted) = self.side(vote.kind()).get(vote.signer()) else {
             out.reports.push(activity_of(&vote))?;
             self.accept(vote)?;
             return Ok(true);
@@ -206,7 +212,7 @@ impl Round {
         ensures known { OnOk result (self.new ≡ record self.old { known = with_accepted self.old.known vote }) }
         ensures err { OnErr result (self.new ≡ self.old) }
     {
-        match kind_of(&vote) {
+        match vote.kind() {
             CertificateKind::Notarization => self.notarizes.accept(vote),
             CertificateKind::Nullification | CertificateKind::Finalization => {
                 self.others.accept(vote)
@@ -225,6 +231,8 @@ impl Round {
         ensures known { OnOk result (self.new ≡ record self.old { known = (accused self.old.known signer (Some evidence)).known }) }
         ensures reports { OnOk result (out.new.reports ≡ out.old.reports ++ (accused self.old.known signer (Some evidence)).reports) }
         ensures blocks { OnOk result (out.new.blocks ≡ out.old.blocks ++ (accused self.old.known signer (Some evidence)).blocks) }
+        ensures some_reports { OnErr result (AddsAllOrNothing (accused self.old.known signer (Some evidence)).reports out.old.reports out.new.reports) }
+        ensures some_blocks { OnErr result (AddsAllOrNothing (accused self.old.known signer (Some evidence)).blocks out.old.blocks out.new.blocks) }
         ensures err { OnErr result (self.new ≡ self.old) }
     {
         if self.accused.has(&evidence) {

@@ -6,9 +6,7 @@ ghost use Rattle.simplex_round.specs.Acceptance.{vote_activity};
 
 use simplex_types::Activity;
 use simplex_values::{Proposal, Subject};
-use simplex_wire::{
-    Certificate, CertificateKind, Finalization, Notarization, Nullification, Signatures, Vote,
-};
+use simplex_wire::{Certificate, Finalization, Notarization, Nullification, Signatures, Vote};
 
 /// Whether two subjects are one.
 pub fn is_same_subject(a: &Subject, b: &Subject) -> bool
@@ -19,17 +17,6 @@ pub fn is_same_subject(a: &Subject, b: &Subject) -> bool
         (Subject::Nullify(r), Subject::Nullify(s)) => r == s,
         (Subject::Finalize(p), Subject::Finalize(q)) => p.is_same(q),
         _ => false,
-    }
-}
-
-/// The certificate that votes of its kind make.
-pub fn kind_of(vote: &Vote) -> CertificateKind
-    ensures { result ≡ votes.vote_kind vote.now }
-{
-    match vote {
-        Vote::Notarize(_) => CertificateKind::Notarization,
-        Vote::Nullify(_) => CertificateKind::Nullification,
-        Vote::Finalize(_) => CertificateKind::Finalization,
     }
 }
 

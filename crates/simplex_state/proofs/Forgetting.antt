@@ -22,7 +22,7 @@ use Rattle.simplex_state.specs.declared.missing.Missing.{Missing}
 use Rattle.simplex_state.specs.declared.progress.Progress.{Progress}
 use Rattle.simplex_state.specs.declared.state.State.{State}
 use Rattle.simplex_values.specs.Terms.{next_term_start, term_index}
-use Rattle.simplex_state.specs.Maps.{found, has}
+use Rattle.simplex_values.specs.Maps.{found, has}
 use Rattle.simplex_state.specs.Missing.{is_asked}
 use Rattle.simplex_state.specs.Rounds.{round_in, learn_round}
 use Rattle.simplex_state.specs.Progress.{progress_of, learn_progress, opens, ends}

@@ -29,7 +29,7 @@ use Rattle.simplex_state.specs.declared.progress.Progress.{Progress}
 use Rattle.simplex_state.specs.declared.state.State.{State}
 use Rattle.simplex_values.specs.Terms.{next_of, next_term_start}
 use Rattle.simplex_values.specs.Covers.{covers}
-use Rattle.simplex_state.specs.Maps.{found, has}
+use Rattle.simplex_values.specs.Maps.{found, has}
 use Rattle.simplex_state.specs.Missing.{is_asked}
 use Rattle.simplex_state.specs.Rounds.{round_in, learn_round}
 use Rattle.simplex_state.specs.Progress.{progress_of, learn_progress, opens, ends}

@@ -16,7 +16,7 @@ use Rattle.simplex_rules.specs.Views.{last_finalized, current_of, least_active}
 use Rattle.simplex_rules.specs.Ancestry.{has_true_verdict}
 use Rattle.simplex_rules.specs.Best.{opening_nullification, greater, best_certificate}
 use Rattle.simplex_state.specs.declared.state.State.{State}
-use Rattle.simplex_state.specs.Maps.{found}
+use Rattle.simplex_values.specs.Maps.{found}
 use Rattle.simplex_state.specs.Progress.{progress_of}
 use Rattle.simplex_state.specs.Certificates.{held_nullification, certificate_in}
 use Rattle.simplex_state.specs.Stands.{Keeps}

@@ -10,7 +10,7 @@ use Rattle.simplex_rules.specs.Known.{Made, Fact, notarization_of}
 use Rattle.simplex_rules.specs.Requests.{is_unjudged}
 use Rattle.simplex_state.specs.declared.rounds.RoundRecord.{RoundRecord}
 use Rattle.simplex_state.specs.declared.state.State.{State}
-use Rattle.simplex_state.specs.Maps.{has}
+use Rattle.simplex_values.specs.Maps.{has}
 use Rattle.simplex_state.specs.Rounds.{round_in, learn_round}
 use Rattle.simplex_state.specs.Progress.{progress_of, learn_progress}
 use Rattle.simplex_state.specs.Stands.{Keeps}

@@ -17,7 +17,7 @@ use Rattle.simplex_rules.specs.Known.{Made, Fact, Added, CertifyAsked, ParentAsk
 use Rattle.simplex_rules.specs.Calls.{CertifyCandidates, facts_of}
 use Rattle.simplex_rules.specs.Requests.{is_parent_in, is_unjudged, may_certify, lacks_parent, notarizations_of, certify_requests, parent_fetches}
 use Rattle.simplex_rules.specs.Ancestry.{is_certified}
-use Rattle.simplex_state.specs.Maps.{has}
+use Rattle.simplex_values.specs.Maps.{has}
 use Rattle.simplex_state.specs.Certifying.{proposal_to_certify, parent_to_fetch, certify_at, fetch_at, open_at, is_lacking}
 use Rattle.simplex_state.proofs.Gathering.{rises, is_listed, known_rise, known_at, gathers, given}
 

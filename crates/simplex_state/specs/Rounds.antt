@@ -2,7 +2,7 @@
 use Rattle.std.specs.Prelude.{ℕ, ◌==◌, ◌&&◌, ◌||◌, not, Bool, true, false, List, Option, Some, None, unwrap_or, if◌then◌else◌}
 use Rattle.std.specs.List.{list_any}
 use Rattle.std.specs.Option.{option_or, option_map, option_map_or, is_none}
-use Rattle.simplex_state.specs.Maps.{found}
+use Rattle.simplex_values.specs.Maps.{found}
 use Rattle.std.specs.BTreeMap.{BTreeMap}
 use Rattle.simplex_values.specs.declared.proposal.Proposal.{Proposal}
 use Rattle.simplex_values.specs.Proposal.{is_same_proposal}

@@ -20,7 +20,7 @@ use Rattle.simplex_rules.specs.Calls.{Call, known_of, unsent_notarization, unsen
 use Rattle.simplex_state.specs.declared.config.StateConfig.{StateConfig}
 use Rattle.simplex_state.specs.declared.settings.Settings.{Settings}
 use Rattle.simplex_state.specs.declared.state.State.{State}
-use Rattle.simplex_state.specs.Maps.{found, has}
+use Rattle.simplex_values.specs.Maps.{found, has}
 use Rattle.simplex_state.specs.Missing.{is_asked}
 use Rattle.simplex_state.specs.Rounds.{round_in, round_of, is_named}
 use Rattle.simplex_state.specs.Progress.{progress_of}

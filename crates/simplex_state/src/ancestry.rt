@@ -10,10 +10,10 @@ ghost use Rattle.simplex_rules.specs.Requests.{is_superseded, is_abandoned};
 ghost use Rattle.simplex_state.specs.Progress.{progress_of};
 ghost use Rattle.simplex_state.specs.Stands.{Answers, Keeps, covered_in};
 
-use crate::maps::{contains, last_up_to};
 use crate::rounds::round_at;
 use crate::state::State;
 use simplex_types::elector::Elector;
+use simplex_values::maps::{contains, last_up_to};
 use simplex_values::{Context, TermLength, View};
 use simplex_wire::Scheme;
 use std::collections::BTreeMap;
@@ -137,7 +137,7 @@ fn gap_from(
 }
 
 /// Whether the view's term has a nullified view that is not later.
-#[tactic(auto, unfolding(crate::specs::Stands::covered_in, crate::specs::Maps::found))]
+#[tactic(auto, unfolding(crate::specs::Stands::covered_in, simplex_values::specs::Maps::found))]
 fn is_covered(covered: &BTreeMap<u64, u64>, length: TermLength, view: View) -> bool
     ensures { result ≡ covered_in length covered.now view }
 {

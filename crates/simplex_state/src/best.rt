@@ -9,14 +9,14 @@ ghost use Rattle.simplex_rules.specs.Views.{current_of};
 ghost use Rattle.simplex_rules.specs.Ancestry.{has_true_verdict};
 ghost use Rattle.simplex_rules.specs.Best.{opening_nullification, best_certificate};
 ghost use Rattle.simplex_rules.specs.Calls.{Call, known_of};
-ghost use Rattle.simplex_state.specs.Maps.{found};
+ghost use Rattle.simplex_values.specs.Maps.{found};
 ghost use Rattle.simplex_state.specs.Progress.{progress_of};
 ghost use Rattle.simplex_state.specs.Stands.{StandsFor, Answers, Keeps};
 
 use crate::held::copy_at;
-use crate::maps::{contains, last_below, last_view};
 use crate::state::State;
 use simplex_types::elector::Elector;
+use simplex_values::maps::{contains, last_below, last_view};
 use simplex_values::{View, ViewDelta};
 use simplex_wire::{Certificate, Finalization, Notarization, Nullification, Scheme};
 use std::alloc::AllocError;

@@ -7,7 +7,7 @@ ghost use Rattle.simplex_rules.specs.declared.request.CertificateFetch.{Certific
 ghost use Rattle.simplex_rules.specs.Known.{Made, Fact, CertifyAsked, ParentAsked, view_of};
 ghost use Rattle.simplex_rules.specs.Requests.{certify_requests, parent_fetches};
 ghost use Rattle.simplex_rules.specs.Calls.{CertifyCandidates};
-ghost use Rattle.simplex_state.specs.Maps.{has};
+ghost use Rattle.simplex_values.specs.Maps.{has};
 ghost use Rattle.simplex_state.specs.Rounds.{round_in, is_open};
 ghost use Rattle.simplex_state.specs.Certifying.{certify_at, fetch_at, open_at, is_lacking};
 ghost use Rattle.simplex_state.specs.Progress.{progress_of};

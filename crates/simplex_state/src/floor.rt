@@ -12,11 +12,11 @@ ghost use Rattle.simplex_state.specs.Floor.{keeps_floor};
 ghost use Rattle.simplex_state.specs.Stands.{StandsFor, Takes, Answers, Keeps};
 
 use crate::held::{forget_opened, forget_sent, mark_sent};
-use crate::maps::{drop_below, remove_below};
 use crate::rounds::{drop_rounds, put_round, round_at};
 use crate::state::State;
 use simplex_types::Floor;
 use simplex_types::elector::Elector;
+use simplex_values::maps::{drop_below, remove_below};
 use simplex_values::{Digest, Keep, View};
 use simplex_wire::{Finalization, Scheme};
 use std::alloc::AllocError;

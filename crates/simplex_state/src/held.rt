@@ -1,13 +1,13 @@
 //! Certificates that are held, and whether they were sent.
-#![tactic(auto, unfolding(crate::specs::Maps::found))]
+#![tactic(auto, unfolding(simplex_values::specs::Maps::found))]
 
 ghost use Rattle.std.specs.Prelude.{◌≡◌, ◌≤◌, ℕ, ◌==◌, true, false, Some, unwrap_or, if◌then◌else◌, OnOk, IfOk};
 ghost use Rattle.std.specs.Option.{option_map};
 ghost use Rattle.simplex_values.specs.Terms.{next_term_start};
-ghost use Rattle.simplex_state.specs.Maps.{found};
+ghost use Rattle.simplex_values.specs.Maps.{found};
 ghost use Rattle.simplex_state.specs.Certificates.{held, unsent_in, certificate_in};
 
-use crate::maps::put;
+use simplex_values::maps::put;
 use simplex_values::{Keep, TermLength, View};
 use std::alloc::{AllocError, Global};
 use std::collections::BTreeMap;

@@ -9,7 +9,6 @@ mod config;
 mod deadline;
 mod floor;
 mod held;
-mod maps;
 mod missing;
 mod progress;
 mod proposals;

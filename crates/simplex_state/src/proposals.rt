@@ -10,10 +10,10 @@ ghost use Rattle.simplex_state.specs.Rounds.{round_of, slot_in};
 ghost use Rattle.simplex_state.specs.Progress.{progress_of};
 ghost use Rattle.simplex_state.specs.Stands.{Takes, Answers, Keeps};
 
-use crate::maps::contains;
 use crate::rounds::{put_round, round_at};
 use crate::state::State;
 use simplex_types::elector::Elector;
+use simplex_values::maps::contains;
 use simplex_values::{Context, Digest, Proposal, View};
 use simplex_wire::Scheme;
 use std::alloc::AllocError;

@@ -13,11 +13,11 @@ ghost use Rattle.simplex_rules.specs.Calls.{Call, TryPropose, ReleaseProposalReq
 ghost use Rattle.simplex_state.specs.Progress.{progress_of};
 ghost use Rattle.simplex_state.specs.Stands.{StandsFor, Takes, Answers, Keeps};
 
-use crate::maps::contains;
 use crate::rounds::{free_proposal, put_round, round_at};
 use crate::state::State;
 use simplex_rules::ProposalRequest;
 use simplex_types::elector::Elector;
+use simplex_values::maps::contains;
 use simplex_values::{Context, Digest, Parent, Proposal, Round, View};
 use simplex_wire::Scheme;
 use std::alloc::AllocError;

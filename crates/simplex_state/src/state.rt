@@ -8,12 +8,12 @@ ghost use Rattle.simplex_state.specs.Stands.{StandsFor, Answers, IsConfigured, m
 
 use crate::config::StateConfig;
 use crate::held::Held;
-use crate::maps::{empty_map, empty_set};
 use crate::missing::Missing;
 use crate::progress::Progress;
 use crate::rounds::RoundRecord;
 use crate::settings::Settings;
 use simplex_types::elector::Elector;
+use simplex_values::maps::{empty_map, empty_set};
 use simplex_values::{Lookahead, Participant, Round, TermLength, View};
 use simplex_wire::{Finalization, Notarization, Nullification, Scheme};
 use std::alloc::{AllocError, Global};

@@ -11,10 +11,10 @@ ghost use Rattle.simplex_state.specs.Progress.{progress_of};
 ghost use Rattle.simplex_state.specs.Stands.{StandsFor, Takes, Answers, Keeps};
 
 use crate::held::copy_at;
-use crate::maps::{add, contains};
 use crate::rounds::{put_round, round_at};
 use crate::state::State;
 use simplex_types::elector::Elector;
+use simplex_values::maps::{add, contains};
 use simplex_values::{Parent, TimeoutReason, View};
 use simplex_wire::{Notarization, Scheme};
 use std::alloc::AllocError;

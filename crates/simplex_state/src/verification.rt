@@ -15,11 +15,11 @@ ghost use Rattle.simplex_state.specs.Progress.{progress_of};
 ghost use Rattle.simplex_state.specs.Verifying.{is_unasked};
 ghost use Rattle.simplex_state.specs.Stands.{StandsFor, Takes, Answers, Keeps};
 
-use crate::maps::contains;
 use crate::rounds::{first_round, put_round, round_at};
 use crate::state::State;
 use simplex_rules::Verify;
 use simplex_types::elector::Elector;
+use simplex_values::maps::contains;
 use simplex_values::{Context, Kind, Parent, Proposal, View};
 use simplex_wire::Scheme;
 use std::alloc::AllocError;

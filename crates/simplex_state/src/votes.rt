@@ -10,10 +10,10 @@ ghost use Rattle.simplex_rules.specs.Calls.{ConstructNotarize, ConstructFinalize
 ghost use Rattle.simplex_state.specs.Progress.{progress_of};
 ghost use Rattle.simplex_state.specs.Stands.{Takes, Answers, Keeps};
 
-use crate::maps::{add, contains, last_up_to};
 use crate::rounds::{put_round, round_at};
 use crate::state::State;
 use simplex_types::elector::Elector;
+use simplex_values::maps::{add, contains, last_up_to};
 use simplex_values::{Round, TimeoutReason, View};
 use simplex_wire::{Finalize, Notarize, Nullify, Scheme};
 use std::alloc::AllocError;

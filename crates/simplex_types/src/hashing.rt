@@ -1,5 +1,5 @@
 //! Messages taken into a digest without being spelled in memory.
-ghost use Rattle.std.specs.Prelude.{◌≡◌, ◌++◌, ◌∷◌, ℕ, List};
+ghost use Rattle.std.specs.Prelude.{◌≡◌, ◌++◌, ℕ, List};
 ghost use Rattle.simplex_wire.specs.Number.{varint};
 ghost use Rattle.simplex_wire.specs.Message.{round, proposal};
 ghost use Rattle.simplex_types.specs.Keyed.{subject_bytes};
@@ -8,7 +8,8 @@ ghost use Rattle.simplex_types.specs.Genesis.{genesis_of};
 use sha2::{Digest as Hash, Sha256};
 use simplex_values::{Digest, Epoch, Proposal, Round, Subject};
 
-pub(crate) fn absorb_number<D: Hash>(hasher: &mut D, number: u64)
+/// Takes the number's spelling into the digest.
+pub fn absorb_number<D: Hash>(hasher: &mut D, number: u64)
     ensures { (m : List ℕ) → D.holds hasher.old m → D.holds hasher.new (m ++ varint number) }
 {
     let mut rest = number;
@@ -36,6 +37,7 @@ fn absorb_proposal<D: Hash>(hasher: &mut D, taken: &Proposal)
     hasher.update(taken.payload.0);
 }
 
+/// Takes the subject's bytes into the digest: those that are signed.
 pub(crate) fn absorb_subject<D: Hash>(hasher: &mut D, subject: &Subject)
     ensures { (m : List ℕ) → D.holds hasher.old m → D.holds hasher.new (m ++ subject_bytes subject.now) }
 {

@@ -1,8 +1,7 @@
 //! The keys of members, made once.
-ghost use Rattle.std.specs.Prelude.{◌≡◌, ◌<◌, ◌++◌, ◌∷◌, ℕ, List, IfOk, Some, slice_get, length};
-ghost use Rattle.sha2.specs.Sha256.{sha256};
+ghost use Rattle.std.specs.Prelude.{◌≡◌, ◌<◌, ℕ, List, IfOk, Some, slice_get, length};
 ghost use Rattle.std.specs.Str.{bytes_eq};
-ghost use Rattle.simplex_types.specs.Keyed.{key_of, keys_of, signature_of, subject_bytes};
+ghost use Rattle.simplex_types.specs.Keyed.{key_of, keys_of, signature_of};
 
 use crate::hashing::absorb_subject;
 use sha2::{Digest as Hash, Sha256};

@@ -20,7 +20,7 @@ mod round_robin;
 pub use activity::Activity;
 pub use evidence::{ConflictingFinalize, ConflictingNotarize, NullifyFinalize};
 pub use floor::Floor;
-pub use hashing::genesis;
+pub use hashing::{absorb_number, genesis};
 pub use hidden::Hidden;
 pub use interface::{Automaton, Blocker, CertifiableAutomaton, Monitor, Relay, Reporter};
 pub use keyed::Keyed;

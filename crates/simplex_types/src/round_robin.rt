@@ -1,5 +1,5 @@
 //! Members lead in turn.
-ghost use Rattle.std.specs.Prelude.{◌≡◌, ◌<◌, ℕ};
+ghost use Rattle.std.specs.Prelude.{◌≡◌, ◌<◌};
 ghost use Rattle.simplex_types.specs.RoundRobin.{leader_of, leader_of-below};
 
 use crate::elector::{Config, Elector};

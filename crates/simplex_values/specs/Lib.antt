@@ -1,7 +1,9 @@
 pub mod Covers
 pub mod Handoff
+pub mod Maps
 pub mod Policy
 pub mod Proposal
 pub mod Quorum
 pub mod Terms
+pub mod Texts
 pub mod Viewport

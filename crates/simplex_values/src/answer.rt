@@ -1,5 +1,5 @@
 //! What an application answers.
-ghost use Rattle.std.specs.Prelude.{IsTrue, ◌↔◌, ◌≡◌};
+ghost use Rattle.std.specs.Prelude.{◌≡◌};
 ghost use Rattle.simplex_values.specs.Handoff.{is_wait, ForStaged, IsMapped};
 
 use crate::digest::Digest;

@@ -1,4 +1,7 @@
 //! Epochs.
+ghost use Rattle.std.specs.Prelude.{Some};
+ghost use Rattle.std.specs.Fmt.{decimal};
+
 use std::fmt;
 use std::marker::Model;
 
@@ -19,6 +22,8 @@ impl Model for Epoch {
 }
 
 impl fmt::Display for Epoch {
+    ghost output = { λ number. Some (decimal number) };
+
     fn fmt<W: fmt::Write>(&self, f: &mut fmt::Formatter<W>) -> fmt::Result {
         let number = self.0;
         write!(f, "{number}")

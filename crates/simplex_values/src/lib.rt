@@ -10,6 +10,7 @@ mod digest;
 mod epoch;
 mod feedback;
 mod keep;
+pub mod maps;
 mod member;
 mod plan;
 mod policy;

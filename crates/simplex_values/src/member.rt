@@ -1,4 +1,6 @@
 //! Members and their quorums.
+ghost use Rattle.std.specs.Prelude.{Some};
+ghost use Rattle.std.specs.Fmt.{decimal};
 ghost use Rattle.std.specs.Prelude.{◌≡◌, ◌<◌};
 ghost use Rattle.simplex_values.specs.Quorum.{quorum_of};
 
@@ -22,6 +24,8 @@ impl Model for Participant {
 }
 
 impl fmt::Display for Participant {
+    ghost output = { λ number. Some (decimal number) };
+
     fn fmt<W: fmt::Write>(&self, f: &mut fmt::Formatter<W>) -> fmt::Result {
         let number = self.0;
         write!(f, "{number}")

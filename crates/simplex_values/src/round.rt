@@ -1,4 +1,6 @@
 //! Rounds, and what a proposal of a round stands on.
+ghost use Rattle.std.specs.Prelude.{Some};
+
 use crate::digest::Digest;
 use crate::epoch::Epoch;
 use crate::member::Participant;
@@ -13,6 +15,10 @@ pub struct Round {
 }
 
 impl fmt::Display for Round {
+    ghost use Rattle.simplex_values.specs.Texts.{round_text};
+
+    ghost output = { λ round. Some (round_text round) };
+
     fn fmt<W: fmt::Write>(&self, f: &mut fmt::Formatter<W>) -> fmt::Result {
         let epoch = self.epoch.0;
         let view = self.view.0;

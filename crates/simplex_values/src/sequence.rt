@@ -91,6 +91,13 @@ impl<T: Drop> Sequence<T> {
     {
         self.items.clear();
     }
+
+    /// Gives back the memory that the items do not need. They stay as they are, and no memory is taken.
+    pub fn shrink_to_fit(&mut self)
+        ensures { self.new ≡ self.old }
+    {
+        self.items.shrink_to_fit();
+    }
 }
 
 impl<T: PartialEq> PartialEq for Sequence<T> {
@@ -109,11 +116,9 @@ impl<T: Eq> Eq for Sequence<T> {
 
 impl<T: Keep + Drop> Keep for Sequence<T> {
     fn keep(&self, alloc: Global) -> Result<Sequence<T>, AllocError> {
-        let mut items = Vec::new(alloc);
-        for item in &self.items {
-            items.push(item.keep(alloc)?)?;
-        }
-        Ok(Sequence { items })
+        Ok(Sequence {
+            items: T::keep_all(&self.items, alloc)?,
+        })
     }
 }
 
@@ -121,10 +126,18 @@ impl Keep for u8 {
     fn keep(&self, _alloc: Global) -> Result<u8, AllocError> {
         Ok(*self)
     }
+
+    fn keep_all(items: &[u8], alloc: Global) -> Result<Vec<u8>, AllocError> {
+        Vec::from_slice(alloc, items)
+    }
 }
 
 impl Keep for Participant {
     fn keep(&self, _alloc: Global) -> Result<Participant, AllocError> {
         Ok(*self)
+    }
+
+    fn keep_all(items: &[Participant], alloc: Global) -> Result<Vec<Participant>, AllocError> {
+        Vec::from_slice(alloc, items)
     }
 }

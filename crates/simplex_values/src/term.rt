@@ -20,6 +20,8 @@ impl Model for TermLength {
     ghost inverse = { λ n. record { 0 = n } };
 }
 
+const _: () = prove!(TermLength::ONE.0 == 1);
+
 impl TermLength {
     /// Terms of a single view.
     pub const ONE: TermLength = TermLength(1);

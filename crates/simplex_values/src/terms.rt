@@ -1,5 +1,5 @@
 //! How an elector cuts views into terms, and how far ahead a member works.
-ghost use Rattle.std.specs.Prelude.{◌≡◌, ◌<◌, ◌-◌, ◌*◌, ◌^◌, IsTrue, ◌↔◌};
+ghost use Rattle.std.specs.Prelude.{◌≡◌, ◌<◌, ◌-◌, ◌*◌, IsTrue, ◌↔◌};
 ghost use Rattle.simplex_values.specs.Terms.{greatest_view, admission_limit, is_in_window, admits};
 
 use crate::term::TermLength;

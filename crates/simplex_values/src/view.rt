@@ -2,7 +2,9 @@
 //!
 //! With terms of L views the terms are [1..L], [L + 1..2L] and so on. View 0 is genesis, a term by itself.
 //! A view that would pass the greatest u64 stops there.
-ghost use Rattle.std.specs.Prelude.{◌≡◌, ◌+◌, ◌-◌, IsTrue};
+ghost use Rattle.std.specs.Prelude.{Some};
+ghost use Rattle.std.specs.Fmt.{decimal};
+ghost use Rattle.std.specs.Prelude.{◌≡◌, ◌+◌, ◌-◌};
 ghost use Rattle.std.specs.Prelude.{◌<◌, IsNone, IfSome, ◌↔◌};
 ghost use Rattle.simplex_values.specs.Terms.{next_of, term_index, term_start, term_end, next_term_start};
 ghost use Rattle.simplex_values.specs.Covers.{covers};
@@ -44,6 +46,8 @@ impl Model for ViewDelta {
 }
 
 impl fmt::Display for View {
+    ghost output = { λ number. Some (decimal number) };
+
     fn fmt<W: fmt::Write>(&self, f: &mut fmt::Formatter<W>) -> fmt::Result {
         let number = self.0;
         write!(f, "{number}")

@@ -1,5 +1,5 @@
 -- What messages are about, and whose they are.
-use Rattle.std.specs.Prelude.{List}
+use Rattle.std.specs.Prelude.{ℕ, List}
 use Rattle.simplex_values.specs.declared.round.Round.{Round}
 use Rattle.simplex_values.specs.declared.proposal.Subject.{Subject}
 use Rattle.simplex_values.specs.declared.proposal.Subject.TheVariants as subjects
@@ -29,6 +29,22 @@ vote_attestation (votes.Notarize v) = v.attestation
 vote_attestation (votes.Nullify v) = v.attestation
 vote_attestation (votes.Finalize v) = v.attestation
 
+-- whose vote it is, and the epoch and the view that it is of
+abbrev pub vote_signer : Vote → ℕ
+vote_signer vote = (vote_attestation vote).signer
+
+abbrev pub vote_epoch : Vote → ℕ
+vote_epoch vote = (subject_round (vote_subject vote)).epoch
+
+abbrev pub vote_view : Vote → ℕ
+vote_view vote = (subject_round (vote_subject vote)).view
+
+-- the certificate that votes of the kind make
+abbrev pub vote_kind : Vote → CertificateKind
+vote_kind (votes.Notarize v) = kinds.Notarization
+vote_kind (votes.Nullify v) = kinds.Nullification
+vote_kind (votes.Finalize v) = kinds.Finalization
+
 -- what a certificate is about, its signatures, and which of the three it is
 abbrev pub certificate_subject : Certificate → Subject
 certificate_subject (certificates.Notarization c) = subjects.Notarize c.proposal
@@ -44,6 +60,13 @@ abbrev pub certificate_kind : Certificate → CertificateKind
 certificate_kind (certificates.Notarization c) = kinds.Notarization
 certificate_kind (certificates.Nullification c) = kinds.Nullification
 certificate_kind (certificates.Finalization c) = kinds.Finalization
+
+-- the epoch and the view that a certificate is of
+abbrev pub certificate_epoch : Certificate → ℕ
+certificate_epoch certificate = (subject_round (certificate_subject certificate)).epoch
+
+abbrev pub certificate_view : Certificate → ℕ
+certificate_view certificate = (subject_round (certificate_subject certificate)).view
 
 -- the round of a journal's record
 abbrev pub artifact_round : Artifact → Round

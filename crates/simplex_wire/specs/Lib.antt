@@ -7,4 +7,6 @@ pub mod Format
 pub mod Message
 pub mod Number
 pub mod ResolverMessage
+pub mod Samples
 pub mod Signatures
+pub mod Texts

@@ -1,18 +1,19 @@
 -- Numbers in little-endian base 128, in their shortest form.
-use Rattle.std.specs.Prelude.{◌≡◌, ℕ, zero, suc, ◌+◌, ◌-◌, ◌*◌, ◌/◌, ◌%◌, ◌^◌, ◌<◌, List, [], ◌∷◌, length, Result, Ok, Err, nat_lt, ◌==◌, if◌then◌else◌}
+use Rattle.std.specs.Prelude.{◌≡◌, ℕ, zero, suc, ◌+◌, ◌-◌, ◌*◌, ◌/◌, ◌%◌, ◌^◌, ◌<◌, ◌≤◌, List, [], ◌∷◌, length, Result, Ok, Err, nat_lt, ◌==◌, if◌then◌else◌}
 use Rattle.simplex_wire.specs.declared.error.DecodeError.{DecodeError}
 use Rattle.simplex_wire.specs.declared.error.DecodeError.TheVariants.{Fault}
 use Rattle.simplex_wire.specs.declared.error.DecodeCause.TheVariants.{Short, LongNumber}
 use Rattle.simplex_wire.specs.Format.{◌>>=◌, Format}
 
 -- A number below 128 is one byte. Another is its low seven bits, with 128 added, and then the rest.
--- The first argument only bounds the number of bytes.
+-- The first argument bounds the number of bytes: there is at most one more.
 unfoldable pub varint_by : ℕ → ℕ → List ℕ
 varint_by zero n = n ∷ []
 varint_by (suc k) n = if nat_lt n 128 then n ∷ [] else (n % 128 + 128) ∷ varint_by k (n / 128)
 
+-- a number of 64 bits takes ten bytes at most
 abbrev pub varint : ℕ → List ℕ
-varint n = varint_by n n
+varint n = varint_by 9 n
 
 -- the number whose low byte is b, and whose part above is `high`: 0 there would be a longer form
 abbrev pub with_low : ℕ → ℕ → ℕ × List ℕ → Result (ℕ × List ℕ) DecodeError
@@ -31,8 +32,9 @@ abbrev pub IsFull : ℕ → ℕ → Type 0
 IsFull zero most = most < 128
 IsFull (suc k) most = (most % 128 ≡ 127) × IsFull k (most / 128)
 
+-- each place below the first is full, and there are nine of these at most
 abbrev pub IsLimit : ℕ → Type 0
-IsLimit most = (k : ℕ) × IsFull k most
+IsLimit most = (k : ℕ) × (IsFull k most × (k ≤ 9))
 
 abbrev pub number : ℕ → Format ℕ
 number most = record {

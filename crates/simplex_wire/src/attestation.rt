@@ -13,4 +13,8 @@ impl Keep for Attestation {
     fn keep(&self, _alloc: Global) -> Result<Attestation, AllocError> {
         Ok(*self)
     }
+
+    fn keep_all(items: &[Attestation], alloc: Global) -> Result<Vec<Attestation>, AllocError> {
+        Vec::from_slice(alloc, items)
+    }
 }

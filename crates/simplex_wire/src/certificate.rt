@@ -1,6 +1,6 @@
 //! Certificates: a quorum's votes for one thing.
 ghost use Rattle.std.specs.Prelude.{◌≡◌};
-ghost use Rattle.simplex_wire.specs.Fields.{certificate_subject, certificate_kind, subject_round};
+ghost use Rattle.simplex_wire.specs.Fields.{certificate_subject, certificate_kind, certificate_epoch, certificate_view, subject_round};
 
 use crate::signatures::Signatures;
 use simplex_values::{Epoch, Keep, Proposal, Round, Subject, View};
@@ -175,14 +175,14 @@ impl Certificate {
 
     /// The view that it is about.
     pub fn view(&self) -> View
-        ensures { result ≡ (subject_round (certificate_subject self.now)).view }
+        ensures { result ≡ certificate_view self.now }
     {
         self.round().view
     }
 
     /// The epoch that it is about.
     pub fn epoch(&self) -> Epoch
-        ensures { result ≡ (subject_round (certificate_subject self.now)).epoch }
+        ensures { result ≡ certificate_epoch self.now }
     {
         self.round().epoch
     }

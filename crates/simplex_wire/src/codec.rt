@@ -21,9 +21,10 @@ use crate::resolver::ResolverMessage;
 use crate::vote::Vote;
 use std::alloc::{AllocError, Global};
 
-/// The room that is taken before anything is written: the most bytes that a vote or its record may need, and what stands
-/// in a certificate before its signatures.
-const ROOM: usize = 101;
+/// The room that is taken before anything is written: the most bytes that a vote or its record may need, which is
+/// also more than stands in a certificate before its signatures. A tag, three numbers of 64 bits, a payload, a
+/// signer's number and a signature.
+const ROOM: usize = 1 + 3 * 10 + 32 + 5 + 32;
 
 fn whole_vote(bytes: &[u8]) -> Result<Vote, DecodeError>
     ensures { result ≡ whole vote bytes.now }

@@ -1,6 +1,7 @@
 //! Why bytes are no message.
-ghost use Rattle.std.specs.Prelude.{◌≡◌};
+ghost use Rattle.std.specs.Prelude.{◌≡◌, Some};
 ghost use Rattle.simplex_wire.specs.declared.error.DecodeError.TheVariants.{Memory};
+ghost use Rattle.simplex_wire.specs.Texts.{cause_text};
 
 use std::alloc::AllocFailed;
 use std::fmt;
@@ -21,15 +22,26 @@ pub enum DecodeCause {
     Rest,
 }
 
-impl fmt::Display for DecodeCause {
-    fn fmt<W: fmt::Write>(&self, f: &mut fmt::Formatter<W>) -> fmt::Result {
-        let text = match self {
+impl DecodeCause {
+    // The fault in words.
+    fn text(&self) -> &'static str
+        ensures { result.now ≡ cause_text self.now }
+    {
+        match self {
             DecodeCause::Short => "the bytes end too soon",
             DecodeCause::Tag => "unknown tag",
             DecodeCause::LongNumber => "number too long or too large",
             DecodeCause::Order => "signers out of order",
             DecodeCause::Rest => "bytes are left",
-        };
+        }
+    }
+}
+
+impl fmt::Display for DecodeCause {
+    ghost output = { λ cause. Some (cause_text cause) };
+
+    fn fmt<W: fmt::Write>(&self, f: &mut fmt::Formatter<W>) -> fmt::Result {
+        let text = self.text();
         write!(f, "{text}")
     }
 }

@@ -10,6 +10,7 @@ mod codec;
 mod error;
 mod reading;
 mod resolver;
+mod samples;
 mod scheme;
 mod signatures;
 mod signing;
@@ -25,6 +26,7 @@ pub use codec::{
 };
 pub use error::{DecodeCause, DecodeError};
 pub use resolver::{ResolverBody, ResolverMessage};
+pub use samples::{numbers_come_out, quorums_come_out};
 pub use scheme::{AssemblyError, Scheme, a_verifying_quorum_certifies};
 pub use signatures::Signatures;
 pub use vote::{Finalize, Notarize, Nullify, Vote};

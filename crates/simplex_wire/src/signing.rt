@@ -3,6 +3,7 @@ ghost use Rattle.std.specs.Prelude.{◌≡◌, ◌<◌, All, length, map, IfOk};
 ghost use Rattle.std.specs.Option.{option_map};
 ghost use Rattle.simplex_values.specs.declared.proposal.Proposal.{Proposal};
 ghost use Rattle.simplex_values.specs.declared.round.Round.{Round};
+ghost use Rattle.simplex_wire.specs.declared.attestation.Attestation.{Attestation};
 ghost use Rattle.simplex_wire.specs.Signatures.{IsSignatures};
 ghost use Rattle.simplex_wire.specs.Certified.{is_certified, assembled, IsAssembled};
 ghost use Rattle.simplex_wire.specs.Assembly.{notarization_of, nullification_of, finalization_of};
@@ -88,15 +89,46 @@ impl Vote {
     }
 }
 
-fn attestations_of_notarizes(
-    alloc: Global,
-    votes: &[Notarize],
-) -> Result<Vec<Attestation>, AllocError>
-    ensures { IfOk result (λ all. all.items ≡ map (λ v. v.attestation) votes.now) }
+// A vote of one kind.
+trait Signed {
+    ghost attestation_of: { Self → Attestation };
+
+    // The signature, and whose it is.
+    fn signature(&self) -> Attestation
+        ensures { result ≡ attestation_of self.now };
+}
+
+impl Signed for Notarize {
+    ghost attestation_of = { λ vote. vote.attestation };
+
+    fn signature(&self) -> Attestation {
+        self.attestation
+    }
+}
+
+impl Signed for Nullify {
+    ghost attestation_of = { λ vote. vote.attestation };
+
+    fn signature(&self) -> Attestation {
+        self.attestation
+    }
+}
+
+impl Signed for Finalize {
+    ghost attestation_of = { λ vote. vote.attestation };
+
+    fn signature(&self) -> Attestation {
+        self.attestation
+    }
+}
+
+// The votes' attestations, in order.
+fn attestations_of<V: Signed>(alloc: Global, votes: &[V]) -> Result<Vec<Attestation>, AllocError>
+    ensures { IfOk result (λ all. all.items ≡ map V.attestation_of votes.now) }
 {
-    let mut attestations = Vec::new(alloc);
+    let mut attestations = Vec::with_capacity(alloc, votes.len())?;
     for vote in votes {
-        attestations.push(vote.attestation)?;
+        attestations.push(vote.signature())?;
     }
     Ok(attestations)
 }
@@ -115,7 +147,7 @@ impl Notarization {
         ensures { (proposal : Proposal) → All (λ v. v.proposal ≡ proposal) votes.now
             → IsAssembled result (notarization_of proposal (assembled (S.recovers scheme.now) (S.members scheme.now) (map (λ v. v.attestation) votes.now))) }
     {
-        let attestations = attestations_of_notarizes(alloc, votes)?;
+        let attestations = attestations_of(alloc, votes)?;
         let certificate = scheme.assemble(alloc, &attestations)?;
         Ok(Notarization {
             proposal: votes[0].proposal,
@@ -129,19 +161,6 @@ impl Notarization {
     {
         scheme.verify_certificate(&Subject::Notarize(self.proposal), &self.certificate)
     }
-}
-
-fn attestations_of_nullifies(
-    alloc: Global,
-    votes: &[Nullify],
-) -> Result<Vec<Attestation>, AllocError>
-    ensures { IfOk result (λ all. all.items ≡ map (λ v. v.attestation) votes.now) }
-{
-    let mut attestations = Vec::new(alloc);
-    for vote in votes {
-        attestations.push(vote.attestation)?;
-    }
-    Ok(attestations)
 }
 
 impl Nullification {
@@ -158,7 +177,7 @@ impl Nullification {
         ensures { (round : Round) → All (λ v. v.round ≡ round) votes.now
             → IsAssembled result (nullification_of round (assembled (S.recovers scheme.now) (S.members scheme.now) (map (λ v. v.attestation) votes.now))) }
     {
-        let attestations = attestations_of_nullifies(alloc, votes)?;
+        let attestations = attestations_of(alloc, votes)?;
         let certificate = scheme.assemble(alloc, &attestations)?;
         Ok(Nullification {
             round: votes[0].round,
@@ -172,19 +191,6 @@ impl Nullification {
     {
         scheme.verify_certificate(&Subject::Nullify(self.round), &self.certificate)
     }
-}
-
-fn attestations_of_finalizes(
-    alloc: Global,
-    votes: &[Finalize],
-) -> Result<Vec<Attestation>, AllocError>
-    ensures { IfOk result (λ all. all.items ≡ map (λ v. v.attestation) votes.now) }
-{
-    let mut attestations = Vec::new(alloc);
-    for vote in votes {
-        attestations.push(vote.attestation)?;
-    }
-    Ok(attestations)
 }
 
 impl Finalization {
@@ -201,7 +207,7 @@ impl Finalization {
         ensures { (proposal : Proposal) → All (λ v. v.proposal ≡ proposal) votes.now
             → IsAssembled result (finalization_of proposal (assembled (S.recovers scheme.now) (S.members scheme.now) (map (λ v. v.attestation) votes.now))) }
     {
-        let attestations = attestations_of_finalizes(alloc, votes)?;
+        let attestations = attestations_of(alloc, votes)?;
         let certificate = scheme.assemble(alloc, &attestations)?;
         Ok(Finalization {
             proposal: votes[0].proposal,

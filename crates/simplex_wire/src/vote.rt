@@ -1,8 +1,9 @@
 //! Votes.
 ghost use Rattle.std.specs.Prelude.{◌≡◌};
-ghost use Rattle.simplex_wire.specs.Fields.{vote_subject, vote_attestation, subject_round};
+ghost use Rattle.simplex_wire.specs.Fields.{vote_kind, vote_subject, vote_attestation, vote_signer, vote_epoch, vote_view, subject_round};
 
 use crate::attestation::Attestation;
+use crate::certificate::CertificateKind;
 use simplex_values::{Epoch, Keep, Participant, Proposal, Round, Subject, View};
 use std::alloc::{AllocError, Global};
 
@@ -126,6 +127,17 @@ impl Finalize {
 }
 
 impl Vote {
+    /// The certificate that votes of its kind make.
+    pub fn kind(&self) -> CertificateKind
+        ensures { result ≡ vote_kind self.now }
+    {
+        match self {
+            Vote::Notarize(_) => CertificateKind::Notarization,
+            Vote::Nullify(_) => CertificateKind::Nullification,
+            Vote::Finalize(_) => CertificateKind::Finalization,
+        }
+    }
+
     /// What the vote is about.
     pub fn subject(&self) -> Subject
         ensures { result ≡ vote_subject self.now }
@@ -150,14 +162,14 @@ impl Vote {
 
     /// The view that it is about.
     pub fn view(&self) -> View
-        ensures { result ≡ (subject_round (vote_subject self.now)).view }
+        ensures { result ≡ vote_view self.now }
     {
         self.round().view
     }
 
     /// The epoch that it is about.
     pub fn epoch(&self) -> Epoch
-        ensures { result ≡ (subject_round (vote_subject self.now)).epoch }
+        ensures { result ≡ vote_epoch self.now }
     {
         self.round().epoch
     }
@@ -175,7 +187,7 @@ impl Vote {
 
     /// Whose vote it is.
     pub fn signer(&self) -> Participant
-        ensures { result ≡ (vote_attestation self.now).signer }
+        ensures { result ≡ vote_signer self.now }
     {
         self.attestation().signer
     }

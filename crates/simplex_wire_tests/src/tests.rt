@@ -4,10 +4,9 @@ use simplex_wire::{
     Artifact, AssemblyError, Attestation, Certificate, CertificateKind, DecodeCause, DecodeError,
     Finalize, Notarize, Nullify, ResolverBody, ResolverMessage, Vote,
 };
-use std::alloc::{AllocError, Global};
+use std::alloc::Global;
 use std::fmt::Debug;
 use std::process::Abort;
-use std::test::Fail;
 
 /// The test ends here where the two differ, and says in which case.
 fn same<T: PartialEq + Debug>(rt: &impl Abort, case: &str, got: &T, wanted: &T) {
@@ -66,16 +65,16 @@ enum Form {
 }
 
 /// The parts behind one another.
-fn joined(alloc: Global, parts: &[&[u8]]) -> Result<Vec<u8>, AllocError> {
+fn joined(rt: &impl Abort, alloc: Global, parts: &[&[u8]]) -> Vec<u8> {
     let mut bytes = Vec::new(alloc);
     for part in parts {
-        bytes.extend_from_slice(part)?;
+        bytes.extend_from_slice(part).expect(rt, "room");
     }
-    Ok(bytes)
+    bytes
 }
 
 /// The bytes of a message about the round or the proposal, signed by member 128, or by 128 and 2^32 - 1.
-fn message(alloc: Global, tag: u8, form: Form) -> Result<Vec<u8>, AllocError> {
+fn message(rt: &impl Abort, alloc: Global, tag: u8, form: Form) -> Vec<u8> {
     let round: &[u8] = &[tag, 3, 172, 2];
     let parent: &[u8] = &[171, 2];
     let payload: &[u8] = &[17; 32];
@@ -85,63 +84,53 @@ fn message(alloc: Global, tag: u8, form: Form) -> Result<Vec<u8>, AllocError> {
     let last: &[u8] = &[255, 255, 255, 255, 15];
     let second: &[u8] = &[8; 32];
     match form {
-        Form::ProposalSigned => joined(alloc, &[round, parent, payload, signer, signature]),
-        Form::RoundSigned => joined(alloc, &[round, signer, signature]),
+        Form::ProposalSigned => joined(rt, alloc, &[round, parent, payload, signer, signature]),
+        Form::RoundSigned => joined(rt, alloc, &[round, signer, signature]),
         Form::ProposalListed => joined(
+            rt,
             alloc,
             &[
                 round, parent, payload, count, signer, signature, last, second,
             ],
         ),
-        Form::RoundListed => joined(alloc, &[round, count, signer, signature, last, second]),
-        Form::RoundJudged(verdict) => joined(alloc, &[round, &[verdict]]),
+        Form::RoundListed => joined(rt, alloc, &[round, count, signer, signature, last, second]),
+        Form::RoundJudged(verdict) => joined(rt, alloc, &[round, &[verdict]]),
     }
 }
 
 /// The bytes of a nullification: a count, and the signatures of member 2 and another.
-fn nullification(alloc: Global, count: u8, second: u8) -> Result<Vec<u8>, AllocError> {
+fn nullification(rt: &impl Abort, alloc: Global, count: u8, second: u8) -> Vec<u8> {
     joined(
+        rt,
         alloc,
         &[&[1, 0, 1, count, 2], &[7; 32], &[second], &[8; 32]],
     )
 }
 
 /// The bytes of a nullify of epoch 0 whose view, or whose signer, is spelled so.
-fn nullify_bytes(alloc: Global, view: &[u8], signer: &[u8]) -> Result<Vec<u8>, AllocError> {
-    joined(alloc, &[&[1, 0], view, signer, &[0; 32]])
+fn nullify_bytes(rt: &impl Abort, alloc: Global, view: &[u8], signer: &[u8]) -> Vec<u8> {
+    joined(rt, alloc, &[&[1, 0], view, signer, &[0; 32]])
 }
 
 /// The vote has these bytes, and they are read as the vote.
-fn assert_spelled(
-    rt: &impl Abort,
-    alloc: Global,
-    vote: &Vote,
-    bytes: &[u8],
-) -> Result<(), AllocError> {
-    let spelled = vote.encode(alloc)?;
+fn assert_spelled(rt: &impl Abort, alloc: Global, vote: &Vote, bytes: &[u8]) {
+    let spelled = vote.encode(alloc).expect(rt, "room");
     same(rt, "a vote's bytes", &spelled.as_slice(), &bytes);
     same(rt, "a vote as read", &Vote::decode(bytes), &Ok(*vote));
-    Ok(())
 }
 
 /// A view is spelled so, and a signer where the number is one.
-fn assert_number(
-    rt: &impl Abort,
-    alloc: Global,
-    number: u64,
-    spelled: &[u8],
-) -> Result<(), AllocError> {
-    let bytes = nullify_bytes(alloc, spelled, &[2])?;
-    assert_spelled(rt, alloc, &nullify(number, 2), &bytes)?;
+fn assert_number(rt: &impl Abort, alloc: Global, number: u64, spelled: &[u8]) {
+    let bytes = nullify_bytes(rt, alloc, spelled, &[2]);
+    assert_spelled(rt, alloc, &nullify(number, 2), &bytes);
     if let Ok(signer) = u32::try_from(number) {
-        let bytes = nullify_bytes(alloc, &[1], spelled)?;
-        assert_spelled(rt, alloc, &nullify(1, signer), &bytes)?;
+        let bytes = nullify_bytes(rt, alloc, &[1], spelled);
+        assert_spelled(rt, alloc, &nullify(1, signer), &bytes);
     }
-    Ok(())
 }
 
 #[test]
-fn numbers_are_as_short_as_they_can_be(rt: HostRuntime) -> Result<(), Fail> {
+fn numbers_are_as_short_as_they_can_be(rt: HostRuntime) {
     let alloc = rt.alloc();
     let table: [(u64, &[u8]); 7] = [
         (0, &[0]),
@@ -153,9 +142,8 @@ fn numbers_are_as_short_as_they_can_be(rt: HostRuntime) -> Result<(), Fail> {
         (u64::MAX, &[255, 255, 255, 255, 255, 255, 255, 255, 255, 1]),
     ];
     for (number, spelled) in table {
-        assert_number(&rt, alloc, number, spelled)?;
+        assert_number(&rt, alloc, number, spelled);
     }
-    Ok(())
 }
 
 #[test]
@@ -248,7 +236,7 @@ fn artifact_fault(alloc: Global, bytes: &[u8]) -> Option<DecodeError> {
 }
 
 #[test]
-fn faults_of_lists(rt: HostRuntime) -> Result<(), Fail> {
+fn faults_of_lists(rt: HostRuntime) {
     let alloc = rt.alloc();
     // The signers 2 and 1, then 2 and 2: the second stands at byte 37. Then a count above the signatures, and
     // one below.
@@ -258,7 +246,7 @@ fn faults_of_lists(rt: HostRuntime) -> Result<(), Fail> {
         (3, 3, DecodeCause::Short, 70),
         (1, 3, DecodeCause::Rest, 37),
     ] {
-        let bytes = nullification(alloc, count, second)?;
+        let bytes = nullification(&rt, alloc, count, second);
         let read = certificate_fault(alloc, &bytes);
         let wanted = Some(fault(cause, place));
         same(
@@ -268,7 +256,6 @@ fn faults_of_lists(rt: HostRuntime) -> Result<(), Fail> {
             &(count, second, wanted),
         );
     }
-    Ok(())
 }
 
 /// A tag above the last, and a verdict that is neither 0 nor 1.
@@ -317,54 +304,48 @@ fn assert_certificate(
     kind: CertificateKind,
     certificate: &Certificate,
     bytes: &[u8],
-) -> Result<(), AllocError> {
+) {
     same(
         rt,
         "a certificate's kind, epoch and view",
         &(certificate.kind(), certificate.epoch(), certificate.view()),
         &(kind, Epoch(3), View(300)),
     );
-    let spelled = certificate.encode(alloc)?;
+    let spelled = certificate.encode(alloc).expect(rt, "room");
     same(rt, "its bytes", &spelled.as_slice(), &bytes);
-    same(rt, "its copy", &certificate.keep(alloc)?, certificate);
-    Ok(())
+    let copy = certificate.keep(alloc).expect(rt, "room");
+    same(rt, "its copy", &copy, certificate);
 }
 
 #[test]
-fn certificates_there_and_back(rt: HostRuntime) -> Result<(), Fail> {
+fn certificates_there_and_back(rt: HostRuntime) {
     let alloc = rt.alloc();
     for (tag, form, kind) in [
         (0u8, Form::ProposalListed, CertificateKind::Notarization),
         (1, Form::RoundListed, CertificateKind::Nullification),
         (2, Form::ProposalListed, CertificateKind::Finalization),
     ] {
-        let bytes = message(alloc, tag, form)?;
-        let certificate = Certificate::decode(alloc, &bytes)?;
-        assert_certificate(&rt, alloc, kind, &certificate, &bytes)?;
+        let bytes = message(&rt, alloc, tag, form);
+        let certificate = Certificate::decode(alloc, &bytes).expect(&rt, "a certificate");
+        assert_certificate(&rt, alloc, kind, &certificate, &bytes);
     }
-    Ok(())
 }
 
 /// What the record of round 300 in epoch 3 is about, its bytes, and a copy of it.
-fn assert_record(
-    rt: &impl Abort,
-    alloc: Global,
-    artifact: &Artifact,
-    bytes: &[u8],
-) -> Result<(), AllocError> {
-    let spelled = artifact.encode(alloc)?;
+fn assert_record(rt: &impl Abort, alloc: Global, artifact: &Artifact, bytes: &[u8]) {
+    let spelled = artifact.encode(alloc).expect(rt, "room");
     same(
         rt,
         "a record's bytes and round",
         &(spelled.as_slice(), artifact.round()),
         &(bytes, proposal().round),
     );
-    same(rt, "its copy", &artifact.keep(alloc)?, artifact);
-    Ok(())
+    let copy = artifact.keep(alloc).expect(rt, "room");
+    same(rt, "its copy", &copy, artifact);
 }
 
 #[test]
-fn records_there_and_back(rt: HostRuntime) -> Result<(), Fail> {
+fn records_there_and_back(rt: HostRuntime) {
     let alloc = rt.alloc();
     for (tag, form) in [
         (0u8, Form::ProposalSigned),
@@ -376,66 +357,56 @@ fn records_there_and_back(rt: HostRuntime) -> Result<(), Fail> {
         (5, Form::ProposalSigned),
         (6, Form::ProposalListed),
     ] {
-        let bytes = message(alloc, tag, form)?;
-        let artifact = Artifact::decode(alloc, &bytes)?;
-        assert_record(&rt, alloc, &artifact, &bytes)?;
+        let bytes = message(&rt, alloc, tag, form);
+        let artifact = Artifact::decode(alloc, &bytes).expect(&rt, "a record");
+        assert_record(&rt, alloc, &artifact, &bytes);
     }
-    Ok(())
 }
 
 /// The message has these bytes, they are read as the message, and a copy of it is the same.
-fn assert_sent(
-    rt: &impl Abort,
-    alloc: Global,
-    message: &ResolverMessage,
-    bytes: &[u8],
-) -> Result<(), Fail> {
-    let spelled = message.encode(alloc)?;
+fn assert_sent(rt: &impl Abort, alloc: Global, message: &ResolverMessage, bytes: &[u8]) {
+    let spelled = message.encode(alloc).expect(rt, "room");
     same(rt, "a message's bytes", &spelled.as_slice(), &bytes);
-    let read = ResolverMessage::decode(alloc, bytes)?;
+    let read = ResolverMessage::decode(alloc, bytes).expect(rt, "a message");
     same(rt, "a message as read", &read, message);
-    same(rt, "its copy", &message.keep(alloc)?, message);
-    Ok(())
+    let copy = message.keep(alloc).expect(rt, "room");
+    same(rt, "its copy", &copy, message);
 }
 
 #[test]
-fn requests_and_errors_there_and_back(rt: HostRuntime) -> Result<(), Fail> {
+fn requests_and_errors_there_and_back(rt: HostRuntime) {
     let alloc = rt.alloc();
     let request = ResolverMessage {
         id: 5,
         body: ResolverBody::Request { view: View(7) },
     };
     let bytes = [0, 0, 0, 0, 0, 0, 0, 5, 0, 0, 0, 0, 0, 0, 0, 0, 7];
-    assert_sent(&rt, alloc, &request, &bytes)?;
+    assert_sent(&rt, alloc, &request, &bytes);
     let error = ResolverMessage {
         id: 256,
         body: ResolverBody::Error,
     };
     let bytes = [0, 0, 0, 0, 0, 0, 1, 0, 2];
-    assert_sent(&rt, alloc, &error, &bytes)
+    assert_sent(&rt, alloc, &error, &bytes);
 }
 
 #[test]
-fn responses_there_and_back(rt: HostRuntime) -> Result<(), Fail> {
+fn responses_there_and_back(rt: HostRuntime) {
     let alloc = rt.alloc();
+    let held = joined(&rt, alloc, &[&[8, 9]]);
     let response = ResolverMessage {
         id: u64::MAX,
         body: ResolverBody::Response {
-            bytes: Bytes::from_vec(vec![in alloc; 8, 9]?),
+            bytes: Bytes::from_vec(held),
         },
     };
     let bytes = [255, 255, 255, 255, 255, 255, 255, 255, 1, 2, 8, 9];
-    assert_sent(&rt, alloc, &response, &bytes)
+    assert_sent(&rt, alloc, &response, &bytes);
 }
 
 /// The round and the signer of the vote of member 128, its bytes, and a copy of it.
-fn assert_vote(
-    rt: &impl Abort,
-    alloc: Global,
-    vote: &Vote,
-    bytes: &[u8],
-) -> Result<(), AllocError> {
-    let copy = vote.keep(alloc)?;
+fn assert_vote(rt: &impl Abort, alloc: Global, vote: &Vote, bytes: &[u8]) {
+    let copy = vote.keep(alloc).expect(rt, "room");
     same(
         rt,
         "a vote's round, signer and copy",
@@ -446,7 +417,7 @@ fn assert_vote(
 }
 
 #[test]
-fn votes_there_and_back(rt: HostRuntime) -> Result<(), Fail> {
+fn votes_there_and_back(rt: HostRuntime) {
     let alloc = rt.alloc();
     let notarize = Notarize {
         proposal: proposal(),
@@ -464,23 +435,26 @@ fn votes_there_and_back(rt: HostRuntime) -> Result<(), Fail> {
         (
             0u8,
             Form::ProposalSigned,
-            Vote::Notarize(notarize.keep(alloc)?),
+            Vote::Notarize(notarize.keep(alloc).expect(&rt, "room")),
         ),
-        (1, Form::RoundSigned, Vote::Nullify(nullify.keep(alloc)?)),
+        (
+            1,
+            Form::RoundSigned,
+            Vote::Nullify(nullify.keep(alloc).expect(&rt, "room")),
+        ),
         (
             2,
             Form::ProposalSigned,
-            Vote::Finalize(finalize.keep(alloc)?),
+            Vote::Finalize(finalize.keep(alloc).expect(&rt, "room")),
         ),
     ] {
-        let bytes = message(alloc, tag, form)?;
-        assert_vote(&rt, alloc, &vote, &bytes)?;
+        let bytes = message(&rt, alloc, tag, form);
+        assert_vote(&rt, alloc, &vote, &bytes);
     }
-    Ok(())
 }
 
 #[test]
-fn errors_as_they_are_read(rt: HostRuntime) -> Result<(), Fail> {
+fn errors_as_they_are_read(rt: HostRuntime) {
     let alloc = rt.alloc();
     for (error, text) in [
         (
@@ -499,11 +473,10 @@ fn errors_as_they_are_read(rt: HostRuntime) -> Result<(), Fail> {
         (fault(DecodeCause::Rest, 36), "bytes are left at byte 36"),
         (DecodeError::Memory, "out of memory"),
     ] {
-        let shown = format!(in alloc; "{error}")?;
+        let shown = format!(in alloc; "{error}").expect(&rt, "room");
         same(&rt, "why bytes are no message", &shown.as_str(), &text);
     }
-    let shown = format!(in alloc; "{}", AssemblyError::NotEnough)?;
+    let shown = format!(in alloc; "{}", AssemblyError::NotEnough).expect(&rt, "room");
     let text = "fewer attestations than a quorum";
     same(&rt, "why there is no certificate", &shown.as_str(), &text);
-    Ok(())
 }

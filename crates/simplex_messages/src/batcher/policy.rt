@@ -5,7 +5,7 @@ ghost use Rattle.simplex_messages.specs.declared.batcher.Message.TheVariants as 
 ghost use Rattle.simplex_messages.specs.Policies.{outdates, outdates_message, is_as_great, is_outdated, stands_for_batcher, batcher_handled};
 
 use super::{Message, Pending};
-use crate::alike::{is_same_kind, kind_of};
+use crate::alike::is_same_kind;
 use simplex_mailbox::{Policy, Requested};
 use simplex_types::{View, Vote};
 use std::alloc::AllocError;
@@ -71,7 +71,7 @@ impl Message {
     {
         match self {
             Message::Constructed(queued) => {
-                queued.view() == vote.view() && is_same_kind(kind_of(queued), kind_of(vote))
+                queued.view() == vote.view() && is_same_kind(queued.kind(), vote.kind())
             }
             Message::Update { .. } => false,
         }
@@ -128,8 +128,18 @@ fn keep_needed(rest: &mut VecDeque<Message>, current: View, finalized: View)
 }
 
 /// Whether a vote of this one's view and kind is queued.
+#[tactic(auto, using(crate::proofs::Halves::any_of_both))]
 fn has_one_for(rest: &VecDeque<Message>, vote: &Vote) -> bool
     ensures { result ≡ list_any (λ queued. stands_for_batcher queued (messages.Constructed vote.now)) rest.now.items }
 {
-    rest.iter().any(|queued| queued.stands_for(vote))
+    // Two slices are gone through faster than a queue.
+    let (front, back) = rest.as_slices();
+    is_one_for(front, vote) || is_one_for(back, vote)
+}
+
+/// Whether one of them is a vote of this one's view and kind.
+fn is_one_for(queued: &[Message], vote: &Vote) -> bool
+    ensures { result ≡ list_any (λ queued. stands_for_batcher queued (messages.Constructed vote.now)) queued.now }
+{
+    queued.iter().any(|queued| queued.stands_for(vote))
 }

@@ -1,6 +1,6 @@
 use Rattle.std.proofs.Common.{arith}
 use Rattle.std.proofs.lemmas.Grind.{common_steps}
-use Rattle.simplex_repair.specs.Maps.{found}
+use Rattle.simplex_values.specs.Maps.{found}
 use Rattle.simplex_repair.specs.Taken.{reaches}
 use Rattle.simplex_repair.proofs.Spans.{last_up_to}
 use Rattle.simplex_repair.proofs.taken.first_to.Goals as goal

@@ -1,7 +1,7 @@
 use Rattle.std.proofs.Common.{arith, rules, ◌≡◌, ℕ, Option, Some, None, refl}
 use Rattle.std.proofs.lemmas.Grind.{common_steps}
 use Rattle.std.specs.Option.{IsSome}
-use Rattle.simplex_repair.specs.Maps.{found}
+use Rattle.simplex_values.specs.Maps.{found}
 use Rattle.simplex_repair.proofs.taken.range_up_to.Goals as goal
 
 bare : (value : Option ℕ) → (IsSome value → ⊥) → value ≡ None

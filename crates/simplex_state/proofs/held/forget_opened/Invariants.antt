@@ -1,7 +1,7 @@
 use Rattle.std.proofs.Common.{◌≡◌, ℕ, ◌≤◌}
 use Rattle.std.specs.BTreeMap.{btree_map_len}
 use Rattle.simplex_values.specs.Terms.{next_term_start}
-use Rattle.simplex_state.specs.Maps.{found}
+use Rattle.simplex_values.specs.Maps.{found}
 use Rattle.simplex_state.specs.Certificates.{unsent_in}
 use Rattle.simplex_state.proofs.held.forget_opened.Given as goal
 

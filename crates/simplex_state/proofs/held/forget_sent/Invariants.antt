@@ -1,6 +1,6 @@
 use Rattle.std.proofs.Common.{◌≡◌, ℕ, ◌≤◌}
 use Rattle.std.specs.BTreeMap.{btree_map_len}
-use Rattle.simplex_state.specs.Maps.{found}
+use Rattle.simplex_values.specs.Maps.{found}
 use Rattle.simplex_state.specs.Certificates.{unsent_in}
 use Rattle.simplex_state.proofs.held.forget_sent.Given as goal
 

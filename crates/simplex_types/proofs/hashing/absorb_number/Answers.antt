@@ -7,7 +7,7 @@ pub loop-rest-preserved : goal.loop-rest-preserved
 loop-rest-preserved g c = λ m held.
     let before = c.loop-rest.invariant m held in
     let n = c.loop-rest.rest in
-    (before.0 ++ (n % 128 + 128) ∷ [], rw (append_assoc, ← varint-large n c.loop-rest-test.true) before.1, c.update.ensures before.0 before.2)
+    (before.0 ++ (n % 128 + 128) ∷ [], rw (append_assoc, ← varint-large n c.loop-rest-test.true (omega arith)) before.1, c.update.ensures before.0 before.2)
 
 pub returns : goal.returns
 returns g c = λ m held.

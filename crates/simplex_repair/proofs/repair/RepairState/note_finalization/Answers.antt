@@ -20,7 +20,7 @@ returns c = λ length calls s. record {
   notarized = λ view. grind (arith, common_steps, s.notarized view);
   nullified = λ view. grind (arith, common_steps, s.nullified view);
   failed = λ view. grind (arith, common_steps, s.failed view);
-  good = λ view later. grind (arith, common_steps, later, s.good view, s.finalization, c.remove_below.ensures view);
-  notarizations = λ view later. grind (arith, common_steps, later, s.notarizations view, s.finalization, c.drop_below.ensures view);
-  nullifications = λ view later. grind (arith, common_steps, later, s.terms, s.nullifications view, s.finalization, term_rises length c.args.it.now.proposal.round.view view s.some_length, c.drop_below-2.ensures (term_index length view), c.term_index.ensures);
+  good = λ view later. grind (arith, common_steps, later, s.good view, s.finalization, c.remove_below.ensures.kept view);
+  notarizations = λ view later. grind (arith, common_steps, later, s.notarizations view, s.finalization, c.drop_below.ensures.kept view);
+  nullifications = λ view later. grind (arith, common_steps, later, s.terms, s.nullifications view, s.finalization, term_rises length c.args.it.now.proposal.round.view view s.some_length, c.drop_below-2.ensures.kept (term_index length view), c.term_index.ensures);
 }

@@ -1,6 +1,6 @@
 use Rattle.std.proofs.Common.{arith}
 use Rattle.std.proofs.lemmas.Grind.{common_steps}
-use Rattle.simplex_repair.specs.Maps.{found}
+use Rattle.simplex_values.specs.Maps.{found}
 use Rattle.simplex_repair.specs.Taken.{is_taken}
 use Rattle.simplex_repair.proofs.Spans.{joined}
 use Rattle.simplex_repair.proofs.taken.Taken.add.Goals as goal
@@ -16,6 +16,6 @@ returns c = λ q.
       before = c.first_to-first.ensures.before;
       cut_is = λ e is. grind (arith, common_steps, is, c.cut_behind.ensures.last);
       last_is = c.end_from-last.ensures;
-      new_is = λ t. grind (arith, common_steps, c.in_ok-put.ensures t, c.cut_behind.ensures.cut t);
+      new_is = λ t. grind (arith, common_steps, c.in_ok-put.ensures.ok t, c.cut_behind.ensures.cut t);
     })
     q

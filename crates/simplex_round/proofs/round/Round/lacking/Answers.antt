@@ -1,4 +1,4 @@
-use Rattle.std.proofs.Common.{rules, arith}
+use Rattle.std.proofs.Common.{arith}
 use Rattle.std.proofs.lemmas.Grind.{common_steps}
 use Rattle.simplex_round.specs.Forwarding.{is_missing_voter}
 use Rattle.simplex_round.proofs.Counts.{filter_range_more}

@@ -10,4 +10,4 @@ returns g c = λ made known k none.
     keeps_good _ _ _ made known _ _ _ _ _ k (omega arith) none
     (grind (arith, common_steps, k.settings.term_length))
     (λ q low. grind (arith, common_steps, c.in_ok-put_round.ensures q))
-    (λ q. grind (arith, common_steps, c.in_ok-add.ensures q))
+    (λ q. grind (arith, common_steps, c.in_ok-add.ensures.ok q))

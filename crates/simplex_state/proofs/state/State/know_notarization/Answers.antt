@@ -9,5 +9,5 @@ unfolding learn_round
 returns g c = λ made known k active.
     keeps_notarization _ _ _ made known _ _ _ _ _ k (omega arith) active
     (λ q low. grind (arith, common_steps, c.in_ok-put_round.ensures q))
-    (λ q. grind (arith, common_steps, c.in_ok-add.ensures q))
+    (λ q. grind (arith, common_steps, c.in_ok-add.ensures.ok q))
     (λ q. grind (arith, common_steps, c.in_ok-hold.ensures q))

@@ -1,8 +1,8 @@
 use Rattle.std.proofs.Common.{arith, rules, ◌≡◌, Option, Some, None, refl}
 use Rattle.std.proofs.lemmas.Grind.{common_steps}
 use Rattle.std.specs.Option.{IsSome}
-use Rattle.simplex_state.specs.Maps.{found}
-use Rattle.simplex_state.proofs.maps.first_between.Goals as goal
+use Rattle.simplex_values.specs.Maps.{found}
+use Rattle.simplex_values.proofs.maps.first_between.Goals as goal
 
 bare : {V : Type 0} (value : Option V) → (IsSome value → ⊥) → value ≡ None
 bare None never = refl

@@ -1,7 +1,7 @@
 use Rattle.std.proofs.Common.{arith, rules}
 use Rattle.std.proofs.lemmas.Grind.{common_steps}
-use Rattle.simplex_state.specs.Maps.{found}
-use Rattle.simplex_state.proofs.maps.last_below.Goals as goal
+use Rattle.simplex_values.specs.Maps.{found}
+use Rattle.simplex_values.proofs.maps.last_below.Goals as goal
 
 pub returns-in-Some-clause-greatest : goal.returns-in-Some-clause-greatest
 unfolding found
