@@ -8,6 +8,5 @@ pub mod Reached
 pub mod Touched
 pub mod Sums
 pub mod Taken
-pub mod Kept
 pub mod Visits
 pub mod Untouched

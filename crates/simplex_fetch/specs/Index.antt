@@ -1,17 +1,18 @@
 -- Where the deadlines and the numbers of the views are kept beside them.
-use Rattle.std.specs.Prelude.{◌≡◌, ℕ, ◌==◌, nat_le, Bool, false, List, Option, Some, None}
+use Rattle.std.specs.Prelude.{◌≡◌, ℕ, ◌==◌, Bool, false, List, Option, Some, None}
 use Rattle.std.specs.Ordering.{nat_cmp, ordering_then}
 use Rattle.std.specs.declared.cmp.Ordering.{Ordering}
 use Rattle.std.specs.List.{list_any}
 use Rattle.std.specs.Map.{lookup, keys_of}
 use Rattle.std.specs.BTreeMap.{is_at}
 use Rattle.std.specs.List.Sorted.{IsStrictlySortedBy}
-use Rattle.simplex_fetch.specs.declared.entry.Entry.{Entry}
+use Rattle.simplex_resolving.specs.declared.entry.Entry.{Entry}
 use Rattle.simplex_values.specs.declared.ask.Kind.TheVariants as kind
 use Rattle.simplex_values.specs.declared.ask.Until.TheVariants as until
 use Rattle.simplex_values.specs.declared.ask.Ask.{Ask}
-use Rattle.simplex_fetch.specs.Asks.{same_kind, same_until, asks_any}
-use Rattle.simplex_fetch.specs.Views.{entry_at, deadline_of, id_of}
+use Rattle.simplex_resolving.specs.Asks.{same_kind, same_until, asks_any}
+use Rattle.simplex_resolving.specs.Views.{entry_at, deadline_of, id_of}
+pub use Rattle.simplex_resolving.specs.Views.{is_reached, is_due}
 
 -- whether this is the number that is there
 abbrev pub is_value : ℕ → Option ℕ → Bool
@@ -27,15 +28,6 @@ has_deadline deadline (Some entry) = is_value deadline (deadline_of entry.state)
 abbrev pub has_id : ℕ → Option Entry → Bool
 has_id id None = false
 has_id id (Some entry) = is_value id (id_of entry.state)
-
--- whether there is a time, and now is not before it
-abbrev pub is_reached : ℕ → Option ℕ → Bool
-is_reached now None = false
-is_reached now (Some deadline) = nat_le deadline now
-
--- whether a view is to be looked at by now
-abbrev pub is_due : ℕ → Entry → Bool
-is_due now entry = is_reached now (deadline_of entry.state)
 
 -- deadlines, and at one deadline views, in rising order
 abbrev pub pair_cmp : ℕ × ℕ → ℕ × ℕ → Ordering

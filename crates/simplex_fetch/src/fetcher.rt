@@ -3,18 +3,14 @@ ghost use Rattle.std.specs.Prelude.{◌≡◌, ◌&&◌, nat_lt, ◌<◌, ◌≤
 ghost use Rattle.std.specs.Option.{option_map, is_some};
 ghost use Rattle.std.specs.List.{All};
 ghost use Rattle.simplex_values.specs.declared.ask.Outcome.{Outcome};
-ghost use Rattle.simplex_fetch.specs.declared.arrivals.Arrival.{Arrival};
-ghost use Rattle.simplex_fetch.specs.Views.{entry_at, asked_view, next_deadline};
+ghost use Rattle.simplex_resolving.specs.declared.arrivals.Arrival.{Arrival};
+ghost use Rattle.simplex_resolving.specs.Views.{entry_at, asked_view, next_deadline};
 ghost use Rattle.simplex_fetch.specs.Index.{IsFree};
-ghost use Rattle.simplex_fetch.specs.Fetcher.{no_fetches, attempted, attempting, expiring, retiring, peer_of, retrying, of_all, of_target, fetched, noting, adding, attempted_at, retained, retired_at, kept_or_left, heard, heard_body, requested, answered, refused, judged, judged_as, asked_on, served, expired, expired_at, message_bytes, visited, is_done, blocked_by, answer_body, keeping, in_state, cyclic, other_at, IsSoundConfig, IsSoundEntry};
-ghost use Rattle.simplex_fetch.specs.declared.entry.State.TheVariants.{Waiting};
+ghost use Rattle.simplex_resolving.specs.Fetcher.{no_fetches, attempted, attempting, expiring, retiring, peer_of, retrying, of_all, of_target, fetched, noting, adding, attempted_at, retained, retired_at, kept_or_left, heard, heard_body, requested, answered, refused, judged, judged_as, asked_on, served, expired, expired_at, message_bytes, visited, is_done, blocked_by, answer_body, keeping, in_state, cyclic, other_at, IsSoundConfig, IsSoundEntry};
+ghost use Rattle.simplex_resolving.specs.declared.entry.State.TheVariants.{Waiting};
 
-use crate::arrivals::Arrivals;
-use crate::config::{Fetch, FetchConfig};
-use crate::entry::{Entry, Serving, State};
-use crate::out::Out;
-use crate::retire::Retire;
 use crate::views::Views;
+use simplex_resolving::{Arrivals, Entry, Fetch, FetchConfig, Out, Retire, Serving, State};
 use simplex_types::{
     Bytes, DecodeError, Keep, Outcome, Participant, Resolution, ResolverBody, ResolverMessage,
     Sequence, View,
@@ -39,19 +35,19 @@ pub struct Fetcher {
 }
 
 impl Model for Fetcher {
-    ghost use Rattle.simplex_fetch.specs.Fetcher.{Machine};
+    ghost use Rattle.simplex_resolving.specs.Fetcher.{Machine};
 
     ghost Value = { Machine };
 
     ghost view = { λ f. record { config = f.config; views = f.views; next_id = f.next_id; serving = f.serving.entries; next_serve = f.next_serve } };
 
-    ghost use Rattle.simplex_fetch.specs.Fetcher.{IsSound};
+    ghost use Rattle.simplex_resolving.specs.Fetcher.{IsSound};
 
     ghost invariant = { λ f. IsSound f.config f.next_id f.views };
 }
 
 impl Fetcher {
-    #[tactic(auto, unfolding(crate::specs::Views::entry_at))]
+    #[tactic(auto, unfolding(simplex_resolving::specs::Views::entry_at))]
     /// A fetcher that nothing was asked of.
     pub fn new(alloc: Global, config: FetchConfig) -> Fetcher
         requires { IsSoundConfig config }
@@ -73,7 +69,7 @@ impl Fetcher {
         self.next_id < ROOM && self.next_serve < ROOM
     }
 
-    #[tactic(auto, unfolding(crate::specs::Fetcher::peer_of))]
+    #[tactic(auto, unfolding(simplex_resolving::specs::Fetcher::peer_of))]
     /// Whom the next attempt of the view asks.
     fn peer_of(
         &self,
@@ -95,7 +91,7 @@ impl Fetcher {
         Ok(Some(other_at(&self.config.me, place)))
     }
 
-    #[tactic(auto, unfolding(crate::specs::Fetcher::attempted, crate::specs::Fetcher::asking))]
+    #[tactic(auto, unfolding(simplex_resolving::specs::Fetcher::attempted, simplex_resolving::specs::Fetcher::asking))]
     /// The next attempt of the view, with this entry, which was taken out.
     fn attempt(
         &mut self,
@@ -140,7 +136,7 @@ impl Fetcher {
     }
 
     /// The next attempt of the view as it stands.
-    #[tactic(auto, unfolding(crate::specs::Fetcher::attempting, crate::specs::Fetcher::attempted_at))]
+    #[tactic(auto, unfolding(simplex_resolving::specs::Fetcher::attempting, simplex_resolving::specs::Fetcher::attempted_at))]
     fn attempt_at(
         &mut self,
         alloc: Global,
@@ -160,7 +156,7 @@ impl Fetcher {
     }
 
     /// The view as it stands, whose deadline is reached.
-    #[tactic(auto, unfolding(crate::specs::Fetcher::expiring, crate::specs::Fetcher::expired_at, crate::specs::Fetcher::expired_as))]
+    #[tactic(auto, unfolding(simplex_resolving::specs::Fetcher::expiring, simplex_resolving::specs::Fetcher::expired_at, simplex_resolving::specs::Fetcher::expired_as))]
     fn expire_at(
         &mut self,
         alloc: Global,
@@ -184,7 +180,7 @@ impl Fetcher {
     }
 
     /// The view as it stands without its asks that are done with.
-    #[tactic(auto, unfolding(crate::specs::Fetcher::retiring, crate::specs::Fetcher::retired_at, crate::specs::Fetcher::kept_or_left))]
+    #[tactic(auto, unfolding(simplex_resolving::specs::Fetcher::retiring, simplex_resolving::specs::Fetcher::retired_at, simplex_resolving::specs::Fetcher::kept_or_left))]
     fn retire_at(
         &mut self,
         view: u64,
@@ -218,7 +214,7 @@ impl Fetcher {
         self.views.put(view, entry)
     }
 
-    #[tactic(auto, unfolding(crate::specs::Fetcher::retrying))]
+    #[tactic(auto, unfolding(simplex_resolving::specs::Fetcher::retrying))]
     /// The view, with this entry, which was taken out, waits the retry delay.
     fn retry(&mut self, view: u64, entry: Entry, now: u64) -> Result<(), AllocError>
         requires absent { entry_at self.old.views view ≡ None }
@@ -231,7 +227,7 @@ impl Fetcher {
     }
 
     /// One more ask of the view, of this member alone where one is named. A view that was not asked for is new.
-    #[tactic(auto, unfolding(crate::specs::Fetcher::adding, crate::specs::Fetcher::noting))]
+    #[tactic(auto, unfolding(simplex_resolving::specs::Fetcher::adding, simplex_resolving::specs::Fetcher::noting))]
     fn add(
         &mut self,
         alloc: Global,
@@ -275,7 +271,7 @@ impl Fetcher {
         Ok(outs)
     }
 
-    #[tactic(auto, unfolding(crate::specs::Fetcher::fetched_beside))]
+    #[tactic(auto, unfolding(simplex_resolving::specs::Fetcher::fetched_beside))]
     /// Asks for what is wanted of the view.
     pub fn fetch(&mut self, alloc: Global, fetch: Fetch, now: u64) -> Result<Vec<Out>, AllocError>
         requires early { now < 2 ^ 63 }
@@ -288,7 +284,7 @@ impl Fetcher {
         self.start(alloc, new, now)
     }
 
-    #[tactic(auto, unfolding(crate::specs::Fetcher::fetched_beside))]
+    #[tactic(auto, unfolding(simplex_resolving::specs::Fetcher::fetched_beside))]
     /// Asks for what is wanted of the view, this member alone.
     pub fn fetch_targeted(
         &mut self,
@@ -307,7 +303,7 @@ impl Fetcher {
         self.start(alloc, new, now)
     }
 
-    #[tactic(auto, unfolding(crate::specs::Fetcher::fetched_beside))]
+    #[tactic(auto, unfolding(simplex_resolving::specs::Fetcher::fetched_beside))]
     /// Asks for all that is wanted.
     pub fn fetch_all(
         &mut self,
@@ -328,7 +324,7 @@ impl Fetcher {
     }
 
     /// Drops the asks that are done with. A view without asks is forgotten.
-    #[tactic(auto, unfolding(crate::specs::Fetcher::retained))]
+    #[tactic(auto, unfolding(simplex_resolving::specs::Fetcher::retained))]
     pub fn retain(&mut self, alloc: Global, retire: &Retire) -> Result<Vec<Out>, AllocError>
         ensures fetcher { OnOk result (self.new ≡ (retained retire.now self.old).fetcher) }
         ensures outs { IfOk result (λ outs. outs.items ≡ (retained retire.now self.old).outs) }
@@ -341,7 +337,7 @@ impl Fetcher {
         Ok(outs)
     }
 
-    #[tactic(auto, unfolding(crate::specs::Fetcher::heard, crate::specs::Fetcher::heard_message))]
+    #[tactic(auto, unfolding(simplex_resolving::specs::Fetcher::heard, simplex_resolving::specs::Fetcher::heard_message))]
     /// Bytes of a peer.
     pub fn hear(
         &mut self,
@@ -363,7 +359,7 @@ impl Fetcher {
     }
 
     /// A message of a peer.
-    #[tactic(auto, unfolding(crate::specs::Fetcher::heard_body))]
+    #[tactic(auto, unfolding(simplex_resolving::specs::Fetcher::heard_body))]
     fn hear_message(
         &mut self,
         alloc: Global,
@@ -388,7 +384,7 @@ impl Fetcher {
     }
 
     /// A peer's request is to be answered.
-    #[tactic(auto, unfolding(crate::specs::Fetcher::requested))]
+    #[tactic(auto, unfolding(simplex_resolving::specs::Fetcher::requested))]
     fn hear_request(
         &mut self,
         alloc: Global,
@@ -408,7 +404,7 @@ impl Fetcher {
         only(alloc, out)
     }
 
-    #[tactic(auto, unfolding(crate::specs::Fetcher::answered, crate::specs::Fetcher::delivered))]
+    #[tactic(auto, unfolding(simplex_resolving::specs::Fetcher::answered, simplex_resolving::specs::Fetcher::delivered))]
     /// An answer is delivered, where it was asked for.
     fn hear_response(
         &mut self,
@@ -445,7 +441,7 @@ impl Fetcher {
         )
     }
 
-    #[tactic(auto, unfolding(crate::specs::Fetcher::refused, crate::specs::Fetcher::retried))]
+    #[tactic(auto, unfolding(simplex_resolving::specs::Fetcher::refused, simplex_resolving::specs::Fetcher::retried))]
     /// An error of a peer, which has no answer.
     fn hear_error(&mut self, sender: &Participant, id: u64, now: u64) -> Result<(), AllocError>
         requires early { now < 2 ^ 63 }
@@ -460,7 +456,7 @@ impl Fetcher {
         }
     }
 
-    #[tactic(auto, unfolding(crate::specs::Fetcher::judged, crate::specs::Fetcher::judged_at, crate::specs::Fetcher::judged_entry))]
+    #[tactic(auto, unfolding(simplex_resolving::specs::Fetcher::judged, simplex_resolving::specs::Fetcher::judged_at, simplex_resolving::specs::Fetcher::judged_entry))]
     /// What became of the answer that was delivered under this number.
     pub fn verdict(
         &mut self,
@@ -486,7 +482,7 @@ impl Fetcher {
     }
 
     /// The view, with this entry, which was taken out, after the verdict.
-    #[tactic(auto, unfolding(crate::specs::Fetcher::judged_as, crate::specs::Fetcher::asked_on), using(crate::proofs::Taken::without_absent))]
+    #[tactic(auto, unfolding(simplex_resolving::specs::Fetcher::judged_as, simplex_resolving::specs::Fetcher::asked_on), using(crate::proofs::Taken::without_absent))]
     fn judge(
         &mut self,
         alloc: Global,
@@ -516,7 +512,7 @@ impl Fetcher {
     }
 
     /// The answer to a peer's request: a certificate's bytes, or that there is none.
-    #[tactic(auto, unfolding(crate::specs::Fetcher::served, crate::specs::Fetcher::served_as))]
+    #[tactic(auto, unfolding(simplex_resolving::specs::Fetcher::served, simplex_resolving::specs::Fetcher::served_as))]
     pub fn serve(
         &mut self,
         alloc: Global,
@@ -548,7 +544,7 @@ impl Fetcher {
     }
 
     /// Each view whose deadline is reached waits, or makes its next attempt.
-    #[tactic(auto, unfolding(crate::specs::Fetcher::expired))]
+    #[tactic(auto, unfolding(simplex_resolving::specs::Fetcher::expired))]
     pub fn expire(&mut self, alloc: Global, now: u64) -> Result<Vec<Out>, AllocError>
         requires early { now < 2 ^ 63 }
         requires ids { self.old.next_id < 2 ^ 62 }
@@ -611,7 +607,7 @@ fn answer_body(bytes: Option<Vec<u8>>) -> ResolverBody
     }
 }
 
-#[tactic(auto, unfolding(crate::specs::Fetcher::message_bytes))]
+#[tactic(auto, unfolding(simplex_resolving::specs::Fetcher::message_bytes))]
 /// The bytes of a request or an answer.
 fn message_bytes(alloc: Global, id: u64, body: ResolverBody) -> Result<Bytes, AllocError>
     ensures { IfOk result (λ bytes. bytes ≡ message_bytes id body) }

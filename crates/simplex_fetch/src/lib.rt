@@ -4,19 +4,11 @@
 //! and is told the time.
 #![tactic(auto)]
 
-mod arrivals;
-mod config;
-mod entry;
 mod fetcher;
-mod held;
 mod holders;
 mod numbers;
-mod out;
-mod retire;
 mod timers;
 mod views;
 
-pub use config::{Fetch, FetchConfig};
 pub use fetcher::Fetcher;
-pub use out::Out;
-pub use retire::Retire;
+pub use simplex_resolving::{Fetch, FetchConfig, Out, Retire};

@@ -6,16 +6,15 @@ ghost use Rattle.std.specs.declared.ops.Bound.TheVariants.{Included};
 ghost use Rattle.std.specs.BTreeMap.Range.{entries_between};
 ghost use Rattle.std.specs.Map.{keys_of};
 ghost use Rattle.std.specs.List.Sorted.{IsStrictlySortedBy};
-ghost use Rattle.simplex_fetch.specs.declared.entry.Entry.{Entry};
-ghost use Rattle.simplex_fetch.specs.Views.{entry_at, with_entry, without_entry, views_where, id_of, next_deadline, asked_view, judged_view};
+ghost use Rattle.simplex_resolving.specs.declared.entry.Entry.{Entry};
+ghost use Rattle.simplex_resolving.specs.Views.{entry_at, with_entry, without_entry, views_where, id_of, next_deadline, asked_view, judged_view};
 ghost use Rattle.simplex_fetch.specs.Index.{IsFree, is_due};
-ghost use Rattle.simplex_fetch.specs.Retirement.{reaches, touches};
+ghost use Rattle.simplex_resolving.specs.Retirement.{reaches, touches};
 
-use crate::entry::Entry;
 use crate::holders::{self, Holders};
 use crate::numbers::{self, Numbers};
-use crate::retire::Retire;
 use crate::timers::{self, Timers};
+use simplex_resolving::{Entry, Retire};
 use simplex_types::Participant;
 use std::alloc::{AllocError, Global};
 use std::collections::{BTreeMap, BTreeSet};
@@ -33,7 +32,7 @@ pub(crate) struct Views {
 
 impl Model for Views {
     ghost use Rattle.std.specs.Prelude.{List, ℕ};
-    ghost use Rattle.simplex_fetch.specs.declared.entry.Entry.{Entry};
+    ghost use Rattle.simplex_resolving.specs.declared.entry.Entry.{Entry};
 
     ghost Value = { List (ℕ × Entry) };
 
@@ -74,14 +73,14 @@ impl Views {
     }
 
     /// The view's entry, if the view is asked for.
-    #[tactic(auto, unfolding(crate::specs::Views::entry_at))]
+    #[tactic(auto, unfolding(simplex_resolving::specs::Views::entry_at))]
     pub(crate) fn get(&self, view: u64) -> Option<&Entry>
         ensures { option_copied result ≡ entry_at self.now view }
     {
         self.entries.get(&view)
     }
 
-    #[tactic(auto, unfolding(crate::specs::Views::entry_at, crate::specs::Views::with_entry, crate::specs::Views::without_entry))]
+    #[tactic(auto, unfolding(simplex_resolving::specs::Views::entry_at, simplex_resolving::specs::Views::with_entry, simplex_resolving::specs::Views::without_entry))]
     /// Takes the view's entry out, if the view is asked for.
     pub(crate) fn take(&mut self, view: u64) -> Option<Entry>
         ensures entry { result ≡ entry_at self.old view }
@@ -102,7 +101,7 @@ impl Views {
         Some(entry)
     }
 
-    #[tactic(auto, unfolding(crate::specs::Views::entry_at, crate::specs::Views::with_entry))]
+    #[tactic(auto, unfolding(simplex_resolving::specs::Views::entry_at, simplex_resolving::specs::Views::with_entry))]
     /// Puts an entry at a view that has none.
     pub(crate) fn put(&mut self, view: u64, entry: Entry) -> Result<(), AllocError>
         requires absent { entry_at self.old view ≡ None }

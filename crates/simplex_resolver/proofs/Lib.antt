@@ -1,9 +1,6 @@
 pub mod Leading
 pub mod Moving
 pub mod Sending
-pub mod Keeping
-pub mod Valid
-pub mod Falling
 pub mod Opening
 pub mod Numbers
 pub mod Mailed

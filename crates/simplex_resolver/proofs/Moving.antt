@@ -9,12 +9,12 @@ use Rattle.simplex_rules.specs.declared.effect.Effect.{Effect}
 use Rattle.simplex_rules.specs.Repair as repair
 use Rattle.simplex_repair.specs.declared.repair.RepairState.{RepairState}
 use Rattle.simplex_repair.specs.Stands as repairs
-use Rattle.simplex_fetch.specs.declared.out.Out.{Out}
-use Rattle.simplex_fetch.specs.declared.out.Out.TheVariants as outs
-use Rattle.simplex_fetch.specs.Fetcher.{Machine, After, served}
+use Rattle.simplex_resolving.specs.declared.out.Out.{Out}
+use Rattle.simplex_resolving.specs.declared.out.Out.TheVariants as outs
+use Rattle.simplex_resolving.specs.Fetcher.{Machine, After, served}
 use Rattle.simplex_resolver.specs.declared.actor.Actor.{Actor}
 use Rattle.simplex_resolver.specs.declared.work.Work.{Work}
-use Rattle.simplex_resolver.specs.Resolver.{Made, Doing, called, called_all, minded_all, with_fetcher, recorded, serving, handing, with_effects, judging, verdict_of, settled_count, accepted}
+use Rattle.simplex_resolving.specs.Resolver.{Made, Doing, called, called_all, minded_all, with_fetcher, recorded, serving, handing, with_effects, judging, verdict_of, settled_count, accepted}
 use Rattle.simplex_resolver.specs.Stands.{IsAt, Stands, work_of}
 
 -- what goes outside moves nothing

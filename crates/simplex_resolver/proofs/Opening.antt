@@ -12,16 +12,16 @@ use Rattle.simplex_rules.specs.declared.effect.Effect.{Effect}
 use Rattle.simplex_rules.specs.declared.effect.Effect.TheVariants as effects
 use Rattle.simplex_rules.specs.Repair.{RepairCall, Updated, Certified, Replayed, is_gap, gaps_of, settled_by, finalized_by, raised_by, fetched_by, effects_of}
 use Rattle.simplex_repair.proofs.Lacking.{gaps_listed}
-use Rattle.simplex_fetch.specs.declared.entry.Entry.{Entry}
-use Rattle.simplex_fetch.specs.declared.arrivals.Arrival.{Arrival}
-use Rattle.simplex_fetch.specs.declared.out.Out.{Out}
-use Rattle.simplex_fetch.specs.declared.out.Out.TheVariants as outs
-use Rattle.simplex_fetch.specs.Asks.{same_arrival, same_ask, asks_any, with_arrival}
-use Rattle.simplex_fetch.specs.Views.{entry_at, with_entry}
+use Rattle.simplex_resolving.specs.declared.entry.Entry.{Entry}
+use Rattle.simplex_resolving.specs.declared.arrivals.Arrival.{Arrival}
+use Rattle.simplex_resolving.specs.declared.out.Out.{Out}
+use Rattle.simplex_resolving.specs.declared.out.Out.TheVariants as outs
+use Rattle.simplex_resolving.specs.Asks.{same_arrival, same_ask, asks_any, with_arrival}
+use Rattle.simplex_resolving.specs.Views.{entry_at, with_entry}
 use Rattle.simplex_fetch.specs.Index.{has_ask}
-use Rattle.simplex_fetch.specs.Fetcher.{Machine, Fetching, of_all, entry_with, asking, attempted, attempted_at, attempting, visited, adding, noting, fetched_beside, served, peer_of}
+use Rattle.simplex_resolving.specs.Fetcher.{Machine, Fetching, of_all, entry_with, asking, attempted, attempted_at, attempting, visited, adding, noting, fetched_beside, served, peer_of}
 use Rattle.simplex_fetch.proofs.Entries.{entry_at-put}
-use Rattle.simplex_resolver.specs.Resolver.{Doing, backfill, fetch_of, retire_of, serving, requested, minded, minded_all, putting, leaving, called, fetching, retiring_all, with_effects}
+use Rattle.simplex_resolving.specs.Resolver.{Doing, backfill, fetch_of, retire_of, serving, requested, minded, minded_all, putting, leaving, called, fetching, retiring_all, with_effects}
 use Rattle.simplex_resolver.proofs.Moving.{called-all-stays}
 
 -- ---- an attempt changes no ask

@@ -24,12 +24,12 @@ use Rattle.simplex_rules.specs.Known.{view_of}
 use Rattle.simplex_rules.specs.Repair.{RepairCall, Updated, Certified, Replayed, good_view, is_gap, gaps_of, is_final, is_nullified, is_settled, is_key_settled, final_view, finalization_held, repair_floor, nullification_held, settled_by, finalized_by, raised_by, fetched_by, effects_of}
 use Rattle.simplex_repair.proofs.Fresh.{gap_above}
 use Rattle.simplex_repair.proofs.Terms.{term_rises}
-use Rattle.simplex_fetch.specs.declared.retire.Retire.{Retire}
-use Rattle.simplex_fetch.specs.declared.retire.Retire.TheVariants as retires
-use Rattle.simplex_fetch.specs.Asks.{holds_ask, same_ask, same_kind}
-use Rattle.simplex_fetch.specs.Retirement.{reaches}
-use Rattle.simplex_fetch.specs.Fetcher.{is_done}
-use Rattle.simplex_resolver.specs.Resolver.{backfill, retire_of, settled_count, verdict_of}
+use Rattle.simplex_resolving.specs.declared.retire.Retire.{Retire}
+use Rattle.simplex_resolving.specs.declared.retire.Retire.TheVariants as retires
+use Rattle.simplex_resolving.specs.Asks.{holds_ask, same_ask, same_kind}
+use Rattle.simplex_resolving.specs.Retirement.{reaches}
+use Rattle.simplex_resolving.specs.Fetcher.{is_done}
+use Rattle.simplex_resolving.specs.Resolver.{backfill, retire_of, settled_count, verdict_of}
 use Rattle.simplex_resolver.proofs.Numbers.{spares}
 
 -- ---- a view whose nullification is settled is no gap

@@ -1,4 +1,2 @@
-pub mod Sends
-pub mod Resolver
 pub mod Stands
 pub mod Laws

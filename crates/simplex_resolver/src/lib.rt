@@ -18,7 +18,4 @@ mod work;
 
 pub use actor::Actor;
 pub use config::Config;
-pub use laws::{
-    each_gap_has_an_open_ask, handed_certificates_verify, new_gaps_are_asked_for,
-    nullifications_answer_what_they_cover, sends_rise_by_view,
-};
+pub use laws::{each_gap_has_an_open_ask, new_gaps_are_asked_for};

@@ -1,6 +1,6 @@
 //! A script: calls of one fetcher, each with its time and what it is to tell.
 ghost use Rattle.std.specs.Prelude.{◌≡◌, ◌<◌, ◌^◌};
-ghost use Rattle.simplex_fetch.specs.Fetcher.{IsSoundConfig};
+ghost use Rattle.simplex_resolving.specs.Fetcher.{IsSoundConfig};
 
 use simplex_fetch::{Fetch, FetchConfig, Fetcher, Out, Retire};
 use simplex_types::{

@@ -1,0 +1,4 @@
+pub mod Falling
+pub mod Keeping
+pub mod Kept
+pub mod Valid
