@@ -1,22 +1,19 @@
 -- The entry that an event makes, or the first refusal.
-use Rattle.std.specs.Prelude.{ℕ, ◌+◌, ◌-◌, ◌*◌, ◌^◌, ◌==◌, ◌&&◌, nat_lt, nat_le, Bool, true, false, not, List, [], ◌∷◌, ◌++◌, length, map, filter, Option, Some, None, Result, Ok, Err, if◌then◌else◌}
-use Rattle.std.specs.List.{filter_map, list_any, list_all, range_with_len}
-use Rattle.std.specs.Option.{is_some, option_map, option_map_or, option_and_then}
+use Rattle.std.specs.Prelude.{ℕ, ◌+◌, ◌-◌, ◌*◌, ◌^◌, ◌==◌, ◌&&◌, nat_lt, nat_le, Bool, true, false, List, [], ◌∷◌, length, map, Option, Some, None, Result, Ok, Err, if◌then◌else◌}
+use Rattle.std.specs.List.{filter_map, list_any, list_all}
+use Rattle.std.specs.Option.{option_map, option_and_then}
 use Rattle.std.specs.Str.{bytes_eq}
 use Rattle.std.specs.Cmp.Lexicographic.{pointwise}
 use Rattle.simplex_values.specs.declared.answer.Answer.{Answer}
-use Rattle.simplex_values.specs.declared.plan.Recipients.{Recipients}
-use Rattle.simplex_values.specs.declared.plan.Recipients.TheVariants as recipients
+use Rattle.simplex_values.specs.declared.plan.Channel.{Channel}
 use Rattle.simplex_values.specs.Terms.{greatest_view}
 use Rattle.simplex_values.specs.Proposal.{is_same_proposal}
 use Rattle.simplex_wire.specs.declared.attestation.Attestation.{Attestation}
 use Rattle.simplex_wire.specs.declared.certificate.Finalization.{Finalization}
-use Rattle.simplex_types.specs.declared.activity.Activity.{Activity}
 use Rattle.simplex_types.specs.declared.activity.Activity.TheVariants as activities
 use Rattle.simplex_rules.specs.Views.{current_of}
 use Rattle.simplex_messages.specs.declared.call.Call.{Call}
 use Rattle.simplex_messages.specs.declared.call.Call.TheVariants as calls
-use Rattle.simplex_messages.specs.declared.handed.Handed.{Handed}
 use Rattle.simplex_messages.specs.declared.step.Outcome.{Outcome}
 use Rattle.simplex_messages.specs.declared.step.Outcome.TheVariants as outcomes
 use Rattle.simplex_messages.specs.declared.step.Stop.{Stop}
@@ -37,25 +34,21 @@ use Rattle.simplex_steps.specs.Voter.{Standing, answer_to, first_answered}
 use Rattle.simplex_steps.specs.VoterLife.{place_of}
 use Rattle.simplex_steps.specs.Engine as engine
 use Rattle.simplex_steps.specs.Engine.{EngineMade, Did, Taken}
-use Rattle.simplex_run.specs.Members.{members_of, is_node, floor_of, engine_of}
-use Rattle.simplex_run.specs.Life.{Noted, Life, Stopped, Running, clock_of, life_in, sections_in}
+use Rattle.simplex_run.specs.Kinds.{members_of, is_node, is_honest, runs_engine}
+pub use Rattle.simplex_run.specs.Kinds.{node_of}
+use Rattle.simplex_run.specs.Members.{kind_of, floor_of, engine_of}
+use Rattle.simplex_run.specs.Routing.{packet_for_send}
+pub use Rattle.simplex_run.specs.Routing.{nodes_for}
+use Rattle.simplex_run.specs.Life.{Noted, Life, Stopped, Running, clock_of, life_in}
 use Rattle.simplex_run.specs.Requests.{request_number, request_place, packet_for}
+use Rattle.simplex_run.specs.Mocks.{Sent, heard_by}
+use Rattle.simplex_run.specs.Hearing.{heard_of, heard_in}
+use Rattle.simplex_run.specs.Forged.{unless_forged}
 
 -- ---- packets
 
--- the first half of a member
-abbrev pub node_of : ℕ → Node
-node_of member = record { member = member; half = 0 }
-
--- whom a send of the node goes to: all are the nodes of every other member, in rising order
-abbrev pub nodes_for : Setup → Node → Recipients → List Node
-nodes_for setup from recipients.All = map node_of (filter (λ m. not (m == from.member)) (range_with_len 0 (members_of setup)))
-nodes_for setup from (recipients.Some members) = map node_of members
-nodes_for setup from (recipients.One member) = node_of member ∷ []
-
 abbrev pub packet_of : Setup → Node → Call → Option Packet
-packet_of setup from (calls.Send channel to bytes) =
-    Some (record { from = from; channel = channel; to = nodes_for setup from to; bytes = bytes })
+packet_of setup from (calls.Send channel to bytes) = Some (packet_for_send setup from channel to bytes)
 packet_of setup from _ = None
 
 -- each send is one packet, in order
@@ -103,6 +96,16 @@ noted_with setup before event node took did =
 abbrev pub noted_blank : List Noted → Event → Option Node → Noted
 noted_blank before event who = record { event = event; entry = blank_entry (length before + 1) who; did = None }
 
+-- an entry in which a faulty node without an engine held nothing
+abbrev pub noted_idle : List Noted → Event → Node → Noted
+noted_idle before event node =
+    record { event = event; entry = record (blank_entry (length before + 1) (Some node)) { outcome = outcomes.Idle }; did = None }
+
+-- the entry of packets that were not made by an engine
+abbrev pub noted_packets : List Noted → Event → Node → Option Took → List Packet → Noted
+noted_packets before event node took packets =
+    record { event = event; entry = record (blank_entry (length before + 1) (Some node)) { took = took; packets = packets }; did = None }
+
 -- ---- what a step took
 
 abbrev pub answered_at : List Noted → Node → ℕ → Answer → Option Took
@@ -118,6 +121,7 @@ taken_of before node s (engine.Took sources.Verify message) = option_and_then (�
 taken_of before node s (engine.Took sources.Certify message) =
     option_and_then (λ taken. answered_at before node taken.0.number taken.1) (first_answered s.desk.certify s.answers)
 taken_of before node s (engine.Took sources.Timer message) = Some tooks.Timer
+taken_of before node s (engine.Took sources.Fetch message) = Some tooks.Timer
 taken_of before node s (engine.Took source message) = option_map tooks.Message message
 taken_of before node s _ = None
 
@@ -148,20 +152,25 @@ abbrev pub reports : Finalization → Call → Bool
 reports f (calls.Report (activities.Finalization g)) = is_same_proposal f.proposal g.proposal && are_same_attestations f.certificate g.certificate
 reports f _ = false
 
--- whether a node reported the finalization; all members are honest
-unfoldable pub was_reported : List Noted → Finalization → Bool
-was_reported before f = list_any (λ noted. list_any (reports f) noted.entry.calls) before
+-- whether the entry is one of an honest member
+abbrev pub is_of_honest : Setup → Option Node → Bool
+is_of_honest setup None = false
+is_of_honest setup (Some node) = is_honest setup node.member
 
-abbrev pub is_own_floor : List Noted → Option Finalization → Bool
-is_own_floor before None = true
-is_own_floor before (Some f) = was_reported before f
+-- whether an honest node reported the finalization
+unfoldable pub was_reported : Setup → List Noted → Finalization → Bool
+was_reported setup before f = list_any (λ noted. is_of_honest setup noted.entry.who && list_any (reports f) noted.entry.calls) before
+
+abbrev pub is_own_floor : Setup → List Noted → Option Finalization → Bool
+is_own_floor setup before None = true
+is_own_floor setup before (Some f) = was_reported setup before f
 
 -- ---- one event. The refusals are tested in the order in which the cases nest
 
 abbrev pub on_start : Setup → List Noted → Node → Option Finalization → Stop → Life → Result Noted RunError
 on_start setup before node floor stop (Running made past) = Err refusals.NotStopped
 on_start setup before node floor stop (Stopped sections) =
-    if is_own_floor before floor
+    if is_own_floor setup before floor
     then (let now = clock_of before in
     Ok (noted_with setup before (events.Start node floor stop) node (Some tooks.Floor)
     (engine.begun (engine_of setup node.member (floor_of setup floor) sections) now stop)))
@@ -201,21 +210,55 @@ abbrev pub on_crash : List Noted → Node → Life → Result Noted RunError
 on_crash before node (Stopped sections) = Err refusals.NotRunning
 on_crash before node (Running made past) = Ok (noted_blank before (events.Crash node) (Some node))
 
+-- ---- one event of a faulty node without an engine: it always runs, and only answers what it hears
+
+abbrev pub sent_by : Setup → Node → Sent → Packet
+sent_by setup node sent = packet_for_send setup node sent.channel sent.recipients sent.bytes
+
+abbrev pub on_hearing : Setup → List Noted → Node → Ref → Option Packet → Result Noted RunError
+on_hearing setup before node at None = Err refusals.NoPacket
+on_hearing setup before node at (Some packet) =
+    Ok (noted_packets before (events.Deliver node at) node (Some (tooks.Packet at))
+    (map (sent_by setup node) (heard_by setup node.member (kind_of setup node.member) (heard_in before node) (heard_of packet))))
+
+-- ---- bytes that a faulty member sends by an event
+
+abbrev pub on_inject : Setup → List Noted → ℕ → Channel → List Node → List ℕ → Result Noted RunError
+on_inject setup before member channel to bytes =
+    if is_honest setup member then Err refusals.NotFaulty
+    else Ok (noted_packets before (events.Inject member channel to bytes) (node_of member) None
+    (record { from = node_of member; channel = channel; to = to; bytes = bytes } ∷ []))
+
+-- ---- one event of any node
+
 abbrev pub if_node : Setup → Node → Result Noted RunError → Result Noted RunError
 if_node setup node next = if is_node setup node then next else Err refusals.NoMember
 
--- what an event makes of the entries before it, where all members are honest
-unfoldable pub entry_of : Setup → List Noted → Event → Result Noted RunError
-entry_of setup before (events.Start node floor stop) =
-    if_node setup node (on_start setup before node floor stop (life_in setup before node))
-entry_of setup before (events.Tick ms) =
+-- what it makes of a node that runs an engine, and of one that runs none
+abbrev pub by_engine : Setup → Node → (with_engine without_engine : Result Noted RunError) → Result Noted RunError
+by_engine setup node with_engine without_engine =
+    if_node setup node (if runs_engine setup node.member then with_engine else without_engine)
+
+-- what an event makes of the entries before it, but for what is forged
+unfoldable pub made_of : Setup → List Noted → Event → Result Noted RunError
+made_of setup before (events.Start node floor stop) =
+    by_engine setup node (on_start setup before node floor stop (life_in setup before node)) (Err refusals.NotStopped)
+made_of setup before (events.Tick ms) =
     if nat_le (clock_of before + ms) (2 ^ 63 - 1) then Ok (noted_blank before (events.Tick ms) None) else Err refusals.ClockEnd
-entry_of setup before (events.Deliver node at) = if_node setup node (on_deliver setup before node at (life_in setup before node))
-entry_of setup before (events.Step node source stop) =
-    if_node setup node (on_step setup before node source stop (life_in setup before node))
-entry_of setup before (events.Answer node at answer) =
-    if_node setup node (on_answer setup before node at answer (life_in setup before node))
-entry_of setup before (events.Crash node) = if_node setup node (on_crash before node (life_in setup before node))
-entry_of setup before (events.Inject member channel to bytes) =
-    if nat_lt member (members_of setup) && list_all (is_node setup) to then Err refusals.NotFaulty else Err refusals.NoMember
-entry_of setup before events.Later = Err refusals.NotYet
+made_of setup before (events.Deliver node at) =
+    by_engine setup node (on_deliver setup before node at (life_in setup before node)) (on_hearing setup before node at (packet_for before node at))
+made_of setup before (events.Step node source stop) =
+    by_engine setup node (on_step setup before node source stop (life_in setup before node)) (Ok (noted_idle before (events.Step node source stop) node))
+made_of setup before (events.Answer node at answer) =
+    by_engine setup node (on_answer setup before node at answer (life_in setup before node)) (Err refusals.NotPending)
+made_of setup before (events.Crash node) =
+    by_engine setup node (on_crash before node (life_in setup before node)) (Ok (noted_idle before (events.Crash node) node))
+made_of setup before (events.Inject member channel to bytes) =
+    if nat_lt member (members_of setup) && list_all (is_node setup) to then on_inject setup before member channel to bytes
+    else Err refusals.NoMember
+-- a form of event that is not taken yet
+made_of setup before events.Later = Err refusals.NotYet
+
+-- what an event makes of the entries before it
+unfoldable pub entry_of : Setup → List Noted → Event → Result Noted RunError
+entry_of setup before event = unless_forged setup before (made_of setup before event)

@@ -1,6 +1,5 @@
 -- What a node's engine is made with, by the setup.
-use Rattle.std.specs.Prelude.{ℕ, ◌+◌, ◌-◌, ◌*◌, ◌==◌, ◌&&◌, nat_lt, nat_le, Bool, true, false, List, [], ◌∷◌, length, Option, Some, None, if◌then◌else◌}
-use Rattle.simplex_values.specs.declared.terms.Lookahead.{Lookahead}
+use Rattle.std.specs.Prelude.{ℕ, List, slice_get, unwrap_or, Option, Some, None}
 use Rattle.simplex_values.specs.declared.policy.SkipPolicy.{SkipPolicy}
 use Rattle.simplex_values.specs.declared.policy.SkipPolicy.TheVariants as skip
 use Rattle.simplex_values.specs.Policy.{budget_of}
@@ -8,26 +7,23 @@ use Rattle.simplex_wire.specs.declared.certificate.Finalization.{Finalization}
 use Rattle.simplex_types.specs.declared.floor.Floor.{Floor}
 use Rattle.simplex_types.specs.declared.floor.Floor.TheVariants as floors
 use Rattle.simplex_types.specs.Keyed.{keyed_attests, keyed_verifies}
-use Rattle.simplex_types.specs.RoundRobin.{leader_of}
 use Rattle.simplex_types.specs.Genesis.{genesis_of}
 use Rattle.simplex_rules.specs.Known.{Made}
 use Rattle.simplex_round.specs.Assembly.{as_scheme}
 use Rattle.simplex_journal.specs.Journal.{Section}
 use Rattle.simplex_transcript.specs.declared.setup.Setup.{Setup}
-use Rattle.simplex_transcript.specs.declared.node.Node.{Node}
+use Rattle.simplex_transcript.specs.declared.setup.MemberKind.{MemberKind}
+use Rattle.simplex_transcript.specs.declared.setup.MemberKind.TheVariants as kinds
 use Rattle.simplex_steps.specs.Batcher as batcher
 use Rattle.simplex_steps.specs.Engine.{EngineMade}
+use Rattle.simplex_resolving.specs.Resolver as resolver
+pub use Rattle.simplex_run.specs.Kinds.{members_of, is_node, is_same_node}
+use Rattle.simplex_run.specs.Twins.{elected}
+use Rattle.simplex_run.specs.Wrapped.{wrapped_attests, wrapped_recovers}
 
--- how many members there are
-abbrev pub members_of : Setup → ℕ
-members_of setup = length setup.members
-
--- whether the node exists: half 0 of each member
-abbrev pub is_node : Setup → Node → Bool
-is_node setup node = nat_lt node.member (members_of setup) && node.half == 0
-
-abbrev pub is_same_node : Node → Node → Bool
-is_same_node a b = a.member == b.member && a.half == b.half
+-- the member's kind; behind the last member it is honest
+abbrev pub kind_of : Setup → ℕ → MemberKind
+kind_of setup member = unwrap_or (slice_get setup.members member) kinds.Honest
 
 -- where a start stands: at a finalization, or at genesis
 abbrev pub floor_of : Setup → Option Finalization → Floor
@@ -47,9 +43,9 @@ skip_budget setup (skip.Enabled timeout budget) = budget_of budget (members_of s
 unfoldable pub rules_of : Setup → ℕ → ℕ → Made
 rules_of setup member start =
     record {
-      signs = keyed_attests setup.key_base (Some member);
+      signs = wrapped_attests (kind_of setup member) (keyed_attests setup.key_base (Some member)) (keyed_verifies setup.key_base (members_of setup));
       me = Some member;
-      elects = leader_of setup.term (members_of setup);
+      elects = elected setup;
       epoch = setup.epoch;
       genesis = genesis_of setup.epoch;
       term_length = setup.term;
@@ -67,7 +63,7 @@ rules_of setup member start =
 unfoldable pub batcher_of : Setup → ℕ → Floor → batcher.Made
 batcher_of setup member floor =
     record {
-      scheme = as_scheme (keyed_verifies setup.key_base (members_of setup)) true (members_of setup);
+      scheme = as_scheme (keyed_verifies setup.key_base (members_of setup)) (wrapped_recovers (kind_of setup member)) (members_of setup);
       me = Some member;
       members = members_of setup;
       epoch = setup.epoch;
@@ -79,11 +75,23 @@ batcher_of setup member floor =
       forward = setup.forward;
     }
 
+unfoldable pub resolver_of : Setup → ℕ → resolver.Made
+resolver_of setup member =
+    record {
+      verifies = keyed_verifies setup.key_base (members_of setup);
+      members = members_of setup;
+      epoch = setup.epoch;
+      term = setup.term;
+      handler_size = setup.mailbox;
+      fetching = record { me = member; n = members_of setup; fetch_timeout = setup.fetch_timeout; fetch_retry_delay = setup.fetch_retry };
+    }
+
 -- the engine of a node that starts at this floor, over what its journal holds
 unfoldable pub engine_of : Setup → ℕ → Floor → List Section → EngineMade
 engine_of setup member floor sections =
     record {
       voter = λ start. record { rules = rules_of setup member start; floor = floor; sections = sections };
       batcher = batcher_of setup member floor;
+      resolver = resolver_of setup member;
       capacity = setup.mailbox;
     }

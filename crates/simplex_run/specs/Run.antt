@@ -72,8 +72,12 @@ abbrev pub unless_bad : Option Field → Result (List Entry) Refusal → Result 
 unless_bad (Some field) ran = Err (refused (refusals.BadSetup field) 0)
 unless_bad None ran = ran
 
-unfoldable pub Run : Setup → List Event → Result (List Entry) Refusal
-Run setup events =
-    if not (is_taken setup) then Err (refused refusals.NotYet 0)
-    else if not (are_few setup events) then Err (refused (refusals.BadSetup fields.Events) 0)
+-- the run of any setup
+unfoldable pub whole_run : Setup → List Event → Result (List Entry) Refusal
+whole_run setup events =
+    if not (are_few setup events) then Err (refused (refusals.BadSetup fields.Events) 0)
     else unless_bad (first_bad setup) (transcript_of (run setup [] events))
+
+-- the run of a setup that is taken yet
+unfoldable pub Run : Setup → List Event → Result (List Entry) Refusal
+Run setup events = if not (is_taken setup) then Err (refused refusals.NotYet 0) else whole_run setup events

@@ -3,4 +3,4 @@
 
 mod samples;
 
-pub use samples::refusals_come_out;
+pub use samples::{faulty_members_come_out, faulty_refusals_come_out, refusals_come_out};

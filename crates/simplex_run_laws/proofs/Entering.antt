@@ -16,7 +16,9 @@ use Rattle.simplex_transcript.specs.declared.refusal.RunError.{RunError}
 use Rattle.simplex_steps.specs.Engine.{EngineMade, Did}
 use Rattle.simplex_run.specs.Life.{Noted, Life, Stopped, Running, life_in}
 use Rattle.simplex_run.specs.Requests.{request_number, packet_for}
-use Rattle.simplex_run.specs.Entries.{on_start, on_packet, on_deliver, on_step, on_request, on_answer, on_crash, entry_of}
+use Rattle.simplex_run.specs.Entries.{on_start, on_packet, on_deliver, on_step, on_request, on_answer, on_crash, on_hearing, on_inject, by_engine, made_of, entry_of}
+use Rattle.simplex_run.specs.Forged.{Signed, first_forged, unless, unless_forged}
+use Rattle.simplex_run.specs.Kinds.{is_node, is_honest, runs_engine}
 use Rattle.simplex_run.specs.Run.{unless_refused, run, Run}
 use Rattle.simplex_run_laws.specs.Complete.{IsEntryOf, AreEach, IsOneEach}
 use Rattle.simplex_run_laws.proofs.Whole.{noted_in, parts, as_long}
@@ -70,26 +72,53 @@ crash_enters : (before : List Noted) (node : Node) (life : Life) → Enters befo
 crash_enters before node (Stopped sections) = tt
 crash_enters before node (Running made past) = record { counted = refl; who = refl }
 
+-- a node with an engine, or with none
+of_node : (setup : Setup) (before : List Noted) (node : Node) (event : Event) (run other : Result Noted RunError) → Enters before event run → Enters before event other
+    → Enters before event (by_engine setup node run other)
+of_node setup before node event run other p q =
+    either before event (is_node setup node) (if runs_engine setup node.member then run else other) (Err _)
+    (either before event (runs_engine setup node.member) run other p q) tt
+
+hearing_enters : (setup : Setup) (before : List Noted) (node : Node) (at : Ref) (o : Option Packet) → Enters before (events.Deliver node at) (on_hearing setup before node at o)
+hearing_enters setup before node at None = tt
+hearing_enters setup before node at (Some packet) = record { counted = refl; who = refl }
+
+made_enters : (setup : Setup) (before : List Noted) (event : Event) → Enters before event (made_of setup before event)
+unfolding made_of
+made_enters setup before (events.Start node floor stop) =
+    of_node setup before node (events.Start node floor stop) (on_start setup before node floor stop (life_in setup before node)) (Err _)
+    (start_enters setup before node floor stop (life_in setup before node)) tt
+made_enters setup before (events.Tick ms) = either before (events.Tick ms) _ (Ok _) (Err _) (record { counted = refl; who = refl }) tt
+made_enters setup before (events.Deliver node at) =
+    of_node setup before node (events.Deliver node at) (on_deliver setup before node at (life_in setup before node)) (on_hearing setup before node at (packet_for before node at))
+    (deliver_enters setup before node at (life_in setup before node)) (hearing_enters setup before node at (packet_for before node at))
+made_enters setup before (events.Step node source stop) =
+    of_node setup before node (events.Step node source stop) (on_step setup before node source stop (life_in setup before node)) (Ok _)
+    (step_enters setup before node source stop (life_in setup before node)) (record { counted = refl; who = refl })
+made_enters setup before (events.Answer node at answer) =
+    of_node setup before node (events.Answer node at answer) (on_answer setup before node at answer (life_in setup before node)) (Err _)
+    (answer_enters setup before node at answer (life_in setup before node)) tt
+made_enters setup before (events.Crash node) =
+    of_node setup before node (events.Crash node) (on_crash before node (life_in setup before node)) (Ok _)
+    (crash_enters before node (life_in setup before node)) (record { counted = refl; who = refl })
+made_enters setup before (events.Inject member channel to bytes) =
+    either before (events.Inject member channel to bytes) _ (on_inject setup before member channel to bytes) (Err _)
+    (either before (events.Inject member channel to bytes) (is_honest setup member) (Err _) (Ok _) tt (record { counted = refl; who = refl })) tt
+made_enters setup before events.Later = tt
+
+-- where what is forged is refused
+unless_enters : (before : List Noted) (event : Event) (o : Option Signed) (noted : Noted) → IsEntryOf (length before + 1) event noted.entry → Enters before event (unless o noted)
+unless_enters before event None noted p = p
+unless_enters before event (Some s) noted p = tt
+
+unforged_enters : (setup : Setup) (before : List Noted) (event : Event) (r : Result Noted RunError) → Enters before event r → Enters before event (unless_forged setup before r)
+unfolding unless_forged
+unforged_enters setup before event (Err error) p = tt
+unforged_enters setup before event (Ok noted) p = unless_enters before event (first_forged setup before noted.entry) noted p
+
 enters : (setup : Setup) (before : List Noted) (event : Event) → Enters before event (entry_of setup before event)
 unfolding entry_of
-enters setup before (events.Start node floor stop) =
-    either before (events.Start node floor stop) _ (on_start setup before node floor stop (life_in setup before node)) (Err _)
-    (start_enters setup before node floor stop (life_in setup before node)) tt
-enters setup before (events.Tick ms) = either before (events.Tick ms) _ (Ok _) (Err _) (record { counted = refl; who = refl }) tt
-enters setup before (events.Deliver node at) =
-    either before (events.Deliver node at) _ (on_deliver setup before node at (life_in setup before node)) (Err _)
-    (deliver_enters setup before node at (life_in setup before node)) tt
-enters setup before (events.Step node source stop) =
-    either before (events.Step node source stop) _ (on_step setup before node source stop (life_in setup before node)) (Err _)
-    (step_enters setup before node source stop (life_in setup before node)) tt
-enters setup before (events.Answer node at answer) =
-    either before (events.Answer node at answer) _ (on_answer setup before node at answer (life_in setup before node)) (Err _)
-    (answer_enters setup before node at answer (life_in setup before node)) tt
-enters setup before (events.Crash node) =
-    either before (events.Crash node) _ (on_crash before node (life_in setup before node)) (Err _)
-    (crash_enters before node (life_in setup before node)) tt
-enters setup before (events.Inject member channel to bytes) = either before (events.Inject member channel to bytes) _ (Err _) (Err _) tt tt
-enters setup before events.Later = tt
+enters setup before event = unforged_enters setup before event (made_of setup before event) (made_enters setup before event)
 
 -- ---- all of them
 

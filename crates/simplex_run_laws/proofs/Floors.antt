@@ -12,8 +12,9 @@ use Rattle.simplex_wire.specs.declared.certificate.Finalization.{Finalization}
 use Rattle.simplex_types.specs.declared.activity.Activity.TheVariants as activities
 use Rattle.simplex_messages.specs.declared.call.Call.{Call}
 use Rattle.simplex_messages.specs.declared.call.Call.TheVariants as calls
+use Rattle.simplex_transcript.specs.declared.setup.Setup.{Setup}
 use Rattle.simplex_run.specs.Life.{Noted}
-use Rattle.simplex_run.specs.Entries.{is_same_attestation, are_same_attestations, reports, was_reported, is_own_floor}
+use Rattle.simplex_run.specs.Entries.{is_same_attestation, are_same_attestations, reports, is_of_honest, was_reported, is_own_floor}
 use Rattle.simplex_run_laws.specs.Earlier.{IsReported}
 use Rattle.simplex_run_laws.proofs.Tests.{both, and_true, number_is}
 
@@ -106,31 +107,34 @@ reports_self f =
 
 -- ---- a report among the entries
 
-abbrev has_report : Finalization → Noted → Bool
-has_report f noted = list_any (reports f) noted.entry.calls
+abbrev has_report : Setup → Finalization → Noted → Bool
+has_report setup f noted = is_of_honest setup noted.entry.who && list_any (reports f) noted.entry.calls
 
-was_so : (before : List Noted) (f : Finalization) → IsReported before f → was_reported before f ≡ true
+was_so : (setup : Setup) (before : List Noted) (f : Finalization) → IsReported setup before f → was_reported setup before f ≡ true
 unfolding was_reported
-was_so before f r =
+was_so setup before f r =
     let report = calls.Report (activities.Finalization f) in
     let found = list_any-from_Any (reports f) r.noted.entry.calls (r.reports.0, report, r.reports.1, r.reports.2, reports_self f) in
-    list_any-from_Any (has_report f) before (r.stands.0, r.noted, r.stands.1, r.stands.2, found)
+    let holds = and_true (is_of_honest setup r.noted.entry.who) (list_any (reports f) r.noted.entry.calls) r.honest found in
+    list_any-from_Any (has_report setup f) before (r.stands.0, r.noted, r.stands.1, r.stands.2, holds)
 
-is_so : (before : List Noted) (f : Finalization) → was_reported before f ≡ true → IsReported before f
+is_so : (setup : Setup) (before : List Noted) (f : Finalization) → was_reported setup before f ≡ true → IsReported setup before f
 unfolding was_reported
-is_so before f e =
-    let entry = Any-from_list_any (has_report f) before e in
-    let call = Any-from_list_any (reports f) entry.1.entry.calls entry.4 in
+is_so setup before f e =
+    let entry = Any-from_list_any (has_report setup f) before e in
+    let holds = both (is_of_honest setup entry.1.entry.who) (list_any (reports f) entry.1.entry.calls) entry.4 in
+    let call = Any-from_list_any (reports f) entry.1.entry.calls holds.1 in
     record {
       noted = entry.1;
       stands = (entry.0, entry.2, entry.3);
+      honest = holds.0;
       reports = subst (Contains entry.1.entry.calls) (reports_it f call.1 call.4) (call.0, call.2, call.3);
     }
 
-pub own_floor : (before : List Noted) (floor : Option Finalization) → IfSome floor (IsReported before) → is_own_floor before floor ≡ true
-own_floor before None r = refl
-own_floor before (Some f) r = was_so before f r
+pub own_floor : (setup : Setup) (before : List Noted) (floor : Option Finalization) → IfSome floor (IsReported setup before) → is_own_floor setup before floor ≡ true
+own_floor setup before None r = refl
+own_floor setup before (Some f) r = was_so setup before f r
 
-pub floor_reported : (before : List Noted) (floor : Option Finalization) → is_own_floor before floor ≡ true → IfSome floor (IsReported before)
-floor_reported before None e = tt
-floor_reported before (Some f) e = is_so before f e
+pub floor_reported : (setup : Setup) (before : List Noted) (floor : Option Finalization) → is_own_floor setup before floor ≡ true → IfSome floor (IsReported setup before)
+floor_reported setup before None e = tt
+floor_reported setup before (Some f) e = is_so setup before f e

@@ -1,5 +1,5 @@
 -- What tests say.
-use Rattle.std.proofs.Common.{◌≡◌, ℕ, ◌-◌, ◌*◌, ◌<◌, ◌≤◌, ◌==◌, ◌&&◌, nat_lt, nat_le, Bool, true, false, List, Result, Err, is_ok, refl, arith, eqb-true, eq-eqb, if◌then◌else◌}
+use Rattle.std.proofs.Common.{◌≡◌, ℕ, ◌-◌, ◌*◌, ◌<◌, ◌≤◌, ◌==◌, ◌&&◌, nat_lt, nat_le, Bool, true, false, List, Result, Err, is_ok, refl, sym, ◌∙◌, arith, eqb-true, eq-eqb, if◌then◌else◌}
 use Rattle.std.proofs.lemmas.Bool.Decides.{nat_tests}
 use Rattle.simplex_values.specs.Terms.{greatest_view}
 use Rattle.simplex_transcript.specs.declared.node.Node.{Node}
@@ -7,8 +7,9 @@ use Rattle.simplex_transcript.specs.declared.setup.Setup.{Setup}
 use Rattle.simplex_transcript.specs.declared.refusal.RunError.{RunError}
 use Rattle.simplex_steps.specs.Engine.{EngineMade, Did}
 use Rattle.simplex_run.specs.Life.{Noted}
-use Rattle.simplex_run.specs.Members.{members_of, is_node, is_same_node}
+use Rattle.simplex_run.specs.Kinds.{members_of, are_honest, is_node, is_same_node}
 use Rattle.simplex_run.specs.Entries.{is_at_end}
+use Rattle.simplex_run.proofs.Honest.{node_honest}
 use Rattle.simplex_run_laws.specs.Conditions.{IsMember, HasRoom, view_in}
 
 pub both : (a b : Bool) → (a && b) ≡ true → (a ≡ true) × (b ≡ true)
@@ -65,12 +66,14 @@ number_is_not a b h = grind (arith, nat_tests)
 
 -- ---- nodes
 
-pub node_is : (setup : Setup) (node : Node) → IsMember setup node → is_node setup node ≡ true
-node_is setup node m = and_true (nat_lt node.member (members_of setup)) (node.half == 0) (is_below node.member (members_of setup) m.member) (number_is node.half 0 m.half)
+pub node_is : (setup : Setup) (node : Node) → are_honest setup ≡ true → IsMember setup node → is_node setup node ≡ true
+node_is setup node h m =
+    node_honest setup node h
+    ∙ and_true (nat_lt node.member (members_of setup)) (node.half == 0) (is_below node.member (members_of setup) m.member) (number_is node.half 0 m.half)
 
-pub is_member : (setup : Setup) (node : Node) → is_node setup node ≡ true → IsMember setup node
-is_member setup node e =
-    let parts = both (nat_lt node.member (members_of setup)) (node.half == 0) e in
+pub is_member : (setup : Setup) (node : Node) → are_honest setup ≡ true → is_node setup node ≡ true → IsMember setup node
+is_member setup node h e =
+    let parts = both (nat_lt node.member (members_of setup)) (node.half == 0) (sym (node_honest setup node h) ∙ e) in
     record { member = below node.member (members_of setup) parts.0; half = eqb-true node.half 0 parts.1 }
 
 pub same_node : (a b : Node) → is_same_node a b ≡ true → a ≡ b

@@ -10,7 +10,9 @@ use Rattle.simplex_transcript.specs.declared.refusal.Refusal.{Refusal}
 use Rattle.simplex_run.specs.Life.{Noted}
 use Rattle.simplex_run.specs.Entries.{entry_of}
 use Rattle.simplex_run.specs.Setups.{first_bad}
-use Rattle.simplex_run.specs.Run.{unless_refused, run, transcript_of, unless_bad, is_taken, are_few, Run}
+use Rattle.simplex_run.specs.Run.{unless_refused, run, transcript_of, unless_bad, is_taken, are_few, whole_run, Run}
+use Rattle.simplex_run.specs.Kinds.{are_honest}
+use Rattle.simplex_run.proofs.Honest.{taken_honest}
 use Rattle.simplex_run_laws.specs.Complete.{MeetAll, IsProper, MakesTranscript}
 use Rattle.simplex_run_laws.proofs.Exact.{meets_ok, ok_meets}
 
@@ -37,13 +39,13 @@ run_more setup first event before noted ran is = run_on setup [] first (event �
 
 -- ---- complete
 
-met_runs : (setup : Setup) (first rest : List Event) (before : List Noted) → MeetAll setup (first ++ rest) → run setup [] first ≡ Ok before
+met_runs : (setup : Setup) (first rest : List Event) (before : List Noted) → are_honest setup ≡ true → MeetAll setup (first ++ rest) → run setup [] first ≡ Ok before
     → is_ok (run setup before rest) ≡ true
 unfolding run unless_refused MeetAll
-met_runs setup first [] before met ran = refl
-met_runs setup first (event ∷ rest) before met ran =
-    by (entry_of setup before event) refl (meets_ok setup before event (met first event rest before refl ran))
-    (λ noted is. met_runs setup (first ++ event ∷ []) rest (noted ∷ before) (subst (MeetAll setup) (sym (append_assoc first (event ∷ []) rest)) met)
+met_runs setup first [] before h met ran = refl
+met_runs setup first (event ∷ rest) before h met ran =
+    by (entry_of setup before event) refl (meets_ok setup before event h (met first event rest before refl ran))
+    (λ noted is. met_runs setup (first ++ event ∷ []) rest (noted ∷ before) h (subst (MeetAll setup) (sym (append_assoc first (event ∷ []) rest)) met)
     (run_more setup first event before noted ran is))
   where
     by : (r : Result Noted RunError) → entry_of setup before event ≡ r → is_ok r ≡ true
@@ -52,9 +54,9 @@ met_runs setup first (event ∷ rest) before met ran =
     by (Err error) is ok old = cc
     by (Ok noted) is ok old = old noted is
 
-all_run : (setup : Setup) (events : List Event) → MeetAll setup events → is_ok (run setup [] events) ≡ true
+all_run : (setup : Setup) (events : List Event) → are_honest setup ≡ true → MeetAll setup events → is_ok (run setup [] events) ≡ true
 unfolding run
-all_run setup events met = met_runs setup [] events [] met refl
+all_run setup events h met = met_runs setup [] events [] h met refl
 
 answers : (r : Result (List Noted) Refusal) → is_ok r ≡ true → (entries : List Entry) × (transcript_of r ≡ Ok entries)
 answers (Ok noted) ok = (_, refl)
@@ -68,9 +70,9 @@ valid_run true false bad one other r t f g = cc
 valid_run false few bad one other r t f g = cc
 
 pub complete : (setup : Setup) (events : List Event) → IsProper setup events → MakesTranscript setup events
-unfolding Run
+unfolding Run whole_run
 complete setup events p =
-    let ran = answers (run setup [] events) (all_run setup events p.met) in
+    let ran = answers (run setup [] events) (all_run setup events (taken_honest setup p.valid.taken) p.met) in
     (ran.0, valid_run (is_taken setup) (are_few setup events) (first_bad setup) _ _ (transcript_of (run setup [] events)) p.valid.taken p.valid.few p.valid.good ∙ ran.1)
 
 -- ---- and nothing else
@@ -90,7 +92,7 @@ parts_of false few bad one other r entries e = cc
 
 pub parts : (setup : Setup) (events : List Event) (entries : List Entry) → Run setup events ≡ Ok entries
     → Parts (is_taken setup) (are_few setup events) (first_bad setup) (transcript_of (run setup [] events)) entries
-unfolding Run
+unfolding Run whole_run
 parts setup events entries e = parts_of (is_taken setup) (are_few setup events) (first_bad setup) _ _ (transcript_of (run setup [] events)) entries e
 
 -- the entries of a transcript, the newest first
@@ -108,11 +110,11 @@ first_ok setup before next rest noted e = by (entry_of setup before next) e
     by (Ok n) h = refl
     by (Err error) h = cc
 
-ran_met : (setup : Setup) (events : List Event) (noted : List Noted) → run setup [] events ≡ Ok noted → MeetAll setup events
+ran_met : (setup : Setup) (events : List Event) (noted : List Noted) → are_honest setup ≡ true → run setup [] events ≡ Ok noted → MeetAll setup events
 unfolding MeetAll
-ran_met setup events noted e first next rest before is ran =
+ran_met setup events noted h e first next rest before is ran =
     let whole : run setup before (next ∷ rest) ≡ Ok noted = sym (run_on setup [] first (next ∷ rest) before ran) ∙ ap (λ list. run setup [] list) (sym is) ∙ e in
-    ok_meets setup before next (first_ok setup before next rest noted whole)
+    ok_meets setup before next h (first_ok setup before next rest noted whole)
 
 pub sound : (setup : Setup) (events : List Event) (entries : List Entry) → Run setup events ≡ Ok entries → IsProper setup events
 sound setup events entries e =
@@ -120,7 +122,7 @@ sound setup events entries e =
     let noted = noted_in (run setup [] events) entries p.ran in
     record {
       valid = record { taken = p.is_taken; few = p.are_few; good = p.is_good };
-      met = ran_met setup events noted.0 noted.1;
+      met = ran_met setup events noted.0 (taken_honest setup p.is_taken) noted.1;
     }
 
 -- ---- how long it is

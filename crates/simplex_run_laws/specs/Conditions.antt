@@ -40,7 +40,7 @@ pub record MayStart (setup : Setup) (before : List Noted) (node : Node) (floor :
   pub member : IsMember setup node
   pub sections : List Section
   pub stopped : life_in setup before node ≡ Stopped sections
-  pub reported : IfSome floor (IsReported before)
+  pub reported : IfSome floor (IsReported setup before)
 
 -- the clock stays below 2^63
 pub record MayTick (before : List Noted) (ms : ℕ) : Type 0 where

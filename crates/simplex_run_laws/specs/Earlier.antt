@@ -7,7 +7,9 @@ use Rattle.simplex_messages.specs.declared.call.Call.TheVariants as calls
 use Rattle.simplex_transcript.specs.declared.entry.Packet.{Packet}
 use Rattle.simplex_transcript.specs.declared.node.Node.{Node}
 use Rattle.simplex_transcript.specs.declared.node.Ref.{Ref}
+use Rattle.simplex_transcript.specs.declared.setup.Setup.{Setup}
 use Rattle.simplex_run.specs.Life.{Noted, is_of}
+use Rattle.simplex_run.specs.Entries.{is_of_honest}
 use Rattle.simplex_run.specs.Requests.{is_start, first_number}
 
 -- The entry of this number, with those that came earlier and those that came later. The newest entry stands first
@@ -15,10 +17,11 @@ pub record IsEntry (before : List Noted) (number : ℕ) (noted : Noted) (earlier
   pub stands : before ≡ later ++ noted ∷ earlier
   pub place : number ≡ length earlier + 1
 
--- an entry reported this very finalization
-pub record IsReported (before : List Noted) (f : Finalization) : Type 0 where
+-- an entry of an honest member reported this very finalization
+pub record IsReported (setup : Setup) (before : List Noted) (f : Finalization) : Type 0 where
   pub noted : Noted
   pub stands : Contains before noted
+  pub honest : is_of_honest setup noted.entry.who ≡ true
   pub reports : Contains noted.entry.calls (calls.Report (activities.Finalization f))
 
 -- an entry has a packet at this place, and the node is among those to whom it goes

@@ -5,3 +5,5 @@ pub mod Samples
 pub mod Voter
 pub mod VoterLife
 pub mod Engine
+pub mod ResolverSteps
+pub mod Resolving

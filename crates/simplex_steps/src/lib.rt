@@ -4,6 +4,8 @@
 //! the actors' contracts, the engine's and those of whole runs all speak of these words.
 #![tactic(auto)]
 
+mod resolving;
 mod samples;
 
+pub use resolving::{nullifications_answer_for_their_term, resolver_answers, resolver_asks};
 pub use samples::one_member_alone;
