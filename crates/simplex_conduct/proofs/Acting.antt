@@ -36,6 +36,8 @@ use Rattle.simplex_messages.specs.declared.handed.Handed.TheVariants as handed
 use Rattle.simplex_messages.specs.declared.resolver.MailboxMessage.TheVariants as resolver
 use Rattle.simplex_messages.specs.declared.voter.Message.{Message}
 use Rattle.simplex_messages.specs.declared.voter.Message.TheVariants as mail
+use Rattle.simplex_agreement.proofs.ListFacts.{not_in_empty, Contains-cons_cases}
+use Rattle.simplex_conduct.proofs.Stopping.{IsLowBox}
 use Rattle.simplex_steps.specs.Desk.{Doing, begun, tell, make, hand, append}
 use Rattle.simplex_steps.specs.Voter.{settle_proposal, proposal_stands, propose, stage, give_up, act_on_deadline, act_on_proposal, act_on_verify, settle_certify, take_verdict, act_on_certify, record_of, adds, adding, block_for, certificate_view, act_on_certificate, act_on_mail}
 use Rattle.simplex_lives.specs.Artifacts as member
@@ -49,6 +51,8 @@ use Rattle.simplex_conduct.proofs.Facts.{told_quiet, IsQuiet, Quiet, Quiet-trigg
 use Rattle.simplex_conduct.proofs.Living.{subjects_of}
 use Rattle.simplex_conduct.proofs.Simulating.{Writes, Stores, IsPlain, nothing_first, only_from, writes_known, writes_plain, writes_note}
 use Rattle.simplex_conduct.proofs.Publishing.{Writing, Storing, nullify_waiting, remembered_push}
+use Rattle.simplex_conduct.specs.Storing.{IsOwn}
+use Rattle.simplex_conduct.proofs.Signing.{nullify_signed}
 
 -- ---- a step that wrote nothing yet
 
@@ -69,7 +73,7 @@ pub begin : (made : Made) (desk : Desk) (sections : List Section) (m : Member) �
 begin made desk sections m r =
     record {
       writes = λ view. record {
-        sim = record { legal = tt; up = r.up; memory = r.memory; order = r.order; box = ap subjects_of r.outbox; fit = tt; sends = tt; first = nothing_first m };
+        sim = record { legal = tt; up = r.up; memory = r.memory; order = r.order; box = ap subjects_of r.outbox; fit = tt; sends = tt; first = nothing_first made m };
         only = only_from view m.journal r.stored;
         unwritten = λ e. r.stored;
         noted = tt;
@@ -207,7 +211,7 @@ certify_taken made m now number view good d n b e known_n =
     subst (IsInOrder made) (sym same) (quiet_order made extra (fact ∷ known) quiet (one_more made known fact (taken_has known view e) (b.writes view).sim.order)) in
     subst (λ o. Writes made m view (d.calls ++ calls.Append (view_of n.proposal) (artifacts.Certification n.proposal.round good) ∷ []) true later (nullify_waiting o)) (sym b.none)
     (writes_note made m view d.calls d.wrote known later [] (view_of n.proposal) (artifacts.Certification n.proposal.round good) (b.writes view) here
-    (taken_is known (view_of n.proposal) good ∙ ap (takes_verdict known) here ∙ e) memory order refl)
+    (taken_is known (view_of n.proposal) good ∙ ap (takes_verdict known) here ∙ e) memory order refl tt)
 
 pub certify_touches : (made : Made) (m : Member) (now : ℕ) (number view : ℕ) (good : Bool) (d : Doing) → Begun made m d
     → Touched made m (take_verdict made view good (certified_answer d.desk.known view) (tell made (state.Certified view good now) (settle_certify number d)))
@@ -261,11 +265,11 @@ writes_certificate : (made : Made) (m : Member) (view : ℕ) (cs : List Call) (w
     → remembered later ≡ remembered facts ++ member.Proved (statement_of c) ∷ [] → IsInOrder made later
     → Writes made m view (cs ++ calls.Append (artifact_round (record_of c)).view (record_of c) ∷ []) true later []
 writes_certificate made m view cs wrote facts later (certificates.Notarization n) w here more order =
-    writes_note made m view cs wrote facts later [] _ (artifacts.Notarization n) w here tt more order refl
+    writes_note made m view cs wrote facts later [] _ (artifacts.Notarization n) w here tt more order refl tt
 writes_certificate made m view cs wrote facts later (certificates.Nullification n) w here more order =
-    writes_note made m view cs wrote facts later [] _ (artifacts.Nullification n) w here tt more order refl
+    writes_note made m view cs wrote facts later [] _ (artifacts.Nullification n) w here tt more order refl tt
 writes_certificate made m view cs wrote facts later (certificates.Finalization n) w here more order =
-    writes_note made m view cs wrote facts later [] _ (artifacts.Finalization n) w here tt more order refl
+    writes_note made m view cs wrote facts later [] _ (artifacts.Finalization n) w here tt more order refl tt
 
 blocked : (made : Made) (m : Member) (view : ℕ) (d : Doing) (o : Option ℕ) (queue : List Vote) → Writing made m view d queue → Writing made m view (block_for o d) queue
 blocked made m view d None queue w = w
@@ -329,10 +333,12 @@ pub record Repeats (made : Made) (m : Member) (outcome : Doing × Option ℕ) : 
   pub known : (run m first).known ≡ m.known
   pub sent : (run m first).sent ≡ m.sent
   pub journal : (run m first).journal ≡ m.journal
+  pub box : IsLowBox made (run m first)
   pub touched : Touched made (run m first) outcome
 
-pub plainly : (made : Made) (m : Member) (outcome : Doing × Option ℕ) → Touched made m outcome → Repeats made m outcome
-plainly made m outcome t = record { first = []; legal = tt; brought = refl; known = refl; sent = refl; journal = refl; touched = t }
+pub plainly : (made : Made) (m : Member) (outcome : Doing × Option ℕ) → m.outbox ≡ [] → Touched made m outcome → Repeats made m outcome
+plainly made m outcome e t =
+    record { first = []; legal = tt; brought = refl; known = refl; sent = refl; journal = refl; box = λ s k. absurd (not_in_empty s (subst (λ xs. Contains (subjects_of xs) s) e k)); touched = t }
 
 nullify_round : (made : Made) (view : ℕ) (n : Nullify) → nullify_at made view ≡ Some n → n.round ≡ record { epoch = made.epoch; view = view }
 unfolding nullify_at signed_nullify
@@ -382,6 +388,8 @@ repeat_touches made m now desk sections n low r e f =
     let again = run m (life.Repeat n.round ∷ []) in
     let same : facts_of made known (state.ConstructNullify view LeaderTimeout now) ≡ Published view now ∷ [] =
     nullifying_facts made known view now n e ∙ ap (λ t. Published view now ∷ only_if (not t) (Voted (votes.Nullify n))) f in
+    let own : IsOwn made (votes.Nullify n) =
+    (nullify_signed made view n e, (ap (λ (x : Round). x.epoch) round, subst (λ v. v < greatest_view) (sym (ap (λ (x : Round). x.view) round)) low)) in
     let was : Contains m.known (member.Own (subjects.Nullify n.round)) =
     subst (λ known. Contains known (member.Own (subjects.Nullify n.round))) (sym r.memory)
     (subst (λ r. Contains (remembered known) (member.Own (subjects.Nullify r))) (sym round) (made_before made known view r.order f)) in
@@ -394,15 +402,19 @@ repeat_touches made m now desk sections n low r e f =
       known = refl;
       sent = refl;
       journal = refl;
+      box = λ s k. elim (Contains-cons_cases (subjects.Nullify n.round) [] s (subst (λ xs. Contains (subjects_of (xs ++ record { subject = subjects.Nullify n.round; known = member.certificates m.known } ∷ [])) s) r.outbox k)) [
+        | inl same ↦ (n.round, sym same, ap (λ (x : Round). x.epoch) round, subst (λ v. v < greatest_view) (sym (ap (λ (x : Round). x.view) round)) low)
+        | inr none ↦ absurd (not_in_empty s none)
+      ];
       touched = subst (λ facts. Writes made again view [] false (facts ++ known) (votes.Nullify n ∷ [])) (sym same)
           (writes_known made again view [] false known (Published view now ∷ known) (votes.Nullify n ∷ [])
           (quiet_same made (Published view now ∷ []) known (refl, tt))
           (record {
-            sim = record { legal = tt; up = r.up; memory = r.memory; order = r.order; box = ap (λ box. subjects_of (box ++ record { subject = subjects.Nullify n.round; known = member.certificates m.known } ∷ [])) r.outbox; fit = tt; sends = tt; first = nothing_first again };
+            sim = record { legal = tt; up = r.up; memory = r.memory; order = r.order; box = ap (λ box. subjects_of (box ++ record { subject = subjects.Nullify n.round; known = member.certificates m.known } ∷ [])) r.outbox; fit = tt; sends = tt; first = nothing_first made again };
             only = only_from view m.journal r.stored;
             unwritten = λ h. r.stored;
-            noted = (inl (was, may.1.0), tt);
-            earlier = λ h. (inr (was, may.1.0), tt);
+            noted = ((inl (was, may.1.0), own), tt);
+            earlier = λ h. ((inr (was, may.1.0), own), tt);
           }));
     }
 
@@ -424,12 +436,12 @@ first_touches made m now desk sections n low r e f =
     let same : later ≡ Published view now ∷ voted ∷ known =
     ap (λ facts. facts ++ known) (nullifying_facts made known view now n e ∙ ap (λ t. Published view now ∷ only_if (not t) voted) f) in
     let b = begin made desk sections m r in
-    plainly made m _
+    plainly made m _ r.outbox
     (writes_note made m view [] false known later [] n.round.view (artifacts.Nullify n) (b.writes view) here
     (may_nullify made known n.round here low)
     (ap remembered same ∙ quiet_memory (Published view now ∷ []) (voted ∷ known) (refl, tt) ∙ remembered_push voted known)
     (subst (IsInOrder made) (sym same) (quiet_order made (Published view now ∷ []) (voted ∷ known) (refl, tt) (one_more made known voted epoch r.order)))
-    (refl, epoch))
+    (refl, epoch) ((nullify_signed made view n e, (epoch, subst (λ v. v < greatest_view) (sym here) low)), tt))
 
 pub deadline_touches : (made : Made) (m : Member) (now : ℕ) (desk : Desk) (sections : List Section) → current_of made desk.known < greatest_view
     → IsRunning made desk.known sections m → Repeats made m (act_on_deadline made now (begun desk), Some (current_of made desk.known))
@@ -455,5 +467,5 @@ deadline_touches made m now desk sections low r = at (nullify_at made (current_o
               o (begun desk),
           Some (current_of made desk.known),
         )
-    at None e = plainly made m _ (touched_at made m (begun desk) (current_of made desk.known) (begin made desk sections m r))
+    at None e = plainly made m _ r.outbox (touched_at made m (begun desk) (current_of made desk.known) (begin made desk sections m r))
     at (Some n) e = one n (has_nullified desk.known (current_of made desk.known)) e refl

@@ -141,7 +141,7 @@ begun_at : (made : Made) (m : Member) (first : List life.Call) (floor : Floor) (
     → kept.waiting (run m first).journal ≡ [] → Stores made (run m first) [] facts []
 begun_at made m first floor facts b stored =
     record {
-      sim = record { legal = tt; up = b.up; memory = b.memory; order = b.order; box = ap subjects_of b.outbox; fit = tt; sends = tt; first = nothing_first (run m first) };
+      sim = record { legal = tt; up = b.up; memory = b.memory; order = b.order; box = ap subjects_of b.outbox; fit = tt; sends = tt; first = nothing_first made (run m first) };
       stored = stored;
       kept = tt;
     }

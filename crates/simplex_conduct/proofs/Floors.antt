@@ -106,7 +106,7 @@ floor_synced : (made : Made) (m : Member) (f : Finalization) (first : List life.
 floor_synced made m f first facts js s b e =
     writes_sync made (run m first) (view_of f.proposal) [] true facts []
     (record {
-      sim = record { legal = tt; up = b.up; memory = b.memory; order = b.order; box = ap subjects_of b.outbox; fit = tt; sends = tt; first = nothing_first (run m first) };
+      sim = record { legal = tt; up = b.up; memory = b.memory; order = b.order; box = ap subjects_of b.outbox; fit = tt; sends = tt; first = nothing_first made (run m first) };
       only = subst (Only (view_of f.proposal)) (sym e) (only_append (view_of f.proposal) (member.Proved (statement_of (certificates.Finalization f))) m.journal refl (only_from (view_of f.proposal) m.journal s.stored));
       unwritten = λ h. cc;
       noted = tt;

@@ -9,6 +9,7 @@ pub mod Pruning
 pub mod Publishing
 pub mod Remembering
 pub mod Replaying
+pub mod Signing
 pub mod Silent
 pub mod Simulating
 pub mod Starting

@@ -42,6 +42,7 @@ use Rattle.simplex_conduct.proofs.Constructing.{AreSilent, all_silent, Published
 use Rattle.simplex_conduct.proofs.Silent.{silent_notarize, silent_finalize, silent_requests, silent_sync, iteration_hands}
 use Rattle.simplex_conduct.proofs.Living.{behind}
 use Rattle.simplex_conduct.proofs.Simulating.{Writes, Stores, writes_known, writes_note, writes_sync, stores_known, stores_prune}
+use Rattle.simplex_conduct.proofs.Signing.{notarize_signed, finalize_signed}
 
 -- what a step has done so far is lived by the member; it writes to this view's section, or all is stored
 abbrev pub Writing : Made → Member → ℕ → Doing → List Vote → Type 0
@@ -85,7 +86,7 @@ writing_notarize made m view d queue w = at (notarize_at made d.desk.known view)
         (may_notarize made d.desk.known view n e)
         (remembered_push (Voted (votes.Notarize n)) d.desk.known)
         (one_more made d.desk.known (Voted (votes.Notarize n)) tt w.sim.order)
-        refl
+        refl ((notarize_signed made d.desk.known view n e, tt), tt)
 
 pub writing_finalize : (made : Made) (m : Member) (view : ℕ) (d : Doing) (queue : List Vote) → Writing made m view d queue
     → Writing made m view (vote_finalize made view d) (queue ++ finalize_waiting (finalize_at made d.desk.known view))
@@ -103,7 +104,7 @@ writing_finalize made m view d queue w = at (finalize_at made d.desk.known view)
         (may_finalize made d.desk.known view f w.sim.order e)
         (remembered_push (Voted (votes.Finalize f)) d.desk.known)
         (one_more made d.desk.known (Voted (votes.Finalize f)) tt w.sim.order)
-        refl
+        refl ((finalize_signed made d.desk.known view f e, tt), tt)
 
 notarize_keeps : (made : Made) (view : ℕ) (d : Doing) → (vote_notarize made view d).nullify ≡ d.nullify
 unfolding vote_notarize

@@ -27,7 +27,7 @@ use Rattle.simplex_lives.specs.Votes.{MayVote}
 use Rattle.simplex_lives.proofs.CallFacts.{IsLegal-append}
 use Rattle.simplex_lives.proofs.JournalFacts.{prune_waiting}
 use Rattle.simplex_conduct.specs.Life.{memory_of, remembered, IsInOrder, IsEarlier}
-use Rattle.simplex_conduct.specs.Storing.{record_of_vote, IsStored, IsRepeated, AreStoredFirst}
+use Rattle.simplex_conduct.specs.Storing.{record_of_vote, IsStored, IsRepeated, IsOwn, AreStoredFirst}
 use Rattle.simplex_conduct.proofs.Facts.{SameMemory}
 use Rattle.simplex_conduct.proofs.Journals.{memory_view}
 use Rattle.simplex_conduct.proofs.Living.{noting, doing_of, doings, doings-append, behind, behind-append, IsFit, AreFit, AreFit-append, subjects_of, SendsNext, Sends, Sends-append}
@@ -78,19 +78,19 @@ pub record IsAppended (v : Vote) (cs : List Call) : Type 0 where
   pub place : cs ≡ before ++ (calls.Append (artifact_round (record_of_vote v)).view (record_of_vote v) ∷ behind)
 
 -- it is so in this view's section, or the vote is a nullify that was made before
-abbrev pub IsNoted : Member → ℕ → List Call → Vote → Type 0
-IsNoted m view cs v = IsRepeated (IsEarlier m) v ⊎ (IsAppended v cs × ((artifact_round (record_of_vote v)).view ≡ view))
+abbrev pub IsNoted : Made → Member → ℕ → List Call → Vote → Type 0
+IsNoted made m view cs v = (IsRepeated (IsEarlier m) v ⊎ (IsAppended v cs × ((artifact_round (record_of_vote v)).view ≡ view))) × IsOwn made v
 
-abbrev pub IsKept : Member → List Call → Vote → Type 0
-IsKept m cs v = IsStored (record_of_vote v) cs ⊎ IsRepeated (IsEarlier m) v
+abbrev pub IsKept : Made → Member → List Call → Vote → Type 0
+IsKept made m cs v = (IsStored (record_of_vote v) cs ⊎ IsRepeated (IsEarlier m) v) × IsOwn made v
 
-abbrev pub AllNoted : Member → ℕ → List Call → List Vote → Type 0
-AllNoted m view cs [] = Unit {0}
-AllNoted m view cs (v ∷ rest) = IsNoted m view cs v × AllNoted m view cs rest
+abbrev pub AllNoted : Made → Member → ℕ → List Call → List Vote → Type 0
+AllNoted made m view cs [] = Unit {0}
+AllNoted made m view cs (v ∷ rest) = IsNoted made m view cs v × AllNoted made m view cs rest
 
-abbrev pub AllKept : Member → List Call → List Vote → Type 0
-AllKept m cs [] = Unit {0}
-AllKept m cs (v ∷ rest) = IsKept m cs v × AllKept m cs rest
+abbrev pub AllKept : Made → Member → List Call → List Vote → Type 0
+AllKept made m cs [] = Unit {0}
+AllKept made m cs (v ∷ rest) = IsKept made m cs v × AllKept made m cs rest
 
 appended_more : (v : Vote) (cs : List Call) (c : Call) → IsAppended v cs → IsAppended v (cs ++ c ∷ [])
 appended_more v cs c a =
@@ -123,29 +123,29 @@ synced_now v view cs a e =
           ∙ ap (λ n. a.before ++ (calls.Append (artifact_round (record_of_vote v)).view (record_of_vote v) ∷ (a.behind ++ calls.Sync n ∷ []))) (sym e);
     }
 
-noted_more : (m : Member) (view : ℕ) (cs : List Call) (c : Call) (queue : List Vote) → AllNoted m view cs queue → AllNoted m view (cs ++ c ∷ []) queue
-noted_more m view cs c [] h = tt
-noted_more m view cs c (v ∷ rest) h =
-    (elim h.0 [ inl early ↦ inl early | inr a ↦ inr (appended_more v cs c a.0, a.1) ], noted_more m view cs c rest h.1)
+noted_more : (made : Made) (m : Member) (view : ℕ) (cs : List Call) (c : Call) (queue : List Vote) → AllNoted made m view cs queue → AllNoted made m view (cs ++ c ∷ []) queue
+noted_more made m view cs c [] h = tt
+noted_more made m view cs c (v ∷ rest) h =
+    ((elim h.0.0 [ inl early ↦ inl early | inr a ↦ inr (appended_more v cs c a.0, a.1) ], h.0.1), noted_more made m view cs c rest h.1)
 
-AllNoted-append : (m : Member) (view : ℕ) (cs : List Call) (xs ys : List Vote) → AllNoted m view cs xs → AllNoted m view cs ys → AllNoted m view cs (xs ++ ys)
-AllNoted-append m view cs [] ys h k = k
-AllNoted-append m view cs (x ∷ xs) ys h k = (h.0, AllNoted-append m view cs xs ys h.1 k)
+AllNoted-append : (made : Made) (m : Member) (view : ℕ) (cs : List Call) (xs ys : List Vote) → AllNoted made m view cs xs → AllNoted made m view cs ys → AllNoted made m view cs (xs ++ ys)
+AllNoted-append made m view cs [] ys h k = k
+AllNoted-append made m view cs (x ∷ xs) ys h k = (h.0, AllNoted-append made m view cs xs ys h.1 k)
 
-kept_more : (m : Member) (cs : List Call) (c : Call) (queue : List Vote) → AllKept m cs queue → AllKept m (cs ++ c ∷ []) queue
-kept_more m cs c [] h = tt
-kept_more m cs c (v ∷ rest) h =
-    (elim h.0 [ inl s ↦ inl (stored_more (record_of_vote v) cs c s) | inr early ↦ inr early ], kept_more m cs c rest h.1)
+kept_more : (made : Made) (m : Member) (cs : List Call) (c : Call) (queue : List Vote) → AllKept made m cs queue → AllKept made m (cs ++ c ∷ []) queue
+kept_more made m cs c [] h = tt
+kept_more made m cs c (v ∷ rest) h =
+    ((elim h.0.0 [ inl s ↦ inl (stored_more (record_of_vote v) cs c s) | inr early ↦ inr early ], h.0.1), kept_more made m cs c rest h.1)
 
-all_synced : (m : Member) (view : ℕ) (cs : List Call) (queue : List Vote) → AllNoted m view cs queue → AllKept m (cs ++ calls.Sync view ∷ []) queue
-all_synced m view cs [] h = tt
-all_synced m view cs (v ∷ rest) h =
-    (elim h.0 [ inl early ↦ inr early | inr a ↦ inl (synced_now v view cs a.0 a.1) ], all_synced m view cs rest h.1)
+all_synced : (made : Made) (m : Member) (view : ℕ) (cs : List Call) (queue : List Vote) → AllNoted made m view cs queue → AllKept made m (cs ++ calls.Sync view ∷ []) queue
+all_synced made m view cs [] h = tt
+all_synced made m view cs (v ∷ rest) h =
+    ((elim h.0.0 [ inl early ↦ inr early | inr a ↦ inl (synced_now v view cs a.0 a.1) ], h.0.1), all_synced made m view cs rest h.1)
 
 -- one more call: where it goes out on the vote channel, it is a vote that is kept
-abbrev pub MaySend : Member → List Call → Call → Type 0
-MaySend m cs (calls.Send channels.Vote to bytes) = (v : Vote) × (bytes ≡ format.vote.spelling v) × IsKept m cs v
-MaySend m cs _ = Unit {0}
+abbrev pub MaySend : Made → Member → List Call → Call → Type 0
+MaySend made m cs (calls.Send channels.Vote to bytes) = (v : Vote) × (bytes ≡ format.vote.spelling v) × IsKept made m cs v
+MaySend made m cs _ = Unit {0}
 
 push_cases : (cs before : List Call) (c x : Call) (behind : List Call) → cs ++ c ∷ [] ≡ before ++ (x ∷ behind)
     → ((before ≡ cs) × (c ≡ x)) ⊎ ((rest : List Call) × (cs ≡ before ++ (x ∷ rest)))
@@ -161,27 +161,27 @@ push_cases (y ∷ cs) (b ∷ before) c x behind e =
       | inr p ↦ inr (p.0, cc (head, p.1))
     ]
 
-may_send : (m : Member) (cs : List Call) (c : Call) (to : Recipients) (bytes : List ℕ) → c ≡ calls.Send channels.Vote to bytes → MaySend m cs c
-    → (v : Vote) × (bytes ≡ format.vote.spelling v) × IsKept m cs v
-may_send m cs c to bytes e may = subst (MaySend m cs) e may
+may_send : (made : Made) (m : Member) (cs : List Call) (c : Call) (to : Recipients) (bytes : List ℕ) → c ≡ calls.Send channels.Vote to bytes → MaySend made m cs c
+    → (v : Vote) × (bytes ≡ format.vote.spelling v) × IsKept made m cs v
+may_send made m cs c to bytes e may = subst (MaySend made m cs) e may
 
-first_push : (m : Member) (cs : List Call) (c : Call) → AreStoredFirst (IsEarlier m) cs → MaySend m cs c → AreStoredFirst (IsEarlier m) (cs ++ c ∷ [])
-first_push m cs c stored may before behind to bytes e =
+first_push : (made : Made) (m : Member) (cs : List Call) (c : Call) → AreStoredFirst (IsEarlier m) (IsOwn made) cs → MaySend made m cs c → AreStoredFirst (IsEarlier m) (IsOwn made) (cs ++ c ∷ [])
+first_push made m cs c stored may before behind to bytes e =
     elim (push_cases cs before c (calls.Send channels.Vote to bytes) behind e) [
-      | inl p ↦ (let s = may_send m cs c to bytes p.1 may in (s.0, s.1, subst (λ xs. IsKept m xs s.0) (sym p.0) s.2))
+      | inl p ↦ (let s = may_send made m cs c to bytes p.1 may in let k = subst (λ xs. IsKept made m xs s.0) (sym p.0) s.2 in (s.0, s.1, k.0, k.1))
       | inr p ↦ stored before p.0 to bytes p.1
     ]
 
 in_all : (cs before : List Call) (x : Call) (behind : List Call) (k : ℕ) → take k cs ≡ before ++ (x ∷ behind) → cs ≡ before ++ (x ∷ (behind ++ drop k cs))
 in_all cs before x behind k e = sym (take-append-drop k cs) ∙ ap (λ xs. xs ++ drop k cs) e ∙ append_assoc before (x ∷ behind) (drop k cs)
 
-pub first_take : (Earlier : Nullify → Type 0) (k : ℕ) (cs : List Call) → AreStoredFirst Earlier cs → AreStoredFirst Earlier (take k cs)
-first_take Earlier k cs stored before behind to bytes e =
+pub first_take : (Earlier : Nullify → Type 0) (Own : Vote → Type 0) (k : ℕ) (cs : List Call) → AreStoredFirst Earlier Own cs → AreStoredFirst Earlier Own (take k cs)
+first_take Earlier Own k cs stored before behind to bytes e =
     stored before (behind ++ drop k cs) to bytes (in_all cs before (calls.Send channels.Vote to bytes) behind k e)
 
-pub nothing_first : (m : Member) → AreStoredFirst (IsEarlier m) []
-nothing_first m [] behind to bytes e = cc
-nothing_first m (b ∷ before) behind to bytes e = cc
+pub nothing_first : (made : Made) (m : Member) → AreStoredFirst (IsEarlier m) (IsOwn made) []
+nothing_first made m [] behind to bytes e = cc
+nothing_first made m (b ∷ before) behind to bytes e = cc
 
 -- ---- one step's calls so far, what is known, and the votes that wait to be sent
 
@@ -193,7 +193,7 @@ pub record Sim (made : Made) (m : Member) (cs : List Call) (facts : List Fact) (
   pub box : subjects_of (behind m cs).outbox ≡ map vote_subject queue
   pub fit : AreFit made cs
   pub sends : Sends m cs
-  pub first : AreStoredFirst (IsEarlier m) cs
+  pub first : AreStoredFirst (IsEarlier m) (IsOwn made) cs
 
 pub behind-push : (m : Member) (cs : List Call) (c : Call) → behind m (cs ++ c ∷ []) ≡ run (behind m cs) (doing_of c)
 behind-push m cs c = behind-append m cs (c ∷ []) ∙ ap (run (behind m cs)) (append-nil (doing_of c))
@@ -201,7 +201,7 @@ behind-push m cs c = behind-append m cs (c ∷ []) ∙ ap (run (behind m cs)) (a
 sim_more : (made : Made) (m : Member) (cs : List Call) (facts later : List Fact) (queue left : List Vote) → Sim made m cs facts queue → (c : Call)
     → IsLegal made.term_length (behind m cs) (doing_of c) → (run (behind m cs) (doing_of c)).up ≡ true
     → (run (behind m cs) (doing_of c)).known ≡ remembered later → IsInOrder made later
-    → subjects_of (run (behind m cs) (doing_of c)).outbox ≡ map vote_subject left → IsFit made c → SendsNext (behind m cs) c → MaySend m cs c
+    → subjects_of (run (behind m cs) (doing_of c)).outbox ≡ map vote_subject left → IsFit made c → SendsNext (behind m cs) c → MaySend made m cs c
     → Sim made m (cs ++ c ∷ []) later left
 sim_more made m cs facts later queue left sim c legal up memory order box fit sends may =
     let push = behind-push m cs c in
@@ -214,7 +214,7 @@ sim_more made m cs facts later queue left sim c legal up memory order box fit se
       box = ap (λ (n : Member). subjects_of n.outbox) push ∙ box;
       fit = AreFit-append made cs (c ∷ []) sim.fit (fit, tt);
       sends = Sends-append m cs (c ∷ []) sim.sends (sends, tt);
-      first = first_push m cs c sim.first may;
+      first = first_push made m cs c sim.first may;
     }
 
 pub sim_known : (made : Made) (m : Member) (cs : List Call) (facts later : List Fact) (queue : List Vote) → SameMemory made facts later
@@ -339,13 +339,13 @@ pub record Writes (made : Made) (m : Member) (view : ℕ) (cs : List Call) (wrot
   pub sim : Sim made m cs facts queue
   pub only : Only view (behind m cs).journal
   pub unwritten : wrote ≡ false → kept.waiting (behind m cs).journal ≡ []
-  pub noted : AllNoted m view cs queue
-  pub earlier : wrote ≡ false → AllKept m cs queue
+  pub noted : AllNoted made m view cs queue
+  pub earlier : wrote ≡ false → AllKept made m cs queue
 
 pub record Stores (made : Made) (m : Member) (cs : List Call) (facts : List Fact) (queue : List Vote) : Type 0 where
   pub sim : Sim made m cs facts queue
   pub stored : kept.waiting (behind m cs).journal ≡ []
-  pub kept : AllKept m cs queue
+  pub kept : AllKept made m cs queue
 
 pub writes_known : (made : Made) (m : Member) (view : ℕ) (cs : List Call) (wrote : Bool) (facts later : List Fact) (queue : List Vote) → SameMemory made facts later
     → Writes made m view cs wrote facts queue → Writes made m view cs wrote later queue
@@ -360,8 +360,8 @@ writes_plain made m view cs wrote facts queue c p w =
       sim = sim_plain made m cs facts queue c p w.sim;
       only = subst (λ (n : Member). Only view n.journal) (sym same) w.only;
       unwritten = λ e. ap (λ (n : Member). kept.waiting n.journal) same ∙ w.unwritten e;
-      noted = noted_more m view cs c queue w.noted;
-      earlier = λ e. kept_more m cs c queue (w.earlier e);
+      noted = noted_more made m view cs c queue w.noted;
+      earlier = λ e. kept_more made m cs c queue (w.earlier e);
     }
 
 fit_view : (made : Made) (n : ℕ) (a : Artifact) → IsFit made (calls.Append n a) → (artifact_round a).view ≡ n
@@ -373,27 +373,32 @@ fit_view made n (artifacts.Nullification v) h = h
 fit_view made n (artifacts.Finalization v) h = h
 fit_view made n (artifacts.Certification r good) h = h
 
+-- own votes
+abbrev pub AllOwn : Made → List Vote → Type 0
+AllOwn made [] = Unit {0}
+AllOwn made (v ∷ rest) = IsOwn made v × AllOwn made rest
+
 -- the vote of the record that is appended now
-noted_now : (m : Member) (view : ℕ) (cs : List Call) (n : ℕ) (a : Artifact) → n ≡ view → (artifact_round a).view ≡ n → AllNoted m view (cs ++ calls.Append n a ∷ []) (queued a)
-noted_now m view cs n (artifacts.Notarize v) here fit = (inr (record { before = cs; behind = []; place = ap (λ k. cs ++ calls.Append k (artifacts.Notarize v) ∷ []) (sym fit) }, fit ∙ here), tt)
-noted_now m view cs n (artifacts.Nullify v) here fit = (inr (record { before = cs; behind = []; place = ap (λ k. cs ++ calls.Append k (artifacts.Nullify v) ∷ []) (sym fit) }, fit ∙ here), tt)
-noted_now m view cs n (artifacts.Finalize v) here fit = (inr (record { before = cs; behind = []; place = ap (λ k. cs ++ calls.Append k (artifacts.Finalize v) ∷ []) (sym fit) }, fit ∙ here), tt)
-noted_now m view cs n (artifacts.Notarization c) here fit = tt
-noted_now m view cs n (artifacts.Nullification c) here fit = tt
-noted_now m view cs n (artifacts.Finalization c) here fit = tt
-noted_now m view cs n (artifacts.Certification r good) here fit = tt
+noted_now : (made : Made) (m : Member) (view : ℕ) (cs : List Call) (n : ℕ) (a : Artifact) → n ≡ view → (artifact_round a).view ≡ n → AllOwn made (queued a) → AllNoted made m view (cs ++ calls.Append n a ∷ []) (queued a)
+noted_now made m view cs n (artifacts.Notarize v) here fit own = ((inr (record { before = cs; behind = []; place = ap (λ k. cs ++ calls.Append k (artifacts.Notarize v) ∷ []) (sym fit) }, fit ∙ here), own.0), tt)
+noted_now made m view cs n (artifacts.Nullify v) here fit own = ((inr (record { before = cs; behind = []; place = ap (λ k. cs ++ calls.Append k (artifacts.Nullify v) ∷ []) (sym fit) }, fit ∙ here), own.0), tt)
+noted_now made m view cs n (artifacts.Finalize v) here fit own = ((inr (record { before = cs; behind = []; place = ap (λ k. cs ++ calls.Append k (artifacts.Finalize v) ∷ []) (sym fit) }, fit ∙ here), own.0), tt)
+noted_now made m view cs n (artifacts.Notarization c) here fit own = tt
+noted_now made m view cs n (artifacts.Nullification c) here fit own = tt
+noted_now made m view cs n (artifacts.Finalization c) here fit own = tt
+noted_now made m view cs n (artifacts.Certification r good) here fit own = tt
 
 pub writes_note : (made : Made) (m : Member) (view : ℕ) (cs : List Call) (wrote : Bool) (facts later : List Fact) (queue : List Vote) (n : ℕ) (a : Artifact)
     → Writes made m view cs wrote facts queue → n ≡ view
-    → MayNote made facts a → remembered later ≡ remembered facts ++ memory_of a ∷ [] → IsInOrder made later → IsFit made (calls.Append n a)
+    → MayNote made facts a → remembered later ≡ remembered facts ++ memory_of a ∷ [] → IsInOrder made later → IsFit made (calls.Append n a) → AllOwn made (queued a)
     → Writes made m view (cs ++ calls.Append n a ∷ []) true later (queue ++ queued a)
-writes_note made m view cs wrote facts later queue n a w here may more order fit =
+writes_note made m view cs wrote facts later queue n a w here may more order fit own =
     record {
       sim = sim_note made m cs facts later queue n a w.sim may more order fit;
       only = subst (Only view) (sym (ap (λ (x : Member). x.journal) (behind-push m cs (calls.Append n a)) ∙ note_journal (behind m cs) a))
           (only_append view (memory_of a) (behind m cs).journal (memory_view a ∙ fit_view made n a fit ∙ here) w.only);
       unwritten = λ e. cc;
-      noted = AllNoted-append m view (cs ++ calls.Append n a ∷ []) queue (queued a) (noted_more m view cs (calls.Append n a) queue w.noted) (noted_now m view cs n a here (fit_view made n a fit));
+      noted = AllNoted-append made m view (cs ++ calls.Append n a ∷ []) queue (queued a) (noted_more made m view cs (calls.Append n a) queue w.noted) (noted_now made m view cs n a here (fit_view made n a fit) own);
       earlier = λ e. cc;
     }
 
@@ -404,7 +409,7 @@ stores_known made m cs facts later queue same s = record { sim = sim_known made 
 pub stores_plain : (made : Made) (m : Member) (cs : List Call) (facts : List Fact) (queue : List Vote) (c : Call) → IsPlain c
     → Stores made m cs facts queue → Stores made m (cs ++ c ∷ []) facts queue
 stores_plain made m cs facts queue c p s =
-    record { sim = sim_plain made m cs facts queue c p s.sim; stored = ap (λ (n : Member). kept.waiting n.journal) (plain_behind m cs c p) ∙ s.stored; kept = kept_more m cs c queue s.kept }
+    record { sim = sim_plain made m cs facts queue c p s.sim; stored = ap (λ (n : Member). kept.waiting n.journal) (plain_behind m cs c p) ∙ s.stored; kept = kept_more made m cs c queue s.kept }
 
 pub writes_sync : (made : Made) (m : Member) (view : ℕ) (cs : List Call) (wrote : Bool) (facts : List Fact) (queue : List Vote)
     → Writes made m view cs wrote facts queue → Stores made m (cs ++ calls.Sync view ∷ []) facts queue
@@ -413,7 +418,7 @@ writes_sync made m view cs wrote facts queue w =
     record {
       sim = sim_more made m cs facts facts queue queue sim (calls.Sync view) (sim.up, tt) sim.up sim.memory sim.order sim.box tt tt tt;
       stored = ap (λ (n : Member). kept.waiting n.journal) (behind-push m cs (calls.Sync view)) ∙ only_sync view (behind m cs).journal w.only;
-      kept = all_synced m view cs queue w.noted;
+      kept = all_synced made m view cs queue w.noted;
     }
 
 -- ---- a vote goes out
@@ -445,7 +450,7 @@ stores_send made m cs facts queue v s =
           ((sim.up, s.stored), tt) (sent_up now now.outbox ∙ sim.up) (sent_known now now.outbox ∙ sim.memory) sim.order
           (sent_box now now.outbox (vote_subject v) (map vote_subject queue) sim.box) tt (v, map vote_subject queue, refl, sim.box) (v, refl, s.kept.0);
       stored = ap (λ (n : Member). kept.waiting n.journal) (behind-push m cs c) ∙ ap kept.waiting (sent_journal now now.outbox) ∙ s.stored;
-      kept = kept_more m cs c queue s.kept.1;
+      kept = kept_more made m cs c queue s.kept.1;
     }
 
 -- ---- a prune
@@ -460,5 +465,5 @@ stores_prune made m cs facts queue least low s =
       sim = sim_more made m cs facts facts queue queue sim (calls.Prune least)
           ((sim.up, s.stored, subst (λ known. least ≤ member.last_finalized known) (sym sim.memory) low), tt) sim.up sim.memory sim.order sim.box tt tt tt;
       stored = ap (λ (n : Member). kept.waiting n.journal) (behind-push m cs (calls.Prune least)) ∙ prune_waiting least now.journal s.stored;
-      kept = kept_more m cs (calls.Prune least) queue s.kept;
+      kept = kept_more made m cs (calls.Prune least) queue s.kept;
     }

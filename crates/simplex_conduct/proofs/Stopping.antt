@@ -17,6 +17,7 @@ use Rattle.simplex_rules.specs.Known as rules
 use Rattle.simplex_steps.specs.Desk.{Doing}
 use Rattle.simplex_steps.specs.Performed.{stop_place, after_calls, after_failing, failing_at, whole, broken, performed}
 use Rattle.simplex_agreement.specs.World.{Sent}
+use Rattle.simplex_values.specs.declared.proposal.Subject.{Subject}
 use Rattle.simplex_values.specs.declared.proposal.Subject.TheVariants as subjects
 use Rattle.simplex_lives.specs.Artifacts as member
 use Rattle.simplex_lives.specs.Journal as kept
@@ -24,8 +25,8 @@ use Rattle.simplex_lives.specs.Member as life
 use Rattle.simplex_lives.specs.Member.{Member, happens, run, IsLegal, May}
 use Rattle.simplex_lives.proofs.CallFacts.{run-append, IsLegal-append, brought-append}
 use Rattle.simplex_lives.proofs.JournalFacts.{left_waiting}
-use Rattle.simplex_conduct.specs.Life.{journal_of, taken, AreSent, AreOwn, IsRunning, IsStopped, IsEarlier, AreVotesSent, IsLived}
-use Rattle.simplex_conduct.specs.Storing.{AreStoredFirst}
+use Rattle.simplex_conduct.specs.Life.{journal_of, taken, voted, IsLowNullify, AreSent, AreOwn, IsRunning, IsStopped, IsEarlier, AreVotesSent, IsLived}
+use Rattle.simplex_conduct.specs.Storing.{IsOwn, AreStoredFirst}
 use Rattle.simplex_conduct.proofs.Journals.{crash_is}
 use Rattle.simplex_conduct.proofs.Pruning.{prunes_less, was_there}
 use Rattle.simplex_conduct.proofs.Living.{doings, doings-append, behind, AreFit-take, legal_take, journals_after, rising_afters, own_afters, brought_is, subjects_of, Sends-take, out_of}
@@ -52,6 +53,7 @@ pub record MadeWhole (made : rules.Made) (m : Member) (first : List life.Call) (
   pub brought : life.brought calls ≡ life.brought first ++ taken cs
   pub sends : (run m calls).sent ≡ m.sent ++ sent
   pub votes : AreSent cs (subjects_of sent)
+  pub from : (s : Subject) → Contains (subjects_of sent) s → Contains (subjects_of (run m first).outbox) s ⊎ Contains (voted cs) s
   pub left : IsRunning made facts js (run m calls)
 
 pub made_whole : (made : rules.Made) (m : Member) (first : List life.Call) (cs : List Call) (facts : List Fact) (js : List Section)
@@ -69,6 +71,7 @@ made_whole made m first cs facts js legal quiet ready s =
       brought = brought-append first (doings cs) ∙ ap (λ xs. life.brought first ++ xs) (brought_is cs);
       sends = ap (λ (n : Member). n.sent) joined ∙ o.sends ∙ ap (λ xs. xs ++ o.sent) quiet;
       votes = o.votes;
+      from = o.from;
       left = subst (IsRunning made facts (after_calls cs js)) (sym joined) (record {
         up = sim.up;
         journal = journals_after made cs js base sim.fit ready.rising ready.journal;
@@ -181,6 +184,7 @@ pub record Ended (made : rules.Made) (m : Member) (first : List life.Call) (cs :
   pub brought : life.brought calls ≡ life.brought first ++ taken cs
   pub sends : (run m calls).sent ≡ m.sent ++ sent
   pub votes : AreSent cs (subjects_of sent)
+  pub from : (s : Subject) → Contains (subjects_of sent) s → Contains (subjects_of (run m first).outbox) s ⊎ Contains (voted cs) s
   pub left : IsStopped made js (run m calls)
 
 pub ended_at : (made : rules.Made) (m : Member) (first : List life.Call) (stop : Stop) (keep : ℕ) (cs : List Call) (place : ℕ) (facts : List Fact) (js : List Section)
@@ -213,19 +217,29 @@ ended_at made m first stop keep cs place facts js legal quiet ready sim =
           ∙ ap (λ xs. life.brought (doings front) ++ xs) (crash_quiet failing.calls (λ view. keep) failing.brought) ∙ append-nil (life.brought (doings front)) ∙ brought_is front);
       sends = ap (λ (n : Member). n.sent) whole_run ∙ failing.sent ∙ o.sends ∙ ap (λ xs. xs ++ o.sent) quiet;
       votes = o.votes;
+      from = o.from;
       left = subst (IsStopped made (crashed keep (failing_at stop cs place js'))) (sym whole_run)
           (stopped made keep (run (behind base front) failing.calls) (failing_at stop cs place js') failing.ready);
     }
 
-earlier_is : (m n : Member) (cs : List Call) → n.known ≡ m.known → AreStoredFirst (IsEarlier n) cs → AreStoredFirst (IsEarlier m) cs
-earlier_is m n cs e = subst (λ known. AreStoredFirst (λ v. Contains known (member.Own (subjects.Nullify v.round)) × (member.last_finalized known < v.round.view)) cs) e
+-- the queue that the first calls leave
+abbrev pub IsLowBox : rules.Made → Member → Type 0
+IsLowBox made n = (s : Subject) → Contains (subjects_of n.outbox) s → IsLowNullify made s
+
+own_of : (made : rules.Made) (m : Member) (first : List life.Call) (cs : List Call) (sent : List Sent)
+    → ((s : Subject) → Contains (subjects_of sent) s → Contains (subjects_of (run m first).outbox) s ⊎ Contains (voted cs) s) → IsLowBox made (run m first)
+    → (s : Subject) → Contains (subjects_of sent) s → Contains (voted cs) s ⊎ IsLowNullify made s
+own_of made m first cs sent from box s k = elim (from s k) [ inl b ↦ inr (box s b) | inr v ↦ inl v ]
+
+earlier_is : (made : rules.Made) (m n : Member) (cs : List Call) → n.known ≡ m.known → AreStoredFirst (IsEarlier n) (IsOwn made) cs → AreStoredFirst (IsEarlier m) (IsOwn made) cs
+earlier_is made m n cs e = subst (λ known. AreStoredFirst (λ v. Contains known (member.Own (subjects.Nullify v.round)) × (member.last_finalized known < v.round.view)) (IsOwn made) cs) e
 
 broken_by : (made : rules.Made) (m : Member) (first : List life.Call) (stop : Stop) (d : Doing) (js : List Section) (place : ℕ)
     → IsLegal made.term_length m first → life.brought first ≡ [] → (run m first).known ≡ m.known → (run m first).sent ≡ m.sent → Ready made js (run m first)
-    → Sim made (run m first) d.calls d.desk.known [] → stop_place stop d.calls ≡ Some place → IsLived made d.desk.known (broken stop d js place) m
+    → Sim made (run m first) d.calls d.desk.known [] → stop_place stop d.calls ≡ Some place → IsLowBox made (run m first) → IsLived made d.desk.known (broken stop d js place) m
 unfolding stop_place
-broken_by made m first stops.None d js place legal none known quiet ready sim e = cc
-broken_by made m first (stops.Cut call keep) d js place legal none known quiet ready sim e =
+broken_by made m first stops.None d js place legal none known quiet ready sim e box = cc
+broken_by made m first (stops.Cut call keep) d js place legal none known quiet ready sim e box =
     let x = ended_at made m first (stops.Cut call keep) keep d.calls place d.desk.known js legal quiet ready sim in
     record {
       calls = x.calls;
@@ -235,10 +249,11 @@ broken_by made m first (stops.Cut call keep) d js place legal none known quiet r
       sends = x.sends;
       votes = x.votes;
       constructed = tt;
-      first = first_take (IsEarlier m) place d.calls (earlier_is m (run m first) d.calls known sim.first);
+      own = own_of made m first (take place d.calls) x.sent x.from box;
+      first = first_take (IsEarlier m) (IsOwn made) place d.calls (earlier_is made m (run m first) d.calls known sim.first);
       left = x.left;
     }
-broken_by made m first (stops.Fail call keep) d js place legal none known quiet ready sim e =
+broken_by made m first (stops.Fail call keep) d js place legal none known quiet ready sim e box =
     let x = ended_at made m first (stops.Fail call keep) keep d.calls place d.desk.known js legal quiet ready sim in
     record {
       calls = x.calls;
@@ -248,15 +263,16 @@ broken_by made m first (stops.Fail call keep) d js place legal none known quiet 
       sends = x.sends;
       votes = x.votes;
       constructed = tt;
-      first = first_take (IsEarlier m) place d.calls (earlier_is m (run m first) d.calls known sim.first);
+      own = own_of made m first (take place d.calls) x.sent x.from box;
+      first = first_take (IsEarlier m) (IsOwn made) place d.calls (earlier_is made m (run m first) d.calls known sim.first);
       left = x.left;
     }
 
 pub lived : (made : rules.Made) (m : Member) (first : List life.Call) (stop : Stop) (d : Doing) (js : List Section)
     → IsLegal made.term_length m first → life.brought first ≡ [] → (run m first).known ≡ m.known → (run m first).sent ≡ m.sent → Ready made js (run m first)
-    → Published made (run m first) d.calls d.handed d.desk.known [] → IsLived made d.desk.known (performed stop d js) m
+    → Published made (run m first) d.calls d.handed d.desk.known [] → IsLowBox made (run m first) → IsLived made d.desk.known (performed stop d js) m
 unfolding performed made_whole
-lived made m first stop d js legal none known quiet ready p = at (stop_place stop d.calls) refl
+lived made m first stop d js legal none known quiet ready p box = at (stop_place stop d.calls) refl
   where
     s : Stores made (run m first) d.calls d.desk.known []
     s = p.stores
@@ -271,11 +287,12 @@ lived made m first stop d js legal none known quiet ready p = at (stop_place sto
           brought = x.brought ∙ ap (λ xs. xs ++ taken d.calls) none;
           sends = x.sends;
           votes = x.votes;
+          own = own_of made m first d.calls x.sent x.from box;
           constructed = subst (λ (n : Member). AreVotesSent n.sent d.handed) (sym (run-append m first (doings d.calls))) p.constructed;
-          first = earlier_is m (run m first) d.calls known s.sim.first;
+          first = earlier_is made m (run m first) d.calls known s.sim.first;
           left = x.left;
         }
 
     at : (o : Option ℕ) → stop_place stop d.calls ≡ o → IsLived made d.desk.known (option_map_or (broken stop d js) o (whole d js)) m
     at None e = whole_of
-    at (Some place) e = broken_by made m first stop d js place legal none known quiet ready s.sim e
+    at (Some place) e = broken_by made m first stop d js place legal none known quiet ready s.sim e box

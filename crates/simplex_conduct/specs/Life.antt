@@ -3,6 +3,8 @@ use Rattle.std.specs.Prelude.{ℕ, ◌≡◌, ◌++◌, ◌<◌, ◌⊎◌, Bool
 use Rattle.simplex_values.specs.declared.plan.Channel.TheVariants as channels
 use Rattle.simplex_values.specs.declared.proposal.Subject.{Subject}
 use Rattle.simplex_values.specs.declared.proposal.Subject.TheVariants as subjects
+use Rattle.simplex_values.specs.declared.round.Round.{Round}
+use Rattle.simplex_values.specs.Terms.{greatest_view}
 use Rattle.simplex_wire.specs.declared.attestation.Attestation.{Attestation}
 use Rattle.simplex_wire.specs.declared.artifact.Artifact.{Artifact}
 use Rattle.simplex_wire.specs.declared.artifact.Artifact.TheVariants as artifacts
@@ -32,7 +34,7 @@ use Rattle.simplex_lives.specs.Artifacts as member
 use Rattle.simplex_lives.specs.Journal as kept
 use Rattle.simplex_lives.specs.Member as life
 use Rattle.simplex_lives.specs.Member.{Member}
-use Rattle.simplex_conduct.specs.Storing.{AreStoredFirst}
+use Rattle.simplex_conduct.specs.Storing.{IsOwn, AreStoredFirst}
 
 -- a certificate: what was signed, and by whom
 abbrev pub statement_of : Certificate → agreement.Certificate
@@ -110,6 +112,22 @@ taken [] = []
 taken (calls.Append section artifact ∷ rest) = certificate_in artifact ++ taken rest
 taken (_ ∷ rest) = taken rest
 
+-- what the own votes among the records are on
+abbrev pub vote_in : Artifact → List Subject
+vote_in (artifacts.Notarize v) = subjects.Notarize v.proposal ∷ []
+vote_in (artifacts.Nullify v) = subjects.Nullify v.round ∷ []
+vote_in (artifacts.Finalize v) = subjects.Finalize v.proposal ∷ []
+vote_in _ = []
+
+unfoldable pub voted : List Call → List Subject
+voted [] = []
+voted (calls.Append section artifact ∷ rest) = vote_in artifact ++ voted rest
+voted (_ ∷ rest) = voted rest
+
+-- a nullify of a view below the greatest, in the member's epoch
+abbrev pub IsLowNullify : Made → Subject → Type 0
+IsLowNullify made s = (r : Round) × (s ≡ subjects.Nullify r) × (r.epoch ≡ made.epoch) × (r.view < greatest_view)
+
 -- what goes out on the vote channel are votes on these subjects, in this order
 unfoldable pub AreSent : List Call → List Subject → Type 0
 AreSent [] subjects = subjects ≡ []
@@ -136,7 +154,8 @@ IsLeft made known outcomes.Done sections m = IsRunning made known sections m
 IsLeft made known _ sections m = IsStopped made sections m
 
 -- What a voter did in a step is lived by the member: it makes legal calls, which bring what the voter took, send
--- what the voter sent, and leave the member where the voter is. Each vote that went out was stored before it
+-- what the voter sent, and leave the member where the voter is. Each vote that went out was stored before it, and is on
+-- the subject of a record that the voter appended, or a nullify again
 pub record IsLived (made : Made) (known : List Fact) (p : Performed) (m : Member) : Type 0 where
   pub calls : List life.Call
   pub sent : List Sent
@@ -145,7 +164,8 @@ pub record IsLived (made : Made) (known : List Fact) (p : Performed) (m : Member
   pub sends : (life.run m calls).sent ≡ m.sent ++ sent
   pub votes : AreSent p.out.calls (map (λ (s : Sent). s.subject) sent)
   pub constructed : AreVotesSent (life.run m calls).sent p.out.handed
-  pub first : AreStoredFirst (IsEarlier m) p.out.calls
+  pub own : (s : Subject) → Contains (map (λ (x : Sent). x.subject) sent) s → Contains (voted p.out.calls) s ⊎ IsLowNullify made s
+  pub first : AreStoredFirst (IsEarlier m) (IsOwn made) p.out.calls
   pub left : IsLeft made known p.outcome p.sections (life.run m calls)
 
 -- the certificate that a floor is

@@ -4,10 +4,11 @@ use Rattle.simplex_values.specs.declared.proposal.Proposal.{Proposal}
 use Rattle.simplex_values.specs.declared.proposal.Subject.{Subject}
 use Rattle.simplex_values.specs.declared.proposal.Subject.TheVariants.{Notarize, Nullify, Finalize}
 use Rattle.simplex_agreement.specs.World.{Sent, view_of}
-use Rattle.simplex_agreement.proofs.ListFacts.{not_in_empty, Contains-cons_cases}
+use Rattle.simplex_agreement.proofs.ListFacts.{not_in_empty, Contains-cons_cases, Contains-here, Contains-there}
 use Rattle.simplex_lives.specs.Artifacts.{Artifact, certificates}
 use Rattle.simplex_lives.specs.Votes.{MayVote}
 use Rattle.simplex_lives.specs.Member.{Member, Call, Start, StartAt, Take, Judge, Vote, Repeat, Sync, Send, Prune, Crash, newborn, published, happens, run, May, IsLegal}
+use Rattle.simplex_agreement.specs.World as agreement
 
 abbrev IsAbove : Subject → Type 0
 IsAbove (Finalize p) = 0 < view_of p
@@ -60,3 +61,12 @@ at_subject (x ∷ rest) s a k =
 pub sent_above : (length : ℕ) (calls : List Call) (s : Subject) → IsLegal length newborn calls → Contains (map (λ (x : Sent). x.subject) (run newborn calls).sent) s
     → (p : Proposal) → s ≡ Finalize p → 0 < view_of p
 sent_above length calls s legal k p e = subst IsAbove e (at_subject (run newborn calls).sent s (above_run length newborn calls legal (tt, tt)).0 k)
+
+-- a subject that was sent, with what was known then
+pub sent_of : (sent : List Sent) (s : Subject) → Contains (map (λ (x : Sent). x.subject) sent) s → (known : List agreement.Certificate) × Contains sent (record { subject = s; known = known })
+sent_of [] s k = absurd (not_in_empty s k)
+sent_of (x ∷ rest) s k =
+    elim (Contains-cons_cases x.subject (map (λ (y : Sent). y.subject) rest) s k) [
+      | inl e ↦ (x.known, subst (λ t. Contains (x ∷ rest) (record { subject = t; known = x.known })) e (Contains-here x rest))
+      | inr r ↦ (let p = sent_of rest s r in (p.0, Contains-there x rest _ p.1))
+    ]

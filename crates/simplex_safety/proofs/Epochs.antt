@@ -8,7 +8,6 @@ use Rattle.simplex_values.specs.declared.answer.Handoff.TheVariants as handoffs
 use Rattle.simplex_values.specs.declared.plan.Channel.TheVariants as channels
 use Rattle.simplex_values.specs.declared.plan.Plan.TheVariants as plans
 use Rattle.simplex_values.specs.declared.plan.Recipients.TheVariants as recipients
-use Rattle.simplex_values.specs.declared.round.Round.{Round}
 use Rattle.simplex_values.specs.declared.timeout.TimeoutReason.TheVariants.{LeaderTimeout, MissingProposal, IgnoredProposal, InvalidProposal}
 use Rattle.simplex_wire.specs.declared.artifact.Artifact.{Artifact}
 use Rattle.simplex_wire.specs.declared.artifact.Artifact.TheVariants as artifacts
@@ -37,7 +36,6 @@ use Rattle.simplex_rules.specs.Ancestry.{is_certified}
 use Rattle.simplex_rules.specs.Votes.{notarize_at, finalize_at, nullify_at}
 use Rattle.simplex_rules.specs.Deadline.{deadline_of}
 use Rattle.simplex_rules.specs.Best.{best_certificate, forwardable_at}
-use Rattle.simplex_rules.specs.Requests.{leader_of}
 use Rattle.simplex_rules.specs.Calls as state
 use Rattle.simplex_rules.specs.Calls.{facts_of, certified_answer, replay_answer, unsent_notarization, unsent_nullification, unsent_finalization, prune_answer}
 use Rattle.simplex_rules.specs.Pending.{Desk, Pending, Opened, Sought, pending_view, pending_parent, reconciled, iterated}
@@ -69,10 +67,6 @@ pub record Named (epoch : ℕ) (cs : List Call) (hs : List Handed) (facts : List
 
 abbrev pub AllNamed : ℕ → Doing → Type 0
 AllNamed epoch d = Named epoch d.calls d.handed d.desk.known d.desk.proposal d.nullify
-
--- the one leader of all views
-abbrev pub LeadsAll : Made → Type 0
-LeadsAll made = (round : Round) → made.elects round ≡ 0
 
 named_call : (epoch : ℕ) (c : Call) (d : Doing) → NamesCall epoch c → AllNamed epoch d → AllNamed epoch (make c d)
 named_call epoch c d n a =
@@ -221,21 +215,17 @@ named_finalization made view d a = at (unsent_finalization d.desk.known view)
     at None = told_so
     at (Some n) = named_shown made.epoch (certificates.Finalization n) (activities.Finalization n) (tell made (state.BroadcastFinalization view) d) told_so
 
-leads_view : (made : Made) (view : ℕ) → LeadsAll made → leader_of made view ≡ 0
-unfolding leader_of
-leads_view made view leads = leads (record { epoch = made.epoch; view = view })
-
-named_update : (made : Made) (before : ℕ) (d : Doing) → LeadsAll made → AllNamed made.epoch d → AllNamed made.epoch (update_batcher made before d)
+named_update : (made : Made) (before : ℕ) (d : Doing) → AllNamed made.epoch d → AllNamed made.epoch (update_batcher made before d)
 unfolding update_batcher
-named_update made before d leads a = at (nat_lt before (current_of made d.desk.known))
+named_update made before d a = at (nat_lt before (current_of made d.desk.known))
   where
     at : (b : Bool) → AllNamed made.epoch (if b then hand (update_message made d.desk.known (forwardable_at d.desk.known (current_of made d.desk.known - 1))) d else d)
-    at true = named_hand made.epoch (update_message made d.desk.known (forwardable_at d.desk.known (current_of made d.desk.known - 1))) d (leads_view made (current_of made d.desk.known) leads) a
+    at true = named_hand made.epoch (update_message made d.desk.known (forwardable_at d.desk.known (current_of made d.desk.known - 1))) d tt a
     at false = a
 
-named_end : (made : Made) (now before view : ℕ) (d : Doing) → LeadsAll made → AllNamed made.epoch d → AllNamed made.epoch (end_of_step made now before view d)
+named_end : (made : Made) (now before view : ℕ) (d : Doing) → AllNamed made.epoch d → AllNamed made.epoch (end_of_step made now before view d)
 unfolding end_of_step
-named_end made now before view d leads a =
+named_end made now before view d a =
     let notarize = notarize_at made d.desk.known view in
     let voted = vote_notarize made view d in
     let finalize = finalize_at made voted.desk.known view in
@@ -248,7 +238,7 @@ named_end made now before view d leads a =
     let fifth = option_map_or (λ f. send_vote (votes.Finalize f) fourth) finalize fourth in
     let sixth = publish_finalization made view fifth in
     let v = named_notarize made view d a in
-    named_update made before sixth leads
+    named_update made before sixth
     (named_finalization made view fifth
     (named_option_finalize made.epoch finalize fourth (finalize_named made.epoch made voted.desk.known view v.in_known)
     (named_nullification made view third
@@ -469,21 +459,21 @@ named_acted made now s inputs.Certify outcome b g e =
     gives (λ (o : Doing × Option ℕ). AllNamed made.epoch o.0) (λ (taken : Opened × Answer). act_on_certify made now taken.0 taken.1 (begun s.desk)) (first_answered s.desk.certify s.answers) outcome
     (λ taken. named_certify made now taken.0 taken.1 (begun s.desk) (named_nothing made.epoch s.desk g)) e
 
-named_finished : (made : Made) (now before : ℕ) (outcome : Doing × Option ℕ) → LeadsAll made → AllNamed made.epoch outcome.0 → AllNamed made.epoch (finished made now before outcome)
+named_finished : (made : Made) (now before : ℕ) (outcome : Doing × Option ℕ) → AllNamed made.epoch outcome.0 → AllNamed made.epoch (finished made now before outcome)
 unfolding finished
-named_finished made now before (d, None) leads a = named_iteration made now d a
-named_finished made now before (d, Some view) leads a = named_iteration made now (end_of_step made now before view d) (named_end made now before view d leads a)
+named_finished made now before (d, None) a = named_iteration made now d a
+named_finished made now before (d, Some view) a = named_iteration made now (end_of_step made now before view d) (named_end made now before view d a)
 
-pub step_named : (made : Made) (now : ℕ) (s : Standing) (input : VoterInput) (d : Doing) → LeadsAll made → NamesInput made.epoch input → NamesDesk made.epoch s.desk
+pub step_named : (made : Made) (now : ℕ) (s : Standing) (input : VoterInput) (d : Doing) → NamesInput made.epoch input → NamesDesk made.epoch s.desk
     → stepped made now s input ≡ Some d → AllNamed made.epoch d
 unfolding stepped
-step_named made now s input d leads b g e = at (acted made now s input) refl e
+step_named made now s input d b g e = at (acted made now s input) refl e
   where
     at : (o : Option (Doing × Option ℕ)) → acted made now s input ≡ o → option_map (finished made now (current_of made s.desk.known)) o ≡ Some d → AllNamed made.epoch d
     at None f h = cc
     at (Some outcome) f h =
         subst (AllNamed made.epoch) (some_is _ d h)
-        (named_finished made now (current_of made s.desk.known) outcome leads (named_acted made now s input outcome b g f))
+        (named_finished made now (current_of made s.desk.known) outcome (named_acted made now s input outcome b g f))
 
 -- ---- a start
 
@@ -547,15 +537,15 @@ named_kept_floor epoch (floors.Finalized f) records d n a = at (list_any (is_fin
     at true = a
     at false = named_call epoch (calls.Sync (view_of f.proposal)) (append (artifacts.Finalization f) d) tt (named_append epoch (artifacts.Finalization f) d n a)
 
-pub start_named : (made : Made) (now : ℕ) (floor : Floor) (records : List Artifact) → LeadsAll made → NamesFloor made.epoch floor → ((r : Artifact) → Contains records r → NamesRecord made.epoch r)
+pub start_named : (made : Made) (now : ℕ) (floor : Floor) (records : List Artifact) → NamesFloor made.epoch floor → ((r : Artifact) → Contains records r → NamesRecord made.epoch r)
     → AllNamed made.epoch (started made now floor records)
 unfolding started
-start_named made now floor records leads f r =
+start_named made now floor records f r =
     let read = replay_all made now (floor_view floor) (stand_on made now floor (begun blank_desk)) records in
     let replayed = hand (handed.Resolver resolver.Replayed) read in
     let kept = keep_floor floor records replayed in
     named_iteration made now (hand (update_message made kept.desk.known None) kept)
-    (named_hand made.epoch (update_message made kept.desk.known None) kept (leads_view made (current_of made kept.desk.known) leads)
+    (named_hand made.epoch (update_message made kept.desk.known None) kept tt
     (named_kept_floor made.epoch floor records replayed f
     (named_hand made.epoch (handed.Resolver resolver.Replayed) read tt
     (named_records made now (floor_view floor) (stand_on made now floor (begun blank_desk)) records r (named_floor made now floor f)))))

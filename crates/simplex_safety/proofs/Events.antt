@@ -2,7 +2,7 @@
 use Rattle.simplex_values.specs.declared.plan.Channel.TheVariants as channels
 use Rattle.std.proofs.Common.{◌≡◌, ℕ, zero, suc, ◌-◌, ◌<◌, ◌==◌, ◌&&◌, nat_lt, nat_le, Bool, true, false, List, [], ◌∷◌, ◌++◌, length, take, Contains, Option, Some, None, refl, sym, ap, ◌∙◌, subst, inl, inr, arith, append-nil, if◌then◌else◌}
 use Rattle.std.specs.Option.{option_map, option_map_or}
-use Rattle.std.specs.List.{filter_map}
+use Rattle.std.specs.List.{filter_map, list_all}
 use Rattle.std.proofs.lemmas.Grind.{common_steps}
 use Rattle.simplex_values.specs.declared.answer.Answer.{Answer}
 use Rattle.simplex_values.specs.Terms.{greatest_view}
@@ -33,7 +33,7 @@ use Rattle.simplex_steps.specs.Voter as voter
 use Rattle.simplex_steps.specs.VoterLife.{VoterMade, Given, Started, Stepped, Answered, Place, place_of, rest, unreadable, start_at, unread, start_performed, start_given, step_given, idle}
 use Rattle.simplex_steps.specs.Batcher as batcher
 use Rattle.simplex_steps.specs.Engine as engine
-use Rattle.simplex_steps.specs.Engine.{EngineMade, Taken, Began, Heard, Took, Replied, Did, voter_in, voter_past, given_to_voter, started_at, is_start, sections_of, runs, is_whole, by_voter, by_batcher, cut_short, did_of}
+use Rattle.simplex_steps.specs.Engine.{EngineMade, Taken, Began, Did, voter_in, voter_past, given_to_voter, started_at, is_start, sections_of, runs, is_whole, by_voter, by_batcher, cut_short, did_of}
 use Rattle.simplex_run.specs.Life.{Noted, Life, Stopped, Running, going_on}
 use Rattle.simplex_run.specs.Members.{floor_of, rules_of, engine_of}
 use Rattle.simplex_lives.specs.Journal as kept
@@ -43,12 +43,12 @@ use Rattle.simplex_wire.specs.declared.certificate.Certificate.{Certificate}
 use Rattle.simplex_wire.specs.declared.certificate.Certificate.TheVariants as certificates
 use Rattle.simplex_agreement.specs.World as agreement
 use Rattle.simplex_agreement.proofs.ListFacts.{not_in_empty, Contains-cons_cases}
-use Rattle.simplex_conduct.specs.Life.{statement_of, memory_of, section_of, journal_of, floor_statement, AreSent, IsRunning, IsStopped, AreVotesSent, IsLived, IsBegun, IsLeft, IsEarlier, IsFloor}
-use Rattle.simplex_conduct.specs.Storing.{AreStoredFirst}
+use Rattle.simplex_conduct.specs.Life.{statement_of, floor_statement, AreSent, IsRunning, IsStopped, AreVotesSent, IsLeft, IsEarlier, IsFloor}
+use Rattle.simplex_conduct.specs.Storing.{IsOwn, AreStoredFirst}
 use Rattle.simplex_conduct.specs.Life as conduct
 use Rattle.simplex_conduct.proofs.Stepping.{step_lived}
 use Rattle.simplex_conduct.proofs.Floors.{start_lived, crash_lived}
-use Rattle.simplex_conduct.proofs.Starting.{none_sent, plain_voteless}
+use Rattle.simplex_conduct.proofs.Starting.{none_sent, plain_voteless, Voteless}
 use Rattle.simplex_conduct.proofs.Replaying.{AllPlain}
 use Rattle.simplex_conduct.proofs.Constructing.{AreSilent, all_silent}
 use Rattle.simplex_messages.specs.declared.handed.Handed.{Handed}
@@ -63,7 +63,14 @@ use Rattle.simplex_safety.specs.Sayings.{Each, InMessage, InRecord, InFloor}
 use Rattle.simplex_safety.proofs.Telling.{started_says, said_at_start}
 use Rattle.simplex_safety.specs.Histories.{IsAt, floor_in}
 use Rattle.simplex_safety.proofs.Quiet.{batcher_hush, batcher_plain, for_voter_silent}
-use Rattle.simplex_safety.proofs.Further.{Further, subjects_of, same_self, stopped_any, at_rest}
+use Rattle.simplex_safety.proofs.Further.{own_any, first_own, Further, subjects_of, same_self, stopped_any, at_rest}
+use Rattle.simplex_messages.specs.declared.voter.Message.TheVariants as voter_message
+use Rattle.simplex_steps.specs.ResolverSteps.{is_call_of_resolver, is_handed_by_resolver, IsOfResolver, IsApart}
+use Rattle.simplex_wire.specs.declared.vote.Vote.{Vote}
+
+-- where the voter of an engine is
+abbrev pub place_in : EngineMade → List Did → Place
+place_in made past = place_of (voter_in made past) (voter_past past)
 
 -- ---- what an outcome is
 
@@ -118,8 +125,8 @@ no_vote Earlier cs before behind to bytes h e = at before (subst (λ xs. AreSent
     at (calls.Relay payload plan ∷ xs) k = at xs k
     at (calls.Block who ∷ xs) k = at xs k
 
-voteless_first : (Earlier : Nullify → Type 0) (cs : List Call) → AreSent cs [] → AreStoredFirst Earlier cs
-voteless_first Earlier cs h before behind to bytes e = absurd (no_vote Earlier cs before behind to bytes h e)
+voteless_first : (Earlier : Nullify → Type 0) (Own : Vote → Type 0) (cs : List Call) → AreSent cs [] → AreStoredFirst Earlier Own cs
+voteless_first Earlier Own cs h before behind to bytes e = absurd (no_vote Earlier cs before behind to bytes h e)
 
 -- ---- a start
 
@@ -250,7 +257,8 @@ start_further setup node floor stop js now m noted good s calls_is event_is =
       votes = subst (λ cs. AreSent cs []) (sym (calls_is.0 ∙ ap (λ (d : Did). d.out.calls) same)) x.votes;
       at = subst (λ d. IsAt setup node (going_on (engine_at setup node floor js) (d ∷ [])) (run m x.calls)) (sym same)
           (start_leaves setup node floor js now stop (run m x.calls) (given_start setup node floor js now stop).outcome refl x.left);
-      first = voteless_first (IsEarlier m) noted.entry.calls (subst (λ cs. AreSent cs []) (sym (calls_is.0 ∙ ap (λ (d : Did). d.out.calls) same)) x.votes);
+      first = voteless_first (IsEarlier m) (IsOwn (rules_of setup node.member 0)) noted.entry.calls (subst (λ cs. AreSent cs []) (sym (calls_is.0 ∙ ap (λ (d : Did). d.out.calls) same)) x.votes);
+      own = λ s k. absurd (not_in_empty s k);
       constructed = all_silent (run m x.calls).sent noted.entry.handed
           (subst AreSilent (sym (calls_is.1 ∙ ap (λ (d : Did). d.out.handed) same)) (start_silent setup node floor js now stop x.votes));
     }
@@ -295,33 +303,35 @@ quiet_stopped setup node made did past m e f a =
     (stopped_any setup node.member (started_at past) 0 place.sections (happens m (life.Crash (λ view. 0))) stopped))
 
 -- the member does nothing, or stops
-quiet_on : (setup : Setup) (node : Node) (noted : Noted) (later : Life) (m : Member) → AllPlain noted.entry.calls → AreSilent noted.entry.handed → IsAt setup node later m → Further setup noted node later m
-quiet_on setup node noted later m plain silent a =
+quiet_on : (setup : Setup) (node : Node) (noted : Noted) (later : Life) (m : Member) → Voteless noted.entry.calls → AreSilent noted.entry.handed → IsAt setup node later m → Further setup noted node later m
+quiet_on setup node noted later m voteless silent a =
     record {
       calls = [];
       sent = [];
       legal = tt;
       brought = λ c k. absurd (not_in_empty c k);
       sends = sym (append-nil m.sent);
-      votes = none_sent noted.entry.calls (plain_voteless noted.entry.calls plain);
+      votes = none_sent noted.entry.calls voteless;
       at = a;
-      first = voteless_first (IsEarlier m) noted.entry.calls (none_sent noted.entry.calls (plain_voteless noted.entry.calls plain));
+      first = voteless_first (IsEarlier m) (IsOwn (rules_of setup node.member 0)) noted.entry.calls (none_sent noted.entry.calls voteless);
       constructed = all_silent m.sent noted.entry.handed silent;
+      own = λ s k. absurd (not_in_empty s k);
     }
 
-quiet_off : (setup : Setup) (node : Node) (noted : Noted) (later : Life) (m : Member) → AllPlain noted.entry.calls → AreSilent noted.entry.handed → IsAt setup node later (happens m (life.Crash (λ view. 0)))
+quiet_off : (setup : Setup) (node : Node) (noted : Noted) (later : Life) (m : Member) → Voteless noted.entry.calls → AreSilent noted.entry.handed → IsAt setup node later (happens m (life.Crash (λ view. 0)))
     → Further setup noted node later m
-quiet_off setup node noted later m plain silent a =
+quiet_off setup node noted later m voteless silent a =
     record {
       calls = life.Crash (λ view. 0) ∷ [];
       sent = [];
       legal = (tt, tt);
       brought = λ c k. absurd (not_in_empty c k);
       sends = sym (append-nil m.sent);
-      votes = none_sent noted.entry.calls (plain_voteless noted.entry.calls plain);
+      votes = none_sent noted.entry.calls voteless;
       at = a;
-      first = voteless_first (IsEarlier m) noted.entry.calls (none_sent noted.entry.calls (plain_voteless noted.entry.calls plain));
+      first = voteless_first (IsEarlier m) (IsOwn (rules_of setup node.member 0)) noted.entry.calls (none_sent noted.entry.calls voteless);
       constructed = all_silent m.sent noted.entry.handed silent;
+      own = λ s k. absurd (not_in_empty s k);
     }
 
 plain_take : (n : ℕ) (xs : List Call) → AllPlain xs → AllPlain (take n xs)
@@ -334,17 +344,17 @@ abbrev pub IsUnseen : Taken → Type 0
 IsUnseen taken = ((now : ℕ) (stop : Stop) (outcome : Outcome) (out : StepOut) → given_to_voter (did_of taken now stop outcome out) ≡ None) × (is_start taken ≡ false)
 
 unseen_further : (setup : Setup) (node : Node) (made : EngineMade) (past : List Did) (m : Member) (noted : Noted) (taken : Taken) (now : ℕ) (stop : Stop) (o : Outcome) (out : StepOut)
-    → IsUnseen taken → AllPlain out.calls → AreSilent out.handed → (noted.entry.calls ≡ out.calls) × (noted.entry.handed ≡ out.handed) → IsAt setup node (Running made past) m
+    → IsUnseen taken → Voteless out.calls → AreSilent out.handed → (noted.entry.calls ≡ out.calls) × (noted.entry.handed ≡ out.handed) → IsAt setup node (Running made past) m
     → Further setup noted node (going_on made (did_of taken now stop o out ∷ past)) m
 unfolding runs
-unseen_further setup node made past m noted taken now stop outcomes.Done out u plain silent same a =
-    quiet_on setup node noted _ m (subst AllPlain (sym same.0) plain) (subst AreSilent (sym same.1) silent) (quiet_at setup node made (did_of taken now stop outcomes.Done out) past m (u.0 now stop outcomes.Done out) u.1 a)
-unseen_further setup node made past m noted taken now stop outcomes.Idle out u plain silent same a =
-    quiet_on setup node noted _ m (subst AllPlain (sym same.0) plain) (subst AreSilent (sym same.1) silent) (quiet_at setup node made (did_of taken now stop outcomes.Idle out) past m (u.0 now stop outcomes.Idle out) u.1 a)
-unseen_further setup node made past m noted taken now stop outcomes.Journal out u plain silent same a =
-    quiet_off setup node noted _ m (subst AllPlain (sym same.0) plain) (subst AreSilent (sym same.1) silent) (quiet_stopped setup node made (did_of taken now stop outcomes.Journal out) past m (u.0 now stop outcomes.Journal out) u.1 a)
-unseen_further setup node made past m noted taken now stop outcomes.Cut out u plain silent same a =
-    quiet_off setup node noted _ m (subst AllPlain (sym same.0) plain) (subst AreSilent (sym same.1) silent) (quiet_stopped setup node made (did_of taken now stop outcomes.Cut out) past m (u.0 now stop outcomes.Cut out) u.1 a)
+unseen_further setup node made past m noted taken now stop outcomes.Done out u voteless silent same a =
+    quiet_on setup node noted _ m (subst Voteless (sym same.0) voteless) (subst AreSilent (sym same.1) silent) (quiet_at setup node made (did_of taken now stop outcomes.Done out) past m (u.0 now stop outcomes.Done out) u.1 a)
+unseen_further setup node made past m noted taken now stop outcomes.Idle out u voteless silent same a =
+    quiet_on setup node noted _ m (subst Voteless (sym same.0) voteless) (subst AreSilent (sym same.1) silent) (quiet_at setup node made (did_of taken now stop outcomes.Idle out) past m (u.0 now stop outcomes.Idle out) u.1 a)
+unseen_further setup node made past m noted taken now stop outcomes.Journal out u voteless silent same a =
+    quiet_off setup node noted _ m (subst Voteless (sym same.0) voteless) (subst AreSilent (sym same.1) silent) (quiet_stopped setup node made (did_of taken now stop outcomes.Journal out) past m (u.0 now stop outcomes.Journal out) u.1 a)
+unseen_further setup node made past m noted taken now stop outcomes.Cut out u voteless silent same a =
+    quiet_off setup node noted _ m (subst Voteless (sym same.0) voteless) (subst AreSilent (sym same.1) silent) (quiet_stopped setup node made (did_of taken now stop outcomes.Cut out) past m (u.0 now stop outcomes.Cut out) u.1 a)
 
 -- what a batcher did
 cut_plain : (stop : Stop) (out : StepOut) → AllPlain out.calls → AllPlain (cut_short stop out).1.calls
@@ -379,12 +389,52 @@ batcher_further setup node made past m noted taken input now stop u same a =
     let given : batcher.Timed = record { input = input; now = now } in
     let out = batcher.step_out made.batcher (engine.batcher_past past) given in
     let cut = cut_short stop out in
-    unseen_further setup node made past m noted taken now stop cut.0 cut.1 u (cut_plain stop out (batcher_plain made.batcher (engine.batcher_past past) given))
+    unseen_further setup node made past m noted taken now stop cut.0 cut.1 u (plain_voteless cut.1.calls (cut_plain stop out (batcher_plain made.batcher (engine.batcher_past past) given)))
     (cut_silent stop out (for_voter_silent out.handed (batcher_hush made.batcher (engine.batcher_past past) given).1)) same a
 
 pub nothing_further : (setup : Setup) (node : Node) (made : EngineMade) (past : List Did) (m : Member) (noted : Noted) (taken : Taken) (now : ℕ) (stop : Stop) (o : Outcome)
     → IsUnseen taken → (noted.entry.calls ≡ []) × (noted.entry.handed ≡ []) → IsAt setup node (Running made past) m → Further setup noted node (going_on made (did_of taken now stop o no_out ∷ past)) m
 nothing_further setup node made past m noted taken now stop o u same a = unseen_further setup node made past m noted taken now stop o no_out u tt tt same a
+
+-- what a resolver did
+resolver_voteless : (cs : List Call) → list_all is_call_of_resolver cs ≡ true → Voteless cs
+resolver_voteless [] e = tt
+resolver_voteless (calls.Block who ∷ cs) e = (tt, resolver_voteless cs e)
+resolver_voteless (calls.Send channels.Resolver to bytes ∷ cs) e = (tt, resolver_voteless cs e)
+resolver_voteless (calls.Send channels.Vote to bytes ∷ cs) e = cc
+resolver_voteless (calls.Send channels.Certificate to bytes ∷ cs) e = cc
+resolver_voteless (calls.Append n a ∷ cs) e = cc
+resolver_voteless (calls.Sync n ∷ cs) e = cc
+resolver_voteless (calls.Prune n ∷ cs) e = cc
+resolver_voteless (calls.Report a ∷ cs) e = cc
+resolver_voteless (calls.Relay payload plan ∷ cs) e = cc
+
+resolver_silent : (hs : List Handed) → list_all is_handed_by_resolver hs ≡ true → AreSilent hs
+resolver_silent [] e = tt
+resolver_silent (handed.Handler message ∷ hs) e = (tt, resolver_silent hs e)
+resolver_silent (handed.Voter (voter_message.Verified c) ∷ hs) e = (tt, resolver_silent hs e)
+resolver_silent (handed.Voter (voter_message.Proposal p) ∷ hs) e = cc
+resolver_silent (handed.Voter (voter_message.Timeout round reason) ∷ hs) e = cc
+resolver_silent (handed.Batcher message ∷ hs) e = cc
+resolver_silent (handed.Resolver message ∷ hs) e = cc
+
+pub resolver_further : (setup : Setup) (node : Node) (made : EngineMade) (past : List Did) (m : Member) (noted : Noted) (did : Did)
+    → IsOfResolver did.out → IsApart did → is_start did.taken ≡ false → (noted.entry.calls ≡ did.out.calls) × (noted.entry.handed ≡ did.out.handed) → IsAt setup node (Running made past) m
+    → Further setup noted node (going_on made (did ∷ past)) m
+unfolding runs
+resolver_further setup node made past m noted did r apart start same a = at did.outcome
+  where
+    voteless : Voteless noted.entry.calls
+    voteless = subst Voteless (sym same.0) (resolver_voteless did.out.calls r.calls)
+
+    silent : AreSilent noted.entry.handed
+    silent = subst AreSilent (sym same.1) (resolver_silent did.out.handed r.handed)
+
+    at : (o : Outcome) → Further setup noted node (if is_whole o then Running made (did ∷ past) else Stopped (sections_of made (did ∷ past))) m
+    at outcomes.Done = quiet_on setup node noted _ m voteless silent (quiet_at setup node made did past m apart.voter start a)
+    at outcomes.Idle = quiet_on setup node noted _ m voteless silent (quiet_at setup node made did past m apart.voter start a)
+    at outcomes.Journal = quiet_off setup node noted _ m voteless silent (quiet_stopped setup node made did past m apart.voter start a)
+    at outcomes.Cut = quiet_off setup node noted _ m voteless silent (quiet_stopped setup node made did past m apart.voter start a)
 
 -- ---- a step of the voter
 
@@ -462,7 +512,7 @@ unfolding runs
 voter_idles setup node made past m noted taken input now stop step e same a =
     let did = did_of taken now stop outcomes.Idle no_out in
     let p = place_then made did past (Stepped input now stop) (step.0 now stop outcomes.Idle no_out) step.1 in
-    quiet_on setup node noted (Running made (did ∷ past)) m (subst AllPlain (sym same.0) tt) (subst AreSilent (sym same.1) tt)
+    quiet_on setup node noted (Running made (did ∷ past)) m (subst Voteless (sym same.0) tt) (subst AreSilent (sym same.1) tt)
     (same_place setup node made did past m p.0
     (ap (λ v. place_of v (voter_past (did ∷ past))) p.0 ∙ ap (place_of (voter_in made past)) p.1 ∙ idle_place (voter_in made past) (voter_past past) input now stop e) a)
 
@@ -490,8 +540,14 @@ voter_steps setup node made past m noted taken input now stop d step low e same 
       votes = subst (λ cs. AreSent cs (subjects_of x.sent)) (sym same.0) x.votes;
       at = step_leaves setup node made past did later input now stop d (run m x.calls) given.outcome a.0
           (ap (λ w. place_of w (voter_past (did ∷ past))) p.0 ∙ ap (place_of v) p.1 ∙ step_place v (voter_past past) input now stop d e) p.0 refl refl refl x.left;
-      first = subst (AreStoredFirst (IsEarlier m)) (sym same.0) x.first;
+      first = subst (AreStoredFirst (IsEarlier m) (IsOwn (rules_of setup node.member 0))) (sym same.0)
+          (first_own (IsEarlier m) (IsOwn (voter_in made past).rules) (IsOwn (rules_of setup node.member 0)) given.out.calls
+          (λ w o. own_any setup node.member (started_at past) 0 w (subst (λ r. IsOwn r w) (a.0 (started_at past)) o)) x.first);
       constructed = subst (AreVotesSent (run m x.calls).sent) (sym same.1) x.constructed;
+      own = λ s k. elim (x.own s k) [
+        | inl t ↦ inl (subst (λ cs. Contains (conduct.voted cs) s) (sym same.0) t)
+        | inr l ↦ inr (l.0, l.1, l.2 ∙ ap (λ (r : Made). r.epoch) (a.0 (started_at past)), l.3)
+      ];
     }
 
 pub voter_further : (setup : Setup) (node : Node) (made : EngineMade) (past : List Did) (m : Member) (noted : Noted) (taken : Taken) (input : VoterInput) (now : ℕ) (stop : Stop)
@@ -544,7 +600,7 @@ pub answer_further : (setup : Setup) (node : Node) (made : EngineMade) (past : L
     → (noted.entry.calls ≡ []) × (noted.entry.handed ≡ []) → IsAt setup node (Running made past) m → Further setup noted node (going_on made (engine.replied number answer now ∷ past)) m
 unfolding runs
 answer_further setup node made past m noted number answer now same a =
-    quiet_on setup node noted (Running made (engine.replied number answer now ∷ past)) m (subst AllPlain (sym same.0) tt) (subst AreSilent (sym same.1) tt)
+    quiet_on setup node noted (Running made (engine.replied number answer now ∷ past)) m (subst Voteless (sym same.0) tt) (subst AreSilent (sym same.1) tt)
     (answered_at setup node made (engine.replied number answer now) past number answer m refl refl a)
 
 -- ---- a crash
@@ -555,6 +611,6 @@ unfolding IsAt sections_of
 crash_further setup node made past m noted same a =
     let place = place_of (voter_in made past) (voter_past past) in
     let after = happens m (life.Crash (λ view. 0)) in
-    quiet_off setup node noted (Stopped (crashed 0 place.sections)) m (subst AllPlain (sym same.0) tt) (subst AreSilent (sym same.1) tt)
+    quiet_off setup node noted (Stopped (crashed 0 place.sections)) m (subst Voteless (sym same.0) tt) (subst AreSilent (sym same.1) tt)
     (stopped_any setup node.member (started_at past) 0 (crashed 0 place.sections) after
     (subst (λ r. IsStopped r (crashed 0 place.sections) after) (a.0 (started_at past)) (crash_lived (voter_in made past).rules 0 place.standing.desk.known place.sections m a.1)))

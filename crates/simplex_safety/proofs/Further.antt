@@ -1,5 +1,5 @@
 -- One more event of a node, and what its member lives in it.
-use Rattle.simplex_run.specs.Life.{Stopped, Running, sections_in}
+use Rattle.simplex_run.specs.Life.{Stopped, Running, sections_in, Noted, Life, is_of, after, life_in}
 use Rattle.simplex_steps.specs.VoterLife.{place_of}
 use Rattle.simplex_steps.specs.Engine.{voter_in, voter_past, sections_of}
 use Rattle.simplex_wire.specs.declared.vote.Nullify.{Nullify}
@@ -19,7 +19,6 @@ use Rattle.simplex_transcript.specs.declared.node.Node.{Node}
 use Rattle.simplex_transcript.specs.declared.setup.Setup.{Setup}
 use Rattle.simplex_messages.specs.declared.call.Call.{Call}
 use Rattle.simplex_messages.specs.declared.call.Call.TheVariants as calls
-use Rattle.simplex_run.specs.Life.{Noted, Life, is_of, after, life_in}
 use Rattle.simplex_run.specs.Members.{is_same_node, rules_of}
 use Rattle.simplex_journal.specs.Journal.{Section, replayed}
 use Rattle.simplex_journal.specs.Contents as journal
@@ -34,11 +33,11 @@ use Rattle.simplex_lives.proofs.Invariant.{Lives, Lives-run, Lives-newborn}
 use Rattle.simplex_lives.proofs.JournalFacts.{held_kept}
 use Rattle.simplex_agreement.proofs.ListFacts.{not_in_empty, Contains-here, Contains-there, Contains-cons_cases}
 use Rattle.simplex_lives.proofs.CallFacts.{run-append, IsLegal-append, brought-append}
-use Rattle.simplex_conduct.specs.Life.{memory_of, section_of, journal_of, certificate_in, taken, AreSent, AreVotesSent, IsEarlier, IsStopped}
-use Rattle.simplex_conduct.specs.Storing.{IsRepeated, AreStoredFirst}
+use Rattle.simplex_conduct.specs.Life.{memory_of, section_of, journal_of, certificate_in, taken, vote_in, voted, AreSent, AreVotesSent, IsEarlier, IsStopped}
+use Rattle.simplex_conduct.specs.Storing.{IsRepeated, IsOwn, AreStoredFirst}
 use Rattle.simplex_conduct.proofs.Constructing.{AreVotesSent-more}
 use Rattle.simplex_conduct.proofs.Replaying.{kept_is}
-use Rattle.simplex_safety.specs.Histories.{calls_of, floor_in, floors_of, IsAt, IsHeld, AreStored, AreConstructed, IsLivedBy}
+use Rattle.simplex_safety.specs.Histories.{calls_of, floor_in, floors_of, IsEpochNullify, IsAt, IsHeld, AreStored, AreConstructed, IsLivedBy}
 
 pub same_self : (a : Node) → is_same_node a a ≡ true
 same_self a = grind (arith, common_steps, eq-eqb a.member a.member refl, eq-eqb a.half a.half refl)
@@ -51,6 +50,16 @@ pub same_node : (a b : Node) → is_same_node a b ≡ true → a ≡ b
 same_node a b e =
     let p = and_parts (a.member == b.member) (a.half == b.half) e in
     ap (λ n. record { member = n; half = a.half }) (eqb-true a.member b.member p.0) ∙ ap (λ n. record { member = b.member; half = n }) (eqb-true a.half b.half p.1)
+
+pub own_any : (setup : Setup) (member a b : ℕ) (v : Vote) → IsOwn (rules_of setup member a) v → IsOwn (rules_of setup member b) v
+unfolding rules_of
+own_any setup member a b (votes.Notarize v) o = o
+own_any setup member a b (votes.Nullify v) o = o
+own_any setup member a b (votes.Finalize v) o = o
+
+-- where votes are own ones by one account, they are by a weaker one
+pub first_own : (Earlier : Nullify → Type 0) (P Q : Vote → Type 0) (cs : List Call) → ((v : Vote) → P v → Q v) → AreStoredFirst Earlier P cs → AreStoredFirst Earlier Q cs
+first_own Earlier P Q cs f first before behind to bytes e = (let x = first before behind to bytes e in (x.0, x.1, x.2, f x.0 x.3))
 
 pub stopped_any : (setup : Setup) (member a b : ℕ) (js : List Section) (m : Member) → IsStopped (rules_of setup member a) js m → IsStopped (rules_of setup member b) js m
 unfolding rules_of
@@ -87,6 +96,17 @@ taken-append (calls.Report activity ∷ xs) ys = taken-append xs ys
 taken-append (calls.Relay payload plan ∷ xs) ys = taken-append xs ys
 taken-append (calls.Block who ∷ xs) ys = taken-append xs ys
 
+voted-append : (xs ys : List Call) → voted (xs ++ ys) ≡ voted xs ++ voted ys
+unfolding voted
+voted-append [] ys = refl
+voted-append (calls.Append n a ∷ xs) ys = ap (λ zs. vote_in a ++ zs) (voted-append xs ys) ∙ sym (append_assoc (vote_in a) (voted xs) (voted ys))
+voted-append (calls.Sync n ∷ xs) ys = voted-append xs ys
+voted-append (calls.Prune n ∷ xs) ys = voted-append xs ys
+voted-append (calls.Send channel to bytes ∷ xs) ys = voted-append xs ys
+voted-append (calls.Report activity ∷ xs) ys = voted-append xs ys
+voted-append (calls.Relay payload plan ∷ xs) ys = voted-append xs ys
+voted-append (calls.Block who ∷ xs) ys = voted-append xs ys
+
 AreSent-append : (xs ys : List Call) (s t : List Subject) → AreSent xs s → AreSent ys t → AreSent (xs ++ ys) (s ++ t)
 unfolding AreSent
 AreSent-append [] ys s t h k = subst (λ zs. AreSent ys (zs ++ t)) (sym h) k
@@ -113,8 +133,9 @@ pub record Further (setup : Setup) (noted : Noted) (node : Node) (later : Life) 
   pub sends : (run m calls).sent ≡ m.sent ++ sent
   pub votes : AreSent noted.entry.calls (subjects_of sent)
   pub at : IsAt setup node later (run m calls)
-  pub first : AreStoredFirst (IsEarlier m) noted.entry.calls
+  pub first : AreStoredFirst (IsEarlier m) (IsOwn (rules_of setup node.member 0)) noted.entry.calls
   pub constructed : AreVotesSent (run m calls).sent noted.entry.handed
+  pub own : (s : Subject) → Contains (subjects_of sent) s → Contains (voted noted.entry.calls) s ⊎ IsEpochNullify setup s
 
 floors_then : (noted : Noted) (before : List Noted) (node : Node) → floors_of node (noted ∷ before) ≡ floors_of node before ++ floor_in node noted.event
 unfolding floors_of
@@ -173,12 +194,12 @@ repeated_weaker P Q f (votes.Notarize v) h = absurd h
 repeated_weaker P Q f (votes.Finalize v) h = absurd h
 
 -- a member that is down knows nothing that it made
-first_held : (setup : Setup) (node : Node) (l : Life) (m : Member) (length : ℕ) (cs : List Call) → Lives length m → IsAt setup node l m → AreStoredFirst (IsEarlier m) cs
-    → AreStoredFirst (IsHeld (sections_in l)) cs
+first_held : (setup : Setup) (node : Node) (l : Life) (m : Member) (length : ℕ) (cs : List Call) → Lives length m → IsAt setup node l m → AreStoredFirst (IsEarlier m) (IsOwn (rules_of setup node.member 0)) cs
+    → AreStoredFirst (IsHeld (sections_in l)) (IsOwn (rules_of setup node.member 0)) cs
 unfolding IsAt sections_of
 first_held setup node (Stopped sections) m length cs lives at first before behind to bytes e =
     let x = first before behind to bytes e in
-    (x.0, x.1, elim x.2 [ inl s ↦ inl s | inr k ↦ inr (repeated_weaker (IsEarlier m) (IsHeld sections) nothing x.0 k) ])
+    (x.0, x.1, elim x.2 [ inl s ↦ inl s | inr k ↦ inr (repeated_weaker (IsEarlier m) (IsHeld sections) nothing x.0 k) ], x.3)
   where
     nothing : (v : Nullify) → IsEarlier m v → IsHeld sections v
     nothing v k = absurd (not_in_empty _ (subst (λ xs. Contains xs (member.Own (subjects.Nullify v.round))) at.blank k.0))
@@ -191,9 +212,10 @@ first_held setup node (Running made past) m length cs lives at first before behi
         | inl s ↦ inl s
         | inr k ↦ inr (repeated_weaker (IsEarlier m) (IsHeld js) (λ v. held_vote length js m v lives at.1.up at.1.journal at.1.stored) x.0 k)
       ],
+      x.3,
     )
 
-stored_then : (setup : Setup) (noted : Noted) (before : List Noted) (node : Node) → AreStoredFirst (IsHeld (sections_in (life_in setup before node))) noted.entry.calls
+stored_then : (setup : Setup) (noted : Noted) (before : List Noted) (node : Node) → AreStoredFirst (IsHeld (sections_in (life_in setup before node))) (IsOwn (rules_of setup node.member 0)) noted.entry.calls
     → AreStored setup node before → AreStored setup node (noted ∷ before)
 unfolding AreStored
 stored_then setup noted before node f s = (λ e. f, s)
@@ -226,7 +248,21 @@ go_further setup noted before node pos e b f =
     let taken_is : taken (calls_of node (noted ∷ before)) ≡ taken (calls_of node before) ++ taken noted.entry.calls =
     ap taken calls_is ∙ taken-append (calls_of node before) noted.entry.calls in
     let floors_is = floors_then noted before node in
+    let voted_is : voted (calls_of node (noted ∷ before)) ≡ voted (calls_of node before) ++ voted noted.entry.calls =
+    ap voted calls_is ∙ voted-append (calls_of node before) noted.entry.calls in
+    let sent_is : subjects_of (run newborn (b.calls ++ f.calls)).sent ≡ subjects_of m.sent ++ subjects_of f.sent =
+    ap (λ (n : Member). subjects_of n.sent) joined ∙ ap subjects_of f.sends ∙ map-append _ m.sent f.sent in
     record {
+      own = λ s k. elim (Contains-append_cases (subjects_of m.sent) (subjects_of f.sent) s (subst (λ xs. Contains xs s) sent_is k)) [
+        | inl old ↦ elim (b.own s old) [
+          | inl t ↦ inl (subst (λ xs. Contains xs s) (sym voted_is) (Contains-append_left (voted (calls_of node before)) (voted noted.entry.calls) s t))
+          | inr t ↦ inr t
+        ]
+        | inr new ↦ elim (f.own s new) [
+          | inl t ↦ inl (subst (λ xs. Contains xs s) (sym voted_is) (Contains-append_right (voted (calls_of node before)) (voted noted.entry.calls) s t))
+          | inr t ↦ inr t
+        ]
+      ];
       calls = b.calls ++ f.calls;
       legal = IsLegal-append setup.term newborn b.calls f.calls b.legal f.legal;
       brought = λ c k. elim (Contains-append_cases (life.brought b.calls) (life.brought f.calls) c (subst (λ xs. Contains xs c) (brought-append b.calls f.calls) k)) [
@@ -264,4 +300,5 @@ stay setup noted before node e b =
       at = subst (λ x. IsAt setup node x (run newborn b.calls)) (sym (life_still setup noted before node e)) b.at;
       stored = stored_still setup noted before node e b.stored;
       constructed = constructed_still node noted before (run newborn b.calls).sent e b.constructed;
+      own = subst (λ (cs : List Call). (s : Subject) → Contains (subjects_of (run newborn b.calls).sent) s → Contains (voted cs) s ⊎ IsEpochNullify setup s) (sym (calls_still noted before node e)) b.own;
     }

@@ -21,7 +21,7 @@ use Rattle.simplex_lives.specs.Member.{Member, newborn, run}
 use Rattle.simplex_conduct.specs.Life.{statement_of, certificate_in, taken}
 use Rattle.simplex_safety.specs.Sayings.{Each, InCall, InRecord}
 use Rattle.simplex_safety.specs.Histories.{calls_of, floor_in, floors_of, IsLivedBy}
-use Rattle.simplex_safety.specs.Alone.{InStart, InNoted}
+use Rattle.simplex_safety.specs.Saying.{InStart, InNoted}
 use Rattle.simplex_safety.proofs.Speaking.{Each-append}
 
 module _ (Good : agreement.Certificate → Type 0) where

@@ -1,22 +1,19 @@
-mod Above
-mod Agreeing
-mod Backing
-mod Blamed
-mod Epochs
-mod Events
-mod Founded
-mod Further
-mod Keeping
-mod Knowledge
-mod Leading
-mod Mails
-mod Naming
-mod Nodes
-mod Quiet
-mod Reading
-mod Ruling
-mod Safely
-mod Single
-mod Spared
-mod Speaking
-mod Telling
+pub mod Above
+pub mod Blamed
+pub mod Epochs
+pub mod Events
+pub mod Floors
+pub mod Further
+pub mod Keeping
+pub mod Knowledge
+pub mod Mails
+pub mod Members
+pub mod Naming
+pub mod Nodes
+pub mod Passing
+pub mod Quiet
+pub mod Ruling
+pub mod Sparing
+pub mod Speaking
+pub mod Telling
+pub mod Turns

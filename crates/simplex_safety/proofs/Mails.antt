@@ -1,14 +1,11 @@
 -- What holds of each message that is put into a mailbox holds of each that it keeps.
-use Rattle.std.proofs.Common.{◌≡◌, ℕ, zero, suc, ◌-◌, ◌==◌, ◌&&◌, ◌||◌, not, Bool, true, false, List, [], ◌∷◌, ◌++◌, length, map, filter, Option, Some, None, option_to_list, subst, if◌then◌else◌}
+use Rattle.std.proofs.Common.{◌≡◌, ℕ, zero, suc, ◌-◌, ◌||◌, not, Bool, true, false, List, [], ◌∷◌, ◌++◌, length, map, filter, Option, Some, None, option_to_list, subst, if◌then◌else◌}
 use Rattle.std.specs.List.{list_any}
 use Rattle.simplex_mailbox.specs.Waiting.{Waiting, put_last, front, in_turn, drained, behind, undrained_at, undrained}
 use Rattle.simplex_mailbox.specs.Mail.{Mail, no_mail, has_room, enqueued, all_enqueued, received, taken_from, after_recv}
 use Rattle.simplex_messages.specs.declared.batcher.Message as batcher_message
 use Rattle.simplex_messages.specs.declared.batcher.Message.TheVariants as batcher
-use Rattle.simplex_messages.specs.declared.voter.Message as voter_message
-use Rattle.simplex_messages.specs.declared.voter.Message.TheVariants as voter
-use Rattle.simplex_messages.specs.Policies.{is_final_from, voter_view, is_final_for_voter, outlasts_for_voter, stands_for_voter, outranks, changed_for_voter, voter_handled, handled_by_view, outdates_message, is_as_great, is_outdated, stands_for_batcher, batcher_handled}
-use Rattle.simplex_wire.specs.declared.certificate.Certificate.{Certificate}
+use Rattle.simplex_messages.specs.Policies.{outdates_message, is_as_great, is_outdated, stands_for_batcher, batcher_handled}
 use Rattle.simplex_safety.specs.Sayings.{Each}
 use Rattle.simplex_safety.proofs.Speaking.{Each-append}
 use Rattle.simplex_safety.proofs.Telling.{Each-take}
@@ -41,7 +38,7 @@ module _ {M : Type 0} (P : M → Type 0) where
   pub holds_nothing : (capacity : ℕ) → Holds (no_mail capacity)
   holds_nothing capacity = record { ready = tt; waiting = record { place = tt; rest = tt } }
 
-  holds_one : (handle : Waiting M → M → Waiting M) → ((w : Waiting M) (message : M) → Waits w → P message → Waits (handle w message)) → (mail : Mail M) (message : M)
+  pub holds_one : (handle : Waiting M → M → Waiting M) → ((w : Waiting M) (message : M) → Waits w → P message → Waits (handle w message)) → (mail : Mail M) (message : M)
       → Holds mail → P message → Holds (enqueued handle mail message)
   unfolding enqueued
   holds_one handle keeps mail message h p = at mail.closed (has_room mail)
@@ -123,37 +120,3 @@ batcher_keeps P w (batcher.Constructed vote) h p =
     at : (b : Bool) → Waits P (if b then w else put_last w (batcher.Constructed vote))
     at true = h
     at false = record { place = h.place; rest = Each-append P w.rest (batcher.Constructed vote ∷ []) h.rest (p, tt) }
-
--- ---- the voter's drops, puts, or changes a timeout
-
--- the certificate that a message of the voter brings; none brings a proposal
-abbrev pub InMail : (Certificate → Type 0) → voter_message.Message → Type 0
-InMail Good (voter.Verified c) = Good c
-InMail Good (voter.Proposal p) = ⊥
-InMail Good (voter.Timeout round reason) = Unit {0}
-
-changed_keeps : (Good : Certificate → Type 0) (message queued : voter_message.Message) → InMail Good queued → InMail Good (changed_for_voter message queued)
-changed_keeps Good (voter.Timeout round reason) (voter.Timeout old other) h = at (old.view == round.view && outranks reason other)
-  where
-    at : (b : Bool) → InMail Good (if b then voter.Timeout round reason else voter.Timeout old other)
-    at true = tt
-    at false = tt
-changed_keeps Good (voter.Timeout round reason) (voter.Proposal p) h = absurd h
-changed_keeps Good (voter.Timeout round reason) (voter.Verified c) h = h
-changed_keeps Good (voter.Proposal p) queued h = h
-changed_keeps Good (voter.Verified c) queued h = h
-
-pub voter_keeps : (Good : Certificate → Type 0) (w : Waiting voter_message.Message) (message : voter_message.Message) → Waits (InMail Good) w → InMail Good message
-    → Waits (InMail Good) (voter_handled w message)
-unfolding voter_handled handled_by_view
-voter_keeps Good w message h p =
-    at (is_final_from voter_view w.place (voter_view message)) (is_final_for_voter message) (list_any (λ queued. stands_for_voter queued message) w.rest)
-  where
-    at : (final is stands : Bool) → Waits (InMail Good) (if final then w
-        else if is then record { place = Some message; rest = filter (λ queued. outlasts_for_voter queued message) w.rest }
-        else if stands then record w { rest = map (changed_for_voter message) w.rest }
-        else put_last w message)
-    at true is stands = h
-    at false true stands = record { place = p; rest = Each-filter (InMail Good) (λ queued. outlasts_for_voter queued message) w.rest h.rest }
-    at false false true = record { place = h.place; rest = Each-through (InMail Good) (changed_for_voter message) w.rest (changed_keeps Good message) h.rest }
-    at false false false = record { place = h.place; rest = Each-append (InMail Good) w.rest (message ∷ []) h.rest (p, tt) }

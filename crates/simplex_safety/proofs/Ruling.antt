@@ -1,8 +1,6 @@
 -- The votes of a node are those that the rules give.
-use Rattle.std.proofs.Common.{◌≡◌, ℕ, ◌+◌, ◌-◌, ◌^◌, ◌&&◌, nat_lt, nat_le, ◌==◌, Bool, true, false, List, [], ◌∷◌, ◌++◌, length, map, take, Option, Some, None, Ok, refl, sym, ap, ◌∙◌, subst, if◌then◌else◌}
-use Rattle.std.specs.List.{list_all}
+use Rattle.std.proofs.Common.{◌≡◌, ℕ, ◌-◌, ◌&&◌, nat_lt, nat_le, ◌==◌, Bool, true, false, List, [], ◌∷◌, ◌++◌, length, map, take, Option, Some, None, Ok, refl, sym, ap, ◌∙◌, subst, if◌then◌else◌, inl, inr, Contains}
 use Rattle.std.specs.Option.{option_map, option_map_or}
-use Rattle.simplex_values.specs.declared.answer.Answer.{Answer}
 use Rattle.simplex_values.specs.declared.plan.Channel.{Channel}
 use Rattle.simplex_values.specs.declared.plan.Channel.TheVariants as channels
 use Rattle.simplex_wire.specs.declared.certificate.Finalization.{Finalization}
@@ -24,14 +22,12 @@ use Rattle.simplex_messages.specs.declared.step.Stop.{Stop}
 use Rattle.simplex_messages.specs.declared.step.Stop.TheVariants as stops
 use Rattle.simplex_messages.specs.declared.step.StepOut.{StepOut}
 use Rattle.simplex_messages.specs.Step.{no_out}
-use Rattle.simplex_transcript.specs.declared.entry.Packet.{Packet}
 use Rattle.simplex_transcript.specs.declared.entry.Took.TheVariants as tooks
 use Rattle.simplex_transcript.specs.declared.event.Event.{Event}
 use Rattle.simplex_transcript.specs.declared.event.Event.TheVariants as events
 use Rattle.simplex_transcript.specs.declared.event.StepSource.{StepSource}
 use Rattle.simplex_transcript.specs.declared.event.StepSource.TheVariants as sources
 use Rattle.simplex_transcript.specs.declared.node.Node.{Node}
-use Rattle.simplex_transcript.specs.declared.node.Ref.{Ref}
 use Rattle.simplex_transcript.specs.declared.setup.Setup.{Setup}
 use Rattle.simplex_rules.specs.Known.{Made}
 use Rattle.simplex_rules.specs.Views.{current_of}
@@ -41,11 +37,10 @@ use Rattle.simplex_steps.specs.Voter as voter
 use Rattle.simplex_steps.specs.VoterLife.{VoterMade, Place, Stepped, place_of, unread, before_reading, start_performed, step_given}
 use Rattle.simplex_steps.specs.Batcher as batcher
 use Rattle.simplex_steps.specs.Engine as engine
-use Rattle.simplex_steps.specs.Engine.{EngineMade, Did, Taken, Began, voter_in, voter_past, given_to_voter, is_whole, by_voter, by_batcher, cut_short}
-use Rattle.simplex_run.specs.Life.{Noted, Life, Stopped, Running, clock_of, is_of, life_in}
-use Rattle.simplex_run.specs.Members.{is_node, members_of, is_same_node, floor_of, rules_of, engine_of}
-use Rattle.simplex_run.specs.Requests.{request_number, packet_for}
-use Rattle.simplex_run.specs.Entries.{noted_with, noted_blank, took_of, is_at_end, is_own_floor, on_start, on_packet, on_deliver, on_step, on_request, on_answer, on_crash, entry_of}
+use Rattle.simplex_steps.specs.Engine.{EngineMade, Did, Taken, voter_in, voter_past, given_to_voter, is_whole, by_voter, by_batcher, cut_short}
+use Rattle.simplex_run.specs.Life.{Noted, Life, clock_of, is_of, life_in}
+use Rattle.simplex_run.specs.Members.{is_same_node, floor_of, rules_of, engine_of}
+use Rattle.simplex_run.specs.Entries.{noted_with, noted_blank, entry_of}
 use Rattle.simplex_voter_laws.specs.Votes.{vote_packets, packet_of, nullifies, votes_at_end, votes_by_rule}
 use Rattle.simplex_voter_laws.specs.Syncs.{sends}
 use Rattle.simplex_voter_laws.proofs.Starting.{start_sound}
@@ -56,9 +51,13 @@ use Rattle.simplex_safety.specs.Histories.{IsRun}
 use Rattle.simplex_safety.specs.Ruled.{votes_for, votes_due, AreByRule}
 use Rattle.simplex_safety.proofs.Events.{never_idle, engine_at, given_start, begun_gives, step_gives}
 use Rattle.simplex_safety.proofs.Further.{same_node}
-use Rattle.simplex_safety.proofs.Nodes.{ok_is, if_ok, if_err, both_err}
+use Rattle.simplex_safety.proofs.Turns.{IsBeginning, IsTaken, IsGoing, IsCrash, entry_turn}
 use Rattle.simplex_safety.proofs.Quiet.{AllHush, batcher_hush}
 use Rattle.simplex_safety.proofs.Telling.{Each-take}
+use Rattle.std.specs.List.{list_all}
+use Rattle.simplex_steps.specs.ResolverSteps.{is_call_of_resolver, IsOfResolver, IsApart}
+use Rattle.simplex_steps.proofs.ResolverSteps.{heard_by_resolver, heard_apart, stepped_resolver, stepped_resolver_apart, stepped_handler, stepped_handler_apart, stepped_fetcher, stepped_fetcher_apart}
+use Rattle.simplex_safety.specs.Faulty.{faulty_of}
 
 -- ---- calls among which no vote goes out
 
@@ -164,6 +163,22 @@ batcher_unsent made past taken input now stop =
     let out = batcher.step_out made.batcher (engine.batcher_past past) given in
     cut_unsent stop out (hushed out.calls (batcher_hush made.batcher (engine.batcher_past past) given).0)
 
+-- a resolver sends no vote
+unvoted : (cs : List Call) → list_all is_call_of_resolver cs ≡ true → Each NoVote cs
+unvoted [] e = tt
+unvoted (calls.Block who ∷ cs) e = (tt, unvoted cs e)
+unvoted (calls.Send channels.Resolver to bytes ∷ cs) e = (tt, unvoted cs e)
+unvoted (calls.Send channels.Vote to bytes ∷ cs) e = cc
+unvoted (calls.Send channels.Certificate to bytes ∷ cs) e = cc
+unvoted (calls.Append n a ∷ cs) e = cc
+unvoted (calls.Sync n ∷ cs) e = cc
+unvoted (calls.Prune n ∷ cs) e = cc
+unvoted (calls.Report a ∷ cs) e = cc
+unvoted (calls.Relay payload plan ∷ cs) e = cc
+
+resolver_ruled : (made : EngineMade) (past : List Did) (did : Did) → IsOfResolver did.out → IsApart did → IsRuled made past did
+resolver_ruled made past did r apart = quietly_ruled made past did (unvoted did.out.calls r.calls) apart.voter
+
 heard_ruled : (made : EngineMade) (past : List Did) (sender : ℕ) (channel : Channel) (bytes : List ℕ) (now : ℕ) → IsRuled made past (engine.heard made past sender channel bytes now)
 unfolding engine.heard by_batcher
 heard_ruled made past sender channels.Vote bytes now =
@@ -172,7 +187,7 @@ heard_ruled made past sender channels.Vote bytes now =
 heard_ruled made past sender channels.Certificate bytes now =
     quietly_ruled made past (by_batcher made past (engine.Heard sender channels.Certificate bytes) (batcher_inputs.Certificate sender bytes) now stops.None)
     (batcher_unsent made past (engine.Heard sender channels.Certificate bytes) (batcher_inputs.Certificate sender bytes) now stops.None) refl
-heard_ruled made past sender channels.Resolver bytes now = λ t. refl
+heard_ruled made past sender channels.Resolver bytes now = resolver_ruled made past (engine.heard made past sender channels.Resolver bytes now) (heard_by_resolver made past sender bytes now) (heard_apart made past sender bytes now)
 
 batcher_mail_ruled : (made : EngineMade) (past : List Did) (now : ℕ) (stop : Stop) (o : Option batcher_message.Message) → IsRuled made past (engine.on_batcher_mail made past now stop o)
 unfolding by_batcher
@@ -193,9 +208,9 @@ step_ruled made past sources.Timer now stop = voter_ruled made past (engine.Took
 step_ruled made past sources.Propose now stop = voter_ruled made past (engine.Took sources.Propose None) voter_inputs.Propose now stop refl
 step_ruled made past sources.Verify now stop = voter_ruled made past (engine.Took sources.Verify None) voter_inputs.Verify now stop refl
 step_ruled made past sources.Certify now stop = voter_ruled made past (engine.Took sources.Certify None) voter_inputs.Certify now stop refl
-step_ruled made past sources.Resolver now stop = λ t. refl
-step_ruled made past sources.Handler now stop = λ t. refl
-step_ruled made past sources.Fetch now stop = λ t. refl
+step_ruled made past sources.Resolver now stop = resolver_ruled made past (engine.stepped made past sources.Resolver now stop) (stepped_resolver made past now stop) (stepped_resolver_apart made past now stop)
+step_ruled made past sources.Handler now stop = resolver_ruled made past (engine.stepped made past sources.Handler now stop) (stepped_handler made past now stop) (stepped_handler_apart made past now stop)
+step_ruled made past sources.Fetch now stop = resolver_ruled made past (engine.stepped made past sources.Fetch now stop) (stepped_fetcher made past now stop) (stepped_fetcher_apart made past now stop)
 
 -- a start sends nothing
 performed_unsent : (stop : Stop) (d : Doing) (js : List Section) → Each NoVote d.calls → Each NoVote (performed stop d js).out.calls
@@ -237,83 +252,52 @@ record Ruling (setup : Setup) (before : List Noted) (at : Node) (noted : Noted) 
 by_ruling : (setup : Setup) (before : List Noted) (at node : Node) (noted : Noted) → Ruling setup before at noted → is_of node noted.event ≡ true → IsByRule (life_in setup before node) noted
 by_ruling setup before at node noted r e = subst (λ n. IsByRule (life_in setup before n) noted) (same_node at node (sym (r.of node) ∙ e)) r.ruled
 
-start_rules : (setup : Setup) (before : List Noted) (at : Node) (floor : Option Finalization) (stop : Stop) (noted : Noted) → on_start setup before at floor stop (life_in setup before at) ≡ Ok noted → Ruling setup before at noted
-start_rules setup before at floor stop noted e = cases (life_in setup before at) refl e
+taken_ruled : (setup : Setup) (before : List Noted) (at : Node) (made : EngineMade) (past : List Did) (did : Did) → IsTaken setup before at made past did → IsRuled made past did
+taken_ruled setup before at made past did t = elim t [
+  | inl p ↦ subst (IsRuled made past) (sym p.is) (heard_ruled made past p.packet.from.member p.packet.channel p.packet.bytes (clock_of before))
+  | inr other ↦ elim other [
+    | inl s ↦ subst (IsRuled made past) (sym s.is) (step_ruled made past s.source (clock_of before) s.stop)
+    | inr r ↦ subst (IsRuled made past) (sym r.is) (λ t. refl)
+  ]
+]
+
+beginning_ruled : (setup : Setup) (before : List Noted) (event : Event) (noted : Noted) → (b : IsBeginning setup before event noted) → Ruling setup before b.at noted
+beginning_ruled setup before event noted b =
+    let did = engine.begun (engine_of setup b.at.member (floor_of setup b.floor) b.sections) (clock_of before) b.stop in
+    let new = noted_with setup before (events.Start b.at b.floor b.stop) b.at (Some tooks.Floor) did in
+    subst (Ruling setup before b.at) b.is
+    (record { of = λ node. refl; ruled = subst (λ l. IsByRule l new) (sym b.stopped) (λ t. begun_unsent setup b.at b.floor b.sections (clock_of before) b.stop) })
+
+going_ruled : (setup : Setup) (before : List Noted) (event : Event) (noted : Noted) → (g : IsGoing setup before event noted) → Ruling setup before g.at noted
+going_ruled setup before event noted g =
+    let new = noted_with setup before event g.at g.took g.did in
+    subst (Ruling setup before g.at) g.is
+    (record { of = g.of; ruled = subst (λ l. IsByRule l new) (sym g.running) (taken_ruled setup before g.at g.made g.past g.did g.taken) })
+
+crash_ruled : (setup : Setup) (before : List Noted) (event : Event) (noted : Noted) → (c : IsCrash setup before event noted) → Ruling setup before c.at noted
+crash_ruled setup before event noted c =
+    let new = noted_blank before (events.Crash c.at) (Some c.at) in
+    subst (Ruling setup before c.at) c.is (record { of = λ node. refl; ruled = subst (λ l. IsByRule l new) (sym c.running) (λ t. refl) })
+
+pub event_ruled : (setup : Setup) (before : List Noted) (event : Event) (noted : Noted) (node : Node) → ¬ (Contains (faulty_of setup) node.member) → entry_of setup before event ≡ Ok noted → is_of node noted.event ≡ true → IsByRule (life_in setup before node) noted
+event_ruled setup before event noted node honest e of = elim (entry_turn setup before event noted e) [
+  | inl b ↦ by_ruling setup before b.at node noted (beginning_ruled setup before event noted b) of
+  | inr other ↦ elim other [
+    | inl g ↦ by_ruling setup before g.at node noted (going_ruled setup before event noted g) of
+    | inr rest ↦ elim rest [
+      | inl c ↦ by_ruling setup before c.at node noted (crash_ruled setup before event noted c) of
+      | inr last ↦ elim last [
+        | inl t ↦ (let never : is_of node (events.Tick t.ms) ≡ true = subst (λ (n : Noted). is_of node n.event ≡ true) (sym t.is) of in cc)
+        | inr a ↦ absurd (both_ways (sym (a.honest node honest) ∙ of))
+      ]
+    ]
+  ]
+]
   where
-    cases : (l : Life) → life_in setup before at ≡ l → on_start setup before at floor stop l ≡ Ok noted → Ruling setup before at noted
-    cases (Running made past) f h = cc
-    cases (Stopped js) f h =
-        let did = engine.begun (engine_of setup at.member (floor_of setup floor) js) (clock_of before) stop in
-        let new = noted_with setup before (events.Start at floor stop) at (Some tooks.Floor) did in
-        subst (Ruling setup before at) (ok_is new noted (if_ok (is_own_floor before floor) _ _ noted h).1)
-        (record { of = λ node. refl; ruled = subst (λ l. IsByRule l new) (sym f) (λ t. begun_unsent setup at floor js (clock_of before) stop) })
+    both_ways : false ≡ true → ⊥
+    both_ways h = cc
 
-packet_rules : (setup : Setup) (before : List Noted) (at : Node) (ref : Ref) (noted : Noted) (made : EngineMade) (past : List Did) (o : Option Packet) → life_in setup before at ≡ Running made past
-    → on_packet setup before at ref o made past ≡ Ok noted → Ruling setup before at noted
-packet_rules setup before at ref noted made past None f e = cc
-packet_rules setup before at ref noted made past (Some packet) f e =
-    let did = engine.heard made past packet.from.member packet.channel packet.bytes (clock_of before) in
-    let new = noted_with setup before (events.Deliver at ref) at (Some (tooks.Packet ref)) did in
-    subst (Ruling setup before at) (ok_is new noted (if_err (is_at_end setup made past) _ _ noted e).1)
-    (record { of = λ node. refl; ruled = subst (λ l. IsByRule l new) (sym f) (heard_ruled made past packet.from.member packet.channel packet.bytes (clock_of before)) })
-
-deliver_rules : (setup : Setup) (before : List Noted) (at : Node) (ref : Ref) (noted : Noted) → on_deliver setup before at ref (life_in setup before at) ≡ Ok noted → Ruling setup before at noted
-deliver_rules setup before at ref noted e = cases (life_in setup before at) refl e
-  where
-    cases : (l : Life) → life_in setup before at ≡ l → on_deliver setup before at ref l ≡ Ok noted → Ruling setup before at noted
-    cases (Stopped js) f h = cc
-    cases (Running made past) f h = packet_rules setup before at ref noted made past (packet_for before at ref) f h
-
-step_rules : (setup : Setup) (before : List Noted) (at : Node) (source : StepSource) (stop : Stop) (noted : Noted) → on_step setup before at source stop (life_in setup before at) ≡ Ok noted → Ruling setup before at noted
-step_rules setup before at source stop noted e = cases (life_in setup before at) refl e
-  where
-    cases : (l : Life) → life_in setup before at ≡ l → on_step setup before at source stop l ≡ Ok noted → Ruling setup before at noted
-    cases (Stopped js) f h = cc
-    cases (Running made past) f h =
-        let did = engine.stepped made past source (clock_of before) stop in
-        let new = noted_with setup before (events.Step at source stop) at (took_of before at made past did) did in
-        subst (Ruling setup before at) (ok_is new noted (if_err (is_at_end setup made past) _ _ noted h).1)
-        (record { of = λ node. refl; ruled = subst (λ l. IsByRule l new) (sym f) (step_ruled made past source (clock_of before) stop) })
-
-request_rules : (setup : Setup) (before : List Noted) (at : Node) (ref : Ref) (answer : Answer) (noted : Noted) (made : EngineMade) (past : List Did) (o : Option ℕ) → life_in setup before at ≡ Running made past
-    → on_request setup before at ref answer o made past ≡ Ok noted → Ruling setup before at noted
-request_rules setup before at ref answer noted made past None f e = cc
-request_rules setup before at ref answer noted made past (Some number) f e =
-    let did = engine.replied number answer (clock_of before) in
-    let new = noted_with setup before (events.Answer at ref answer) at None did in
-    subst (Ruling setup before at) (ok_is new noted (if_ok (engine.takes_reply made past number answer) _ _ noted e).1)
-    (record { of = λ node. refl; ruled = subst (λ l. IsByRule l new) (sym f) (λ t. refl) })
-
-answer_rules : (setup : Setup) (before : List Noted) (at : Node) (ref : Ref) (answer : Answer) (noted : Noted) → on_answer setup before at ref answer (life_in setup before at) ≡ Ok noted → Ruling setup before at noted
-answer_rules setup before at ref answer noted e = cases (life_in setup before at) refl e
-  where
-    cases : (l : Life) → life_in setup before at ≡ l → on_answer setup before at ref answer l ≡ Ok noted → Ruling setup before at noted
-    cases (Stopped js) f h = cc
-    cases (Running made past) f h = request_rules setup before at ref answer noted made past (request_number before at ref) f h
-
-crash_rules : (setup : Setup) (before : List Noted) (at : Node) (noted : Noted) → on_crash before at (life_in setup before at) ≡ Ok noted → Ruling setup before at noted
-crash_rules setup before at noted e = cases (life_in setup before at) refl e
-  where
-    cases : (l : Life) → life_in setup before at ≡ l → on_crash before at l ≡ Ok noted → Ruling setup before at noted
-    cases (Stopped js) f h = cc
-    cases (Running made past) f h =
-        let new = noted_blank before (events.Crash at) (Some at) in
-        subst (Ruling setup before at) (ok_is new noted h) (record { of = λ node. refl; ruled = subst (λ l. IsByRule l new) (sym f) (λ t. refl) })
-
-event_ruled : (setup : Setup) (before : List Noted) (event : Event) (noted : Noted) (node : Node) → entry_of setup before event ≡ Ok noted → is_of node noted.event ≡ true → IsByRule (life_in setup before node) noted
-unfolding entry_of
-event_ruled setup before (events.Start at floor stop) noted node e of = by_ruling setup before at node noted (start_rules setup before at floor stop noted (if_ok (is_node setup at) _ _ noted e).1) of
-event_ruled setup before (events.Deliver at ref) noted node e of = by_ruling setup before at node noted (deliver_rules setup before at ref noted (if_ok (is_node setup at) _ _ noted e).1) of
-event_ruled setup before (events.Step at source stop) noted node e of = by_ruling setup before at node noted (step_rules setup before at source stop noted (if_ok (is_node setup at) _ _ noted e).1) of
-event_ruled setup before (events.Answer at ref answer) noted node e of = by_ruling setup before at node noted (answer_rules setup before at ref answer noted (if_ok (is_node setup at) _ _ noted e).1) of
-event_ruled setup before (events.Crash at) noted node e of = by_ruling setup before at node noted (crash_rules setup before at noted (if_ok (is_node setup at) _ _ noted e).1) of
-event_ruled setup before (events.Tick ms) noted node e of =
-    let same = ok_is (noted_blank before (events.Tick ms) None) noted (if_ok (nat_le (clock_of before + ms) (2 ^ 63 - 1)) _ _ noted e).1 in
-    let never : is_of node (events.Tick ms) ≡ true = subst (λ (n : Noted). is_of node n.event ≡ true) (sym same) of in cc
-event_ruled setup before (events.Inject who channel to bytes) noted node e of = absurd (both_err (nat_lt who (members_of setup) && list_all (is_node setup) to) _ _ noted e)
-event_ruled setup before events.Later noted node e of = cc
-
-pub run_by_rule : (setup : Setup) (noted : List Noted) (node : Node) → IsRun setup noted → AreByRule setup node noted
+pub run_by_rule : (setup : Setup) (noted : List Noted) (node : Node) → ¬ (Contains (faulty_of setup) node.member) → IsRun setup noted → AreByRule setup node noted
 unfolding IsRun AreByRule
-run_by_rule setup [] node ran = tt
-run_by_rule setup (noted ∷ before) node ran = (event_ruled setup before ran.0 noted node ran.1, run_by_rule setup before node ran.2)
+run_by_rule setup [] node honest ran = tt
+run_by_rule setup (noted ∷ before) node honest ran = (event_ruled setup before ran.0 noted node honest ran.1, run_by_rule setup before node honest ran.2)

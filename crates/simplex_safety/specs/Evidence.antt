@@ -1,12 +1,11 @@
 -- Whom the reports of a run do not blame.
-use Rattle.std.specs.Prelude.{ℕ, List, [], ◌∷◌, ◌++◌, All, if◌then◌else◌}
+use Rattle.std.specs.Prelude.{List, [], ◌∷◌, ◌++◌, All, if◌then◌else◌}
 use Rattle.simplex_transcript.specs.declared.node.Node.{Node}
 use Rattle.simplex_messages.specs.declared.handed.Handed.{Handed}
 use Rattle.simplex_steps.specs.Batcher.{Made, Timed, step_out}
 use Rattle.simplex_run.specs.Life.{Noted, is_of}
 use Rattle.simplex_agreement.specs.World.{Sent}
 use Rattle.simplex_conduct.specs.Life.{AreSent}
-use Rattle.simplex_safety.specs.Sayings.{Each}
 use Rattle.simplex_safety.specs.Histories.{calls_of}
 use Rattle.simplex_evidence.specs.Evidence.{BlameNot, subjects_of}
 use Rattle.simplex_evidence.specs.Wire.{Fits, AreItsOwn}
@@ -23,7 +22,3 @@ pub record IsNotBlamed (noted : List Noted) (node : Node) : Type 0 where
   pub packets : AreSent (calls_of node noted) (subjects_of sent)
   pub spared : All Fits (subjects_of sent) → (made : Made) (past : List Timed) (given : Timed)
       → AreItsOwn node.member (calls_of node noted) (handed_of node noted) (given ∷ past) → BlameNot node.member (step_out made past given).calls
-
--- no event of the run made a report of evidence, whomever it would name
-abbrev pub BlamesNobody : List Noted → Type 0
-BlamesNobody noted = (member : ℕ) → Each (λ (n : Noted). BlameNot member n.entry.calls) noted

@@ -1,6 +1,10 @@
 -- What a node did in a run, and the member whose life that is.
 use Rattle.simplex_wire.specs.declared.artifact.Artifact.TheVariants as artifacts
 use Rattle.simplex_wire.specs.declared.vote.Nullify.{Nullify}
+use Rattle.simplex_values.specs.declared.proposal.Subject.{Subject}
+use Rattle.simplex_values.specs.declared.proposal.Subject.TheVariants as subjects
+use Rattle.simplex_values.specs.declared.round.Round.{Round}
+use Rattle.simplex_values.specs.Terms.{greatest_view}
 use Rattle.std.specs.Prelude.{true, ℕ, ◌≡◌, ◌<◌, ◌++◌, ◌⊎◌, List, [], ◌∷◌, map, Contains, Ok, Some, if◌then◌else◌}
 use Rattle.simplex_wire.specs.declared.certificate.Certificate.TheVariants as certificates
 use Rattle.simplex_transcript.specs.declared.event.Event.{Event}
@@ -20,8 +24,8 @@ use Rattle.simplex_agreement.specs.World as agreement
 use Rattle.simplex_agreement.specs.World.{Sent}
 use Rattle.simplex_lives.specs.Member as life
 use Rattle.simplex_lives.specs.Member.{Member, newborn}
-use Rattle.simplex_conduct.specs.Life.{statement_of, taken, AreSent, AreVotesSent, IsRunning, IsStopped}
-use Rattle.simplex_conduct.specs.Storing.{AreStoredFirst}
+use Rattle.simplex_conduct.specs.Life.{statement_of, taken, voted, AreSent, AreVotesSent, IsRunning, IsStopped}
+use Rattle.simplex_conduct.specs.Storing.{IsOwn, AreStoredFirst}
 
 -- entries of a run, the newest first: each is what its event makes of those before it
 unfoldable pub IsRun : Setup → List Noted → Type 0
@@ -41,6 +45,10 @@ AreFloors (noted ∷ before) = IsStartAbove noted.event × AreFloors before
 unfoldable pub calls_of : Node → List Noted → List Call
 calls_of node [] = []
 calls_of node (noted ∷ before) = if is_of node noted.event then calls_of node before ++ noted.entry.calls else calls_of node before
+
+-- a nullify of a view below the greatest, in the setup's epoch
+abbrev pub IsEpochNullify : Setup → Subject → Type 0
+IsEpochNullify setup s = (r : Round) × (s ≡ subjects.Nullify r) × (r.epoch ≡ setup.epoch) × (r.view < greatest_view)
 
 -- the floors of its starts
 abbrev pub floor_in : Node → Event → List agreement.Certificate
@@ -62,12 +70,13 @@ IsAt setup node (Running made past) m =
 abbrev pub IsHeld : List Section → Nullify → Type 0
 IsHeld sections v = (w : Nullify) × (w.round ≡ v.round) × Contains (journal.kept sections) (artifacts.Nullify w)
 
--- In each event of the node whatever went out on the vote channel is a vote that was appended and synced before it in
--- this event, or a nullify again: one of its round stood in the node's journal, synced, before the event
+-- In each event of the node whatever went out on the vote channel is an own vote of its member, as the setup's rules sign
+-- it, that was appended and synced before it in this event, or a nullify again: one of its round stood in the node's
+-- journal, synced, before the event
 unfoldable pub AreStored : Setup → Node → List Noted → Type 0
 AreStored setup node [] = Unit {0}
 AreStored setup node (noted ∷ before) =
-    (is_of node noted.event ≡ true → AreStoredFirst (IsHeld (sections_in (life_in setup before node))) noted.entry.calls)
+    (is_of node noted.event ≡ true → AreStoredFirst (IsHeld (sections_in (life_in setup before node))) (IsOwn (rules_of setup node.member 0)) noted.entry.calls)
     × AreStored setup node before
 
 -- each vote that the node's voter handed to its batcher as constructed is on a subject of these votes
@@ -77,7 +86,8 @@ AreConstructed node (noted ∷ before) sent = (is_of node noted.event ≡ true �
 
 -- What the node did is the life of an honest member: its calls are legal, certificates come to it only as records that
 -- the node appended or as floors of its starts, it sent the votes that went out of the node, and it is where the node is. Each vote
--- was stored before it was sent, and each that the batcher was handed was sent
+-- was stored before it was sent, and each that the batcher was handed was sent. Each is on the subject of a record that the
+-- node appended, or a nullify again
 pub record IsLivedBy (setup : Setup) (noted : List Noted) (node : Node) : Type 0 where
   pub calls : List life.Call
   pub legal : life.IsLegal setup.term newborn calls
@@ -86,3 +96,4 @@ pub record IsLivedBy (setup : Setup) (noted : List Noted) (node : Node) : Type 0
   pub at : IsAt setup node (life_in setup noted node) (life.run newborn calls)
   pub stored : AreStored setup node noted
   pub constructed : AreConstructed node noted (life.run newborn calls).sent
+  pub own : (s : Subject) → Contains (map (λ (x : Sent). x.subject) (life.run newborn calls).sent) s → Contains (voted (calls_of node noted)) s ⊎ IsEpochNullify setup s

@@ -1,6 +1,6 @@
-pub mod Alone
 pub mod Evidence
+pub mod Faulty
 pub mod Histories
 pub mod Ruled
-pub mod Safe
+pub mod Saying
 pub mod Sayings

@@ -7,6 +7,10 @@ use Rattle.simplex_wire.specs.declared.artifact.Artifact.TheVariants as artifact
 use Rattle.simplex_wire.specs.declared.certificate.Certificate.{Certificate}
 use Rattle.simplex_wire.specs.declared.certificate.Certificate.TheVariants as certificates
 use Rattle.simplex_wire.specs.Message as format
+use Rattle.simplex_wire.specs.declared.resolver.ResolverBody.{ResolverBody}
+use Rattle.simplex_wire.specs.declared.resolver.ResolverBody.TheVariants as bodies
+use Rattle.simplex_wire.specs.declared.resolver.ResolverMessage.{ResolverMessage}
+use Rattle.simplex_wire.specs.ResolverMessage.{resolver_message}
 use Rattle.simplex_types.specs.declared.activity.Activity.{Activity}
 use Rattle.simplex_types.specs.declared.activity.Activity.TheVariants as activities
 use Rattle.simplex_messages.specs.declared.call.Call.{Call}
@@ -46,13 +50,23 @@ InReport Good (activities.Nullification c) = Good (certificates.Nullification c)
 InReport Good (activities.Finalization c) = Good (certificates.Finalization c)
 InReport Good _ = Unit {0}
 
--- all is sent to all, and nothing but votes and certificates
+-- of a message to a resolver: a response carries such a certificate
+abbrev pub InBody : (Certificate → Type 0) → ResolverBody → Type 0
+InBody Good (bodies.Request view) = Unit {0}
+InBody Good (bodies.Response bytes) = (c : Certificate) × (bytes ≡ format.certificate.spelling c) × Good c
+InBody Good bodies.Error = Unit {0}
+
+-- the bytes are such a message
+abbrev pub IsAnswer : (Certificate → Type 0) → List ℕ → Type 0
+IsAnswer Good bytes = (m : ResolverMessage) × (bytes ≡ resolver_message.spelling m) × InBody Good m.body
+
+-- votes and certificates are sent to all
 abbrev pub InCall : (Certificate → Type 0) → Call → Type 0
 InCall Good (calls.Append section artifact) = InRecord Good artifact
 InCall Good (calls.Send channels.Vote to bytes) = to ≡ recipients.All
 InCall Good (calls.Send channels.Certificate to bytes) =
     (to ≡ recipients.All) × (c : Certificate) × (bytes ≡ format.certificate.spelling c) × Good c
-InCall Good (calls.Send channels.Resolver to bytes) = ⊥
+InCall Good (calls.Send channels.Resolver to bytes) = IsAnswer Good bytes
 InCall Good (calls.Report activity) = InReport Good activity
 InCall Good _ = Unit {0}
 

@@ -1,0 +1,547 @@
+-- Each word forbids something that all others let pass.
+use Rattle.std.proofs.Common.{◌≡◌, ℕ, zero, suc, ◌^◌, ◌<◌, ◌&&◌, ◌⊎◌, nat_lt, nat_le, Bool, true, false, List, [], ◌∷◌, ◌++◌, map, All, Contains, refl, sym, ap, subst, inl, inr, arith, Some, None, Ok}
+use Rattle.std.specs.List.{flat_map}
+use Rattle.std.proofs.lemmas.List.Elements.{All-nil, All-cons, All-head}
+use Rattle.std.proofs.lemmas.Slice.Eq.{bytes_eq-Decides}
+use Rattle.simplex_values.specs.Quorum.{quorum_of}
+use Rattle.simplex_values.specs.declared.proposal.Proposal.{Proposal}
+use Rattle.simplex_values.specs.declared.proposal.Subject.{Subject}
+use Rattle.simplex_values.specs.declared.proposal.Subject.TheVariants as subjects
+use Rattle.simplex_values.specs.declared.plan.Recipients.{Recipients}
+use Rattle.simplex_values.specs.declared.plan.Channel.TheVariants as channels
+use Rattle.simplex_values.specs.declared.round.Round.{Round}
+use Rattle.simplex_wire.specs.declared.attestation.Attestation.{Attestation}
+use Rattle.simplex_wire.specs.declared.certificate.Certificate.{Certificate}
+use Rattle.simplex_wire.specs.declared.vote.Vote.{Vote}
+use Rattle.simplex_wire.specs.declared.vote.Vote.TheVariants as votes
+use Rattle.simplex_wire.specs.Certified.{is_certified}
+use Rattle.simplex_wire.specs.Fields.{vote_subject, vote_attestation, certificate_subject, subject_round}
+use Rattle.simplex_wire.specs.Fits.{FitsVote}
+use Rattle.simplex_wire.specs.Message as format
+use Rattle.simplex_wire.specs.Signatures.{rises_from}
+use Rattle.simplex_wire.proofs.Formats.{whole_again}
+use Rattle.simplex_wire.proofs.Messages.{vote_is}
+use Rattle.simplex_types.specs.Keyed.{signature_of, keyed_verifies, keyed_attests}
+use Rattle.simplex_messages.specs.declared.call.Call.{Call}
+use Rattle.simplex_messages.specs.declared.call.Call.TheVariants as calls
+use Rattle.simplex_messages.specs.declared.step.Outcome.{Outcome}
+use Rattle.simplex_messages.specs.declared.step.Outcome.TheVariants as outcomes
+use Rattle.simplex_transcript.specs.declared.node.Node.{Node}
+use Rattle.simplex_journal.specs.Contents as journal
+use Rattle.simplex_run.specs.Samples.{alone, at}
+use Rattle.simplex_run.specs.Life.{Noted, life_in, sections_in}
+use Rattle.simplex_run.specs.Entries.{node_of, entry_of, made_of, noted_packets}
+use Rattle.simplex_agreement.specs.Conflict.{Conflict}
+use Rattle.simplex_agreement.proofs.ListFacts.{not_in_empty, Contains-here, Contains-there, Contains-cons_cases}
+use Rattle.simplex_conduct.specs.Life.{voted}
+use Rattle.simplex_conduct.specs.Storing.{IsStored, IsRepeated, record_of_vote, IsOwn}
+use Rattle.simplex_evidence.specs.Evidence.{blames, BlameNot}
+use Rattle.simplex_safety.specs.Faulty.{faulty_of}
+use Rattle.simplex_safety.specs.Histories.{IsRun, IsHeld, AreStored, calls_of}
+use Rattle.simplex_safety.specs.Ruled.{AreByRule}
+use Rattle.simplex_wire.specs.declared.artifact.Artifact.TheVariants as artifacts
+use Rattle.simplex_wire.specs.declared.vote.Nullify.{Nullify}
+use Rattle.simplex_values.specs.declared.plan.Recipients.TheVariants as recipients
+use Rattle.simplex_types.specs.declared.activity.Activity.TheVariants as activities
+use Rattle.simplex_backing.specs.Backed.{of_call, IsBackedIn, AreBacked, StandsIn}
+use Rattle.simplex_backing.specs.Blame.{AreBlameless}
+use Rattle.simplex_backing.specs.Founded.{IsOn, IsNotarized}
+use Rattle.simplex_backing.specs.MostlyHonest.{IsMostlyHonest}
+use Rattle.simplex_backing.specs.Safe.{AgreeAll, AllName, AreFounded}
+use Rattle.simplex_backing.specs.Samples.{signed, near, far, bytes_of, block, own_notarize, own_nullify, notarized, nullified, packet_of, send, apart, its, sample, with_silent, noise, after_tick, after_noise}
+use Rattle.simplex_backing.specs.Voting.{vote_in, sent_votes, HasSigned}
+use Rattle.simplex_backing.specs.Words.{Word, Backed, Agrees, Named, Founded, Stored, Ruled, Blameless, Says, AllBut}
+use Rattle.simplex_backing.proofs.Good.{AllBytes, to_bytes, signature_raw}
+use Rattle.simplex_backing.proofs.Naming.{in_map}
+use Rattle.simplex_backing.proofs.Testing.{in_flat, vote_here}
+use Rattle.simplex_run.specs.Members.{rules_of}
+use Rattle.simplex_safety.proofs.Further.{same_node}
+use Rattle.simplex_backing.proofs.Running.{plain_attests}
+use Rattle.simplex_transcript.specs.declared.event.Event.TheVariants as events
+use Rattle.simplex_run.specs.Life as life
+use Rattle.simplex_run.specs.Forged.{unless_forged, first_forged, is_forged, signed_in}
+
+-- ---- the one member is honest, and its certificates verify
+
+honest : ¬ (Contains (faulty_of alone) 0)
+honest k = not_in_empty 0 k
+
+self : (s : Subject) → keyed_verifies 1 1 s (signed s) ≡ true
+unfolding keyed_verifies
+self s = (bytes_eq-Decides (signature_of 1 0 s) (signature_of 1 0 s)).1 refl
+
+certified : (s : Subject) → is_certified (keyed_verifies 1 1 s) 1 (signed s ∷ []) ≡ true
+unfolding is_certified
+certified s = subst (λ (b : Bool). (nat_le (quorum_of 1) 1 && rises_from 0 (signed s ∷ []) && ((nat_lt 0 1 && b) && true)) ≡ true) (sym (self s)) refl
+
+-- ---- its votes are read back
+
+all_bytes : (n byte : ℕ) → byte < 256 → AllBytes (bytes_of n byte)
+all_bytes zero byte h = tt
+all_bytes (suc n) byte h = (h, all_bytes n byte h)
+
+nullify_fits : (epoch view : ℕ) → epoch < 2 ^ 64 → view < 2 ^ 64 → FitsVote (votes.Nullify (own_nullify (record { epoch = epoch; view = view })))
+nullify_fits epoch view e v = ((e, v), (omega arith, signature_raw 1 0 (subjects.Nullify (record { epoch = epoch; view = view }))))
+
+notarize_fits : (byte : ℕ) → byte < 256 → FitsVote (votes.Notarize (own_notarize byte))
+notarize_fits byte h =
+    (((omega arith, omega arith), (omega arith, record { len = refl; each = to_bytes (bytes_of 32 byte) (all_bytes 32 byte h) })), (omega arith, signature_raw 1 0 (subjects.Notarize (block byte))))
+
+read_sent : (noted : Noted) (before : List Noted) (out : List Vote) (v : Vote) → noted.entry.packets ≡ map packet_of out → Contains out v → FitsVote v → Contains (sent_votes (noted ∷ before) 0) v
+unfolding sent_votes
+read_sent noted before out v e k fits =
+    subst (λ ps. Contains (sent_votes before 0 ++ flat_map (vote_in 0) ps) v) (sym e)
+    (behind (sent_votes before 0) (flat_map (vote_in 0) (map packet_of out)) v
+    (in_flat (vote_in 0) (map packet_of out) (packet_of v) v (in_map packet_of out v k) (vote_here 0 (packet_of v) v refl refl (whole_again format.vote FitsVote vote_is v fits))))
+  where
+    behind : {A : Type 0} (xs ys : List A) (y : A) → Contains ys y → Contains (xs ++ ys) y
+    behind [] ys y h = h
+    behind (x ∷ xs) ys y h = Contains-there x (xs ++ ys) y (behind xs ys y h)
+
+-- a certificate of the one member, whose vote was sent
+module _ (noted : List Noted) (s : Subject) (v : Vote) (sent : Contains (sent_votes noted 0) v) (on : vote_subject v ≡ s) (by : vote_attestation v ≡ signed s) where
+  counted : All (λ (a : Attestation). Contains (faulty_of alone) a.signer ⊎ HasSigned noted s a) (signed s ∷ [])
+  counted =
+      let P = λ (a : Attestation). Contains (faulty_of alone) a.signer ⊎ HasSigned noted s a in
+      All-cons P (signed s) [] (inr (v, sent, on, by)) (All-nil P)
+
+-- what holds of the one certificate that stands
+one : (P : Certificate → Type 0) (x : Certificate) → P x → (c : Certificate) → Contains (x ∷ []) c → P c
+one P x p c k = elim (Contains-cons_cases x [] c k) [ inl e ↦ subst P e p | inr r ↦ absurd (not_in_empty c r) ]
+
+two : (P : Certificate → Type 0) (x y : Certificate) → P x → P y → (c : Certificate) → Contains (x ∷ y ∷ []) c → P c
+two P x y p q c k = elim (Contains-cons_cases x (y ∷ []) c k) [ inl e ↦ subst P e p | inr r ↦ one P y q c r ]
+
+-- ---- what holds of two conflicting certificates, and of a nullification
+
+not_itself : (r s : Round) → ¬ (Conflict 1 (subjects.Nullify r) (subjects.Nullify s))
+not_itself r s c = c
+
+on_nothing : (r : Round) (p : Proposal) → ¬ (IsOn (subjects.Nullify r) p)
+on_nothing r p (inl e) = cc
+on_nothing r p (inr e) = cc
+
+same_block : (p : Proposal) → ¬ (Conflict 1 (subjects.Notarize p) (subjects.Notarize p))
+same_block p c = c.1 refl
+
+other_block : ¬ (block 1 ≡ block 2)
+other_block e = heads (ap (λ (p : Proposal). first p.payload) e)
+  where
+    first : List ℕ → ℕ
+    first [] = 0
+    first (x ∷ xs) = x
+
+    heads : ◌≡◌ {A = ℕ} 1 2 → ⊥
+    heads h = omega (arith, h)
+
+-- ---- an entry of no node has no say in what is stored and due
+
+stored_apart : (xs : List Certificate) (out : List Vote) (cs : List Call) (before : List Noted) (node : Node) → AreStored alone node before → AreStored alone node (apart xs out cs ∷ before)
+unfolding AreStored
+stored_apart xs out cs before node h = ((λ e. absurd (never e)), h)
+  where
+    never : false ≡ true → ⊥
+    never e = cc
+
+ruled_apart : (xs : List Certificate) (out : List Vote) (cs : List Call) (before : List Noted) (node : Node) → AreByRule alone node before → AreByRule alone node (apart xs out cs ∷ before)
+unfolding AreByRule
+ruled_apart xs out cs before node h = ((λ e. absurd (never e)), h)
+  where
+    never : false ≡ true → ⊥
+    never e = cc
+
+nothing_stored : (node : Node) → AreStored alone node []
+unfolding AreStored
+nothing_stored node = tt
+
+nothing_ruled : (node : Node) → AreByRule alone node []
+unfolding AreByRule
+nothing_ruled node = tt
+
+-- so is a step that is broken, of what is due
+ruled_broken : (cs : List Call) (node : Node) → AreByRule alone node (its outcomes.Cut cs ∷ [])
+unfolding AreByRule
+ruled_broken cs node = ((λ e w. absurd (never w)), tt)
+  where
+    never : false ≡ true → ⊥
+    never e = cc
+
+-- no report, no blame
+no_blame : (n : Noted) (before : List Noted) → ((member : ℕ) → BlameNot member n.entry.calls) → AreBlameless alone before → AreBlameless alone (n ∷ before)
+unfolding AreBlameless
+no_blame n before f h = ((λ member honest. f member), h)
+
+nobody_blamed : AreBlameless alone []
+unfolding AreBlameless
+nobody_blamed = tt
+
+silent : (member : ℕ) → BlameNot member []
+silent member = All-nil (λ (call : Call). blames call member ≡ false)
+
+and_call : (member : ℕ) (c : Call) (cs : List Call) → blames c member ≡ false → BlameNot member cs → BlameNot member (c ∷ cs)
+and_call member c cs e h = All-cons (λ (call : Call). blames call member ≡ false) c cs e h
+
+-- ---- where no certificate stands
+
+record IsBare (noted : List Noted) : Type 0 where
+  pub backed : AreBacked alone noted
+  pub nothing : (c : Certificate) → ¬ (StandsIn noted c)
+
+bare_its : (outcome : Outcome) (cs : List Call) → flat_map of_call cs ≡ [] → IsBare (its outcome cs ∷ [])
+unfolding AreBacked StandsIn
+bare_its outcome cs e =
+    record {
+      backed = ((λ c k v. absurd (none c k)), tt);
+      nothing = λ c k. elim k [ inl here ↦ none c here | inr r ↦ r ];
+    }
+  where
+    none : (c : Certificate) → ¬ (Contains (flat_map of_call cs ++ []) c)
+    none c k = not_in_empty c (subst (λ xs. Contains (xs ++ []) c) e k)
+
+bare_apart : (cs : List Call) → flat_map of_call cs ≡ [] → IsBare (apart [] [] cs ∷ [])
+unfolding AreBacked StandsIn
+bare_apart cs e =
+    record {
+      backed = ((λ c k v. absurd (none c k)), tt);
+      nothing = λ c k. elim k [ inl here ↦ none c here | inr r ↦ r ];
+    }
+  where
+    none : (c : Certificate) → ¬ (Contains (flat_map of_call cs ++ []) c)
+    none c k = not_in_empty c (subst (λ xs. Contains (xs ++ []) c) e k)
+
+bare_agrees : (noted : List Noted) → IsBare noted → AgreeAll alone noted
+bare_agrees noted b x y sx sy = absurd (b.nothing x sx.0)
+
+bare_named : (noted : List Noted) → IsBare noted → AllName alone noted
+bare_named noted b c s = absurd (b.nothing c s.0)
+
+bare_founded : (noted : List Noted) → IsBare noted → AreFounded alone noted
+bare_founded noted b c p s on = absurd (b.nothing c s.0)
+
+-- ---- where a nullification stands
+
+abbrev lone : Round → List Vote → List Noted
+lone r out = apart (nullified r ∷ []) out [] ∷ []
+
+-- the one that stands
+module _ (r : Round) where
+  lone_bare : (P : Certificate → Type 0) → P (nullified r) → (c : Certificate) → StandsIn (lone r []) c → P c
+  unfolding StandsIn
+  lone_bare P p c k = elim k [ inl here ↦ one P (nullified r) p c here | inr none ↦ absurd none ]
+
+  lone_sent : (P : Certificate → Type 0) → P (nullified r) → (c : Certificate) → StandsIn (lone r (votes.Nullify (own_nullify r) ∷ [])) c → P c
+  unfolding StandsIn
+  lone_sent P p c k = elim k [ inl here ↦ one P (nullified r) p c here | inr none ↦ absurd none ]
+
+-- no two nullifications conflict
+abbrev IsNullified : Certificate → Type 0
+IsNullified c = (r : Round) × (certificate_subject c ≡ subjects.Nullify r)
+
+apart_agree : (a b : Certificate) → IsNullified a → IsNullified b → ¬ (Conflict 1 (certificate_subject a) (certificate_subject b))
+apart_agree a b x y c = not_itself x.0 y.0 (subst (λ s. Conflict 1 s (subjects.Nullify y.0)) x.1 (subst (Conflict 1 (certificate_subject a)) y.1 c))
+
+-- ---- the samples
+
+unbacked : AllBut alone (sample Backed) Backed
+unfolding AreBacked StandsIn sent_votes AreStored AreByRule AreBlameless voted calls_of life_in journal.kept
+unbacked = record { others = others; fails = λ h. elim (All-head P (signed s) [] (h.0 (nullified near) (Contains-here (nullified near) []) (certified s))) [ inl bad ↦ honest bad | inr v ↦ none v.0 v.1 ] }
+  where
+    s : Subject
+    s = subjects.Nullify near
+
+    P : Attestation → Type 0
+    P a = Contains (faulty_of alone) a.signer ⊎ HasSigned (sample Backed) (subjects.Nullify near) a
+
+    none : (w : Vote) → ¬ (Contains (sent_votes (sample Backed) 0) w)
+    none w k = not_in_empty w k
+
+    others : (other : Word) → ¬ (other ≡ Backed) → Says alone (sample Backed) other
+    others Backed n = absurd (n refl)
+    others Agrees n = λ a b sa sb. apart_agree a b (lone_bare near IsNullified (near, refl) a sa.0) (lone_bare near IsNullified (near, refl) b sb.0)
+    others Named n = λ c st. lone_bare near (λ x. (subject_round (certificate_subject x)).epoch ≡ 0) refl c st.0
+    others Founded n = λ c p st on. absurd (lone_bare near (λ x. ¬ (IsOn (certificate_subject x) p)) (on_nothing near p) c st.0 on)
+    others Stored n = λ node h. stored_apart (nullified near ∷ []) [] [] [] node (nothing_stored node)
+    others Ruled n = λ node h. ruled_apart (nullified near ∷ []) [] [] [] node (nothing_ruled node)
+    others Blameless n = no_blame (apart (nullified near ∷ []) [] []) [] silent nobody_blamed
+
+-- a vote that went out, and its nullification, are backed
+lone_backed : (r : Round) → FitsVote (votes.Nullify (own_nullify r)) → AreBacked alone (lone r (votes.Nullify (own_nullify r) ∷ []))
+unfolding AreBacked
+lone_backed r fits = ((λ c k v. one (IsBackedIn alone (lone r (votes.Nullify (own_nullify r) ∷ []))) (nullified r) backed c k), tt)
+  where
+    v : Vote
+    v = votes.Nullify (own_nullify r)
+
+    backed : IsBackedIn alone (lone r (votes.Nullify (own_nullify r) ∷ [])) (nullified r)
+    backed =
+        counted (lone r (votes.Nullify (own_nullify r) ∷ [])) (subjects.Nullify r) (votes.Nullify (own_nullify r))
+        (read_sent (apart (nullified r ∷ []) (votes.Nullify (own_nullify r) ∷ []) []) [] (votes.Nullify (own_nullify r) ∷ []) (votes.Nullify (own_nullify r)) refl (Contains-here (votes.Nullify (own_nullify r)) []) fits) refl refl
+
+unnamed : AllBut alone (sample Named) Named
+unfolding AreBacked StandsIn sent_votes AreStored AreByRule AreBlameless voted calls_of life_in journal.kept
+unnamed = record { others = others; fails = λ h. seven (h (nullified far) (stands, certified (subjects.Nullify far))) }
+  where
+    out : List Vote
+    out = votes.Nullify (own_nullify far) ∷ []
+
+    seven : ◌≡◌ {A = ℕ} 7 0 → ⊥
+    seven e = omega (arith, e)
+
+    stands : StandsIn (sample Named) (nullified far)
+    stands = inl (Contains-here (nullified far) [])
+
+    others : (other : Word) → ¬ (other ≡ Named) → Says alone (sample Named) other
+    others Named n = absurd (n refl)
+    others Backed n = lone_backed far (nullify_fits 7 1 (omega arith) (omega arith))
+    others Agrees n = λ a b sa sb. apart_agree a b (lone_sent far IsNullified (far, refl) a sa.0) (lone_sent far IsNullified (far, refl) b sb.0)
+    others Founded n = λ c p st on. absurd (lone_sent far (λ x. ¬ (IsOn (certificate_subject x) p)) (on_nothing far p) c st.0 on)
+    others Stored n = λ node h. stored_apart (nullified far ∷ []) (votes.Nullify (own_nullify far) ∷ []) [] [] node (nothing_stored node)
+    others Ruled n = λ node h. ruled_apart (nullified far ∷ []) (votes.Nullify (own_nullify far) ∷ []) [] [] node (nothing_ruled node)
+    others Blameless n = no_blame (apart (nullified far ∷ []) (votes.Nullify (own_nullify far) ∷ []) []) [] silent nobody_blamed
+
+unfounded : AllBut alone (sample Founded) Founded
+unfolding AreBacked StandsIn sent_votes AreStored AreByRule AreBlameless voted calls_of life_in journal.kept
+unfounded = record { others = others; fails = λ h. (let f = h (notarized 1) (block 1) (stands, certified (subjects.Notarize (block 1))) (inl refl) in none f.member f.appended) }
+  where
+    v : Vote
+    v = votes.Notarize (own_notarize 1)
+
+    stands : StandsIn (sample Founded) (notarized 1)
+    stands = inl (Contains-here (notarized 1) [])
+
+    none : (member : ℕ) → ¬ (Contains (voted (calls_of (node_of member) (sample Founded))) (subjects.Notarize (block 1)))
+    none member k = not_in_empty _ k
+
+    which : (P : Certificate → Type 0) → P (notarized 1) → (c : Certificate) → StandsIn (sample Founded) c → P c
+    which P p c k = elim k [ inl here ↦ one P (notarized 1) p c here | inr r ↦ absurd r ]
+
+    backed : AreBacked alone (sample Founded)
+    backed = (
+      (λ c k w. one (IsBackedIn alone (sample Founded)) (notarized 1)
+          (counted (sample Founded) (subjects.Notarize (block 1)) (votes.Notarize (own_notarize 1))
+          (read_sent (apart (notarized 1 ∷ []) (votes.Notarize (own_notarize 1) ∷ []) []) [] (votes.Notarize (own_notarize 1) ∷ []) (votes.Notarize (own_notarize 1)) refl (Contains-here (votes.Notarize (own_notarize 1)) []) (notarize_fits 1 (omega arith))) refl refl) c k),
+      tt,
+    )
+
+    others : (other : Word) → ¬ (other ≡ Founded) → Says alone (sample Founded) other
+    others Founded n = absurd (n refl)
+    others Backed n = backed
+    others Agrees n = λ a b sa sb.
+        which (λ x. ¬ (Conflict 1 (certificate_subject x) (certificate_subject b))) (which (λ y. ¬ (Conflict 1 (subjects.Notarize (block 1)) (certificate_subject y))) (same_block (block 1)) b sb.0) a sa.0
+    others Named n = λ c st. which (λ x. (subject_round (certificate_subject x)).epoch ≡ 0) refl c st.0
+    others Stored n = λ node h. stored_apart (notarized 1 ∷ []) (votes.Notarize (own_notarize 1) ∷ []) [] [] node (nothing_stored node)
+    others Ruled n = λ node h. ruled_apart (notarized 1 ∷ []) (votes.Notarize (own_notarize 1) ∷ []) [] [] node (nothing_ruled node)
+    others Blameless n = no_blame (apart (notarized 1 ∷ []) (votes.Notarize (own_notarize 1) ∷ []) []) [] silent nobody_blamed
+
+-- the two votes that were appended and went out
+abbrev vote_of : ℕ → Vote
+vote_of byte = votes.Notarize (own_notarize byte)
+
+abbrev both_out : List Vote
+both_out = vote_of 1 ∷ vote_of 2 ∷ []
+
+abbrev appends : List Call
+appends = calls.Append 1 (artifacts.Notarize (own_notarize 1)) ∷ calls.Append 1 (artifacts.Notarize (own_notarize 2)) ∷ []
+
+divided : AllBut alone (sample Agrees) Agrees
+unfolding AreBacked StandsIn sent_votes AreStored AreByRule AreBlameless voted calls_of life_in journal.kept
+divided =
+    record {
+      others = others;
+      fails = λ h. h (notarized 1) (notarized 2) (stands 1 (Contains-here (notarized 1) (notarized 2 ∷ [])), certified (subjects.Notarize (block 1)))
+          (stands 2 (Contains-there (notarized 1) (notarized 2 ∷ []) (notarized 2) (Contains-here (notarized 2) [])), certified (subjects.Notarize (block 2))) (refl, other_block);
+    }
+  where
+    stands : (byte : ℕ) → Contains (notarized 1 ∷ notarized 2 ∷ []) (notarized byte) → StandsIn (sample Agrees) (notarized byte)
+    stands byte k = inl k
+
+    which : (P : Certificate → Type 0) → P (notarized 1) → P (notarized 2) → (c : Certificate) → StandsIn (sample Agrees) c → P c
+    which P p q c k = elim k [
+      | inl here ↦ two P (notarized 1) (notarized 2) p q c here
+      | inr rest ↦ elim rest [ inl its_own ↦ absurd (not_in_empty c its_own) | inr r ↦ absurd r ]
+    ]
+
+    sent : (byte : ℕ) → byte < 256 → Contains both_out (vote_of byte) → Contains (sent_votes (sample Agrees) 0) (vote_of byte)
+    sent byte h k = read_sent (apart (notarized 1 ∷ notarized 2 ∷ []) both_out []) (its outcomes.Cut appends ∷ []) both_out (vote_of byte) refl k (notarize_fits byte h)
+
+    backed_by : (byte : ℕ) → byte < 256 → Contains both_out (vote_of byte) → IsBackedIn alone (sample Agrees) (notarized byte)
+    backed_by byte h k = counted (sample Agrees) (subjects.Notarize (block byte)) (vote_of byte) (sent byte h k) refl refl
+
+    backed : AreBacked alone (sample Agrees)
+    backed = (
+      (λ c k w. two (IsBackedIn alone (sample Agrees)) (notarized 1) (notarized 2)
+          (backed_by 1 (omega arith) (Contains-here (vote_of 1) (vote_of 2 ∷ [])))
+          (backed_by 2 (omega arith) (Contains-there (vote_of 1) (vote_of 2 ∷ []) (vote_of 2) (Contains-here (vote_of 2) []))) c k),
+      ((λ c k w. absurd (not_in_empty c k)), tt),
+    )
+
+    first_two : List Subject
+    first_two = subjects.Notarize (block 1) ∷ subjects.Notarize (block 2) ∷ []
+
+    noted : (byte : ℕ) → byte < 256 → Contains both_out (vote_of byte) → Contains first_two (subjects.Notarize (block byte)) → IsNotarized alone (sample Agrees) (block byte)
+    noted byte h out k = record { member = 0; below = omega arith; honest = honest; appended = k; sent = (vote_of byte, sent byte h out, refl) }
+
+    founded_by : (byte : ℕ) (p : Proposal) → IsNotarized alone (sample Agrees) (block byte) → IsOn (subjects.Notarize (block byte)) p → IsNotarized alone (sample Agrees) p
+    founded_by byte p f (inl e) = (let same : block byte ≡ p = cc in subst (IsNotarized alone (sample Agrees)) same f)
+    founded_by byte p f (inr e) = cc
+
+    stored : (node : Node) → AreStored alone node (its outcomes.Cut appends ∷ [])
+    stored node = ((λ e before behind to bytes place. absurd (unsent before behind to bytes place)), tt)
+      where
+        unsent : (before behind : List Call) (to : Recipients) (bytes : List ℕ) → ¬ (appends ≡ before ++ (calls.Send channels.Vote to bytes ∷ behind))
+        unsent [] behind to bytes e = cc
+        unsent (x ∷ []) behind to bytes e = cc
+        unsent (x ∷ y ∷ []) behind to bytes e = cc
+        unsent (x ∷ y ∷ z ∷ more) behind to bytes e = cc
+
+    others : (other : Word) → ¬ (other ≡ Agrees) → Says alone (sample Agrees) other
+    others Agrees n = absurd (n refl)
+    others Backed n = backed
+    others Named n = λ c st. which (λ x. (subject_round (certificate_subject x)).epoch ≡ 0) refl refl c st.0
+    others Founded n = λ c p st on. which (λ x. IsOn (certificate_subject x) p → IsNotarized alone (sample Agrees) p)
+        (founded_by 1 p (noted 1 (omega arith) (Contains-here (vote_of 1) (vote_of 2 ∷ [])) (Contains-here (subjects.Notarize (block 1)) (subjects.Notarize (block 2) ∷ []))))
+        (founded_by 2 p (noted 2 (omega arith) (Contains-there (vote_of 1) (vote_of 2 ∷ []) (vote_of 2) (Contains-here (vote_of 2) [])) (Contains-there (subjects.Notarize (block 1)) (subjects.Notarize (block 2) ∷ []) (subjects.Notarize (block 2)) (Contains-here (subjects.Notarize (block 2)) [])))) c st.0 on
+    others Stored n = λ node h. stored_apart (notarized 1 ∷ notarized 2 ∷ []) both_out [] (its outcomes.Cut appends ∷ []) node (stored node)
+    others Ruled n = λ node h. ruled_apart (notarized 1 ∷ notarized 2 ∷ []) both_out [] (its outcomes.Cut appends ∷ []) node (ruled_broken appends node)
+    others Blameless n =
+        no_blame (apart (notarized 1 ∷ notarized 2 ∷ []) both_out []) (its outcomes.Cut appends ∷ []) silent
+        (no_blame (its outcomes.Cut appends) [] (λ member. and_call member (calls.Append 1 (artifacts.Notarize (own_notarize 1))) (calls.Append 1 (artifacts.Notarize (own_notarize 2)) ∷ []) refl (and_call member (calls.Append 1 (artifacts.Notarize (own_notarize 2))) [] refl (silent member))) nobody_blamed)
+
+abbrev own : Vote
+own = votes.Nullify (own_nullify near)
+
+unstored : AllBut alone (sample Stored) Stored
+unfolding AreBacked StandsIn sent_votes AreStored AreByRule AreBlameless voted calls_of life_in journal.kept
+unstored = record { others = others; fails = λ h. fails (h (node_of 0) honest) }
+  where
+    bare : IsBare (sample Stored)
+    bare = bare_its outcomes.Cut (send own ∷ []) refl
+
+    nothing_held : (v : Vote) → ¬ (IsRepeated (IsHeld (sections_in (life_in alone [] (node_of 0)))) v)
+    nothing_held (votes.Notarize v) h = h
+    nothing_held (votes.Nullify v) h = not_in_empty _ h.2
+    nothing_held (votes.Finalize v) h = h
+
+    not_stored : (v : Vote) → ¬ (IsStored (record_of_vote v) [])
+    not_stored v s = nowhere s.before _ _ s.place
+      where
+        nowhere : (before : List Call) (x : Call) (rest : List Call) → ¬ (◌≡◌ {A = List Call} [] (before ++ (x ∷ rest)))
+        nowhere [] x rest e = cc
+        nowhere (y ∷ before) x rest e = cc
+
+    fails : ¬ (AreStored alone (node_of 0) (sample Stored))
+    fails h = (let x = h.0 refl [] [] recipients.All (format.vote.spelling own) refl in elim x.2 [ inl s ↦ not_stored x.0 s | inr r ↦ nothing_held x.0 r ])
+
+    others : (other : Word) → ¬ (other ≡ Stored) → Says alone (sample Stored) other
+    others Stored n = absurd (n refl)
+    others Backed n = bare.backed
+    others Agrees n = bare_agrees (sample Stored) bare
+    others Named n = bare_named (sample Stored) bare
+    others Founded n = bare_founded (sample Stored) bare
+    others Ruled n = λ node h. ruled_broken (send own ∷ []) node
+    others Blameless n = no_blame (its outcomes.Cut (send own ∷ [])) [] (λ member. and_call member (send own) [] refl (silent member)) nobody_blamed
+
+signed_own : IsOwn (rules_of alone 0 0) own
+unfolding rules_of keyed_attests
+signed_own = (plain_attests (keyed_attests 1 (Some 0)) (keyed_verifies 1 1) (vote_subject own), (refl, omega arith))
+
+its_own : (node : Node) → node_of 0 ≡ node → IsOwn (rules_of alone node.member 0) own
+its_own node e = subst (λ (n : Node). IsOwn (rules_of alone n.member 0) own) e signed_own
+
+abbrev storing : List Call
+storing = calls.Append 1 (artifacts.Nullify (own_nullify near)) ∷ calls.Sync 1 ∷ send own ∷ []
+
+undue : AllBut alone (sample Ruled) Ruled
+unfolding AreBacked StandsIn sent_votes AreStored AreByRule AreBlameless voted calls_of life_in journal.kept
+undue = record { others = others; fails = λ h. fails (h (node_of 0) honest) }
+  where
+    bare : IsBare (sample Ruled)
+    bare = bare_its outcomes.Done storing refl
+
+    fails : ¬ (AreByRule alone (node_of 0) (sample Ruled))
+    fails h = (let e = h.0 refl refl in cc)
+
+    stored_here : (before behind : List Call) (to : Recipients) (bytes : List ℕ) (Earlier : Nullify → Type 0) (Own : Vote → Type 0) → Own own → storing ≡ before ++ (calls.Send channels.Vote to bytes ∷ behind)
+        → (v : Vote) × (bytes ≡ format.vote.spelling v) × (IsStored (record_of_vote v) before ⊎ IsRepeated Earlier v) × Own v
+    stored_here [] behind to bytes Earlier Own o e = cc
+    stored_here (x ∷ []) behind to bytes Earlier Own o e = cc
+    stored_here (x ∷ y ∷ []) behind to bytes Earlier Own o e =
+        let first : calls.Append 1 (artifacts.Nullify (own_nullify near)) ≡ x = cc in
+        let second : calls.Sync 1 ≡ y = cc in
+        let third : send own ≡ calls.Send channels.Vote to bytes = cc in
+        let same : format.vote.spelling own ≡ bytes = cc in
+        (own, sym same, inl (record { before = []; between = []; behind = []; place = sym (cc (first, second)) }), o)
+    stored_here (x ∷ y ∷ z ∷ []) behind to bytes Earlier Own o e = cc
+    stored_here (x ∷ y ∷ z ∷ w ∷ more) behind to bytes Earlier Own o e = cc
+
+    stored : (node : Node) → AreStored alone node (sample Ruled)
+    stored node =
+        ((λ e before behind to bytes place. stored_here before behind to bytes (IsHeld (sections_in (life_in alone [] node))) (IsOwn (rules_of alone node.member 0)) (its_own node (same_node (node_of 0) node e)) place), tt)
+
+    others : (other : Word) → ¬ (other ≡ Ruled) → Says alone (sample Ruled) other
+    others Ruled n = absurd (n refl)
+    others Backed n = bare.backed
+    others Agrees n = bare_agrees (sample Ruled) bare
+    others Named n = bare_named (sample Ruled) bare
+    others Founded n = bare_founded (sample Ruled) bare
+    others Stored n = λ node h. stored node
+    others Blameless n =
+        no_blame (its outcomes.Done storing) [] (λ member. and_call member (calls.Append 1 (artifacts.Nullify (own_nullify near))) (calls.Sync 1 ∷ send own ∷ []) refl (and_call member (calls.Sync 1) (send own ∷ []) refl (and_call member (send own) [] refl (silent member)))) nobody_blamed
+
+abbrev report : Call
+report = calls.Report (activities.ConflictingNotarize (record { first = own_notarize 1; second = own_notarize 2 }))
+
+blamed : AllBut alone (sample Blameless) Blameless
+unfolding AreBacked StandsIn sent_votes AreStored AreByRule AreBlameless voted calls_of life_in journal.kept
+blamed = record { others = others; fails = fails }
+  where
+    bare : IsBare (sample Blameless)
+    bare = bare_apart (report ∷ []) refl
+
+    fails : ¬ (AreBlameless alone (sample Blameless))
+    fails h = (let e = All-head (λ (call : Call). blames call 0 ≡ false) report [] (h.0 0 honest) in cc)
+
+    others : (other : Word) → ¬ (other ≡ Blameless) → Says alone (sample Blameless) other
+    others Blameless n = absurd (n refl)
+    others Backed n = bare.backed
+    others Agrees n = bare_agrees (sample Blameless) bare
+    others Named n = bare_named (sample Blameless) bare
+    others Founded n = bare_founded (sample Blameless) bare
+    others Stored n = λ node h. stored_apart [] [] (report ∷ []) [] node (nothing_stored node)
+    others Ruled n = λ node h. ruled_apart [] [] (report ∷ []) [] node (nothing_ruled node)
+
+pub each_word : (word : Word) → AllBut alone (sample word) word
+each_word Backed = unbacked
+each_word Agrees = divided
+each_word Named = unnamed
+each_word Founded = unfounded
+each_word Stored = unstored
+each_word Ruled = undue
+each_word Blameless = blamed
+
+-- ---- the premises
+
+pub nothing_yet : IsMostlyHonest alone []
+unfolding IsRun
+nothing_yet = record { some = omega arith; not_many = omega arith; term = omega arith; epoch = omega arith; few = omega arith; ran = tt; typed = tt }
+
+ticked : IsRun with_silent after_tick
+unfolding IsRun entry_of made_of unless_forged first_forged is_forged signed_in life.clock_of
+ticked = (events.Tick 5, refl, tt)
+
+sent_noise : entry_of with_silent after_tick noise ≡ Ok (noted_packets after_tick noise (node_of 3) None (record { from = node_of 3; channel = channels.Vote; to = at ∷ []; bytes = 7 ∷ [] } ∷ []))
+unfolding entry_of made_of unless_forged first_forged is_forged signed_in format.vote
+sent_noise = refl
+
+pub noisy : IsMostlyHonest with_silent after_noise
+unfolding IsRun
+noisy =
+    record {
+      some = omega arith;
+      not_many = omega arith;
+      term = omega arith;
+      epoch = omega arith;
+      few = omega arith;
+      ran = (noise, sent_noise, ticked);
+      typed = (record { handed = tt; calls = tt; bytes = (to_bytes (7 ∷ []) (omega arith, tt), tt) }, (record { handed = tt; calls = tt; bytes = tt }, tt));
+    }

@@ -1,0 +1,12 @@
+pub mod Backed
+pub mod Blame
+pub mod Fitting
+pub mod Founded
+pub mod MostlyHonest
+pub mod Naming
+pub mod Quiet
+pub mod Safe
+pub mod Samples
+pub mod Voting
+pub mod Words
+pub mod WellSent

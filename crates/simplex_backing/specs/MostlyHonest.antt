@@ -1,0 +1,19 @@
+-- A run of members of whom few are faulty.
+use Rattle.std.specs.Prelude.{◌^◌, ◌<◌, ◌≤◌, List, length}
+use Rattle.simplex_values.specs.Quorum.{max_faulty}
+use Rattle.simplex_transcript.specs.declared.setup.Setup.{Setup}
+use Rattle.simplex_run.specs.Life.{Noted}
+use Rattle.simplex_run.specs.Members.{members_of}
+use Rattle.simplex_safety.specs.Faulty.{faulty_of}
+use Rattle.simplex_safety.specs.Histories.{IsRun}
+use Rattle.simplex_backing.specs.Fitting.{AreTyped}
+
+-- There are members, of whom few are faulty; the entries are those of a run, and their values keep to their types
+pub record IsMostlyHonest (setup : Setup) (noted : List Noted) : Type 0 where
+  pub some : 0 < members_of setup
+  pub not_many : members_of setup < 2 ^ 16
+  pub term : 0 < setup.term
+  pub epoch : setup.epoch < 2 ^ 64
+  pub few : length (faulty_of setup) ≤ max_faulty (members_of setup)
+  pub ran : IsRun setup noted
+  pub typed : AreTyped noted

@@ -1,0 +1,54 @@
+-- What holds of a run of many members.
+use Rattle.std.specs.Prelude.{◌≡◌, List, [], Contains, Ok}
+use Rattle.simplex_values.specs.declared.proposal.Proposal.{Proposal}
+use Rattle.simplex_wire.specs.declared.certificate.Certificate.{Certificate}
+use Rattle.simplex_wire.specs.Fields.{subject_round, certificate_subject}
+use Rattle.simplex_transcript.specs.declared.event.Event.{Event}
+use Rattle.simplex_transcript.specs.declared.node.Node.{Node}
+use Rattle.simplex_transcript.specs.declared.setup.Setup.{Setup}
+use Rattle.simplex_run.specs.Life.{Noted}
+use Rattle.simplex_run.specs.Run as runs
+use Rattle.simplex_agreement.specs.Conflict.{Conflict}
+use Rattle.simplex_safety.specs.Faulty.{faulty_of}
+use Rattle.simplex_safety.specs.Histories.{AreStored}
+use Rattle.simplex_safety.specs.Ruled.{AreByRule}
+use Rattle.simplex_backing.specs.Backed.{IsVerifying, AreBacked, StandsIn}
+use Rattle.simplex_backing.specs.Blame.{AreBlameless}
+use Rattle.simplex_backing.specs.Founded.{IsOn, IsNotarized}
+
+-- one of the entries has the certificate, and it verifies
+abbrev pub Stands : Setup → List Noted → Certificate → Type 0
+Stands setup noted c = StandsIn noted c × IsVerifying setup c
+
+-- no two certificates of the run conflict
+abbrev pub AgreeAll : Setup → List Noted → Type 0
+AgreeAll setup noted =
+    (a b : Certificate) → Stands setup noted a → Stands setup noted b → ¬ (Conflict setup.term (certificate_subject a) (certificate_subject b))
+
+-- each certificate of the run names the setup's epoch
+abbrev pub AllName : Setup → List Noted → Type 0
+AllName setup noted = (c : Certificate) → Stands setup noted c → (subject_round (certificate_subject c)).epoch ≡ setup.epoch
+
+-- each proposal that a certificate of the run names was notarized by a member that is not faulty
+abbrev pub AreFounded : Setup → List Noted → Type 0
+AreFounded setup noted = (c : Certificate) (p : Proposal) → Stands setup noted c → IsOn (certificate_subject c) p → IsNotarized setup noted p
+
+-- it holds of each node of a member that is not faulty
+abbrev pub EachHonest : Setup → (Node → Type 0) → Type 0
+EachHonest setup P = (node : Node) → ¬ (Contains (faulty_of setup) node.member) → P node
+
+-- Each signer of a certificate that verifies is faulty or had sent the signed vote; no two such certificates conflict, and
+-- each names the setup's epoch; an honest member notarized each proposal that they name; it signs a vote and stores it
+-- before it sends it, and sends in each whole step exactly the votes that the rules give; and no evidence names it
+pub record IsSafe (setup : Setup) (noted : List Noted) : Type 0 where
+  pub backed : AreBacked setup noted
+  pub agrees : AgreeAll setup noted
+  pub named : AllName setup noted
+  pub founded : AreFounded setup noted
+  pub stored : EachHonest setup (λ node. AreStored setup node noted)
+  pub ruled : EachHonest setup (λ node. AreByRule setup node noted)
+  pub blameless : AreBlameless setup noted
+
+-- so it is with the entries that these events make
+abbrev pub RunsSafely : Setup → List Event → Type 0
+RunsSafely setup events = (noted : List Noted) → runs.run setup [] events ≡ Ok noted → IsSafe setup noted

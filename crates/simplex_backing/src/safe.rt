@@ -1,0 +1,16 @@
+//! Runs are safe.
+ghost use Rattle.std.specs.Prelude.{◌≡◌, List, Ok};
+ghost use Rattle.simplex_transcript.specs.declared.entry.Entry.{Entry};
+ghost use Rattle.simplex_transcript.specs.declared.event.Event.{Event};
+ghost use Rattle.simplex_transcript.specs.declared.setup.Setup.{Setup};
+ghost use Rattle.simplex_run.specs.Run as runs;
+ghost use Rattle.simplex_safety.specs.Sayings.{Each};
+ghost use Rattle.simplex_backing.specs.Fitting.{IsTyped};
+ghost use Rattle.simplex_backing.specs.Safe.{RunsSafely};
+
+/// Where setup and events make a transcript, whose values keep to their types, its run is safe: of every setup, with
+/// members of all kinds, and of those that are taken yet.
+pub fn runs_are_safe()
+    ensures whole { (setup : Setup) (events : List Event) (entries : List Entry) → runs.whole_run setup events ≡ Ok entries → Each IsTyped entries → RunsSafely setup events }
+    ensures taken { (setup : Setup) (events : List Event) (entries : List Entry) → runs.Run setup events ≡ Ok entries → Each IsTyped entries → RunsSafely setup events }
+{}

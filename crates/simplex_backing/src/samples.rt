@@ -1,0 +1,26 @@
+//! What each word forbids, and when the premises are met.
+ghost use Rattle.std.specs.Prelude.{◌≡◌, List, [], ◌∷◌, Ok};
+ghost use Rattle.simplex_transcript.specs.declared.entry.Entry.{Entry};
+ghost use Rattle.simplex_run.specs.Run.{Run};
+ghost use Rattle.simplex_run.specs.Samples.{alone, at, starts};
+ghost use Rattle.simplex_safety.specs.Sayings.{Each};
+ghost use Rattle.simplex_backing.specs.Fitting.{IsTyped};
+ghost use Rattle.simplex_backing.specs.MostlyHonest.{IsMostlyHonest};
+ghost use Rattle.simplex_backing.specs.Samples.{sample, with_silent, after_noise};
+ghost use Rattle.simplex_backing.specs.Words.{Word, AllBut};
+
+use crate::computed::a_start_is_quiet;
+
+/// No word follows from the others: of each there are entries which all others let pass.
+pub fn each_word_is_needed()
+    ensures { (word : Word) → AllBut alone (sample word) word }
+{}
+
+/// The premises are met where nothing happened yet, where a faulty member sends bytes, and where a member starts.
+pub fn premises_can_be_met()
+    ensures nothing { IsMostlyHonest alone [] }
+    ensures noise { IsMostlyHonest with_silent after_noise }
+    ensures start { (entries : List Entry) × (Run alone (starts at ∷ []) ≡ Ok entries) × Each IsTyped entries }
+{
+    a_start_is_quiet();
+}
