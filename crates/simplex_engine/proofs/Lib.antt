@@ -3,6 +3,7 @@ pub mod BatcherMail
 pub mod Places
 pub mod Holding
 pub mod More
+pub mod ResolverMail
 pub mod Polls
 pub mod Stages
 pub mod Limits

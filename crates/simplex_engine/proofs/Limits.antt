@@ -18,6 +18,8 @@ pub record KeepsLimits {S L : Type 0} (config : EngineConfig S L) : Type 0 where
   pub some_retention : 0 < config.retention
   pub retention : config.retention ≤ 2 ^ 32
   pub some_mailbox : 0 < config.mailbox
+  pub fetch_timeout : config.fetch_timeout ≤ 2 ^ 62
+  pub fetch_retry : config.fetch_retry ≤ 2 ^ 62
 
 pub keeps-limits : {S L : Type 0} (config : EngineConfig S L) → first_bad config ≡ None → KeepsLimits config
 unfolding first_bad
@@ -31,6 +33,8 @@ keeps-limits config good = record {
   some_retention = grind (arith, good);
   retention = grind (arith, good);
   some_mailbox = grind (arith, good);
+  fetch_timeout = grind (arith, good);
+  fetch_retry = grind (arith, good);
 }
 
 -- what the state asks for

@@ -1,5 +1,5 @@
 -- What a crew takes and gives, source by source.
-use Rattle.std.proofs.Common.{◌≡◌, ◌∙◌, refl, sym, ℕ, List, [], ◌∷◌, Option, Some, None}
+use Rattle.std.proofs.Common.{◌≡◌, ◌∙◌, refl, sym, ℕ, true, false, List, [], ◌∷◌, Option, Some, None}
 use Rattle.std.specs.Prelude.{IfNone, Bool}
 use Rattle.std.specs.List.{filter_map}
 use Rattle.std.specs.Option.{option_map, option_and_then}
@@ -21,6 +21,9 @@ use Rattle.simplex_messages.specs.declared.batcher.BatcherInput.TheVariants as b
 use Rattle.simplex_messages.specs.declared.voter.Message as voter_message
 use Rattle.simplex_messages.specs.declared.voter.VoterInput.{VoterInput}
 use Rattle.simplex_messages.specs.declared.voter.VoterInput.TheVariants as inputs
+use Rattle.simplex_messages.specs.declared.resolver.MailboxMessage.{MailboxMessage}
+use Rattle.simplex_messages.specs.declared.resolver.HandlerMessage.{HandlerMessage}
+use Rattle.simplex_messages.specs.declared.resolver.ResolverInput.TheVariants as resolver_inputs
 use Rattle.simplex_messages.specs.declared.handed.Handed.TheVariants as handed
 use Rattle.simplex_messages.specs.declared.step.Outcome.{Outcome}
 use Rattle.simplex_messages.specs.declared.step.Outcome.TheVariants as outcomes
@@ -35,13 +38,16 @@ use Rattle.simplex_transcript.specs.declared.event.StepSource.TheVariants as sou
 use Rattle.simplex_steps.specs.Performed.{Performed}
 use Rattle.simplex_steps.specs.Batcher.{Timed, step_out}
 use Rattle.simplex_steps.specs.VoterLife.{Stepped, place_of, step_given}
-use Rattle.simplex_steps.specs.Engine.{EngineMade, Did, Took, for_voter, by_voter, by_batcher, on_voter, heard, stepped, replied, voter_in, voter_past, batcher_past, cut_short, takes_reply}
+use Rattle.simplex_steps.specs.Engine.{EngineMade, Did, Took, for_voter, by_voter, by_batcher, by_resolver, on_voter, heard, stepped, replied, voter_in, voter_past, batcher_past, resolver_past, cut_short, takes_reply}
+use Rattle.simplex_resolving.specs.Views.{is_reached}
+use Rattle.simplex_resolving.specs.Resolver as resolver
 use Rattle.simplex_engine.specs.declared.crew.Crew.{Crew}
-use Rattle.simplex_engine.specs.Parts.{parts_of, after_voter, after_answer, after_batcher, after_voter_mail, after_batcher_mail, ended}
+use Rattle.simplex_engine.specs.Parts.{parts_of, after_voter, after_answer, after_batcher, after_resolver, after_voter_mail, after_batcher_mail, after_resolver_mail, after_handler_mail, ended}
 use Rattle.simplex_engine.specs.Stands.{CrewStands, Works, Ends, Tells, CrewTakes, CrewStays, CrewGives, CrewAnswers}
 use Rattle.simplex_engine.proofs.VoterMail.{step-quiet}
 use Rattle.simplex_engine.proofs.BatcherMail.{step-tells, cut-tells}
-use Rattle.simplex_engine.proofs.More.{more-timer, more-propose, more-verify, more-certify, more-voter_mail, more-batcher_mail, more-vote, more-certificate, more-packet, more-replied, more-voter_idle, more-batcher_idle, more-resolver_idle, more-handler_idle, more-fetch_idle}
+use Rattle.simplex_engine.proofs.ResolverMail.{resolver-tells, cut-held}
+use Rattle.simplex_engine.proofs.More.{more-timer, more-propose, more-verify, more-certify, more-voter_mail, more-batcher_mail, more-vote, more-certificate, more-packet, more-resolver_mail, more-handler_mail, more-fetch, more-replied, more-voter_idle, more-batcher_idle, more-resolver_idle, more-handler_idle, more-fetch_idle}
 
 -- a mailbox that holds nothing is as it was
 pub idle-recv : {M : Type 0} (skips : M → Bool) (mail : Mail M) (ready : List M) → None ≡ front ready → mail ≡ taken_from skips ready mail
@@ -97,7 +103,7 @@ inside-certify st = map-first (first_answered st.desk.certify st.answers)
 
 taken-heard : (made : EngineMade) (past : List Did) (sender : ℕ) (channel : Channel) (bytes : List ℕ) (now : ℕ)
     → taken_inside made past (heard made past sender channel bytes now) ≡ None
-unfolding heard by_batcher taken_inside inside
+unfolding heard by_batcher by_resolver taken_inside inside
 taken-heard made past sender channels.Vote bytes now = refl
 taken-heard made past sender channels.Certificate bytes now = refl
 taken-heard made past sender channels.Resolver bytes now = refl
@@ -316,43 +322,153 @@ module _ {S L J : Type 0} {s : scheme.Ghosts S} {l : elector.Ghosts L} {j : jour
   unfolding CrewStands parts_of stepped taken_inside
   taken-no_batcher_mail old now stop tells = λ made past h. rw (← tells (parts_of made past) h) refl
 
-  -- ---- the sources that hold nothing yet
+  -- ---- the resolver's sources
 
-  pub takes-resolver : (crew : Crew S L J s l j) (now : ℕ) (stop : Stop) → CrewTakes crew crew (λ made past. stepped made past sources.Resolver now stop)
-  unfolding CrewStands stepped
-  takes-resolver crew now stop = λ made past h. rw (more-resolver_idle made past now stop) h
+  pub takes-resolver_mail : (old mid new : Crew S L J s l j) (message : MailboxMessage) (now : ℕ) (stop : Stop) (outcome : Outcome) (out : StepOut)
+      → Tells old (λ parts. received parts.to_resolver) (Some message)
+      → Works old mid after_resolver_mail
+      → Works mid new (after_resolver (resolver.Stepped (resolver_inputs.Mail message) now) out)
+      → Ends mid (λ parts. cut_short stop (resolver.step_out parts.resolver parts.asked (resolver_inputs.Mail message) now)) outcome out
+      → CrewTakes old new (λ made past. stepped made past sources.Resolver now stop)
+  unfolding CrewStands parts_of stepped by_resolver
+  takes-resolver_mail old mid new message now stop outcome out tells takes works ends = λ made past h.
+      let whole : StepOut = resolver.step_out made.resolver (resolver_past past) (resolver_inputs.Mail message) now in
+      let held = takes (parts_of made past) h in
+      let gives = (ends (after_resolver_mail (parts_of made past)) held).1 in
+      rw (← tells (parts_of made past) h)
+      (rw (more-resolver_mail made past message now stop (cut_short stop whole).0 (cut_short stop whole).1 (cut-held stop whole) (cut-tells stop whole (resolver-tells made.resolver (resolver_past past) _ now)))
+      (rw (← gives) (works (after_resolver_mail (parts_of made past)) held)))
 
-  pub takes-handler : (crew : Crew S L J s l j) (now : ℕ) (stop : Stop) → CrewTakes crew crew (λ made past. stepped made past sources.Handler now stop)
-  unfolding CrewStands stepped
-  takes-handler crew now stop = λ made past h. rw (more-handler_idle made past now stop) h
+  pub gives-resolver_mail : (old mid : Crew S L J s l j) (message : MailboxMessage) (now : ℕ) (stop : Stop) (outcome : Outcome) (out : StepOut)
+      → Tells old (λ parts. received parts.to_resolver) (Some message)
+      → Works old mid after_resolver_mail
+      → Ends mid (λ parts. cut_short stop (resolver.step_out parts.resolver parts.asked (resolver_inputs.Mail message) now)) outcome out
+      → CrewGives old (λ made past. stepped made past sources.Resolver now stop) outcome out
+  unfolding CrewStands parts_of stepped by_resolver
+  gives-resolver_mail old mid message now stop outcome out tells takes ends = λ made past h.
+      rw (← tells (parts_of made past) h) (ends (after_resolver_mail (parts_of made past)) (takes (parts_of made past) h))
 
-  pub takes-fetch : (crew : Crew S L J s l j) (now : ℕ) (stop : Stop) → CrewTakes crew crew (λ made past. stepped made past sources.Fetch now stop)
-  unfolding CrewStands stepped
-  takes-fetch crew now stop = λ made past h. rw (more-fetch_idle made past now stop) h
+  pub taken-resolver_mail : (old mid : Crew S L J s l j) (message : MailboxMessage) (now : ℕ) (stop : Stop) (outcome : Outcome) (out : StepOut)
+      → Tells old (λ parts. received parts.to_resolver) (Some message)
+      → Works old mid after_resolver_mail
+      → Ends mid (λ parts. cut_short stop (resolver.step_out parts.resolver parts.asked (resolver_inputs.Mail message) now)) outcome out
+      → CrewAnswers old (λ made past. taken_inside made past (stepped made past sources.Resolver now stop)) (unless_idle outcome (Some (taken.Message (handed.Resolver message))))
+  unfolding CrewStands parts_of stepped by_resolver taken_inside inside
+  taken-resolver_mail old mid message now stop outcome out tells takes ends = λ made past h.
+      rw (← tells (parts_of made past) h) (rw (ends (after_resolver_mail (parts_of made past)) (takes (parts_of made past) h)).0 refl)
 
-  pub gives-resolver : (crew : Crew S L J s l j) (now : ℕ) (stop : Stop) → CrewGives crew (λ made past. stepped made past sources.Resolver now stop) outcomes.Idle no_out
-  unfolding stepped
-  gives-resolver crew now stop = λ made past h. (refl, refl)
+  pub takes-no_resolver_mail : (old new : Crew S L J s l j) (now : ℕ) (stop : Stop) → Tells old (λ parts. received parts.to_resolver) None → Works old new (λ parts. parts)
+      → CrewTakes old new (λ made past. stepped made past sources.Resolver now stop)
+  unfolding CrewStands parts_of stepped
+  takes-no_resolver_mail old new now stop tells works = λ made past h.
+      rw (← tells (parts_of made past) h) (rw (more-resolver_idle made past now stop) (works (parts_of made past) h))
 
-  pub gives-handler : (crew : Crew S L J s l j) (now : ℕ) (stop : Stop) → CrewGives crew (λ made past. stepped made past sources.Handler now stop) outcomes.Idle no_out
-  unfolding stepped
-  gives-handler crew now stop = λ made past h. (refl, refl)
+  pub gives-no_resolver_mail : (old : Crew S L J s l j) (now : ℕ) (stop : Stop) → Tells old (λ parts. received parts.to_resolver) None
+      → CrewGives old (λ made past. stepped made past sources.Resolver now stop) outcomes.Idle no_out
+  unfolding CrewStands parts_of stepped
+  gives-no_resolver_mail old now stop tells = λ made past h. rw (← tells (parts_of made past) h) (refl, refl)
 
-  pub gives-fetch : (crew : Crew S L J s l j) (now : ℕ) (stop : Stop) → CrewGives crew (λ made past. stepped made past sources.Fetch now stop) outcomes.Idle no_out
-  unfolding stepped
-  gives-fetch crew now stop = λ made past h. (refl, refl)
+  pub taken-no_resolver_mail : (old : Crew S L J s l j) (now : ℕ) (stop : Stop) → Tells old (λ parts. received parts.to_resolver) None
+      → CrewAnswers old (λ made past. taken_inside made past (stepped made past sources.Resolver now stop)) None
+  unfolding CrewStands parts_of stepped taken_inside
+  taken-no_resolver_mail old now stop tells = λ made past h. rw (← tells (parts_of made past) h) refl
 
-  pub taken-resolver : (crew : Crew S L J s l j) (now : ℕ) (stop : Stop) → CrewAnswers crew (λ made past. taken_inside made past (stepped made past sources.Resolver now stop)) None
-  unfolding stepped taken_inside
-  taken-resolver crew now stop = λ made past h. refl
+  pub takes-handler_mail : (old mid new : Crew S L J s l j) (message : HandlerMessage) (now : ℕ) (stop : Stop) (outcome : Outcome) (out : StepOut)
+      → Tells old (λ parts. resolver.handler_message parts.resolver parts.asked) (Some message)
+      → Works old mid after_handler_mail
+      → Works mid new (after_resolver (resolver.Stepped (resolver_inputs.Handler message) now) out)
+      → Ends mid (λ parts. cut_short stop (resolver.step_out parts.resolver parts.asked (resolver_inputs.Handler message) now)) outcome out
+      → CrewTakes old new (λ made past. stepped made past sources.Handler now stop)
+  unfolding CrewStands parts_of stepped by_resolver
+  takes-handler_mail old mid new message now stop outcome out tells takes works ends = λ made past h.
+      let whole : StepOut = resolver.step_out made.resolver (resolver.HandlerTaken ∷ resolver_past past) (resolver_inputs.Handler message) now in
+      let held = takes (parts_of made past) h in
+      let gives = (ends (after_handler_mail (parts_of made past)) held).1 in
+      rw (← tells (parts_of made past) h)
+      (rw (more-handler_mail made past message now stop (cut_short stop whole).0 (cut_short stop whole).1 (cut-held stop whole) (cut-tells stop whole (resolver-tells made.resolver (resolver.HandlerTaken ∷ resolver_past past) _ now)))
+      (rw (← gives) (works (after_handler_mail (parts_of made past)) held)))
 
-  pub taken-handler : (crew : Crew S L J s l j) (now : ℕ) (stop : Stop) → CrewAnswers crew (λ made past. taken_inside made past (stepped made past sources.Handler now stop)) None
-  unfolding stepped taken_inside
-  taken-handler crew now stop = λ made past h. refl
+  pub gives-handler_mail : (old mid : Crew S L J s l j) (message : HandlerMessage) (now : ℕ) (stop : Stop) (outcome : Outcome) (out : StepOut)
+      → Tells old (λ parts. resolver.handler_message parts.resolver parts.asked) (Some message)
+      → Works old mid after_handler_mail
+      → Ends mid (λ parts. cut_short stop (resolver.step_out parts.resolver parts.asked (resolver_inputs.Handler message) now)) outcome out
+      → CrewGives old (λ made past. stepped made past sources.Handler now stop) outcome out
+  unfolding CrewStands parts_of stepped by_resolver
+  gives-handler_mail old mid message now stop outcome out tells takes ends = λ made past h.
+      rw (← tells (parts_of made past) h) (ends (after_handler_mail (parts_of made past)) (takes (parts_of made past) h))
 
-  pub taken-fetch : (crew : Crew S L J s l j) (now : ℕ) (stop : Stop) → CrewAnswers crew (λ made past. taken_inside made past (stepped made past sources.Fetch now stop)) None
-  unfolding stepped taken_inside
-  taken-fetch crew now stop = λ made past h. refl
+  pub taken-handler_mail : (old mid : Crew S L J s l j) (message : HandlerMessage) (now : ℕ) (stop : Stop) (outcome : Outcome) (out : StepOut)
+      → Tells old (λ parts. resolver.handler_message parts.resolver parts.asked) (Some message)
+      → Works old mid after_handler_mail
+      → Ends mid (λ parts. cut_short stop (resolver.step_out parts.resolver parts.asked (resolver_inputs.Handler message) now)) outcome out
+      → CrewAnswers old (λ made past. taken_inside made past (stepped made past sources.Handler now stop)) (unless_idle outcome (Some (taken.Message (handed.Handler message))))
+  unfolding CrewStands parts_of stepped by_resolver taken_inside inside
+  taken-handler_mail old mid message now stop outcome out tells takes ends = λ made past h.
+      rw (← tells (parts_of made past) h) (rw (ends (after_handler_mail (parts_of made past)) (takes (parts_of made past) h)).0 refl)
+
+  pub takes-no_handler_mail : (old new : Crew S L J s l j) (now : ℕ) (stop : Stop) → Tells old (λ parts. resolver.handler_message parts.resolver parts.asked) None → Works old new (λ parts. parts)
+      → CrewTakes old new (λ made past. stepped made past sources.Handler now stop)
+  unfolding CrewStands parts_of stepped
+  takes-no_handler_mail old new now stop tells works = λ made past h.
+      rw (← tells (parts_of made past) h) (rw (more-handler_idle made past now stop) (works (parts_of made past) h))
+
+  pub gives-no_handler_mail : (old : Crew S L J s l j) (now : ℕ) (stop : Stop) → Tells old (λ parts. resolver.handler_message parts.resolver parts.asked) None
+      → CrewGives old (λ made past. stepped made past sources.Handler now stop) outcomes.Idle no_out
+  unfolding CrewStands parts_of stepped
+  gives-no_handler_mail old now stop tells = λ made past h. rw (← tells (parts_of made past) h) (refl, refl)
+
+  pub taken-no_handler_mail : (old : Crew S L J s l j) (now : ℕ) (stop : Stop) → Tells old (λ parts. resolver.handler_message parts.resolver parts.asked) None
+      → CrewAnswers old (λ made past. taken_inside made past (stepped made past sources.Handler now stop)) None
+  unfolding CrewStands parts_of stepped taken_inside
+  taken-no_handler_mail old now stop tells = λ made past h. rw (← tells (parts_of made past) h) refl
+
+  -- whether a deadline of the fetcher is reached
+  abbrev pub IsDue : Crew S L J s l j → ℕ → Bool → Type 0
+  IsDue crew now test = Tells crew (λ parts. is_reached now (resolver.deadline_after parts.resolver parts.asked)) test
+
+  pub takes-fetch : (old new : Crew S L J s l j) (now : ℕ) (stop : Stop) (test : Bool) (outcome : Outcome) (out : StepOut)
+      → test ≡ true → IsDue old now test
+      → Works old new (after_resolver (resolver.Stepped resolver_inputs.Timer now) out)
+      → Ends old (λ parts. cut_short stop (resolver.step_out parts.resolver parts.asked resolver_inputs.Timer now)) outcome out
+      → CrewTakes old new (λ made past. stepped made past sources.Fetch now stop)
+  unfolding CrewStands parts_of stepped by_resolver
+  takes-fetch old new now stop test outcome out e due works ends = λ made past h.
+      let whole : StepOut = resolver.step_out made.resolver (resolver_past past) resolver_inputs.Timer now in
+      let gives = (ends (parts_of made past) h).1 in
+      rw (← due (parts_of made past) h, e)
+      (rw (more-fetch made past now stop (cut_short stop whole).0 (cut_short stop whole).1 (cut-held stop whole) (cut-tells stop whole (resolver-tells made.resolver (resolver_past past) _ now)))
+      (rw (← gives) (works (parts_of made past) h)))
+
+  pub gives-fetch : (old : Crew S L J s l j) (now : ℕ) (stop : Stop) (test : Bool) (outcome : Outcome) (out : StepOut)
+      → test ≡ true → IsDue old now test
+      → Ends old (λ parts. cut_short stop (resolver.step_out parts.resolver parts.asked resolver_inputs.Timer now)) outcome out
+      → CrewGives old (λ made past. stepped made past sources.Fetch now stop) outcome out
+  unfolding CrewStands parts_of stepped by_resolver
+  gives-fetch old now stop test outcome out e due ends = λ made past h. rw (← due (parts_of made past) h, e) (ends (parts_of made past) h)
+
+  pub taken-fetch : (old : Crew S L J s l j) (now : ℕ) (stop : Stop) (test : Bool) (outcome : Outcome) (out : StepOut)
+      → test ≡ true → IsDue old now test
+      → Ends old (λ parts. cut_short stop (resolver.step_out parts.resolver parts.asked resolver_inputs.Timer now)) outcome out
+      → CrewAnswers old (λ made past. taken_inside made past (stepped made past sources.Fetch now stop)) (unless_idle outcome (Some taken.Deadline))
+  unfolding CrewStands parts_of stepped by_resolver taken_inside inside
+  taken-fetch old now stop test outcome out e due ends = λ made past h.
+      rw (← due (parts_of made past) h, e) (rw (ends (parts_of made past) h).0 refl)
+
+  pub takes-no_fetch : (crew : Crew S L J s l j) (now : ℕ) (stop : Stop) (test : Bool) → test ≡ false → IsDue crew now test
+      → CrewTakes crew crew (λ made past. stepped made past sources.Fetch now stop)
+  unfolding CrewStands parts_of stepped
+  takes-no_fetch crew now stop test e due = λ made past h.
+      rw (← due (parts_of made past) h, e) (rw (more-fetch_idle made past now stop) h)
+
+  pub gives-no_fetch : (crew : Crew S L J s l j) (now : ℕ) (stop : Stop) (test : Bool) → test ≡ false → IsDue crew now test
+      → CrewGives crew (λ made past. stepped made past sources.Fetch now stop) outcomes.Idle no_out
+  unfolding CrewStands parts_of stepped
+  gives-no_fetch crew now stop test e due = λ made past h. rw (← due (parts_of made past) h, e) (refl, refl)
+
+  pub taken-no_fetch : (crew : Crew S L J s l j) (now : ℕ) (stop : Stop) (test : Bool) → test ≡ false → IsDue crew now test
+      → CrewAnswers crew (λ made past. taken_inside made past (stepped made past sources.Fetch now stop)) None
+  unfolding CrewStands parts_of stepped taken_inside
+  taken-no_fetch crew now stop test e due = λ made past h. rw (← due (parts_of made past) h, e) refl
 
   -- ---- packets and answers
 
@@ -388,18 +504,26 @@ module _ {S L J : Type 0} {s : scheme.Ghosts S} {l : elector.Ghosts L} {j : jour
   unfolding CrewStands parts_of heard by_batcher
   gives-certificate old sender bytes now outcome out ends = λ made past h. ends (parts_of made past) h
 
-  pub takes-packet : (crew : Crew S L J s l j) (sender : ℕ) (bytes : List ℕ) (now : ℕ) → CrewTakes crew crew (λ made past. heard made past sender channels.Resolver bytes now)
-  unfolding CrewStands heard
-  takes-packet crew sender bytes now = λ made past h. rw (more-packet made past sender bytes now stops.None outcomes.Done) h
+  pub takes-packet : (old new : Crew S L J s l j) (sender : ℕ) (bytes : List ℕ) (now : ℕ) (outcome : Outcome) (out : StepOut)
+      → Works old new (after_resolver (resolver.Stepped (resolver_inputs.Packet sender bytes) now) out)
+      → Ends old (λ parts. cut_short stops.None (resolver.step_out parts.resolver parts.asked (resolver_inputs.Packet sender bytes) now)) outcome out
+      → CrewTakes old new (λ made past. heard made past sender channels.Resolver bytes now)
+  unfolding CrewStands parts_of heard by_resolver
+  takes-packet old new sender bytes now outcome out works ends = λ made past h.
+      let whole : StepOut = resolver.step_out made.resolver (resolver_past past) (resolver_inputs.Packet sender bytes) now in
+      rw (more-packet made past sender bytes now stops.None outcomes.Done whole (λ given. refl) (resolver-tells made.resolver (resolver_past past) _ now))
+      (rw (← (ends (parts_of made past) h).1) (works (parts_of made past) h))
 
   pub takes-answer : (old new : Crew S L J s l j) (number : ℕ) (answer : Answer) (now : ℕ) → Works old new (after_answer number answer)
       → CrewTakes old new (λ made past. replied number answer now)
   unfolding CrewStands
   takes-answer old new number answer now works = λ made past h. rw (more-replied made past number answer now) (works (parts_of made past) h)
 
-  pub gives-packet : (crew : Crew S L J s l j) (sender : ℕ) (bytes : List ℕ) (now : ℕ) → CrewGives crew (λ made past. heard made past sender channels.Resolver bytes now) outcomes.Done no_out
-  unfolding heard
-  gives-packet crew sender bytes now = λ made past h. (refl, refl)
+  pub gives-packet : (old : Crew S L J s l j) (sender : ℕ) (bytes : List ℕ) (now : ℕ) (outcome : Outcome) (out : StepOut)
+      → Ends old (λ parts. cut_short stops.None (resolver.step_out parts.resolver parts.asked (resolver_inputs.Packet sender bytes) now)) outcome out
+      → CrewGives old (λ made past. heard made past sender channels.Resolver bytes now) outcome out
+  unfolding CrewStands parts_of heard by_resolver
+  gives-packet old sender bytes now outcome out ends = λ made past h. ends (parts_of made past) h
 
   pub taken-packet : (crew : Crew S L J s l j) (sender : ℕ) (channel : Channel) (bytes : List ℕ) (now : ℕ)
       → CrewAnswers crew (λ made past. taken_inside made past (heard made past sender channel bytes now)) None

@@ -1,5 +1,5 @@
 -- Which configurations an engine takes, and what it is made with.
-use Rattle.std.specs.Prelude.{◌≡◌, ℕ, ◌^◌, ◌-◌, ◌&&◌, nat_lt, nat_le, Bool, true, not, List, Option, Some, None, if◌then◌else◌}
+use Rattle.std.specs.Prelude.{◌≡◌, ℕ, ◌^◌, ◌-◌, ◌&&◌, nat_lt, nat_le, Bool, true, not, List, Option, Some, None, unwrap_or, if◌then◌else◌}
 use Rattle.simplex_values.specs.declared.proposal.Subject.{Subject}
 use Rattle.simplex_values.specs.declared.round.Round.{Round}
 use Rattle.simplex_values.specs.declared.terms.Terms.{Terms}
@@ -75,6 +75,19 @@ module _ {S L : Type 0} where
           track = config.track;
           skip = config.skip;
           forward = config.forward;
+        };
+        resolver = record {
+          verifies = verifies config.scheme;
+          members = members config.scheme;
+          epoch = config.epoch;
+          term = (cuts config.elector).length;
+          handler_size = config.mailbox;
+          fetching = record {
+            me = unwrap_or (member config.scheme) 0;
+            n = members config.scheme;
+            fetch_timeout = config.fetch_timeout;
+            fetch_retry_delay = config.fetch_retry;
+          };
         };
         capacity = config.mailbox;
       }

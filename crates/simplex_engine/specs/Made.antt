@@ -1,8 +1,9 @@
--- What a configuration makes of the configurations of the voter and of the batcher.
+-- What a configuration makes of the configurations of the voter, of the batcher and of the resolver.
 use Rattle.std.specs.Prelude.{ℕ}
 use Rattle.simplex_values.specs.declared.terms.Terms.{Terms}
 use Rattle.simplex_voter.specs.declared.config.Config as voter
 use Rattle.simplex_batcher.specs.declared.config.Config as batcher
+use Rattle.simplex_resolver.specs.declared.config.Config as resolver
 use Rattle.simplex_engine.specs.declared.config.EngineConfig.{EngineConfig}
 use Rattle.simplex_engine.specs.Config.{budget, view_at}
 
@@ -38,4 +39,17 @@ module _ {S L : Type 0} where
         lookahead = record { length = (cuts config.elector).length; views = (cuts config.elector).lookahead };
         forward = config.forward;
         floor = view_at config.floor;
+      }
+
+  -- what the resolver is made with
+  abbrev pub resolver_config : (L → Terms) → EngineConfig S L → resolver.Config S
+  resolver_config cuts config =
+      record {
+        scheme = config.scheme;
+        epoch = config.epoch;
+        mailbox_size = config.mailbox;
+        handler_size = config.mailbox;
+        fetch_timeout = config.fetch_timeout;
+        fetch_retry_delay = config.fetch_retry;
+        term_length = (cuts config.elector).length;
       }

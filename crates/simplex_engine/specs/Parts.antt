@@ -12,13 +12,16 @@ use Rattle.simplex_messages.specs.Policies.{batcher_handled, voter_handled, reso
 use Rattle.simplex_steps.specs.Performed.{Performed}
 use Rattle.simplex_steps.specs.Batcher.{Made, Timed}
 use Rattle.simplex_steps.specs.VoterLife.{VoterMade, Given, Answered}
-use Rattle.simplex_steps.specs.Engine.{EngineMade, Did, for_batcher, for_voter, for_resolver, none_skipped, voter_in, voter_past, batcher_past, batcher_mail, voter_mail, resolver_mail}
+use Rattle.simplex_resolving.specs.Resolver as resolving
+use Rattle.simplex_steps.specs.Engine.{EngineMade, Did, for_batcher, for_voter, for_resolver, none_skipped, voter_in, voter_past, batcher_past, resolver_past, batcher_mail, voter_mail, resolver_mail}
 
 pub record Parts : Type 0 where
   pub voter : VoterMade
   pub given : List Given
   pub batcher : Made
   pub timed : List Timed
+  pub resolver : resolving.Made
+  pub asked : List resolving.Given
   pub to_batcher : Mail batcher_message.Message
   pub to_voter : Mail voter_message.Message
   pub to_resolver : Mail MailboxMessage
@@ -31,6 +34,8 @@ parts_of made past =
       given = voter_past past;
       batcher = made.batcher;
       timed = batcher_past past;
+      resolver = made.resolver;
+      asked = resolver_past past;
       to_batcher = batcher_mail made past;
       to_voter = voter_mail made past;
       to_resolver = resolver_mail made past;
@@ -44,6 +49,8 @@ first_parts made start =
       given = [];
       batcher = made.batcher;
       timed = [];
+      resolver = made.resolver;
+      asked = [];
       to_batcher = no_mail made.capacity;
       to_voter = no_mail made.capacity;
       to_resolver = no_mail made.capacity;
@@ -70,12 +77,27 @@ after_batcher timed out parts =
       to_voter = all_enqueued voter_handled parts.to_voter (filter_map for_voter out.handed);
     }
 
+-- once the resolver was given this, and handed on what it did. Messages for its own handler it keeps itself
+abbrev pub after_resolver : resolving.Given → StepOut → Parts → Parts
+after_resolver given out parts =
+    record parts {
+      asked = given ∷ parts.asked;
+      to_voter = all_enqueued voter_handled parts.to_voter (filter_map for_voter out.handed);
+    }
+
 -- once the front of a mailbox was taken
 abbrev pub after_batcher_mail : Parts → Parts
 after_batcher_mail parts = record parts { to_batcher = after_recv none_skipped parts.to_batcher }
 
 abbrev pub after_voter_mail : Parts → Parts
 after_voter_mail parts = record parts { to_voter = after_recv none_skipped parts.to_voter }
+
+abbrev pub after_resolver_mail : Parts → Parts
+after_resolver_mail parts = record parts { to_resolver = after_recv none_skipped parts.to_resolver }
+
+-- once the front of the mailbox of the resolver's handler was taken
+abbrev pub after_handler_mail : Parts → Parts
+after_handler_mail parts = record parts { asked = resolving.HandlerTaken ∷ parts.asked }
 
 -- how a step ended, and what it gave
 abbrev pub ended : Performed → Outcome × StepOut

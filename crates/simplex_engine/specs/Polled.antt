@@ -39,6 +39,7 @@ inside s (engine.Took sources.Propose message) = option_and_then (λ p. option_m
 inside s (engine.Took sources.Verify message) = option_and_then (λ v. option_map (λ a. taken.Answer v.number a) (answer_to s.answers v.number)) s.desk.verify
 inside s (engine.Took sources.Certify message) = option_map (λ given. taken.Answer given.0.number given.1) (first_answered s.desk.certify s.answers)
 inside s (engine.Took sources.Timer message) = Some taken.Deadline
+inside s (engine.Took sources.Fetch message) = Some taken.Deadline
 inside s (engine.Took source message) = option_map taken.Message message
 inside s _ = None
 

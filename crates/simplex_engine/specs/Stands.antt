@@ -11,6 +11,7 @@ use Rattle.simplex_steps.specs.VoterLife.{VoterMade, Given, place_of}
 use Rattle.simplex_steps.specs.Engine.{EngineMade, Did, runs}
 use Rattle.simplex_voter.specs.Actor as voter
 use Rattle.simplex_batcher.specs.Stands as batcher
+use Rattle.simplex_resolver.specs.Stands as resolver
 use Rattle.simplex_engine.specs.declared.boxes.Boxes.{Boxes}
 use Rattle.simplex_engine.specs.declared.crew.Crew.{Crew}
 use Rattle.simplex_engine.specs.declared.unstarted.Unstarted.{Unstarted}
@@ -47,6 +48,7 @@ module _ {S L J : Type 0} {s : scheme.Ghosts S} {l : elector.Ghosts L} {j : jour
   pub record Holds (crew : Crew S L J s l j) (parts : Parts) : Type 0 where
     pub voter : Placed crew parts.voter parts.given
     pub batcher : batcher.StandsFor s.verifies s.recovers s.members s.member crew.batcher parts.batcher parts.timed
+    pub resolver : resolver.StandsFor s.verifies s.members s.member crew.resolver parts.resolver parts.asked
     pub to_batcher : crew.boxes.batcher ≡ parts.to_batcher
     pub to_voter : crew.boxes.voter ≡ parts.to_voter
     pub to_resolver : crew.boxes.resolver ≡ parts.to_resolver
@@ -55,6 +57,7 @@ module _ {S L J : Type 0} {s : scheme.Ghosts S} {l : elector.Ghosts L} {j : jour
   pub record Fresh (crew : Crew S L J s l j) (made : EngineMade) (start : ℕ) : Type 0 where
     pub voter : voter.StandsFor s.attests l.elects j.sections j.order crew.voter (made.voter start) []
     pub batcher : batcher.StandsFor s.verifies s.recovers s.members s.member crew.batcher made.batcher []
+    pub resolver : resolver.StandsFor s.verifies s.members s.member crew.resolver made.resolver []
     pub boxes : crew.boxes ≡ empty_boxes made.capacity
 
   unfoldable pub CrewStands : Crew S L J s l j → EngineMade → List Did → Type 0
@@ -100,6 +103,7 @@ module _ {S L J : Type 0} {s : scheme.Ghosts S} {l : elector.Ghosts L} {j : jour
   pub record Waits (unstarted : Unstarted S L J s l j) (made : EngineMade) : Type 0 where
     pub voter : (start : ℕ) → made.voter start ≡ voter.voter_made s.attests s.member l.elects l.cuts unstarted.config start (j.sections unstarted.journal)
     pub batcher : batcher.StandsFor s.verifies s.recovers s.members s.member unstarted.batcher made.batcher []
+    pub resolver : resolver.StandsFor s.verifies s.members s.member unstarted.resolver made.resolver []
     pub boxes : unstarted.boxes ≡ empty_boxes made.capacity
 
   abbrev pub StageStands : Stage S L J s l j → EngineMade → List Did → Type 0

@@ -1,7 +1,7 @@
 //! What an engine is made with.
 ghost use Rattle.std.specs.Prelude.{◌≡◌, IfOk};
 ghost use Rattle.simplex_engine.specs.Config.{first_bad, is_time, is_skip, budget, view_at};
-ghost use Rattle.simplex_engine.specs.Made.{voter_config, batcher_config};
+ghost use Rattle.simplex_engine.specs.Made.{voter_config, batcher_config, resolver_config};
 
 use simplex_types::elector::Elector;
 use simplex_types::{
@@ -191,6 +191,26 @@ impl<S: Scheme + Keep + Drop, L: Elector> EngineConfig<S, L> {
             lookahead: Lookahead::new(&terms),
             forward: self.forward,
             floor: view_at(&self.floor),
+        })
+    }
+
+    /// What the resolver is made with, with a copy of the scheme.
+    pub(crate) fn for_resolver(
+        &self,
+        alloc: Global,
+    ) -> Result<simplex_resolver::Config<S>, AllocError>
+        ensures { IfOk result (λ config. config ≡ resolver_config L.cuts self.now) }
+    {
+        let scheme = self.scheme.keep(alloc)?;
+        let terms = self.elector.terms();
+        Ok(simplex_resolver::Config {
+            scheme,
+            epoch: self.epoch,
+            mailbox_size: self.mailbox,
+            handler_size: self.mailbox,
+            fetch_timeout: self.fetch_timeout,
+            fetch_retry_delay: self.fetch_retry,
+            term_length: terms.length,
         })
     }
 }

@@ -13,6 +13,7 @@ pub(crate) struct Crew<S: Scheme, L: Elector, J: Journal> {
     pub(crate) alloc: Global,
     pub(crate) voter: simplex_voter::Actor<S, L, J>,
     pub(crate) batcher: simplex_batcher::Actor<S>,
+    pub(crate) resolver: simplex_resolver::Actor<S>,
     pub(crate) boxes: Boxes,
     // true of any three: contracts read from a crew's type what its scheme, its elector and its journal do
     ghost by_scheme: { (s : S) → S.members s ≡ S.members s },

@@ -85,10 +85,13 @@ impl<S: Scheme + Keep + Drop, L: Elector + Drop, J: Journal + Drop> Engine<S, L,
         let boxes = Boxes::new(alloc, config.mailbox)?;
         let for_batcher = config.for_batcher(alloc)?;
         let batcher = simplex_batcher::Actor::new(alloc, for_batcher)?;
+        let for_resolver = config.for_resolver(alloc)?;
+        let resolver = simplex_resolver::Actor::new(alloc, for_resolver)?;
         let unstarted = Unstarted {
             config: config.into_voter(),
             journal,
             batcher,
+            resolver,
             boxes,
         };
         Ok(Engine {

@@ -28,7 +28,7 @@ pub enum TakenInside {
     Message(Handed),
     /// The application's answer to a request.
     Answer { request: u64, answer: Answer },
-    /// The voter's deadline.
+    /// A deadline of the voter, or of the resolver's fetcher.
     Deadline,
 }
 

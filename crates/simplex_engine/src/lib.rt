@@ -5,6 +5,7 @@
 //! stopped for good. Contracts say what a poll does by the engine's history, the list of all that it did.
 #![tactic(auto)]
 
+mod asking;
 mod boxes;
 mod config;
 mod crew;

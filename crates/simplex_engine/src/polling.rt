@@ -73,7 +73,7 @@ impl<S: Scheme + Drop, L: Elector + Drop, J: Journal + Drop> Crew<S, L, J> {
         match channel {
             Channel::Vote => self.hear_vote(sender, bytes, now, out),
             Channel::Certificate => self.hear_certificate(sender, bytes, now, out),
-            Channel::Resolver => Ok(polled(Outcome::Done, None)),
+            Channel::Resolver => self.hear_resolver(sender, bytes, now, out),
         }
     }
 
@@ -150,9 +150,9 @@ impl<S: Scheme + Drop, L: Elector + Drop, J: Journal + Drop> Crew<S, L, J> {
             StepSource::Propose => self.step_on_proposal(now, stop, out),
             StepSource::Verify => self.step_on_verify(now, stop, out),
             StepSource::Certify => self.step_on_certify(now, stop, out),
-            StepSource::Resolver => Ok(polled(Outcome::Idle, None)),
-            StepSource::Handler => Ok(polled(Outcome::Idle, None)),
-            StepSource::Fetch => Ok(polled(Outcome::Idle, None)),
+            StepSource::Resolver => self.step_on_resolver_mail(now, stop, out),
+            StepSource::Handler => self.step_on_handler_mail(now, stop, out),
+            StepSource::Fetch => self.step_on_fetcher(now, stop, out),
         }
     }
 

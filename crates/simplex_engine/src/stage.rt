@@ -41,6 +41,7 @@ pub(crate) fn crew_of<S: Scheme + Drop, L: Elector + Drop, J: Journal + Drop>(
         config,
         journal,
         batcher,
+        resolver,
         boxes,
     } = unstarted;
     let voter = simplex_voter::Actor::new(alloc, config, journal, now)?;
@@ -48,6 +49,7 @@ pub(crate) fn crew_of<S: Scheme + Drop, L: Elector + Drop, J: Journal + Drop>(
         alloc,
         voter,
         batcher,
+        resolver,
         boxes,
     })
 }

@@ -16,6 +16,7 @@ pub(crate) struct Unstarted<S: Scheme, L: Elector, J: Journal> {
     pub(crate) config: simplex_voter::Config<S, L>,
     pub(crate) journal: J,
     pub(crate) batcher: simplex_batcher::Actor<S>,
+    pub(crate) resolver: simplex_resolver::Actor<S>,
     pub(crate) boxes: Boxes,
     ghost limits: { IsConfigured S.members L.built_for L.cuts (state_config config) } by { Prim.hlevel props },
     ghost order: { J.order journal ≡ Some no_order },

@@ -10,8 +10,9 @@ ghost use Rattle.simplex_steps.specs.Batcher.{step_out};
 ghost use Rattle.simplex_steps.specs.Voter.{takes_answer};
 ghost use Rattle.simplex_steps.specs.VoterLife.{Stepped, place_of, step_given};
 ghost use Rattle.simplex_steps.specs.Engine.{EngineMade, begun, cut_short};
+ghost use Rattle.simplex_resolving.specs.Resolver as resolving;
 ghost use Rattle.simplex_voter.specs.Actor.{next_answer};
-ghost use Rattle.simplex_engine.specs.Parts.{after_voter, after_answer, after_batcher, ended};
+ghost use Rattle.simplex_engine.specs.Parts.{after_voter, after_answer, after_batcher, after_resolver, ended};
 ghost use Rattle.simplex_engine.specs.Polled.{answer_inside, unless_idle};
 ghost use Rattle.simplex_engine.specs.Stands.{Fresh, CrewStands, Works, Ends, Tells};
 
@@ -20,7 +21,9 @@ use crate::held::Held;
 use crate::input::{Polled, TakenInside};
 use simplex_journal::Journal;
 use simplex_mailbox::posted_are_enqueued;
-use simplex_messages::{BatcherInput, Outcome, StepOut, Stop, VoterInput, batcher, resolver};
+use simplex_messages::{
+    BatcherInput, Outcome, ResolverInput, StepOut, Stop, VoterInput, batcher, resolver,
+};
 use simplex_types::elector::Elector;
 use simplex_types::{Answer, Scheme, Sequence, View};
 use std::alloc::{AllocError, Global};
@@ -125,6 +128,29 @@ impl<S: Scheme + Drop, L: Elector + Drop, J: Journal + Drop> Crew<S, L, J> {
         Ok(Outcome::Done)
     }
 
+    /// A step of the resolver on this input, with its calls from the stop's on cut off. What it hands on is put into
+    /// the voter's mailbox once the step is known to be whole.
+    pub(crate) fn step_resolver(
+        &mut self,
+        input: ResolverInput,
+        now: u64,
+        stop: &Stop,
+        out: &mut StepOut,
+    ) -> Result<Outcome, AllocError>
+        requires clock { now < 2 ^ 63 }
+        requires empty { out.old ≡ no_out }
+        ensures stands { OnOk result (Works self.old self.new (after_resolver (resolving.Stepped input now) out.new)) }
+        ensures gives { IfOk result (λ outcome. Ends self.old (λ parts. cut_short stop.now (resolving.step_out parts.resolver parts.asked input now)) outcome out.new) }
+    {
+        let mut held = Held::new(self.alloc);
+        self.resolver.step(input, now, &mut held, out)?;
+        if cut_short(self.alloc, stop, out) {
+            return Ok(Outcome::Cut);
+        }
+        held.put_into(&mut self.boxes.voter)?;
+        Ok(Outcome::Done)
+    }
+
     /// Gives the voter an answer of the application. Tells whether it was taken.
     pub(crate) fn answer(&mut self, request: u64, answer: Answer) -> bool
         ensures taken { Tells self.old (λ parts. takes_answer (place_of parts.voter parts.given).standing request answer) result }
@@ -148,10 +174,12 @@ impl<S: Scheme + Drop, L: Elector + Drop, J: Journal + Drop> Crew<S, L, J> {
         let Crew {
             voter,
             batcher,
+            resolver,
             boxes,
             ..
         } = self;
         drop(batcher);
+        drop(resolver);
         drop(boxes);
         voter.into_journal()
     }

@@ -14,6 +14,7 @@ returns-clause-stands g c = λ e parts h. record {
     place = place-more _ _ _ _ h.voter.place;
   };
   batcher = h.batcher;
+  resolver = h.resolver;
   to_batcher = h.to_batcher;
   to_voter = h.to_voter;
   to_resolver = h.to_resolver;
@@ -27,6 +28,7 @@ returns-clause-stays g c = λ e parts h. record {
     place = place-refused _ _ _ _ (sym (c.answer.ensures.answer _ _ h.voter.stands) ∙ e) ∙ h.voter.place;
   };
   batcher = h.batcher;
+  resolver = h.resolver;
   to_batcher = h.to_batcher;
   to_voter = h.to_voter;
   to_resolver = h.to_resolver;

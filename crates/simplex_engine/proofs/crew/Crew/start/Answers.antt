@@ -16,6 +16,7 @@ returns-clause-stands g c = λ made h.
     (rw (← (c.in_ok-outcome.ensures.gives _ h.voter).1) (record {
       voter = record { given = Started now stop ∷ []; stands = c.in_ok-outcome.ensures.stands _ h.voter; place = refl };
       batcher = h.batcher;
+      resolver = h.resolver;
       to_batcher = rw (ap (λ (boxes : Boxes). boxes.batcher) h.boxes) at (c.posted_are_enqueued.ensures _ _ _ c.in_ok-outcome.ensures.batcher);
       to_voter = ap (λ (boxes : Boxes). boxes.voter) h.boxes;
       to_resolver = rw (ap (λ (boxes : Boxes). boxes.resolver) h.boxes) at (c.posted_are_enqueued-2.ensures _ _ _ c.in_ok-outcome.ensures.resolver);

@@ -8,6 +8,7 @@ unfolding all_enqueued
 returns-then-cut_short-clause-stands g c = λ parts h. record {
   voter = record { given = h.voter.given; stands = h.voter.stands; place = h.voter.place };
   batcher = c.in_ok-step.ensures.stands _ _ h.batcher;
+  resolver = h.resolver;
   to_batcher = h.to_batcher;
   to_voter = rw (c.cut_short.ensures.alone c.if-cut_short.true) h.to_voter;
   to_resolver = h.to_resolver;
@@ -24,6 +25,7 @@ returns-clause-stands g c = λ parts h.
     record {
       voter = record { given = h.voter.given; stands = h.voter.stands; place = h.voter.place };
       batcher = c.in_ok-step.ensures.stands _ _ h.batcher;
+      resolver = h.resolver;
       to_batcher = h.to_batcher;
       to_voter = rw (← h.to_voter, c.cut_short.ensures.same c.if-cut_short.false, ← held) c.in_ok-put_into.ensures;
       to_resolver = h.to_resolver;

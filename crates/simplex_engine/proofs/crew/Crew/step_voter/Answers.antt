@@ -11,6 +11,7 @@ returns-clause-stands g c = λ parts h. record {
     place = place-more _ _ _ _ h.voter.place;
   };
   batcher = h.batcher;
+  resolver = h.resolver;
   to_batcher = rw (← h.to_batcher) (c.posted_are_enqueued.ensures _ _ _ c.in_ok-outcome.ensures.batcher);
   to_voter = h.to_voter;
   to_resolver = rw (← h.to_resolver) (c.posted_are_enqueued-2.ensures _ _ _ c.in_ok-outcome.ensures.resolver);

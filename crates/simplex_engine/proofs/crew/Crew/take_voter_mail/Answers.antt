@@ -9,6 +9,7 @@ pub returns-clause-takes : goal.returns-clause-takes
 returns-clause-takes g c = λ parts h. record {
   voter = record { given = h.voter.given; stands = h.voter.stands; place = h.voter.place };
   batcher = h.batcher;
+  resolver = h.resolver;
   to_batcher = h.to_batcher;
   to_voter = rw (← h.to_voter) c.recv.ensures.after;
   to_resolver = h.to_resolver;
@@ -18,6 +19,7 @@ pub returns-clause-none : goal.returns-clause-none
 returns-clause-none g c = if-none c.recv.result (λ e parts h. record {
   voter = record { given = h.voter.given; stands = h.voter.stands; place = h.voter.place };
   batcher = h.batcher;
+  resolver = h.resolver;
   to_batcher = h.to_batcher;
   to_voter = c.recv.ensures.after ∙ e ∙ h.to_voter;
   to_resolver = h.to_resolver;

@@ -1,5 +1,5 @@
 use Rattle.std.proofs.Common.{◌∙◌, sym}
-use Rattle.simplex_engine.proofs.Stages.{poll-stands, poll-gives, poll-accepted, poll-refused, poll-stays, poll-fails, waiting-refuses, stopped-refuses}
+use Rattle.simplex_engine.proofs.Stages.{poll-stands, poll-gives, poll-accepted, poll-refused, poll-stays, poll-fails, poll-alive, waiting-refuses, stopped-refuses}
 use Rattle.simplex_engine.proofs.engine.Engine.poll.Goals as goal
 
 pub returns-in-Running-clause-stands : goal.returns-in-Running-clause-stands
@@ -31,3 +31,6 @@ returns-in-Waiting-clause-refused g c = λ _. waiting-refuses _ _ c.args.input (
 
 pub returns-in-Stopped-clause-refused : goal.returns-in-Stopped-clause-refused
 returns-in-Stopped-clause-refused g c = λ _. stopped-refuses _ _ c.args.input (sym c.replace.ensures.value ∙ c.in-Stopped.is)
+
+pub returns-in-Running-clause-alive : goal.returns-in-Running-clause-alive
+returns-in-Running-clause-alive g c = poll-alive _ _ c.poll-result.result c.stage_with.ensures

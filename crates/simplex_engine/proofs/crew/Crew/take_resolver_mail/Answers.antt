@@ -1,0 +1,26 @@
+use Rattle.std.proofs.Common.{◌∙◌}
+use Rattle.simplex_engine.proofs.Polls.{recv-none, if-none}
+use Rattle.simplex_engine.proofs.crew.Crew.take_resolver_mail.Goals as goal
+
+pub returns-clause-message : goal.returns-clause-message
+returns-clause-message g c = λ parts h. rw (← h.to_resolver) c.recv.ensures.message
+
+pub returns-clause-takes : goal.returns-clause-takes
+returns-clause-takes g c = λ parts h. record {
+  voter = record { given = h.voter.given; stands = h.voter.stands; place = h.voter.place };
+  batcher = h.batcher;
+  resolver = h.resolver;
+  to_batcher = h.to_batcher;
+  to_voter = h.to_voter;
+  to_resolver = rw (← h.to_resolver) c.recv.ensures.after;
+}
+
+pub returns-clause-none : goal.returns-clause-none
+returns-clause-none g c = if-none c.recv.result (λ e parts h. record {
+  voter = record { given = h.voter.given; stands = h.voter.stands; place = h.voter.place };
+  batcher = h.batcher;
+  resolver = h.resolver;
+  to_batcher = h.to_batcher;
+  to_voter = h.to_voter;
+  to_resolver = c.recv.ensures.after ∙ e ∙ h.to_resolver;
+}) (recv-none _ _ c.recv.result c.recv.ensures.message)

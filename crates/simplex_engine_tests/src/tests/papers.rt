@@ -1,0 +1,124 @@
+//! What members of four are given: certificates, and messages of the resolver channel.
+ghost use Rattle.std.specs.Prelude.{◌≡◌, ◌<◌, IfOk};
+
+use simplex_types::{
+    Attestation, Bytes, Certificate, Digest, Epoch, Finalization, Keyed, Notarization,
+    Nullification, Participant, Proposal, ResolverBody, ResolverMessage, Round, Scheme, Sequence,
+    Signatures, Subject, View,
+};
+use std::alloc::Global;
+use std::test::Fail;
+
+/// A certificate of a view.
+#[derive(Clone, Copy)]
+pub(super) enum Paper {
+    Notarized(u64),
+    Nullified(u64),
+    Finalized(u64),
+    /// A nullification of another epoch.
+    Foreign(u64),
+    /// A nullification that only two signed.
+    Thin(u64),
+}
+
+/// The signature of one of four members.
+fn attestation(alloc: Global, signer: u32, subject: &Subject) -> Result<Attestation, Fail>
+    requires { signer < 4 }
+    ensures { IfOk result (λ a. a.signer ≡ signer) }
+{
+    let scheme = Keyed::new(alloc, 7, 4, Some(Participant(signer)))?;
+    let signed = scheme.sign(subject).ok_or("it signs")?;
+    let signature = signed.signature;
+    Ok(Attestation {
+        signer: Participant(signer),
+        signature,
+    })
+}
+
+/// The signatures of three of four members.
+fn three(alloc: Global, subject: &Subject) -> Result<Signatures, Fail> {
+    let first = attestation(alloc, 0, subject)?;
+    let second = attestation(alloc, 1, subject)?;
+    let third = attestation(alloc, 2, subject)?;
+    let attestations = vec![in alloc; first, second, third]?;
+    Ok(Signatures::new(attestations))
+}
+
+/// The signatures of two of four members.
+fn two(alloc: Global, subject: &Subject) -> Result<Signatures, Fail> {
+    let first = attestation(alloc, 0, subject)?;
+    let second = attestation(alloc, 1, subject)?;
+    let attestations = vec![in alloc; first, second]?;
+    Ok(Signatures::new(attestations))
+}
+
+fn round(epoch: u64, view: u64) -> Round {
+    Round {
+        epoch: Epoch(epoch),
+        view: View(view),
+    }
+}
+
+fn block(view: u64) -> Proposal {
+    Proposal {
+        round: round(0, view),
+        parent: View(0),
+        payload: Digest([9; 32]),
+    }
+}
+
+pub(super) fn notarization(alloc: Global, view: u64) -> Result<Notarization, Fail> {
+    Ok(Notarization {
+        proposal: block(view),
+        certificate: three(alloc, &Subject::Notarize(block(view)))?,
+    })
+}
+
+fn finalization(alloc: Global, view: u64) -> Result<Finalization, Fail> {
+    Ok(Finalization {
+        proposal: block(view),
+        certificate: three(alloc, &Subject::Finalize(block(view)))?,
+    })
+}
+
+fn nullification(alloc: Global, epoch: u64, view: u64) -> Result<Nullification, Fail> {
+    Ok(Nullification {
+        round: round(epoch, view),
+        certificate: three(alloc, &Subject::Nullify(round(epoch, view)))?,
+    })
+}
+
+fn thin(alloc: Global, view: u64) -> Result<Nullification, Fail> {
+    Ok(Nullification {
+        round: round(0, view),
+        certificate: two(alloc, &Subject::Nullify(round(0, view)))?,
+    })
+}
+
+pub(super) fn certificate(alloc: Global, paper: Paper) -> Result<Certificate, Fail> {
+    match paper {
+        Paper::Notarized(view) => Ok(Certificate::Notarization(notarization(alloc, view)?)),
+        Paper::Nullified(view) => Ok(Certificate::Nullification(nullification(alloc, 0, view)?)),
+        Paper::Finalized(view) => Ok(Certificate::Finalization(finalization(alloc, view)?)),
+        Paper::Foreign(view) => Ok(Certificate::Nullification(nullification(alloc, 1, view)?)),
+        Paper::Thin(view) => Ok(Certificate::Nullification(thin(alloc, view)?)),
+    }
+}
+
+/// The bytes of the certificate.
+pub(super) fn bytes_of(alloc: Global, paper: Paper) -> Result<Bytes, Fail> {
+    let bytes = certificate(alloc, paper)?.encode(alloc)?;
+    Ok(Sequence::from_vec(bytes))
+}
+
+/// Bytes that are no message, and no certificate.
+pub(super) fn noise(alloc: Global) -> Result<Bytes, Fail> {
+    let bytes = vec![in alloc; 9u8]?;
+    Ok(Sequence::from_vec(bytes))
+}
+
+/// The bytes of a message of this number.
+pub(super) fn message(alloc: Global, id: u64, body: ResolverBody) -> Result<Bytes, Fail> {
+    let bytes = ResolverMessage { id, body }.encode(alloc)?;
+    Ok(Sequence::from_vec(bytes))
+}
