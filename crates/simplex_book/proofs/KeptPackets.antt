@@ -14,7 +14,8 @@ use Rattle.simplex_transcript.specs.declared.node.Ref.{Ref}
 use Rattle.simplex_transcript.specs.declared.setup.Setup.{Setup}
 use Rattle.simplex_run.specs.Life.{Noted}
 use Rattle.simplex_run.specs.Requests.{packet_at}
-use Rattle.simplex_run.specs.Entries.{node_of, nodes_for, packets_of}
+use Rattle.simplex_run.specs.Entries.{node_of}
+use Rattle.simplex_book.specs.Plain.{nodes_for, packets_of}
 use Rattle.simplex_book.specs.declared.packets.Sent.{Sent}
 use Rattle.simplex_book.specs.Packets.{sent_as, as_packet, sent_in, packet_in}
 use Rattle.simplex_book.specs.Events.{AreFrom}

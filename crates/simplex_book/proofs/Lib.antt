@@ -3,3 +3,4 @@ pub mod KeptPackets
 pub mod Asked
 pub mod Told
 pub mod Books
+pub mod Plainly

@@ -15,7 +15,8 @@ use Rattle.simplex_values.specs.Proposal.{is_same_round, is_same_proposal}
 use Rattle.simplex_wire.specs.declared.attestation.Attestation.{Attestation}
 use Rattle.simplex_wire.specs.declared.certificate.Finalization.{Finalization}
 use Rattle.simplex_run.specs.Life.{Noted}
-use Rattle.simplex_run.specs.Entries.{is_same_attestation, are_same_attestations, reports, was_reported}
+use Rattle.simplex_run.specs.Entries.{is_same_attestation, are_same_attestations, reports}
+use Rattle.simplex_book.specs.Plain.{was_reported}
 use Rattle.simplex_book.specs.declared.reported.Reported.{Reported}
 use Rattle.simplex_book.specs.Reported.{is_same, at_view, has_reported}
 

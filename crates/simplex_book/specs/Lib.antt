@@ -1,3 +1,4 @@
+pub mod Plain
 pub mod Packets
 pub mod Requests
 pub mod Reported

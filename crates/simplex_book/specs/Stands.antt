@@ -12,7 +12,8 @@ use Rattle.simplex_transcript.specs.declared.setup.Setup.{Setup}
 use Rattle.simplex_steps.specs.Engine.{Did}
 use Rattle.simplex_run.specs.Life.{Noted}
 use Rattle.simplex_run.specs.Requests.{is_start, packet_at}
-use Rattle.simplex_run.specs.Entries.{node_of, was_reported, entry_with}
+use Rattle.simplex_run.specs.Entries.{node_of}
+use Rattle.simplex_book.specs.Plain.{was_reported, entry_with}
 use Rattle.simplex_book.specs.declared.requests.Requests.{Requests}
 use Rattle.simplex_book.specs.declared.book.Book.{Book}
 use Rattle.simplex_book.specs.Packets.{packet_in}

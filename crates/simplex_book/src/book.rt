@@ -5,6 +5,7 @@ ghost use Rattle.std.specs.Prelude.{◌≡◌, ◌+◌, ◌<◌, ◌++◌, ◌�
 ghost use Rattle.std.specs.Option.{option_map};
 ghost use Rattle.simplex_run.specs.Life.{Noted};
 ghost use Rattle.simplex_run.specs.Entries as entries;
+ghost use Rattle.simplex_book.specs.Plain as plain;
 ghost use Rattle.simplex_run.specs.Requests as requests;
 ghost use Rattle.simplex_book.specs.Packets.{as_packet};
 ghost use Rattle.simplex_book.specs.Events.{IsOf, AreFrom, entry_of};
@@ -77,7 +78,7 @@ impl Book {
 
     /// Whether a node may start there: at genesis, or at a finalization that was reported.
     pub fn is_own_floor(&self, floor: &Option<Finalization>) -> bool
-        ensures { Answers self.now (λ before. entries.is_own_floor before floor.now) result }
+        ensures { Answers self.now (λ before. plain.is_own_floor before floor.now) result }
     {
         match floor {
             None => true,
@@ -128,7 +129,7 @@ impl Book {
     ) -> Result<Sequence<Packet>, AllocError>
         requires { member < members_in self.old }
         ensures count { members_in self.new ≡ members_in self.old }
-        ensures packets { IfOk result (λ packets. packets ≡ entries.packets_of setup.now (entries.node_of member) out.now.calls) }
+        ensures packets { IfOk result (λ packets. packets ≡ plain.packets_of setup.now (entries.node_of member) out.now.calls) }
         ensures stands { IfOk result (λ packets. TakesInStep self.old self.new member starts packets out.now) }
     {
         let packets = packets_of(alloc, setup, member, out.calls.as_slice())?;

@@ -7,6 +7,7 @@ ghost use Rattle.std.specs.Option.{option_map, option_and_then};
 ghost use Rattle.simplex_run.specs.Members.{is_same_node};
 ghost use Rattle.simplex_run.specs.Requests.{if_for};
 ghost use Rattle.simplex_run.specs.Entries as entries;
+ghost use Rattle.simplex_book.specs.Plain as plain;
 ghost use Rattle.simplex_book.specs.Packets.{sent_as, as_packet, sent_in, packet_in};
 
 use simplex_messages::Call;
@@ -44,7 +45,7 @@ pub(crate) fn packets_of(
     from: Participant,
     calls: &[Call],
 ) -> Result<Sequence<Packet>, AllocError>
-    ensures { IfOk result (λ packets. packets ≡ entries.packets_of setup.now (entries.node_of from) calls.now) }
+    ensures { IfOk result (λ packets. packets ≡ plain.packets_of setup.now (entries.node_of from) calls.now) }
 {
     let mut packets = Sequence::new(alloc);
     for call in calls {
@@ -111,7 +112,7 @@ fn packet_of(
     from: Participant,
     call: &Call,
 ) -> Result<Option<Packet>, AllocError>
-    ensures { IfOk result (λ packet. packet ≡ entries.packet_of setup.now (entries.node_of from) call.now) }
+    ensures { IfOk result (λ packet. packet ≡ plain.packet_of setup.now (entries.node_of from) call.now) }
 {
     match call {
         Call::Send {
@@ -135,7 +136,7 @@ fn nodes_for(
     from: Participant,
     recipients: &Recipients,
 ) -> Result<Sequence<Node>, AllocError>
-    ensures { IfOk result (λ nodes. nodes ≡ entries.nodes_for setup.now (entries.node_of from) recipients.now) }
+    ensures { IfOk result (λ nodes. nodes ≡ plain.nodes_for setup.now (entries.node_of from) recipients.now) }
 {
     match recipients {
         Recipients::All => others(alloc, setup.members.len() as u64, u64::from(from.0)),

@@ -12,9 +12,11 @@ use Rattle.simplex_transcript.specs.declared.setup.Setup.{Setup}
 use Rattle.simplex_transcript.specs.declared.refusal.RunError.{RunError}
 use Rattle.simplex_transcript.specs.declared.refusal.RunError.TheVariants as refusals
 use Rattle.simplex_engine.specs.declared.input.Input.{Input}
-use Rattle.simplex_run.specs.Members.{is_node, floor_of, engine_of}
+use Rattle.simplex_run.specs.Members.{floor_of, engine_of}
+use Rattle.simplex_book.specs.Plain.{is_node}
 use Rattle.simplex_run.specs.Life.{Noted, Life, Stopped, Running, clock_of, is_of, after, life_in, sections_in}
-use Rattle.simplex_run.specs.Entries.{node_of, noted_blank, on_start, on_crash, is_own_floor}
+use Rattle.simplex_run.specs.Entries.{node_of, noted_blank, on_crash}
+use Rattle.simplex_book.specs.Plain.{on_start, is_own_floor}
 use Rattle.simplex_book.specs.Events.{IsOf}
 use Rattle.simplex_network.specs.declared.host.Host.{Host}
 use Rattle.simplex_network.specs.NodeEngine.{NodeConfig, made_with}

@@ -8,7 +8,10 @@ use Rattle.simplex_transcript.specs.declared.field.Field.{Field}
 use Rattle.simplex_transcript.specs.declared.setup.Setup.{Setup}
 use Rattle.simplex_run.specs.Setups as setups
 use Rattle.simplex_run.specs.Setups.{first_bad, is_within, most_members, is_stall}
-use Rattle.simplex_run.specs.Members.{engine_of, rules_of, batcher_of, skip_budget, view_at}
+use Rattle.simplex_run.specs.Members.{engine_of, rules_of, batcher_of, resolver_of, skip_budget, view_at}
+use Rattle.simplex_run.specs.Run.{is_taken}
+use Rattle.simplex_run.proofs.Honest.{taken_honest, taken_unscripted, attests_honest, recovers_honest, elects_in_turn}
+use Rattle.simplex_types.specs.Keyed.{keyed_attests, keyed_verifies}
 use Rattle.simplex_types.specs.declared.floor.Floor.{Floor}
 use Rattle.simplex_types.specs.declared.floor.Floor.TheVariants as floors
 use Rattle.simplex_journal.specs.Journal.{Section}
@@ -172,11 +175,12 @@ view_same : (floor : Floor) → configs.view_at floor ≡ view_at floor
 view_same (floors.Genesis payload) = refl
 view_same (floors.Finalized f) = refl
 
-pub setup-made : (config : NodeConfig) (setup : Setup) (member : ℕ) (floor : Floor) (sections : List Section) → IsSetUp config setup
+pub setup-made : (config : NodeConfig) (setup : Setup) (member : ℕ) (floor : Floor) (sections : List Section) → is_taken setup ≡ true → IsSetUp config setup
     → config.floor ≡ floor → config.scheme.key_base ≡ setup.key_base → config.scheme.participants ≡ length setup.members → config.scheme.me ≡ Some member
     → made_with config sections ≡ engine_of setup member floor sections
-unfolding engine_made engine_of rules_of batcher_of
-setup-made config setup member floor sections is at base count me =
+unfolding engine_made engine_of rules_of batcher_of resolver_of
+setup-made config setup member floor sections taken is at base count me =
+    let honest = taken_honest setup taken in
     rw (
       is.epoch,
       is.leader_timeout,
@@ -185,6 +189,8 @@ setup-made config setup member floor sections is at base count me =
       is.retention,
       is.skip,
       is.mailbox,
+      is.fetch_timeout,
+      is.fetch_retry,
       is.forward,
       is.track,
       is.handoff,
@@ -195,4 +201,10 @@ setup-made config setup member floor sections is at base count me =
       base,
       count,
       me,
-    ) (rw (budget_same setup setup.skip, view_same floor) refl)
+    ) (rw (
+      budget_same setup setup.skip,
+      view_same floor,
+      attests_honest setup member (keyed_attests setup.key_base (Some member)) (keyed_verifies setup.key_base (length setup.members)) honest,
+      recovers_honest setup member honest,
+      elects_in_turn setup (taken_unscripted setup taken),
+    ) refl)

@@ -8,3 +8,4 @@ pub mod Runs
 pub mod Good
 pub mod Refusals
 pub mod Networks
+pub mod Standing

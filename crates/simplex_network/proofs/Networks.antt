@@ -20,17 +20,19 @@ use Rattle.simplex_transcript.specs.declared.refusal.RunError.TheVariants as ref
 use Rattle.simplex_steps.specs.Engine.{Did, begun}
 use Rattle.simplex_engine.specs.declared.input.Input.{Input}
 use Rattle.simplex_engine.specs.declared.input.TakenInside.{TakenInside}
-use Rattle.simplex_run.specs.Members.{is_node, floor_of, engine_of}
+use Rattle.simplex_run.specs.Members.{floor_of, engine_of}
+use Rattle.simplex_book.specs.Plain.{is_node}
 use Rattle.simplex_run.specs.Life.{Noted, Life, Stopped, clock_of, life_in, sections_in}
 use Rattle.simplex_run.specs.Requests.{is_start}
-use Rattle.simplex_run.specs.Entries.{node_of, noted_blank, blank_entry, entry_with, entry_of}
+use Rattle.simplex_run.specs.Entries.{node_of, noted_blank, blank_entry}
+use Rattle.simplex_book.specs.Plain.{entry_with, entry_of}
 use Rattle.simplex_book.specs.Events.{IsOf}
 use Rattle.simplex_book.specs.Stands.{BookStands}
 use Rattle.simplex_network.specs.declared.network.Network.{Network}
 use Rattle.simplex_network.specs.NodeEngine.{NodeEngine, NodeConfig, made_with}
 use Rattle.simplex_network.specs.Lives.{goes_on, view_in, after_poll, IsPolled, IsStarted, after_start, changed}
 use Rattle.simplex_network.specs.Polls.{on_poll, IsInput, noted_start, named, member_in}
-use Rattle.simplex_network.specs.Stands.{StandsFor, HostsStand, EngineOf, lives_in, entered}
+use Rattle.simplex_network.specs.Stands.{Keeps, HostsStand, EngineOf, lives_in, entered}
 use Rattle.simplex_network.proofs.Polled.{life-goes, poll-noted, poll-entered}
 use Rattle.simplex_network.proofs.Events.{input-of, lives-polled, lives-started, start-of, lives-crashed, lives-ticked}
 
@@ -43,7 +45,7 @@ both_entries noted entry r is enters = same_entry noted.entry entry (ap (λ x. e
 
 -- a network that is seen apart and put together
 pub network-same : (old new : Network) (setup : Setup) (before : List Noted) → new.setup ≡ old.setup → new.failed ≡ old.failed → new.clock ≡ old.clock
-    → new.hosts ≡ old.hosts → new.book ≡ old.book → StandsFor old setup before → StandsFor new setup before
+    → new.hosts ≡ old.hosts → new.book ≡ old.book → Keeps old setup before → Keeps new setup before
 network-same old new setup before same_setup same_failed same_clock same_hosts same_book s =
     record {
       given = same_setup ∙ s.given;
@@ -55,12 +57,12 @@ network-same old new setup before same_setup same_failed same_clock same_hosts s
 
 -- a network of which no event was made
 pub network-new : (network : Network) (setup : Setup) → network.setup ≡ setup → network.failed ≡ false → network.clock ≡ 0
-    → HostsStand network.hosts.list.items (λ _. Stopped []) → BookStands network.book [] → StandsFor network setup []
+    → HostsStand network.hosts.list.items (λ _. Stopped []) → BookStands network.book [] → Keeps network setup []
 unfolding clock_of life_in
 network-new network setup given alive clock hosts book = record { given = given; alive = alive; clock = clock; hosts = hosts; book = book }
 
 -- what the view of a member's engine is found to be
-pub network-finds : (network : Network) (setup : Setup) (before : List Noted) (node : Node) (member : ℕ) (found : Option ℕ) → StandsFor network setup before
+pub network-finds : (network : Network) (setup : Setup) (before : List Noted) (node : Node) (member : ℕ) (found : Option ℕ) → Keeps network setup before
     → node ≡ node_of member
     → ((lives : ℕ → Life) → HostsStand network.hosts.list.items lives → goes_on (lives member) ≡ true → found ≡ view_in (lives member))
     → found ≡ view_in (life_in setup before node)
@@ -73,7 +75,7 @@ shown_by : (member other : ℕ) (b : Bool) (life : Life) (shown : Option NodeEng
 shown_by member other true life shown is it = it
 shown_by member other false life shown is it = absurd (cc)
 
-pub network-shows : (network : Network) (setup : Setup) (before : List Noted) (node : Node) (member : ℕ) (shown : Option NodeEngine) → StandsFor network setup before
+pub network-shows : (network : Network) (setup : Setup) (before : List Noted) (node : Node) (member : ℕ) (shown : Option NodeEngine) → Keeps network setup before
     → Some member ≡ member_in network.setup node → node ≡ node_of member
     → ((lives : ℕ → Life) → HostsStand network.hosts.list.items lives → EngineOf (lives member) shown)
     → EngineOf (if is_node setup node then life_in setup before node else Stopped []) shown
@@ -85,13 +87,13 @@ out_by : (other : ℕ) (b : Bool) (life : Life) → None ≡ (if b then Some oth
 out_by other true life is = absurd (cc)
 out_by other false life is = tt
 
-pub network-hides : (network : Network) (setup : Setup) (before : List Noted) (node : Node) → StandsFor network setup before
+pub network-hides : (network : Network) (setup : Setup) (before : List Noted) (node : Node) → Keeps network setup before
     → None ≡ member_in network.setup node → EngineOf (if is_node setup node then life_in setup before node else Stopped []) None
 network-hides network setup before node s out = out_by node.member (is_node setup node) (life_in setup before node) (rw s.given at out)
 
 -- the entry of an input of a member's engine
 pub network-entered : (old : Network) (setup : Setup) (before : List Noted) (event : Event) (member : ℕ) (input : Input) (stop : Stop) (outside took shown : Option Took)
-    (outcome : Outcome) (taken : Option TakenInside) (out : StepOut) (entry : Entry) → StandsFor old setup before
+    (outcome : Outcome) (taken : Option TakenInside) (out : StepOut) (entry : Entry) → Keeps old setup before
     → ((lives : ℕ → Life) → HostsStand old.hosts.list.items lives → IsPolled (lives member) input old.clock stop outcome taken out)
     → ((before : List Noted) → BookStands old.book before → took ≡ option_and_then (named before (node_of member)) taken)
     → shown ≡ option_or outside took
@@ -106,7 +108,7 @@ network-entered old setup before event member input stop outside took shown outc
 
 -- the entry of a start
 pub network-begun : (old : Network) (setup : Setup) (before : List Noted) (member : ℕ) (floor : Option Finalization) (stop : Stop) (config : NodeConfig)
-    (outcome : Outcome) (out : StepOut) (entry : Entry) → StandsFor old setup before
+    (outcome : Outcome) (out : StepOut) (entry : Entry) → Keeps old setup before
     → ((sections : List Section) → made_with config sections ≡ engine_of old.setup member (floor_of old.setup floor) sections)
     → ((lives : ℕ → Life) → HostsStand old.hosts.list.items lives → IsStarted (made_with config (sections_in (lives member))) old.clock stop outcome out)
     → ((before : List Noted) (did : Did) → BookStands old.book before → did.out ≡ out → did.outcome ≡ outcome
@@ -123,13 +125,13 @@ network-begun old setup before member floor stop config outcome out entry s made
 pub network-polled : (old new : Network) (setup : Setup) (before : List Noted) (event : Event) (noted : Noted) (member : ℕ) (input : Input) (stop : Stop) (outside : Option Took)
     (outcome : Outcome) (taken : Option TakenInside) (out : StepOut) (entry : Entry)
     → new.setup ≡ old.setup → new.failed ≡ old.failed → new.clock ≡ old.clock
-    → StandsFor old setup before → IsInput event member
+    → Keeps old setup before → IsInput event member
     → on_poll setup before event member input stop outside (lives_in setup before member) ≡ Ok noted
     → entered (on_poll setup before event member input stop outside (lives_in setup before member)) ≡ Ok entry
     → ((lives : ℕ → Life) → HostsStand old.hosts.list.items lives → IsPolled (lives member) input old.clock stop outcome taken out)
     → ((lives : ℕ → Life) → HostsStand old.hosts.list.items lives → HostsStand new.hosts.list.items (changed (node_of member) (after_poll input old.clock stop) lives))
     → ((before : List Noted) (noted : Noted) → noted.entry ≡ entry → IsOf noted.event member false → BookStands old.book before → BookStands new.book (noted ∷ before))
-    → StandsFor new setup (noted ∷ before)
+    → Keeps new setup (noted ∷ before)
 network-polled old new setup before event noted member input stop outside outcome taken out entry same_setup same_failed same_clock s is noted_is entry_is gives moves keeps =
     let poll = poll-noted setup before event member input stop outside outcome taken out (clock_of before) (lives_in setup before member) noted
     (rw (s.clock, s.given) at (gives (lives_in old.setup before) s.hosts)) noted_is in
@@ -143,13 +145,13 @@ network-polled old new setup before event noted member input stop outside outcom
     }
 
 pub network-started : (old new : Network) (setup : Setup) (before : List Noted) (member : ℕ) (floor : Option Finalization) (stop : Stop) (config : NodeConfig) (entry : Entry)
-    → new.setup ≡ old.setup → new.failed ≡ old.failed → new.clock ≡ old.clock → StandsFor old setup before
+    → new.setup ≡ old.setup → new.failed ≡ old.failed → new.clock ≡ old.clock → Keeps old setup before
     → ((sections : List Section) → made_with config sections ≡ engine_of old.setup member (floor_of old.setup floor) sections)
     → ((lives : ℕ → Life) → HostsStand old.hosts.list.items lives
     → HostsStand new.hosts.list.items (changed (node_of member) (λ life. after_start (made_with config (sections_in life)) old.clock stop) lives))
     → (noted_start setup before member floor stop (lives_in setup before member)).entry ≡ entry
     → ((before : List Noted) (noted : Noted) → noted.entry ≡ entry → IsOf noted.event member true → BookStands old.book before → BookStands new.book (noted ∷ before))
-    → StandsFor new setup (noted_start setup before member floor stop (lives_in setup before member) ∷ before)
+    → Keeps new setup (noted_start setup before member floor stop (lives_in setup before member) ∷ before)
 unfolding clock_of
 network-started old new setup before member floor stop config entry same_setup same_failed same_clock s made moves entry_is keeps =
     record {
@@ -162,12 +164,12 @@ network-started old new setup before member floor stop config entry same_setup s
     }
 
 pub network-crashed : (old new : Network) (setup : Setup) (before : List Noted) (noted : Noted) (member : ℕ) (entry : Entry)
-    → new.setup ≡ old.setup → new.failed ≡ old.failed → new.clock ≡ old.clock → StandsFor old setup before
+    → new.setup ≡ old.setup → new.failed ≡ old.failed → new.clock ≡ old.clock → Keeps old setup before
     → noted ≡ noted_blank before (events.Crash (node_of member)) (Some (node_of member))
     → ((lives : ℕ → Life) → HostsStand old.hosts.list.items lives → HostsStand new.hosts.list.items (changed (node_of member) (λ life. Stopped (crashed 0 (sections_in life))) lives))
     → entry ≡ blank_entry (length before + 1) (Some (node_of member))
     → ((before : List Noted) (noted : Noted) → noted.entry ≡ entry → is_start noted.event ≡ false → BookStands old.book before → BookStands new.book (noted ∷ before))
-    → StandsFor new setup (noted ∷ before)
+    → Keeps new setup (noted ∷ before)
 unfolding clock_of
 network-crashed old new setup before noted member entry same_setup same_failed same_clock s is moves entry_is keeps =
     rw is (record {
@@ -179,11 +181,11 @@ network-crashed old new setup before noted member entry same_setup same_failed s
     })
 
 pub network-ticked : (old new : Network) (setup : Setup) (before : List Noted) (noted : Noted) (ms : ℕ) (entry : Entry)
-    → new.setup ≡ old.setup → new.failed ≡ old.failed → new.hosts ≡ old.hosts → new.clock ≡ old.clock + ms → StandsFor old setup before
+    → new.setup ≡ old.setup → new.failed ≡ old.failed → new.hosts ≡ old.hosts → new.clock ≡ old.clock + ms → Keeps old setup before
     → noted ≡ noted_blank before (events.Tick ms) None
     → entry ≡ blank_entry (length before + 1) None
     → ((before : List Noted) (noted : Noted) → noted.entry ≡ entry → is_start noted.event ≡ false → BookStands old.book before → BookStands new.book (noted ∷ before))
-    → StandsFor new setup (noted ∷ before)
+    → Keeps new setup (noted ∷ before)
 unfolding clock_of
 network-ticked old new setup before noted ms entry same_setup same_failed same_hosts later s is entry_is keeps =
     rw is (record {

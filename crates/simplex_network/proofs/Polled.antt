@@ -27,10 +27,11 @@ use Rattle.simplex_engine.specs.declared.error.PollError.{PollError}
 use Rattle.simplex_engine.specs.declared.error.PollError.TheVariants as errors
 use Rattle.simplex_engine.specs.Polled.{polled, refusal_of, is_memory}
 use Rattle.simplex_network.specs.Answer as network
-use Rattle.simplex_run.specs.Members.{is_node}
+use Rattle.simplex_book.specs.Plain.{is_node}
 use Rattle.simplex_run.specs.Life.{Noted, Life, Stopped, Running, clock_of, is_of, after, going_on, went_on, life_in}
 use Rattle.simplex_run.specs.Requests.{request_number, packet_for}
-use Rattle.simplex_run.specs.Entries.{node_of, noted_with, entry_with, taken_of, took_of, on_packet, on_deliver, on_step, on_answer, entry_of}
+use Rattle.simplex_run.specs.Entries.{node_of, taken_of, took_of}
+use Rattle.simplex_book.specs.Plain.{noted_with, entry_with, on_packet, on_deliver, on_step, on_answer, entry_of}
 use Rattle.simplex_book.specs.declared.packets.Sent.{Sent}
 use Rattle.simplex_book.specs.Packets.{as_packet}
 use Rattle.simplex_network.specs.Lives.{goes_on, view_in, refusal_in, after_poll, IsPolled, changed, with_view, running_in}

@@ -13,10 +13,11 @@ use Rattle.simplex_transcript.specs.declared.node.Ref.{Ref}
 use Rattle.simplex_transcript.specs.declared.setup.Setup.{Setup}
 use Rattle.simplex_transcript.specs.declared.refusal.RunError.{RunError}
 use Rattle.simplex_transcript.specs.declared.refusal.RunError.TheVariants as refusals
-use Rattle.simplex_run.specs.Members.{is_node}
+use Rattle.simplex_book.specs.Plain.{is_node}
 use Rattle.simplex_run.specs.Life.{Noted, Life, life_in}
 use Rattle.simplex_run.specs.Requests.{request_number, packet_for}
-use Rattle.simplex_run.specs.Entries.{node_of, noted_blank, is_own_floor, on_start, entry_of}
+use Rattle.simplex_run.specs.Entries.{node_of, noted_blank}
+use Rattle.simplex_book.specs.Plain.{is_own_floor, on_start, entry_of}
 use Rattle.simplex_book.specs.declared.packets.Sent.{Sent}
 use Rattle.simplex_book.specs.Packets.{as_packet}
 use Rattle.simplex_network.specs.Lives.{view_in, running_in}

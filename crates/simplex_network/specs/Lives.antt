@@ -15,7 +15,8 @@ use Rattle.simplex_engine.specs.declared.input.TakenInside.{TakenInside}
 use Rattle.simplex_engine.specs.declared.error.PollError.{PollError}
 use Rattle.simplex_engine.specs.declared.error.PollError.TheVariants as errors
 use Rattle.simplex_engine.specs.Polled.{polled, refusal_of, taken_inside}
-use Rattle.simplex_run.specs.Members.{is_node, is_same_node}
+use Rattle.simplex_run.specs.Members.{is_same_node}
+use Rattle.simplex_book.specs.Plain.{is_node}
 use Rattle.simplex_run.specs.Life.{Life, Stopped, Running, going_on}
 use Rattle.simplex_run.specs.Entries.{node_of}
 

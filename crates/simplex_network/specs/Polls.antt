@@ -18,10 +18,12 @@ use Rattle.simplex_engine.specs.declared.input.TakenInside.TheVariants as inside
 use Rattle.simplex_engine.specs.declared.error.PollError.{PollError}
 use Rattle.simplex_engine.specs.declared.error.PollError.TheVariants as errors
 use Rattle.simplex_engine.specs.Polled.{polled, refusal_of}
-use Rattle.simplex_run.specs.Members.{is_node, floor_of, engine_of}
+use Rattle.simplex_run.specs.Members.{floor_of, engine_of}
+use Rattle.simplex_book.specs.Plain.{is_node}
 use Rattle.simplex_run.specs.Life.{Noted, Life, Stopped, Running, clock_of, after, went_on, sections_in}
 use Rattle.simplex_run.specs.Requests.{request_place}
-use Rattle.simplex_run.specs.Entries.{node_of, noted_with, took_of}
+use Rattle.simplex_run.specs.Entries.{node_of, took_of}
+use Rattle.simplex_book.specs.Plain.{noted_with}
 use Rattle.simplex_book.specs.Events.{IsOf}
 
 -- the member whose node it is

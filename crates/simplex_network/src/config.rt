@@ -1,7 +1,8 @@
 //! What engines are made with.
-ghost use Rattle.std.specs.Prelude.{◌≡◌, ◌<◌, ◌≤◌, ◌^◌, ℕ, List, length, IfOk, IfSome, IsNone, None, Some};
+ghost use Rattle.std.specs.Prelude.{◌≡◌, ◌<◌, ◌≤◌, ◌^◌, ℕ, true, List, length, IfOk, IfSome, IsNone, None, Some};
 ghost use Rattle.simplex_journal.specs.Journal.{Section};
 ghost use Rattle.simplex_run.specs.Members as members;
+ghost use Rattle.simplex_run.specs.Run as runs;
 ghost use Rattle.simplex_run.specs.Setups as setups;
 ghost use Rattle.simplex_engine.specs.Config.{first_bad};
 ghost use Rattle.simplex_network.specs.NodeEngine.{made_with, terms_in, IsSetUp};
@@ -27,6 +28,7 @@ pub(crate) fn config_of(
     floor: &Option<Finalization>,
 ) -> Result<NodeConfig, AllocError>
     requires good { IsNone (setups.first_bad setup.now) }
+    requires taken { runs.is_taken setup.now ≡ true }
     requires below { member < length setup.now.members }
     ensures built { IfOk result (λ config. config.elector.members ≡ config.scheme.participants) }
     ensures lookahead { IfOk result (λ config. config.elector.terms.lookahead ≤ 2 ^ 32) }

@@ -2,9 +2,9 @@
 ghost use Rattle.std.specs.Prelude.{◌≡◌, ◌&&◌, ◌<◌, ◌-◌, ◌*◌, nat_lt, length, IfSome, IsNone};
 ghost use Rattle.std.specs.List.{list_all};
 ghost use Rattle.simplex_values.specs.Terms.{greatest_view};
-ghost use Rattle.simplex_run.specs.Members as members;
 ghost use Rattle.simplex_run.specs.Entries.{node_of};
 ghost use Rattle.simplex_run.specs.Setups.{first_bad};
+ghost use Rattle.simplex_book.specs.Plain as plain;
 ghost use Rattle.simplex_network.specs.Polls.{member_in};
 
 use simplex_transcript::{Node, Setup};
@@ -34,13 +34,13 @@ pub(crate) fn place_of(member: Participant) -> usize
 
 /// Whether the member and all nodes exist.
 pub(crate) fn exist(setup: &Setup, member: u64, nodes: &[Node]) -> bool
-    ensures { result ≡ (nat_lt member (length setup.now.members) && list_all (members.is_node setup.now) nodes.now) }
+    ensures { result ≡ (nat_lt member (length setup.now.members) && list_all (plain.is_node setup.now) nodes.now) }
 {
     member < setup.members.len() as u64 && are_nodes(setup, nodes)
 }
 
 fn are_nodes(setup: &Setup, nodes: &[Node]) -> bool
-    ensures { result ≡ list_all (members.is_node setup.now) nodes.now }
+    ensures { result ≡ list_all (plain.is_node setup.now) nodes.now }
 {
     nodes.iter().all(|node| is_node(setup, *node))
 }
@@ -57,7 +57,7 @@ pub(crate) fn is_at_end(setup: &Setup, view: View) -> bool
 }
 
 fn is_node(setup: &Setup, node: Node) -> bool
-    ensures { result ≡ members.is_node setup.now node }
+    ensures { result ≡ plain.is_node setup.now node }
 {
     node.member < setup.members.len() as u64 && node.half == 0
 }

@@ -2,6 +2,7 @@
 #![tactic(auto, unfolding(crate::specs::Stands::has_failed))]
 
 ghost use Rattle.std.specs.Prelude.{◌≡◌, ◌↔◌, ◌<◌, ◌^◌, ◌||◌, [], true, false, length, vec_len, IfOk, IfErr, IsErr, IsErrOf, IsTrue, IsNone, None};
+ghost use Rattle.simplex_run.specs.Run as runs;
 ghost use Rattle.simplex_run.specs.Setups as setups;
 ghost use Rattle.simplex_book.specs.Stands.{members_in};
 
@@ -31,6 +32,7 @@ pub struct Network {
     clock: u64,
     failed: bool,
     ghost good: { IsNone (setups.first_bad setup) },
+    ghost taken: { runs.is_taken setup ≡ true },
     ghost seats: { vec_len hosts.list ≡ length setup.members },
     ghost desks: { members_in book ≡ length setup.members },
     ghost early: { clock < 2 ^ 63 },
@@ -39,10 +41,11 @@ pub struct Network {
 impl Network {
     ghost use Rattle.std.specs.Option.{option_map};
     ghost use Rattle.simplex_network.specs.Answer.{is_memory, is_failed, wants_memory, setup_refusal, IsRefused};
-    ghost use Rattle.simplex_network.specs.Stands.{StandsFor, has_failed, ShowsEngine, Grows, Enters, Refuses, Stays, StartGrows, StartEnters, PollGrows, PollEnters, PollRefuses, RunsAs};
+    ghost use Rattle.simplex_network.specs.Stands.{Keeps, StandsFor, has_failed, ShowsEngine, ShowsPlainly, Grows, GrowsPlainly, Enters, EntersPlainly, Refuses, RefusesPlainly, Stays, StaysPlainly, StartGrows, StartEnters, PollGrows, PollEnters, PollRefuses, RunsAs};
     ghost use Rattle.simplex_run.specs.Entries.{node_of};
 
     /// A network of stopped nodes, whose clock is 0.
+    #[tactic(auto, using(crate::proofs::Standing::standing))]
     pub fn new(alloc: Global, setup: &Setup) -> Result<Network, RunError>
         ensures stands { IfOk result (λ network. StandsFor network setup.now []) }
         ensures allowed { IfOk result (λ _. setup_refusal setup.now ≡ None) }
@@ -61,6 +64,7 @@ impl Network {
     }
 
     /// Makes an event, or refuses it and stays as it is. Behind want of memory it refuses all.
+    #[tactic(auto, unfolding(crate::specs::Stands::has_failed), using(crate::proofs::Standing::standing))]
     pub fn apply(&mut self, event: &Event) -> Result<Entry, RunError>
         ensures stands { IfOk result (λ _. Grows self.old self.new event.now) }
         ensures entry { IfOk result (λ entry. Enters self.old event.now entry) }
@@ -73,25 +77,34 @@ impl Network {
             return Err(RunError::Failed);
         }
         match self.make(event) {
+            Ok(entry) => Ok(entry),
             Err(RunError::Memory) => {
                 self.failed = true;
                 Err(RunError::Memory)
             }
-            made => made,
+            Err(error) => Err(error),
         }
     }
 
     /// The engine of a node, where it runs.
+    #[tactic(auto, using(crate::proofs::Standing::standing))]
     pub fn engine(&self, node: Node) -> Option<&NodeEngine>
         ensures { ShowsEngine self.now node (option_map (λ engine. engine.now) result) }
+    {
+        self.shown(node)
+    }
+
+    fn shown(&self, node: Node) -> Option<&NodeEngine>
+        ensures { ShowsPlainly self.now node (option_map (λ engine. engine.now) result) }
     {
         let member = member_of(&self.setup, node)?;
         self.hosts.engine(member)
     }
 
     fn with_setup(alloc: Global, setup: &Setup) -> Result<Network, AllocError>
-        requires { IsNone (setups.first_bad setup.now) }
-        ensures { IfOk result (λ network. StandsFor network setup.now []) }
+        requires good { IsNone (setups.first_bad setup.now) }
+        requires taken { runs.is_taken setup.now ≡ true }
+        ensures { IfOk result (λ network. Keeps network setup.now []) }
     {
         let members = setup.members.len();
         Ok(Network {
@@ -105,10 +118,10 @@ impl Network {
     }
 
     fn make(&mut self, event: &Event) -> Result<Entry, RunError>
-        ensures stands { IfOk result (λ _. Grows self.old self.new event.now) }
-        ensures entry { IfOk result (λ entry. Enters self.old event.now entry) }
-        ensures reason { IfErr result (λ error. is_memory error ≡ false → Refuses self.old event.now error) }
-        ensures stays { IfErr result (λ error. is_memory error ≡ false → Stays self.old self.new) }
+        ensures stands { IfOk result (λ _. GrowsPlainly self.old self.new event.now) }
+        ensures entry { IfOk result (λ entry. EntersPlainly self.old event.now entry) }
+        ensures reason { IfErr result (λ error. is_memory error ≡ false → RefusesPlainly self.old event.now error) }
+        ensures stays { IfErr result (λ error. is_memory error ≡ false → StaysPlainly self.old self.new) }
         ensures alive { self.new.failed ≡ self.old.failed }
         ensures unfailed { IfErr result (λ error. is_failed error ≡ false) }
     {
@@ -139,10 +152,10 @@ impl Network {
         floor: &Option<Finalization>,
         stop: &Stop,
     ) -> Result<Entry, RunError>
-        ensures stands { IfOk result (λ _. Grows self.old self.new (Event.Start node floor.now stop.now)) }
-        ensures entry { IfOk result (λ entry. Enters self.old (Event.Start node floor.now stop.now) entry) }
-        ensures reason { IfErr result (λ error. is_memory error ≡ false → Refuses self.old (Event.Start node floor.now stop.now) error) }
-        ensures stays { IfErr result (λ error. is_memory error ≡ false → Stays self.old self.new) }
+        ensures stands { IfOk result (λ _. GrowsPlainly self.old self.new (Event.Start node floor.now stop.now)) }
+        ensures entry { IfOk result (λ entry. EntersPlainly self.old (Event.Start node floor.now stop.now) entry) }
+        ensures reason { IfErr result (λ error. is_memory error ≡ false → RefusesPlainly self.old (Event.Start node floor.now stop.now) error) }
+        ensures stays { IfErr result (λ error. is_memory error ≡ false → StaysPlainly self.old self.new) }
         ensures alive { self.new.failed ≡ self.old.failed }
         ensures unfailed { IfErr result (λ error. is_failed error ≡ false) }
     {
@@ -195,10 +208,10 @@ impl Network {
     }
 
     fn tick(&mut self, ms: u64) -> Result<Entry, RunError>
-        ensures stands { IfOk result (λ _. Grows self.old self.new (Event.Tick ms)) }
-        ensures entry { IfOk result (λ entry. Enters self.old (Event.Tick ms) entry) }
-        ensures reason { IfErr result (λ error. is_memory error ≡ false → Refuses self.old (Event.Tick ms) error) }
-        ensures stays { IfErr result (λ error. is_memory error ≡ false → Stays self.old self.new) }
+        ensures stands { IfOk result (λ _. GrowsPlainly self.old self.new (Event.Tick ms)) }
+        ensures entry { IfOk result (λ entry. EntersPlainly self.old (Event.Tick ms) entry) }
+        ensures reason { IfErr result (λ error. is_memory error ≡ false → RefusesPlainly self.old (Event.Tick ms) error) }
+        ensures stays { IfErr result (λ error. is_memory error ≡ false → StaysPlainly self.old self.new) }
         ensures alive { self.new.failed ≡ self.old.failed }
         ensures unfailed { IfErr result (λ error. is_failed error ≡ false) }
     {
@@ -213,10 +226,10 @@ impl Network {
     }
 
     fn deliver(&mut self, node: Node, at: Ref) -> Result<Entry, RunError>
-        ensures stands { IfOk result (λ _. Grows self.old self.new (Event.Deliver node at)) }
-        ensures entry { IfOk result (λ entry. Enters self.old (Event.Deliver node at) entry) }
-        ensures reason { IfErr result (λ error. is_memory error ≡ false → Refuses self.old (Event.Deliver node at) error) }
-        ensures stays { IfErr result (λ error. is_memory error ≡ false → Stays self.old self.new) }
+        ensures stands { IfOk result (λ _. GrowsPlainly self.old self.new (Event.Deliver node at)) }
+        ensures entry { IfOk result (λ entry. EntersPlainly self.old (Event.Deliver node at) entry) }
+        ensures reason { IfErr result (λ error. is_memory error ≡ false → RefusesPlainly self.old (Event.Deliver node at) error) }
+        ensures stays { IfErr result (λ error. is_memory error ≡ false → StaysPlainly self.old self.new) }
         ensures alive { self.new.failed ≡ self.old.failed }
         ensures unfailed { IfErr result (λ error. is_failed error ≡ false) }
     {
@@ -240,10 +253,10 @@ impl Network {
     }
 
     fn step(&mut self, node: Node, source: StepSource, stop: &Stop) -> Result<Entry, RunError>
-        ensures stands { IfOk result (λ _. Grows self.old self.new (Event.Step node source stop.now)) }
-        ensures entry { IfOk result (λ entry. Enters self.old (Event.Step node source stop.now) entry) }
-        ensures reason { IfErr result (λ error. is_memory error ≡ false → Refuses self.old (Event.Step node source stop.now) error) }
-        ensures stays { IfErr result (λ error. is_memory error ≡ false → Stays self.old self.new) }
+        ensures stands { IfOk result (λ _. GrowsPlainly self.old self.new (Event.Step node source stop.now)) }
+        ensures entry { IfOk result (λ entry. EntersPlainly self.old (Event.Step node source stop.now) entry) }
+        ensures reason { IfErr result (λ error. is_memory error ≡ false → RefusesPlainly self.old (Event.Step node source stop.now) error) }
+        ensures stays { IfErr result (λ error. is_memory error ≡ false → StaysPlainly self.old self.new) }
         ensures alive { self.new.failed ≡ self.old.failed }
         ensures unfailed { IfErr result (λ error. is_failed error ≡ false) }
     {
@@ -261,10 +274,10 @@ impl Network {
     }
 
     fn answer(&mut self, node: Node, at: Ref, answer: Answer) -> Result<Entry, RunError>
-        ensures stands { IfOk result (λ _. Grows self.old self.new (Event.Answer node at answer)) }
-        ensures entry { IfOk result (λ entry. Enters self.old (Event.Answer node at answer) entry) }
-        ensures reason { IfErr result (λ error. is_memory error ≡ false → Refuses self.old (Event.Answer node at answer) error) }
-        ensures stays { IfErr result (λ error. is_memory error ≡ false → Stays self.old self.new) }
+        ensures stands { IfOk result (λ _. GrowsPlainly self.old self.new (Event.Answer node at answer)) }
+        ensures entry { IfOk result (λ entry. EntersPlainly self.old (Event.Answer node at answer) entry) }
+        ensures reason { IfErr result (λ error. is_memory error ≡ false → RefusesPlainly self.old (Event.Answer node at answer) error) }
+        ensures stays { IfErr result (λ error. is_memory error ≡ false → StaysPlainly self.old self.new) }
         ensures alive { self.new.failed ≡ self.old.failed }
         ensures unfailed { IfErr result (λ error. is_failed error ≡ false) }
     {
@@ -282,10 +295,10 @@ impl Network {
     }
 
     fn crash(&mut self, node: Node) -> Result<Entry, RunError>
-        ensures stands { IfOk result (λ _. Grows self.old self.new (Event.Crash node)) }
-        ensures entry { IfOk result (λ entry. Enters self.old (Event.Crash node) entry) }
-        ensures reason { IfErr result (λ error. is_memory error ≡ false → Refuses self.old (Event.Crash node) error) }
-        ensures stays { IfErr result (λ error. is_memory error ≡ false → Stays self.old self.new) }
+        ensures stands { IfOk result (λ _. GrowsPlainly self.old self.new (Event.Crash node)) }
+        ensures entry { IfOk result (λ entry. EntersPlainly self.old (Event.Crash node) entry) }
+        ensures reason { IfErr result (λ error. is_memory error ≡ false → RefusesPlainly self.old (Event.Crash node) error) }
+        ensures stays { IfErr result (λ error. is_memory error ≡ false → StaysPlainly self.old self.new) }
         ensures alive { self.new.failed ≡ self.old.failed }
         ensures unfailed { IfErr result (λ error. is_failed error ≡ false) }
     {
@@ -310,7 +323,7 @@ impl Network {
         bytes: &Bytes,
     ) -> Result<Entry, RunError>
         ensures some { IsErr result }
-        ensures reason { IfErr result (λ error. Refuses self.now (Event.Inject member channel to.now bytes.now) error) }
+        ensures reason { IfErr result (λ error. RefusesPlainly self.now (Event.Inject member channel to.now bytes.now) error) }
         ensures unfailed { IfErr result (λ error. is_failed error ≡ false) }
     {
         if exist(&self.setup, member, to.as_slice()) {
@@ -348,7 +361,7 @@ impl Network {
         ensures stands { IfOk result (λ _. PollGrows self.old self.new member input stop.now outside) }
         ensures entry { IfOk result (λ entry. PollEnters self.old member input stop.now outside entry) }
         ensures reason { IfErr result (λ error. is_memory error ≡ false → PollRefuses self.old member input stop.now outside error) }
-        ensures stays { IfErr result (λ error. is_memory error ≡ false → Stays self.old self.new) }
+        ensures stays { IfErr result (λ error. is_memory error ≡ false → StaysPlainly self.old self.new) }
         ensures alive { self.new.failed ≡ self.old.failed }
         ensures unfailed { IfErr result (λ error. is_failed error ≡ false) }
     {

@@ -3,17 +3,20 @@ ghost use Rattle.std.specs.Prelude.{◌≡◌, ◌++◌, ◌∷◌, [], Ok, Err,
 ghost use Rattle.simplex_run.specs.Run as runs;
 ghost use Rattle.simplex_run.specs.Setups as setups;
 ghost use Rattle.simplex_run_laws.specs.Complete.{IsOneEach, IsProper};
-ghost use Rattle.simplex_safety.specs.Safe.{RunsSafely};
+ghost use Rattle.simplex_safety.specs.Sayings.{Each};
+ghost use Rattle.simplex_backing.specs.Fitting.{IsTyped};
+ghost use Rattle.simplex_backing.specs.Safe.{RunsSafely};
 ghost use Rattle.simplex_network.specs.Answer.{is_memory};
 ghost use Rattle.simplex_network.specs.Stands.{MadeBy};
 
 use crate::network::Network;
 use crate::setups::{are_few, is_taken};
+use simplex_backing::runs_are_safe;
 use simplex_run_laws::{
     proper_runs_make_transcripts, transcripts_are_of_proper_runs, transcripts_have_one_entry_each,
 };
-use simplex_safety::runs_are_safe;
 use simplex_transcript::{Entry, Event, Field, Refusal, RunError, Setup};
+use simplex_typed::entries_are_typed;
 use simplex_types::Sequence;
 use std::alloc::Global;
 
@@ -29,8 +32,9 @@ pub fn run_network(alloc: Global, setup: &Setup, events: &[Event]) -> Result<Tra
     ensures done { IfOk result (λ transcript. runs.Run setup.now events.now ≡ Ok transcript.entries) }
     ensures network { IfOk result (λ transcript. MadeBy transcript.network setup.now (runs.run setup.now [] events.now)) }
     ensures refused { IfErr result (λ refusal. is_memory refusal.error ≡ false → runs.Run setup.now events.now ≡ Err refusal) }
-    // Each certificate that stands in the transcript is backed and of the setup's epoch, no two of them conflict, each vote
-    // was stored first, and the votes of each event that no stop broke are those that the rules give.
+    // Each certificate that stands in the transcript and verifies is backed and of the setup's epoch, no two of them
+    // conflict; of each honest member each vote was stored first, and the votes of each event that no stop broke are those
+    // that the rules give; and no honest member is blamed.
     ensures safe { IfOk result (λ transcript. RunsSafely setup.now events.now) }
     // One entry for each event: as many, numbered from 1, each of the node that its event names.
     ensures entries { IfOk result (λ transcript. IsOneEach transcript.entries events.now) }
@@ -42,11 +46,23 @@ pub fn run_network(alloc: Global, setup: &Setup, events: &[Event]) -> Result<Tra
     transcripts_have_one_entry_each();
     proper_runs_make_transcripts();
     transcripts_are_of_proper_runs();
-    run_taken(alloc, setup, events)
+    run_typed(alloc, setup, events)
+}
+
+// Runs the events. The values of the entries keep to their types.
+fn run_typed(alloc: Global, setup: &Setup, events: &[Event]) -> Result<Transcript, Refusal>
+    ensures done { IfOk result (λ transcript. runs.Run setup.now events.now ≡ Ok transcript.entries) }
+    ensures network { IfOk result (λ transcript. MadeBy transcript.network setup.now (runs.run setup.now [] events.now)) }
+    ensures refused { IfErr result (λ refusal. is_memory refusal.error ≡ false → runs.Run setup.now events.now ≡ Err refusal) }
+    ensures typed { IfOk result (λ transcript. Each IsTyped transcript.entries) }
+{
+    let transcript = run_taken(alloc, setup, events)?;
+    entries_are_typed(transcript.entries.as_slice());
+    Ok(transcript)
 }
 
 // Runs the events where setup and events are taken, and tells the first refusal else.
-#[tactic(auto, unfolding(simplex_run::specs::Run::Run))]
+#[tactic(auto, unfolding(simplex_run::specs::Run::Run, simplex_run::specs::Run::whole_run))]
 fn run_taken(alloc: Global, setup: &Setup, events: &[Event]) -> Result<Transcript, Refusal>
     ensures done { IfOk result (λ transcript. runs.Run setup.now events.now ≡ Ok transcript.entries) }
     ensures network { IfOk result (λ transcript. MadeBy transcript.network setup.now (runs.run setup.now [] events.now)) }

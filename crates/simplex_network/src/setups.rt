@@ -1,5 +1,5 @@
 //! Which setups are taken, and which item of one breaks its limit.
-ghost use Rattle.std.specs.Prelude.{◌≡◌, length};
+ghost use Rattle.std.specs.Prelude.{◌≡◌, true, length};
 ghost use Rattle.simplex_run.specs.Setups as setups;
 ghost use Rattle.simplex_run.specs.Run as runs;
 
@@ -44,9 +44,10 @@ pub(crate) fn are_few(setup: &Setup, events: &[Event]) -> bool
     count <= 1 << 20 && members * count <= 1 << 25
 }
 
-/// The first item of the setup that breaks its limit, but for the number of events.
+/// The first item of the setup that breaks its limit, but for the number of events. A setup that is taken has no script.
 #[tactic(auto, unfolding(simplex_run::specs::Setups::first_bad))]
 pub(crate) fn first_bad(setup: &Setup) -> Option<Field>
+    requires { runs.is_taken setup.now ≡ true }
     ensures { result ≡ setups.first_bad setup.now }
 {
     let members = setup.members.len() as u64;

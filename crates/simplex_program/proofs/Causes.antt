@@ -12,7 +12,7 @@ use Rattle.simplex_form.specs.declared.input.Input.{Input}
 use Rattle.simplex_form.specs.Input.{input_of}
 use Rattle.simplex_run.specs.Run.{Run, run, refused}
 use Rattle.simplex_run_laws.specs.Complete.{IsOneEach}
-use Rattle.simplex_safety.specs.Safe.{RunsSafely}
+use Rattle.simplex_backing.specs.Safe.{RunsSafely}
 use Rattle.simplex_text.specs.Lines.{PrintedRun}
 use Rattle.simplex_network.specs.declared.run.Transcript.{Transcript}
 use Rattle.simplex_network.specs.Stands.{MadeBy}
@@ -25,13 +25,13 @@ use Rattle.simplex_program.specs.Whole.{WholeRun}
 use Rattle.simplex_program.specs.Cause.{IsRun, ending_of_run, ending_of_input, ending_of, ending_for, events_in, events_of, LeadsTo, Cause, IsCut, IsFault}
 
 takes_none : (o : Option (List ℕ)) → Takes o [] o
-takes_none None = refl
+takes_none None = tt
 takes_none (Some xs) = refl
 
 -- the bytes that were taken are the first of those that were there
 rest_of : (all bytes : List ℕ) (new : Option (List ℕ)) → Takes (Some all) bytes new → (rest : List ℕ) × (new ≡ Some rest) × (all ≡ bytes ++ rest)
-rest_of all bytes None e = absurd (cc)
-rest_of all bytes (Some rest) e = let is : all ≡ bytes ++ rest = cc in (rest, refl, is)
+rest_of all bytes None e = absurd e
+rest_of all bytes (Some rest) e = (rest, refl, e)
 
 pick_small : (n limit : ℕ) (x y : Ending) → n ≤ limit → y ≡ (if nat_lt limit n then x else y)
 pick_small n limit x y h = grind (arith, nat_tests)
@@ -45,9 +45,9 @@ over all bytes new t h =
     pick_large (length all) LIMIT TooLong (ending_of all) (omega (arith, ap length is, length-append bytes rest))
 
 leads : (all : List ℕ) (new : Option (List ℕ)) (events : List Event) (ending : Ending) → LeadsTo (Some all) new events ending → ending ≡ ending_for all
-leads all None events ending (bytes, taken, small, says, is) = absurd (cc)
+leads all None events ending (bytes, taken, small, says, is) = absurd taken.0
 leads all (Some rest) events ending (bytes, taken, small, says, is) =
-    let whole : all ≡ bytes ++ rest = cc in
+    let whole : all ≡ bytes ++ rest = taken.0 in
     let same : all ≡ bytes = whole ∙ ap (λ r. bytes ++ r) taken.1 ∙ append-nil bytes in
     sym is ∙ ap ending_of (sym same) ∙ pick_small (length all) LIMIT TooLong (ending_of all) (omega (arith, ap length same))
 

@@ -4,7 +4,7 @@ use Rattle.simplex_form.specs.declared.input.Input.{Input}
 use Rattle.simplex_form.specs.Input.{input_of}
 use Rattle.simplex_run.specs.Run.{Run, run}
 use Rattle.simplex_run_laws.specs.Complete.{IsOneEach}
-use Rattle.simplex_safety.specs.Safe.{RunsSafely}
+use Rattle.simplex_backing.specs.Safe.{RunsSafely}
 use Rattle.simplex_network.specs.declared.run.Transcript.{Transcript}
 use Rattle.simplex_network.specs.Stands.{MadeBy}
 

@@ -1,7 +1,10 @@
 //! The program: words and a source of bytes in, a text and an exit out.
 //!
 //! The word `run` reads a setup and its events as JSON, runs them, and writes what was finalized, or why the run
-//! was refused. [`program`] says of each exit why it comes, and what is written.
+//! was refused.
+//!
+//! It may assume nothing: words, source and sink are any, also such as fail at any call. [`program`] owes of each exit
+//! why it comes, and what is written, and of a whole run that it is safe.
 #![tactic(auto)]
 
 mod exit;

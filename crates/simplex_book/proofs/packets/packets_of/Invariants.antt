@@ -1,5 +1,6 @@
 use Rattle.std.proofs.Common.{◌≡◌, ◌++◌, drop}
-use Rattle.simplex_run.specs.Entries.{node_of, packets_of}
+use Rattle.simplex_run.specs.Entries.{node_of}
+use Rattle.simplex_book.specs.Plain.{packets_of}
 use Rattle.simplex_book.proofs.packets.packets_of.Given as goal
 
 abbrev pub invariant-loop-call : goal.invariant-loop-call

@@ -14,7 +14,7 @@ returns-clause-lookahead c = setup-lookahead _ c.args.setup.now c.requires.good 
 pub returns-clause-made : goal.returns-clause-made
 returns-clause-made c =
     let with = c.config_with.ensures in
-    λ sections. setup-made _ c.args.setup.now _ _ sections with.setup (with.floor ∙ c.in_ok-floor.ensures)
+    λ sections. setup-made _ c.args.setup.now _ _ sections c.requires.taken with.setup (with.floor ∙ c.in_ok-floor.ensures)
     (ap (λ s. s.key_base) with.scheme ∙ c.in_ok-scheme.ensures.0) (ap (λ s. s.participants) with.scheme ∙ c.in_ok-scheme.ensures.1 ∙ c.len-members.ensures)
     (ap (λ s. s.me) with.scheme ∙ c.in_ok-scheme.ensures.2)
 

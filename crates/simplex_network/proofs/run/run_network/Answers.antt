@@ -1,4 +1,5 @@
-use Rattle.std.proofs.Common.{◌≡◌, Bool, true, false, List, Err, refl}
+use Rattle.std.proofs.Common.{◌≡◌, Bool, true, false, List, Result, Ok, Err, refl}
+use Rattle.std.specs.Result.{IfOk}
 use Rattle.std.proofs.lemmas.Result.{IfOk-weaker, IfErr-weaker}
 use Rattle.simplex_transcript.specs.declared.event.Event.{Event}
 use Rattle.simplex_transcript.specs.declared.refusal.Refusal.{Refusal}
@@ -7,6 +8,11 @@ use Rattle.simplex_run.specs.Run.{Run}
 use Rattle.simplex_run_laws.specs.Complete.{MakesTranscript}
 use Rattle.simplex_network.specs.Answer.{is_memory}
 use Rattle.simplex_network.proofs.run.run_network.Goals as goal
+
+-- what follows from two facts of the same transcript
+both : {A E : Type 0} (r : Result A E) (P Q R : A → Type 0) → ((a : A) → P a → Q a → R a) → IfOk r P → IfOk r Q → IfOk r R
+both (Ok a) P Q R f p q = f a p q
+both (Err e) P Q R f p q = p
 
 -- what makes a transcript is refused for want of memory alone
 memory_alone : (setup : Setup) (events : List Event) (refusal : Refusal) → MakesTranscript setup events
@@ -19,20 +25,21 @@ memory_alone setup events refusal made why = by (is_memory refusal.error) why
 
 pub returns-clause-safe : goal.returns-clause-safe
 returns-clause-safe c =
-    IfOk-weaker c.run_taken.result _ _ (λ transcript made. c.runs_are_safe.ensures c.args.setup.now c.args.events.now transcript.entries made) c.run_taken.ensures.done
+    both c.run_typed.result _ _ _ (λ transcript made typed. c.runs_are_safe.ensures.taken c.args.setup.now c.args.events.now transcript.entries made typed)
+    c.run_typed.ensures.done c.run_typed.ensures.typed
 
 pub returns-clause-entries : goal.returns-clause-entries
 returns-clause-entries c =
-    IfOk-weaker c.run_taken.result _ _
-    (λ transcript made. c.transcripts_have_one_entry_each.ensures c.args.setup.now c.args.events.now transcript.entries made) c.run_taken.ensures.done
+    IfOk-weaker c.run_typed.result _ _
+    (λ transcript made. c.transcripts_have_one_entry_each.ensures c.args.setup.now c.args.events.now transcript.entries made) c.run_typed.ensures.done
 
 pub returns-clause-proper : goal.returns-clause-proper
 returns-clause-proper c =
-    IfOk-weaker c.run_taken.result _ _
-    (λ transcript made. c.transcripts_are_of_proper_runs.ensures c.args.setup.now c.args.events.now transcript.entries made) c.run_taken.ensures.done
+    IfOk-weaker c.run_typed.result _ _
+    (λ transcript made. c.transcripts_are_of_proper_runs.ensures c.args.setup.now c.args.events.now transcript.entries made) c.run_typed.ensures.done
 
 pub returns-clause-complete : goal.returns-clause-complete
 returns-clause-complete c =
-    IfErr-weaker c.run_taken.result _ _
+    IfErr-weaker c.run_typed.result _ _
     (λ refusal why proper. memory_alone c.args.setup.now c.args.events.now refusal (c.proper_runs_make_transcripts.ensures c.args.setup.now c.args.events.now proper) why)
-    c.run_taken.ensures.refused
+    c.run_typed.ensures.refused

@@ -1,5 +1,5 @@
 use Rattle.std.proofs.Common.{refl}
-use Rattle.simplex_run.specs.Entries.{was_reported}
+use Rattle.simplex_book.specs.Plain.{was_reported}
 use Rattle.simplex_book.proofs.KeptPackets.{no-packets}
 use Rattle.simplex_book.proofs.book.Book.new.Goals as goal
 

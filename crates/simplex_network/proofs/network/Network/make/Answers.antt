@@ -1,5 +1,5 @@
 use Rattle.std.proofs.Common.{refl}
-use Rattle.simplex_run.specs.Entries.{entry_of}
+use Rattle.simplex_book.specs.Plain.{entry_of}
 use Rattle.simplex_network.proofs.network.Network.make.Goals as goal
 
 pub returns-in-Start-clause-stands : goal.returns-in-Start-clause-stands
