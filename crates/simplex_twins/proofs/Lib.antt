@@ -1,0 +1,11 @@
+pub mod Bits
+pub mod Members
+pub mod States
+pub mod Walk
+pub mod Faultless
+pub mod Jump
+pub mod Laters
+pub mod Odometer
+pub mod Counting
+pub mod Behind
+pub mod Listed

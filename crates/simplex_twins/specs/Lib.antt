@@ -1,0 +1,9 @@
+pub mod Masks
+pub mod Script
+pub mod Faults
+pub mod Partitions
+pub mod Routes
+pub mod Leaders
+pub mod LeaderLaws
+pub mod Every
+pub mod Samples
