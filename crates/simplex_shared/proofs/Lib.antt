@@ -1,0 +1,9 @@
+pub mod Called
+pub mod Keeps
+pub mod Listed
+pub mod Places
+pub mod Pushing
+pub mod Replaying
+pub mod Seats
+pub mod Sightings
+pub mod Small

@@ -1,0 +1,11 @@
+//! Why a message was not put.
+
+/// Why a message was not put. It comes back, and the call is not in the history.
+#[derive(Debug, PartialEq, Eq, Drop)]
+pub enum MailError<M> {
+    /// The mailbox was closed: the history of so many calls, which the pass has then seen, holds the call that
+    /// closed it.
+    Closed { front: u64, message: M },
+    /// There was no memory.
+    Memory(M),
+}
