@@ -1,5 +1,5 @@
 #!/usr/bin/env python3
-"""What a batcher costs beside its rounds: crates/bench_batcher, after `rt run` in its folder.
+"""What a batcher costs beside its rounds: `bench_actors batcher`, after `rt run` in crates/bench_actors.
 
     bench/batcher.py [VIEWS]              processor time, in microseconds a view: the median of 25 turns
     bench/batcher.py [VIEWS] --count      instructions a view, by valgrind's callgrind
@@ -14,19 +14,19 @@ import statistics
 import subprocess
 import sys
 
-PROGRAM = os.path.join(os.path.dirname(os.path.abspath(__file__)), "../crates/bench_batcher/out/bench_batcher")
+PROGRAM = os.path.join(os.path.dirname(os.path.abspath(__file__)), "../crates/bench_actors/out/bench_actors")
 WORKS = ("votes", "round", "actor", "updates", "decode")
 
 
 def seconds(words):
-    child = subprocess.Popen([PROGRAM, *words], stdout=subprocess.DEVNULL)
+    child = subprocess.Popen([PROGRAM, "batcher", *words], stdout=subprocess.DEVNULL)
     _, status, usage = os.wait4(child.pid, 0)
     assert status == 0
     return (usage.ru_utime + usage.ru_stime) * 1e6
 
 
 def instructions(words):
-    valgrind = ["valgrind", "--tool=callgrind", "--callgrind-out-file=/dev/null", PROGRAM, *words]
+    valgrind = ["valgrind", "--tool=callgrind", "--callgrind-out-file=/dev/null", PROGRAM, "batcher", *words]
     out = subprocess.run(valgrind, capture_output=True, text=True, check=True)
     return int(re.search(r"Collected : (\d+)", out.stderr).group(1))
 

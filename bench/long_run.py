@@ -1,7 +1,7 @@
 #!/usr/bin/env python3
 """Times the program on long lists of events of one member, which finalizes view after view.
 
-Run it from anywhere, after `rt run` in crates/simplex: bench/long_run.py [PROGRAM].
+Run it from anywhere, after `rt run` in crates/simplex_net: bench/long_run.py [PROGRAM].
 It prints, for lists of 50,000, 100,000 and 200,000 events, the events per second of the whole run (reading and
 printing counted), the peak of memory, and how much longer the list took than the one of half its length.
 """
@@ -13,7 +13,7 @@ import sys
 import tempfile
 
 HERE = pathlib.Path(__file__).resolve().parent
-PROGRAM = HERE.parent / "crates" / "simplex" / "out" / "simplex"
+PROGRAM = HERE.parent / "crates" / "simplex_net" / "out" / "simplex_net"
 SETUP = {
     "epoch": 0, "key_base": 1, "members": ["honest"], "term": 1, "lookahead": 0,
     "leader_timeout": 1000, "certification_timeout": 2000, "retry": 500, "stall": None, "retention": 10,

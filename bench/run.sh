@@ -1,12 +1,16 @@
 #!/bin/bash
-# Times the work of crates/bench_wire, bench_mailbox, bench_fetch, bench_round, bench_state and bench_repair, by the
-# proved program and by plain Rust, that of crates/bench_batcher by batcher.py, that of crates/bench_voter by a voter, and
-# that of crates/bench_resolver by a resolver. Run it from anywhere, after `rt run` in the program's crate:
-# bench/run.sh wire|mailbox|fetch|round|batcher|state|repair|voter|resolver [TIMES].
+# Times the works of bench_base (wire, mailbox) and bench_parts (fetch, round, state, repair), by the proved program and by plain
+# Rust, and those of bench_actors (batcher by batcher.py, voter, resolver), which has no plain program. Run it from anywhere, after
+# `rt run` in the program's crate: bench/run.sh wire|mailbox|fetch|round|state|repair|batcher|voter|resolver [TIMES].
 set -euo pipefail
 cd "$(dirname "$0")"
-what=${1:?wire, mailbox, fetch, round, batcher, state, repair, voter or resolver}
-proved=../crates/bench_$what/out/bench_$what
+what=${1:?wire, mailbox, fetch, round, state, repair, batcher, voter or resolver}
+case $what in
+wire | mailbox) program=bench_base ;;
+fetch | round | state | repair) program=bench_parts ;;
+*) program=bench_actors ;;
+esac
+proved=../crates/$program/out/$program
 
 # How often a program does the work in a second of user time: that of so many turns, less that of none,
 # the least of five runs each. The words are the program's, without the number of turns.
@@ -35,7 +39,7 @@ over_views() {
 import os, subprocess, sys, time
 program, work, steps, *views = sys.argv[1:]
 def run(n):
-    child = subprocess.Popen([program, work, n], stdout=subprocess.DEVNULL)
+    child = subprocess.Popen([program, "voter", work, "10", n], stdout=subprocess.DEVNULL)
     peak = 0
     while True:
         ended, status, usage = os.wait4(child.pid, os.WNOHANG)
@@ -75,7 +79,7 @@ import os, subprocess, sys
 program, turns, *terms = sys.argv[1:]
 turns = int(turns)
 def run(*words):
-    child = subprocess.Popen([program, *map(str, words)], stdout=subprocess.DEVNULL)
+    child = subprocess.Popen([program, "resolver", *map(str, words)], stdout=subprocess.DEVNULL)
     _, status, usage = os.wait4(child.pid, 0)
     assert status == 0
     return usage.ru_utime
@@ -110,7 +114,7 @@ built=$CARGO_TARGET_DIR/release/bench_$what
 line() {
     local turns=$1
     shift
-    printf '%-14s %12s %12s %18s\n' "$*" "$(rate "$turns" "$proved" "$@")" \
+    printf '%-14s %12s %12s %18s\n' "$*" "$(rate "$turns" "$proved" "$what" "$@")" \
         "$(rate "$turns" "$CARGO_TARGET_DIR/plain" "$@")" "$(rate "$turns" "$CARGO_TARGET_DIR/soft" "$@")"
 }
 
@@ -118,19 +122,19 @@ printf '%-14s %12s %12s %18s\n' 'a second' 'proved' 'plain Rust' 'plain Rust, so
 case $what in
 wire)
     times=${2:-200000}
-    line "$times" encode
-    line "$times" decode
-    line $((times / 20)) verify
+    line "$times" encode 100
+    line "$times" decode 100
+    line $((times / 20)) verify 100
     ;;
 mailbox)
     times=${2:-100000}
-    line $((times * 100)) ready
-    line "$times" waiting
+    line $((times * 100)) pass 1
+    line "$times" pass 1016
     ;;
 fetch)
     times=${2:-1000000}
     for views in 1000 10000; do
-        for work in fetch answer serve expire; do
+        for work in ask answer serve expire; do
             line "$times" $work $views
         done
         line $((times * 10)) sweep $views
@@ -145,8 +149,8 @@ round)
     ;;
 state)
     times=${2:-200000}
-    line "$times" final
-    line "$times" given_up
+    line "$times" final 5
+    line "$times" given_up 5
     ;;
 repair)
     times=${2:-1000000}

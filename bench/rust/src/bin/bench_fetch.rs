@@ -1,5 +1,5 @@
-//! The same work as crates/bench_fetch, in plain Rust: calls of a fetcher with many open views.
-//! `bench_fetch WORK VIEWS TIMES`, where WORK is `fetch`, `answer`, `serve`, `expire`, `sweep` or `all`.
+//! The same work as `bench_parts fetch`, in plain Rust: calls of a fetcher with many open views.
+//! `bench_fetch WORK VIEWS TIMES`, where WORK is `ask`, `answer`, `serve`, `expire`, `sweep` or `all`.
 
 use std::collections::{BTreeMap, BTreeSet};
 
@@ -537,7 +537,7 @@ fn serve(fetcher: &mut Fetcher, at: u32) -> usize {
 fn turn(fetcher: &mut Fetcher, work: &str, views: u32, at: u32) -> usize {
     let view = u64::from(views);
     match work {
-        "fetch" => {
+        "ask" => {
             let retire = Retire::Settled {
                 kind: Kind::Notarization,
                 start: view,
@@ -557,13 +557,13 @@ fn main() {
     let word = words.get(1).map_or("all", String::as_str);
     let views: u32 = words.get(2).map_or(10, |word| word.parse().unwrap());
     let times: u32 = words.get(3).map_or(20, |word| word.parse().unwrap());
-    for work in ["fetch", "answer", "serve", "expire", "sweep"] {
+    for work in ["ask", "answer", "serve", "expire", "sweep"] {
         if word == work || word == "all" {
             let mut fetcher = open(views);
             let told: usize = (0..times)
                 .map(|at| turn(&mut fetcher, work, views, at))
                 .sum();
-            println!("{work} {views} {times} {told}");
+            println!("fetch {work} {views} {times} {told}");
         }
     }
 }

@@ -1,10 +1,9 @@
-//! The same work as crates/bench_mailbox, in plain Rust: messages pass through a voter's mailbox of capacity 16.
-//! `bench_mailbox WORK TIMES`, where WORK is `ready`, `waiting` or `all`.
+//! The same work as `bench_base mailbox`, in plain Rust: messages pass through a voter's mailbox of capacity 16 that holds SIZE
+//! others. `bench_mailbox WORK SIZE TIMES`, where WORK is `pass` or `all`.
 
 use std::collections::VecDeque;
 
 const CAPACITY: usize = 16;
-const WAITING: u64 = 1_000;
 
 #[derive(Clone, Copy, PartialEq)]
 enum Reason {
@@ -119,12 +118,10 @@ fn filled(views: u64) -> Mailbox {
 
 fn main() {
     let words: Vec<String> = std::env::args().collect();
-    let times: u64 = words[2].parse().expect("how many times");
-    if matches!(words[1].as_str(), "ready" | "all") {
-        println!("ready {}", pass(&mut filled(0), 0, times));
-    }
-    if matches!(words[1].as_str(), "waiting" | "all") {
-        let held = WAITING + CAPACITY as u64;
-        println!("waiting {}", pass(&mut filled(held), held, times));
+    let held: u64 = words[2].parse().expect("how many it holds");
+    let times: u64 = words[3].parse().expect("how many times");
+    if matches!(words[1].as_str(), "pass" | "all") {
+        let views = pass(&mut filled(held), held, times);
+        println!("mailbox pass {held} {times} {views}");
     }
 }

@@ -1,4 +1,4 @@
-//! The same work as crates/bench_repair, in plain Rust: a repair state that is given nullifications, far ahead and one by
+//! The same work as `bench_parts repair`, in plain Rust: a repair state that is given nullifications, far ahead and one by
 //! one. `bench_repair WORK TERMS TIMES`, where WORK is `jump`, `fill` or `all`.
 
 // Of a certificate only the bytes are used here.
@@ -253,7 +253,7 @@ fn main() {
                 fill(&mut repair, at % terms, &mut counts);
             }
         }
-        let Counts { fetched, settled, served } = counts;
-        println!("{work} {terms} {times} fetched {fetched} settled {settled} served {served}");
+        let done = counts.fetched + counts.settled + counts.served;
+        println!("repair {work} {terms} {times} {done}");
     }
 }

@@ -1,4 +1,4 @@
-//! The same work as crates/bench_round, in plain Rust: rounds that are given all votes and make their certificates.
+//! The same work as `bench_parts round`, in plain Rust: rounds that are given all votes and make their certificates.
 //! `bench_round WORK MEMBERS TIMES`, where WORK is `take`, `make` or `all`.
 
 // Of its certificates only the signatures are used here.
@@ -235,14 +235,16 @@ fn vote(scheme: &Keyed, signer: u32, subject: Subject) -> Vote {
     }
 }
 
-fn taken(view: u64, members: u32, votes: &[Vote]) -> Round {
+/// The round, and how many votes it accepts.
+fn taken(view: u64, members: u32, votes: &[Vote]) -> (Round, u64) {
     let mut taken = Round::new(round_of(view), members, members - (members - 1) / 3);
     let mut out = Out::default();
     taken.leader = Some(0);
+    let mut accepted = 0;
     for vote in votes {
-        assert!(taken.add_network(vote.attestation.signer, *vote, &mut out));
+        accepted += u64::from(taken.add_network(vote.attestation.signer, *vote, &mut out));
     }
-    taken
+    (taken, accepted)
 }
 
 fn made(mut round: Round, scheme: &Keyed) -> u64 {
@@ -272,16 +274,17 @@ fn main() {
             kept.push(vote(&scheme, member, Subject::Finalize(proposal())));
             given_up.push(vote(&scheme, member, Subject::Nullify(round_of(301))));
         }
-        let mut certificates = 0;
+        let mut done = 0;
         for _ in 0..times {
-            let kept = taken(300, members, std::hint::black_box(&kept));
-            let given_up = taken(301, members, std::hint::black_box(&given_up));
+            let (kept, accepted) = taken(300, members, std::hint::black_box(&kept));
+            let (given_up, more) = taken(301, members, std::hint::black_box(&given_up));
             if makes {
-                certificates += made(kept, &scheme) + made(given_up, &scheme);
+                done += made(kept, &scheme) + made(given_up, &scheme);
             } else {
                 std::hint::black_box((&kept, &given_up));
+                done += accepted + more;
             }
         }
-        println!("{name} {members} {times} {certificates}");
+        println!("round {name} {members} {times} {done}");
     }
 }

@@ -1,5 +1,5 @@
-//! The same work as crates/bench_state, in plain Rust: one member's state, view after view.
-//! `bench_state WORK TURNS`, where WORK is `final`, `given_up` or `all`.
+//! The same work as `bench_parts state`, in plain Rust: one member's state, view after view.
+//! `bench_state WORK 5 TURNS`, where WORK is `final`, `given_up` or `all`, and 5 is how many views a term has.
 
 // Of its certificates only the parts are used here.
 #[allow(dead_code)]
@@ -549,7 +549,9 @@ fn turn(member: &mut State, gives_up: bool, now: u64, counts: &mut Counts) {
 
 fn main() {
     let words: Vec<String> = std::env::args().collect();
-    let times: u64 = words[2].parse().expect("how many times");
+    let length: u64 = words[2].parse().expect("how many views a term has");
+    assert_eq!(length, LENGTH, "a term has as many views here");
+    let times: u64 = words[3].parse().expect("how many times");
     for (work, gives_up) in [("final", false), ("given_up", true)] {
         if words[1] != work && words[1] != "all" {
             continue;
@@ -559,7 +561,7 @@ fn main() {
         for now in 0..times {
             turn(&mut member, gives_up, now, &mut counts);
         }
-        let Counts { votes, sent, pruned } = counts;
-        println!("{work} {times} votes {votes} sent {sent} pruned {pruned}");
+        let done = counts.votes + counts.sent + counts.pruned;
+        println!("state {work} {length} {times} {done}");
     }
 }

@@ -1,0 +1,108 @@
+#!/usr/bin/env python3
+"""What the gate costs, crate by crate: runs `rt ci`, and prints a table of seconds of processor time for docs/GATE.md.
+
+    bench/gate.py --anew          the whole gate from nothing, as the table of docs/GATE.md is made
+    bench/gate.py [WORD..]        `rt ci` with these words; what an earlier run passed is not done again, and costs nothing
+
+The gate's log tells no times. So while the gate runs, this looks five times a second at the processor time of each of its
+processes, as Linux tells it in /proc, and adds it to the crate that the process was started for: to its proof, its tests, or
+its wrong bodies (with the proof of the crate that they begin with). What ends between two looks is missed. The gate's own lines
+go to standard error.
+"""
+import collections
+import os
+import subprocess
+import sys
+import time
+
+KINDS = ("proof", "tests", "edits")
+TICKS = os.sysconf("SC_CLK_TCK")
+
+
+def read(path):
+    try:
+        with open(path, "rb") as file:
+            return file.read()
+    except OSError:
+        return b""
+
+
+def fields(pid):
+    """The fields of /proc/PID/stat behind the name, the first of which is the state."""
+    return read(f"/proc/{pid}/stat").rpartition(b")")[2].split()
+
+
+def label(pid):
+    """The crate that a process was started for, and what it does for it; none where its words do not tell."""
+    words = read(f"/proc/{pid}/cmdline").decode(errors="replace").split("\0")
+    if "--crate-name" not in words:
+        return None
+    crate = words[words.index("--crate-name") + 1]
+    try:
+        folder = os.path.basename(os.readlink(f"/proc/{pid}/cwd"))
+    except OSError:
+        folder = ""
+    if folder.startswith("rt-edit"):
+        return crate, "edits"
+    return crate, "tests" if "--test" in words else "proof"
+
+
+class Clock:
+    """The processor time of each process of a session, and what each was started for."""
+
+    def __init__(self, session):
+        self.session = str(session).encode()
+        self.ticks = {}
+        self.labels = {}
+
+    def look(self):
+        for name in os.listdir("/proc"):
+            if name.isdigit():
+                self.note(int(name))
+
+    def note(self, pid):
+        stat = fields(pid)
+        if len(stat) < 20 or stat[3] != self.session:
+            return
+        process = pid, stat[19]
+        parent = next((it for it in reversed(self.labels) if it[0] == int(stat[1])), None)
+        # A process that begins as a copy of another gets its own words a moment later.
+        found = label(pid) or self.labels.get(process) or self.labels.get(parent)
+        if found:
+            self.labels[process] = found
+        self.ticks[process] = int(stat[11]) + int(stat[12])
+
+    def seconds(self):
+        """Seconds by crate and kind; of the kind None is what was started for no crate."""
+        found = collections.Counter()
+        for process, ticks in self.ticks.items():
+            found[self.labels.get(process, (None, None))] += ticks / TICKS
+        return found
+
+
+def table(seconds):
+    crates = sorted({crate for crate, _ in seconds if crate}, key=lambda it: -sum(seconds[it, kind] for kind in KINDS))
+    yield "| Crate | Proof | Tests | Wrong bodies | All |"
+    yield "|---|---|---|---|---|"
+    for crate in crates:
+        each = [seconds[crate, kind] for kind in KINDS]
+        yield f"| `{crate}` | " + " | ".join(f"{it:.0f}" if it else "" for it in each) + f" | {sum(each):.0f} |"
+    each = [sum(seconds[crate, kind] for crate in crates) / 60 for kind in KINDS]
+    yield "| all, in minutes | " + " | ".join(f"{it:.1f}" for it in each) + f" | {sum(each):.1f} |"
+    yield ""
+    yield f"Besides, {seconds[None, None] / 60:.1f} minutes for `rt` itself and for the programs and tests that it ran."
+
+
+def main():
+    top = os.path.dirname(os.path.dirname(os.path.abspath(__file__)))
+    gate = subprocess.Popen(["rt", "ci", *sys.argv[1:]], cwd=top, stdout=sys.stderr, start_new_session=True)
+    clock = Clock(gate.pid)
+    while gate.poll() is None:
+        clock.look()
+        time.sleep(0.2)
+    print("\n".join(table(clock.seconds())))
+    sys.exit(gate.returncode)
+
+
+if __name__ == "__main__":
+    main()
