@@ -1,7 +1,16 @@
-# `make example` runs the program on the worked example of the README; `make test` is the whole gate.
-.PHONY: example test
+# example: runs the program on the worked example of the README, unproved. build: proves and builds the program. test: the
+# whole gate. wrong-bodies: tries the wrong bodies that the gate leaves out, of all crates or of those in CRATE.
+.PHONY: example build test wrong-bodies
 example:
-	cd crates/simplex && rt run -- run < stdin
+	@cd crates/simplex_net && rt try -- run < stdin
+	@echo "This run was not proved (rt try). make build proves and builds the program."
+
+build:
+	@cd crates/simplex_net && rt run -- run < stdin
+	@echo "Proved and built: crates/simplex_net/out/simplex_net"
 
 test:
 	.ci/run
+
+wrong-bodies:
+	./wrong-bodies.sh $(CRATE)

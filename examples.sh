@@ -1,25 +1,34 @@
 #!/usr/bin/env bash
-# Runs the program on each example that examples.txt names, and compares what it writes and its status.
-# Usage: examples.sh [PROGRAM [FOLDER]]. The folder has NAME.json, NAME.out and NAME.status of each example. Where none is
-# given, it is examples/ and then, where it lies beside the repository, shared/examples, whose files may be newer. The
-# program is the one that rt ci or rt run built, or is built by rt run.
+# Runs the program on each example that examples.txt names, and compares what it writes and its status; then sees what it
+# says of a standard input that cannot be read, and of a standard output that cannot be written.
+# Usage: examples.sh [FOLDER..]. A folder has NAME.json, NAME.out and NAME.status of each example; where none is given, it is
+# examples/. The program is the one that rt ci or make build built; where there is none, rt run builds it.
 set -uo pipefail
 here=$(cd "$(dirname "$0")" && pwd)
-program=${1:-$here/crates/simplex/out/simplex}
-folders=("${2:-$here/examples}")
-if [[ $# -lt 2 && -d $here/../shared/examples ]]; then
-    folders+=("$here/../shared/examples")
-fi
-if [[ ! -x $program && $# -eq 0 ]]; then
-    (cd "$here/crates/simplex" && rt run) >/dev/null || true
+program=$here/crates/simplex_net/out/simplex_net
+folders=("${@:-$here/examples}")
+if [[ ! -x $program ]]; then
+    (cd "$here/crates/simplex_net" && rt run) >/dev/null || true
 fi
 if [[ ! -x $program ]]; then
     echo "examples: there is no program $program"
     exit 1
 fi
 
-written=$(mktemp)
-trap 'rm -f "$written"' EXIT
+written=$(mktemp) said=$(mktemp)
+trap 'rm -f "$written" "$said"' EXIT
+failed=0 passed=0
+
+# Counts an example, and tells why it failed if it did.
+count() {
+    local name=$1 why=$2
+    if [[ -n $why ]]; then
+        echo "examples: $name failed: $why"
+        failed=$((failed + 1))
+    else
+        passed=$((passed + 1))
+    fi
+}
 
 # Why the program does not do what the example says, or nothing.
 fault() {
@@ -36,18 +45,25 @@ fault() {
     fi
 }
 
-failed=0 passed=0
+# Why the program does not end with this status, and this line on standard error, with these standard streams, or nothing.
+stream() {
+    local wanted=$1 line=$2 input=$3 output=$4 status=0
+    timeout 120 "$program" run <"$input" >"$output" 2>"$said" || status=$?
+    if [[ $status != "$wanted" ]]; then
+        echo "status $status, not $wanted"
+    elif [[ $(<"$said") != "$line" ]]; then
+        echo "it said '$(head -n 1 "$said" | head -c 200)'"
+    fi
+}
+
 for folder in "${folders[@]}"; do
     while read -r name || [[ -n $name ]]; do
         [[ -n $name ]] || continue
-        why=$(fault "$folder/$name")
-        if [[ -n $why ]]; then
-            echo "examples: $name failed: $why"
-            failed=$((failed + 1))
-        else
-            passed=$((passed + 1))
-        fi
+        count "$name" "$(fault "$folder/$name")"
     done <"$here/examples.txt"
 done
+# A folder opens as standard input, and cannot be read.
+count unread "$(stream 5 'simplex_net: standard input could not be read' / "$written")"
+count unwritten "$(stream 6 'simplex_net: standard output could not be written' "$here/examples/one-member-finalizes.json" /dev/full)"
 echo "examples: $passed passed, $failed failed"
 ((failed == 0 && passed > 0))

@@ -1,0 +1,40 @@
+//! The Simplex engine as one dependency: the public names of all the crates below, in the modules in which the ported crate
+//! has them.
+//!
+//! Nothing is made or decided here. It hands on:
+//!
+//! - [`types`]: votes, certificates, evidence and activities, keys, and the traits that an engine is connected to; and
+//!   [`elector`], who leads;
+//! - [`actors`]: the voter, the batcher and the resolver, what they take and what their steps give;
+//! - [`journal`], [`mailbox`], [`io`]: what they stand on;
+//! - [`Engine`]: a member's actors and the mail between them;
+//! - [`Network`] and [`run_network`]: engines of many members under a list of events, with the entries that they make;
+//! - [`form`], [`text`] and [`program`]: such a run as JSON, its lines, and both behind one call;
+//! - [`state`], [`round`], [`repair`], [`fetch`]: the parts of which the actors are made.
+//!
+//! Whoever writes contracts finds the definitions that `run_network` and `program` promise in this crate's `specs/`. It may
+//! assume nothing, and owes nothing but the names: each clause is that of the crate below.
+#![tactic(auto)]
+
+pub mod actors;
+
+pub use simplex_engine::{
+    Engine, EngineConfig, EngineField, Input, NewError, PollError, Polled, TakenInside,
+};
+pub use simplex_fetch as fetch;
+pub use simplex_form as form;
+pub use simplex_io as io;
+pub use simplex_journal as journal;
+pub use simplex_mailbox as mailbox;
+pub use simplex_network::{Network, NodeEngine, Transcript, run_network};
+pub use simplex_program::{Exit, LIMIT, program};
+pub use simplex_repair as repair;
+pub use simplex_round as round;
+pub use simplex_state as state;
+pub use simplex_text as text;
+pub use simplex_transcript::{
+    Entry, Event, Field, MemberKind, Node, Packet, Ref, Refusal, RunError, Setup, SetupRound,
+    StepSource, Took,
+};
+pub use simplex_types as types;
+pub use simplex_types::elector;
