@@ -2,7 +2,7 @@
 pub use Rattle.simplex_run.specs.Run
 pub use Rattle.simplex_run.specs.Setups
 pub use Rattle.simplex_run_laws.specs.Complete
-pub use Rattle.simplex_safety.specs.Safe
+pub use Rattle.simplex_backing.specs.Safe
 pub use Rattle.simplex_network.specs.Answer
 pub use Rattle.simplex_network.specs.Stands
 pub use Rattle.simplex_program.specs.Exit
