@@ -1,11 +1,13 @@
 -- The JSON form of an input, and the places of what is not of it.
-use Rattle.std.specs.Prelude.{ℕ, List, codes, Option, Some, None, Result, Ok, Err, if◌then◌else◌}
+use Rattle.std.specs.Prelude.{◌≡◌, ℕ, List, codes, Option, Some, None, Result, Ok, Err, if◌then◌else◌}
 use Rattle.std.specs.Str.{is_utf8}
 use Rattle.serde_json.specs.Data.{Data, Items}
 use Rattle.serde_json.specs.Read.{read}
 use Rattle.serde_json.specs.Find.{get, as_array}
 use Rattle.simplex_transcript.specs.declared.setup.Setup.{Setup}
 use Rattle.simplex_transcript.specs.declared.event.Event.{Event}
+use Rattle.simplex_form.specs.declared.fault.InputFault.{InputFault}
+use Rattle.simplex_form.specs.declared.fault.InputFault.TheVariants as faults
 use Rattle.simplex_form.specs.declared.input.Input.{Input}
 use Rattle.simplex_form.specs.Form.{◌>>=◌, has_members, list_from}
 use Rattle.simplex_form.specs.Setup.{setup_of}
@@ -38,3 +40,9 @@ json_of bytes = if is_utf8 bytes then read bytes else None
 -- what the bytes say, or the place of the first part that is not of the form
 abbrev pub input_of : List ℕ → Result Input ℕ
 input_of bytes = document_of (json_of bytes)
+
+-- what was answered is this, unless memory ran out
+abbrev pub Says : {A : Type 0} → Result A InputFault → Result A ℕ → Type 0
+Says (Ok x) answer = answer ≡ Ok x
+Says (Err (faults.At place)) answer = answer ≡ Err place
+Says (Err faults.Memory) answer = Unit {0}

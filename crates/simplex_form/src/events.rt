@@ -1,79 +1,18 @@
 //! Reads events.
-ghost use Rattle.std.specs.Prelude.{◌≡◌};
-ghost use Rattle.std.specs.List.{list_any};
-ghost use Rattle.std.specs.Char.{is_ascii_uppercase};
+ghost use Rattle.std.specs.Prelude.{◌≡◌, IfOk};
 ghost use Rattle.serde_json.specs.View.{view};
-ghost use Rattle.simplex_form.specs.Events.{node_of, ref_of, digest_of, floor_of, stop_of, source_of, payload_of, verdict_of, answer_of, start_event_of, step_event_of, answer_event_of, taken_event_of, event_of};
+ghost use Rattle.simplex_form.specs.Events.{source_of, channel_of, start_event_of, tick_event_of, deliver_event_of, step_event_of, answer_event_of, crash_event_of, inject_event_of, event_of};
 
-use crate::pieces::{FromData, flag_at, has_items, has_members, text_at};
-use hex::FromHex;
+use crate::answers::read_answer;
+use crate::floors::read_floor;
+use crate::hex_text::read_hex;
+use crate::pieces::{FromData, has_members, number_at, read_list, text_at};
+use crate::references::{node_at, read_ref};
+use crate::stops::stop_at;
 use serde_json::Value;
-use simplex_messages::Stop;
-use simplex_transcript::{Event, Node, Ref, StepSource};
-use simplex_types::{Answer, Digest, Finalization};
+use simplex_transcript::{Event, StepSource};
+use simplex_types::Channel;
 use std::alloc::{AllocError, Global};
-
-fn read_node(value: &Value) -> Option<Node>
-    ensures { result ≡ node_of (view value.now) }
-{
-    if !has_items(value, 2) {
-        return None;
-    }
-    let member = value.get(0usize)?.as_u64()?;
-    let half = value.get(1usize)?.as_u64()?;
-    Some(Node { member, half })
-}
-
-fn read_ref(value: &Value) -> Option<Ref>
-    ensures { result ≡ ref_of (view value.now) }
-{
-    if !has_items(value, 2) {
-        return None;
-    }
-    let event = value.get(0usize)?.as_u64()?;
-    let place = value.get(1usize)?.as_u64()?;
-    Some(Ref { event, place })
-}
-
-// Whether some letter of the text is in upper case.
-fn has_upper_case(text: &str) -> bool
-    ensures { result ≡ list_any is_ascii_uppercase text.now }
-{
-    let mut rest = text.as_bytes();
-    while let [byte, after @ ..] = rest {
-        if byte.is_ascii_uppercase() {
-            return true;
-        }
-        rest = after;
-    }
-    false
-}
-
-fn read_digest(text: &str) -> Option<Digest>
-    ensures { result ≡ digest_of text.now }
-{
-    if has_upper_case(text) {
-        return None;
-    }
-    let bytes = <[u8; 32]>::from_hex(text).ok()?;
-    Some(Digest(bytes))
-}
-
-fn read_floor(value: &Value) -> Option<Option<Finalization>>
-    ensures { result ≡ floor_of (view value.now) }
-{
-    if value.is_null() { Some(None) } else { None }
-}
-
-fn read_stop(value: &Value) -> Option<Stop>
-    ensures { result ≡ stop_of (view value.now) }
-{
-    if value.is_null() {
-        Some(Stop::None)
-    } else {
-        None
-    }
-}
 
 fn read_source(name: &str) -> Option<StepSource>
     ensures { result ≡ source_of name.now }
@@ -81,51 +20,68 @@ fn read_source(name: &str) -> Option<StepSource>
     match name {
         "batcher" => Some(StepSource::Batcher),
         "voter" => Some(StepSource::Voter),
+        "timer" => Some(StepSource::Timer),
         "propose" => Some(StepSource::Propose),
+        "verify" => Some(StepSource::Verify),
         "certify" => Some(StepSource::Certify),
+        "resolver" => Some(StepSource::Resolver),
+        "handler" => Some(StepSource::Handler),
+        "fetch" => Some(StepSource::Fetch),
         _ => None,
     }
 }
 
-fn read_payload(value: &Value) -> Option<Answer>
-    ensures { result ≡ payload_of (view value.now) }
+fn read_channel(name: &str) -> Option<Channel>
+    ensures { result ≡ channel_of name.now }
 {
-    let payload = read_digest(text_at(value, "payload")?)?;
-    Some(Answer::Payload(payload))
-}
-
-fn read_verdict(value: &Value) -> Option<Answer>
-    ensures { result ≡ verdict_of (view value.now) }
-{
-    if flag_at(value, "verdict")? {
-        Some(Answer::Verdict(true))
-    } else {
-        None
+    match name {
+        "vote" => Some(Channel::Vote),
+        "certificate" => Some(Channel::Certificate),
+        "resolver" => Some(Channel::Resolver),
+        _ => None,
     }
 }
 
-fn read_answer(value: &Value) -> Option<Answer>
-    ensures { result ≡ answer_of (view value.now) }
-{
-    if !has_members(value, 1) {
-        return None;
-    }
-    if let Some(payload) = read_payload(value) {
-        return Some(payload);
-    }
-    read_verdict(value)
-}
-
-fn read_start_event(value: &Value) -> Option<Event>
-    ensures { result ≡ start_event_of (view value.now) }
+fn read_start_event(alloc: Global, value: &Value) -> Result<Option<Event>, AllocError>
+    ensures { IfOk result (λ o. o ≡ start_event_of (view value.now)) }
 {
     if !has_members(value, 4) {
+        return Ok(None);
+    }
+    let Some(node) = node_at(value) else {
+        return Ok(None);
+    };
+    let Some(part) = value.get("floor") else {
+        return Ok(None);
+    };
+    let Some(floor) = read_floor(alloc, part)? else {
+        return Ok(None);
+    };
+    let Some(stop) = stop_at(value) else {
+        return Ok(None);
+    };
+    Ok(Some(Event::Start { node, floor, stop }))
+}
+
+fn read_tick_event(value: &Value) -> Option<Event>
+    ensures { result ≡ tick_event_of (view value.now) }
+{
+    if !has_members(value, 2) {
         return None;
     }
-    let node = read_node(value.get("node")?)?;
-    let floor = read_floor(value.get("floor")?)?;
-    let stop = read_stop(value.get("stop")?)?;
-    Some(Event::Start { node, floor, stop })
+    let ms = number_at(value, "ms")?;
+    Some(Event::Tick { ms })
+}
+
+fn read_deliver_event(value: &Value) -> Option<Event>
+    ensures { result ≡ deliver_event_of (view value.now) }
+{
+    if !has_members(value, 3) {
+        return None;
+    }
+    let node = node_at(value)?;
+    let packet = read_ref(value.get("packet")?)?;
+    Some(Event::Deliver { node, packet })
 }
 
 fn read_step_event(value: &Value) -> Option<Event>
@@ -134,9 +90,9 @@ fn read_step_event(value: &Value) -> Option<Event>
     if !has_members(value, 4) {
         return None;
     }
-    let node = read_node(value.get("node")?)?;
+    let node = node_at(value)?;
     let source = read_source(text_at(value, "source")?)?;
-    let stop = read_stop(value.get("stop")?)?;
+    let stop = stop_at(value)?;
     Some(Event::Step { node, source, stop })
 }
 
@@ -146,7 +102,7 @@ fn read_answer_event(value: &Value) -> Option<Event>
     if !has_members(value, 4) {
         return None;
     }
-    let node = read_node(value.get("node")?)?;
+    let node = node_at(value)?;
     let request = read_ref(value.get("request")?)?;
     let answer = read_answer(value.get("answer")?)?;
     Some(Event::Answer {
@@ -156,21 +112,74 @@ fn read_answer_event(value: &Value) -> Option<Event>
     })
 }
 
-fn read_taken_event(value: &Value) -> Option<Event>
-    ensures { result ≡ taken_event_of (view value.now) }
+fn read_crash_event(value: &Value) -> Option<Event>
+    ensures { result ≡ crash_event_of (view value.now) }
 {
-    match text_at(value, "do")? {
-        "start" => read_start_event(value),
-        "step" => read_step_event(value),
-        "answer" => read_answer_event(value),
-        _ => None,
+    if !has_members(value, 2) {
+        return None;
+    }
+    let node = node_at(value)?;
+    Some(Event::Crash { node })
+}
+
+fn read_inject_event(alloc: Global, value: &Value) -> Result<Option<Event>, AllocError>
+    ensures { IfOk result (λ o. o ≡ inject_event_of (view value.now)) }
+{
+    if !has_members(value, 5) {
+        return Ok(None);
+    }
+    let Some(member) = number_at(value, "member") else {
+        return Ok(None);
+    };
+    let Some(name) = text_at(value, "channel") else {
+        return Ok(None);
+    };
+    let Some(channel) = read_channel(name) else {
+        return Ok(None);
+    };
+    let Some(list) = value.get("to") else {
+        return Ok(None);
+    };
+    let Some(to) = read_list(alloc, list)? else {
+        return Ok(None);
+    };
+    let Some(text) = text_at(value, "bytes") else {
+        return Ok(None);
+    };
+    let Some(bytes) = read_hex(alloc, text)? else {
+        return Ok(None);
+    };
+    Ok(Some(Event::Inject {
+        member,
+        channel,
+        to,
+        bytes,
+    }))
+}
+
+/// What the value says of an event, if it is of the form.
+pub fn read_event(alloc: Global, value: &Value) -> Result<Option<Event>, AllocError>
+    ensures { IfOk result (λ o. o ≡ event_of (view value.now)) }
+{
+    let Some(kind) = text_at(value, "do") else {
+        return Ok(None);
+    };
+    match kind {
+        "start" => read_start_event(alloc, value),
+        "tick" => Ok(read_tick_event(value)),
+        "deliver" => Ok(read_deliver_event(value)),
+        "step" => Ok(read_step_event(value)),
+        "answer" => Ok(read_answer_event(value)),
+        "crash" => Ok(read_crash_event(value)),
+        "inject" => read_inject_event(alloc, value),
+        _ => Ok(None),
     }
 }
 
 impl FromData for Event {
     ghost of = { event_of };
 
-    fn read(_alloc: Global, value: &Value) -> Result<Option<Event>, AllocError> {
-        Ok(Some(read_taken_event(value).unwrap_or(Event::Later)))
+    fn read(alloc: Global, value: &Value) -> Result<Option<Event>, AllocError> {
+        read_event(alloc, value)
     }
 }

@@ -1,8 +1,10 @@
 //! Reads an input: a setup and its events.
-ghost use Rattle.std.specs.Prelude.{◌≡◌, option_map, IfOk};
+ghost use Rattle.std.specs.Prelude.{◌≡◌, ◌⊎◌, Some, None, option_map, IfOk, IfErr};
 ghost use Rattle.serde_json.specs.View.{view};
-ghost use Rattle.simplex_form.specs.Input.{form_of, json_of, input_of};
+ghost use Rattle.simplex_form.specs.declared.fault.InputFault.TheVariants.{At, Memory};
+ghost use Rattle.simplex_form.specs.Input.{form_of, json_of, input_of, Says};
 
+use crate::fault::InputFault;
 use crate::pieces::{has_members, read_items};
 use crate::setup::read_setup;
 use serde_json::Value;
@@ -59,13 +61,33 @@ fn read_form(alloc: Global, value: &Value) -> Result<Result<Input, u64>, AllocEr
 }
 
 /// What the bytes say, or the place of the first part that is not of the form: 0 where they are no JSON, or nest
-/// too deep, and 1 for the top object and its setup. An event of no form that is taken is [`Event::Later`], so
-/// no other place occurs.
+/// too deep, 1 for the top object and its setup, and 1 + k for event k, where events are counted from 1.
 pub fn read_input(alloc: Global, bytes: &[u8]) -> Result<Result<Input, u64>, AllocError>
     ensures { IfOk result (λ r. r ≡ input_of bytes.now) }
 {
     match parse(alloc, bytes)? {
         Some(value) => read_form(alloc, &value),
         None => Ok(Err(0)),
+    }
+}
+
+/// The JSON value that the bytes are, or place 0.
+pub fn read_value(alloc: Global, bytes: &[u8]) -> Result<Value, InputFault>
+    ensures value { IfOk result (λ value. json_of bytes.now ≡ Some (view value)) }
+    ensures fault { IfErr result (λ e. (e ≡ Memory) ⊎ ((e ≡ At 0) × (json_of bytes.now ≡ None))) }
+{
+    match parse(alloc, bytes)? {
+        Some(value) => Ok(value),
+        None => Err(InputFault::At(0)),
+    }
+}
+
+/// What the bytes say, as [`read_input`] reads them, with one error for all that may be wrong.
+pub fn read_run(alloc: Global, bytes: &[u8]) -> Result<Input, InputFault>
+    ensures { Says result (input_of bytes.now) }
+{
+    match read_input(alloc, bytes)? {
+        Ok(input) => Ok(input),
+        Err(place) => Err(InputFault::At(place)),
     }
 }

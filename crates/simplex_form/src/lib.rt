@@ -1,13 +1,23 @@
 //! The form of an input: what a JSON text says of a setup and its events.
 //!
-//! [`read_input`] answers the [`Input`], or the place of the first part that is not of the form. The pieces of
-//! which the form is made ([`FromData`], [`read_list`], [`has_members`], ..) serve other forms too.
+//! [`read_input`] answers the [`Input`], or the place of the first part that is not of the form. Of what is part of
+//! a greater value, [`read_setup`] and [`read_event`] read a setup or an event alone. The pieces of which the form is
+//! made ([`FromData`], [`read_list`], [`has_members`], ..) serve other forms too.
 #![tactic(auto)]
 
+mod answers;
 mod events;
+mod fault;
+mod floors;
+mod hex_text;
 mod input;
 mod pieces;
+mod references;
 mod setup;
+mod stops;
 
-pub use input::{Input, read_input};
+pub use events::read_event;
+pub use fault::InputFault;
+pub use input::{Input, read_input, read_run, read_value};
 pub use pieces::{FromData, flag_at, has_items, has_members, number_at, read_list, text_at};
+pub use setup::read_setup;

@@ -1,4 +1,8 @@
 //! One whole input, a setup of other values, and the smallest texts that are not of the form.
+mod events;
+mod misses;
+mod parts;
+
 use simplex_form::{Input, read_input};
 use simplex_messages::Stop;
 use simplex_transcript::{Event, MemberKind, Node, Ref, Setup, SetupRound, StepSource};
@@ -21,9 +25,8 @@ const FINALIZES: &str =
 const REST: &str =
     r#""key_base":2,"members":["honest","silent","conflicter","equivocator","impersonator","nuller","nullify_only",{"outdated":9},"reconfigurer","corrupt","unrecovering","twin"],"term":3,"lookahead":4,"leader_timeout":5,"certification_timeout":6,"retry":7,"stall":8,"retention":9,"skip":{"timeout":10,"budget":"participants"},"forward":"voters","mailbox":11,"track":true,"handoff":true,"fetch_timeout":12,"fetch_retry":13,"scenario":[{"leader":14,"primary":15,"secondary":16}]"#;
 
-/// Events of forms that are not taken, and of no form at all.
-const LATER: &str =
-    r#"[{"do":"tick","ms":5},{"do":"start","node":[0,0],"floor":null,"stop":{"cut":1,"keep":0}},{"do":"step","node":[0,0],"source":"timer","stop":null},{"do":"answer","node":[0,0],"request":[1,0],"answer":{"verdict":false}},{"do":"answer","node":[0,0],"request":[1,0],"answer":{"payload":"ABABABABABABABABABABABABABABABABABABABABABABABABABABABABABABABAB"}},{"do":"answer","node":[0,0],"request":[1,0],"answer":{"payload":"abab"}},{"do":"start","node":[0,0],"floor":null,"stop":null,"more":1},5.0]"#;
+/// Two events, and then none.
+const THIRD: &str = r#"[{"do":"tick","ms":5},{"do":"crash","node":[0,0]},{"do":"tick"}]"#;
 
 const NODE: Node = Node { member: 0, half: 0 };
 
@@ -149,17 +152,8 @@ fn setup(alloc: Global) -> Result<Setup, AllocError> {
     })
 }
 
-/// Eight events of no form that is taken.
-fn eight_later(alloc: Global) -> Result<Sequence<Event>, AllocError> {
-    let mut events = Sequence::new(alloc);
-    for _ in 0..8 {
-        events.push(Event::Later)?;
-    }
-    Ok(events)
-}
-
 fn other_input(alloc: Global) -> Result<Input, AllocError> {
-    let events = eight_later(alloc)?;
+    let events = Sequence::new(alloc);
     let setup = setup(alloc)?;
     Ok(Input { setup, events })
 }
@@ -167,7 +161,7 @@ fn other_input(alloc: Global) -> Result<Input, AllocError> {
 #[test]
 fn a_setup_of_other_values(rt: HostRuntime) -> Result<(), Fail> {
     let alloc = rt.alloc();
-    let input = read(alloc, "18446744073709551615", LATER)?;
+    let input = read(alloc, "18446744073709551615", "[]")?;
     same(&rt, "an input", &input, &Ok(other_input(alloc)?));
     Ok(())
 }
@@ -188,6 +182,9 @@ fn places_of_what_is_not_of_the_form(rt: HostRuntime) -> Result<(), Fail> {
         ("one more item of the setup", "0,\"more\":1", "[]", Some(1)),
         ("one more part of the input", "0", "[],\"more\":1", Some(1)),
         ("events that are no list", "0", "{}", Some(1)),
+        ("a first event of no form", "0", "[5.0,{}]", Some(2)),
+        ("a third event of no form", "0", THIRD, Some(4)),
+        ("an epoch and an event", "0.0", "[5.0]", Some(1)),
     ];
     for (case, epoch, events, wanted) in texts {
         let got = place(rt.alloc(), epoch, events)?;

@@ -30,8 +30,6 @@ use Rattle.simplex_run.specs.Routing.{is_routed, packet_view, members_for, nodes
 use Rattle.simplex_run.specs.Life.{Noted}
 use Rattle.simplex_run.specs.Forged.{Signed, first_forged, unless, unless_forged}
 use Rattle.simplex_run.specs.Entries.{if_node, by_engine, made_of, entry_of}
-use Rattle.simplex_run.specs.Run.{is_one_honest, is_taken}
-use Rattle.simplex_run.specs.Setups.{is_round}
 
 both : (a b : Bool) → (a && b) ≡ true → (a ≡ true) × (b ≡ true)
 both true b e = (refl, e)
@@ -185,25 +183,3 @@ elects_in_turn setup e = rw e refl
 pub elected_in_turn : (setup : Setup) (round : Round) → setup.scenario ≡ [] → elected setup round ≡ leader_of setup.term (members_of setup) round
 unfolding elected round_at
 elected_in_turn setup round e = rw e refl
-
--- ---- the setups that are taken
-
-all_of_one : (ms : List MemberKind) → is_one_honest ms ≡ true → list_all (λ kind. not (is_faulty kind)) ms ≡ true
-all_of_one (kinds.Honest ∷ []) e = refl
-all_of_one _ e = cc
-
-pub taken_honest : (setup : Setup) → is_taken setup ≡ true → are_honest setup ≡ true
-unfolding is_taken
-taken_honest setup e = all_of_one setup.members (grind (arith, common_steps, e))
-
-none_left : (rounds : List SetupRound) → (length rounds == 0) ≡ true → rounds ≡ []
-none_left [] e = refl
-none_left (round ∷ rounds) e = absurd (grind (arith, common_steps, e))
-
-pub taken_unscripted : (setup : Setup) → is_taken setup ≡ true → setup.scenario ≡ []
-unfolding is_taken
-taken_unscripted setup e = none_left setup.scenario (grind (arith, common_steps, e))
-
--- no round of a script breaks its limit
-pub no_rounds : (setup : Setup) → is_taken setup ≡ true → list_all (is_round (length setup.members)) setup.scenario ≡ true
-no_rounds setup e = rw (taken_unscripted setup e) refl

@@ -256,8 +256,6 @@ made_of setup before (events.Crash node) =
 made_of setup before (events.Inject member channel to bytes) =
     if nat_lt member (members_of setup) && list_all (is_node setup) to then on_inject setup before member channel to bytes
     else Err refusals.NoMember
--- a form of event that is not taken yet
-made_of setup before events.Later = Err refusals.NotYet
 
 -- what an event makes of the entries before it
 unfoldable pub entry_of : Setup → List Noted → Event → Result Noted RunError

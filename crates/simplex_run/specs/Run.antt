@@ -1,46 +1,17 @@
 -- A run: the one transcript that a setup and events make, or the one refusal.
 use Rattle.std.specs.Prelude.{ℕ, ◌+◌, ◌*◌, ◌^◌, ◌==◌, ◌&&◌, nat_le, Bool, true, false, not, List, [], ◌∷◌, length, map, reverse, Option, Some, None, Result, Ok, Err, if◌then◌else◌}
-use Rattle.std.specs.Option.{is_none}
-use Rattle.simplex_values.specs.declared.policy.SkipPolicy.{SkipPolicy}
-use Rattle.simplex_values.specs.declared.policy.SkipPolicy.TheVariants as skip
-use Rattle.simplex_values.specs.declared.policy.ForwardPolicy.{ForwardPolicy}
-use Rattle.simplex_values.specs.declared.policy.ForwardPolicy.TheVariants as forward
 use Rattle.simplex_transcript.specs.declared.event.Event.{Event}
 use Rattle.simplex_transcript.specs.declared.entry.Entry.{Entry}
 use Rattle.simplex_transcript.specs.declared.field.Field.{Field}
 use Rattle.simplex_transcript.specs.declared.field.Field.TheVariants as fields
 use Rattle.simplex_transcript.specs.declared.setup.Setup.{Setup}
-use Rattle.simplex_transcript.specs.declared.setup.MemberKind.{MemberKind}
-use Rattle.simplex_transcript.specs.declared.setup.MemberKind.TheVariants as kinds
 use Rattle.simplex_transcript.specs.declared.refusal.RunError.{RunError}
 use Rattle.simplex_transcript.specs.declared.refusal.RunError.TheVariants as refusals
 use Rattle.simplex_transcript.specs.declared.refusal.Refusal.{Refusal}
-use Rattle.simplex_run.specs.Members.{members_of}
+use Rattle.simplex_run.specs.Kinds.{members_of}
 use Rattle.simplex_run.specs.Setups.{first_bad}
 use Rattle.simplex_run.specs.Life.{Noted}
 use Rattle.simplex_run.specs.Entries.{entry_of}
-
--- ---- which setups are taken yet: one honest member with the values of the first example, any keys and any mailbox
-
-abbrev pub is_one_honest : List MemberKind → Bool
-is_one_honest (kinds.Honest ∷ []) = true
-is_one_honest _ = false
-
-abbrev pub is_no_skip : SkipPolicy → Bool
-is_no_skip skip.Disabled = true
-is_no_skip _ = false
-
-abbrev pub is_no_forward : ForwardPolicy → Bool
-is_no_forward forward.Disabled = true
-is_no_forward _ = false
-
-unfoldable pub is_taken : Setup → Bool
-is_taken setup =
-    setup.epoch == 0 && is_one_honest setup.members && setup.term == 1 && setup.lookahead == 0
-    && setup.leader_timeout == 1000 && setup.certification_timeout == 2000 && setup.retry == 500 && is_none setup.stall
-    && setup.retention == 10 && is_no_skip setup.skip && is_no_forward setup.forward
-    && not setup.track && not setup.handoff && setup.fetch_timeout == 1000 && setup.fetch_retry == 100
-    && length setup.scenario == 0
 
 -- at most 2^20 events, and at most 2^25 of them times members
 abbrev pub are_few : Setup → List Event → Bool
@@ -72,12 +43,8 @@ abbrev pub unless_bad : Option Field → Result (List Entry) Refusal → Result 
 unless_bad (Some field) ran = Err (refused (refusals.BadSetup field) 0)
 unless_bad None ran = ran
 
--- the run of any setup
-unfoldable pub whole_run : Setup → List Event → Result (List Entry) Refusal
-whole_run setup events =
+-- the transcript of a setup and events, or the first refusal
+unfoldable pub Run : Setup → List Event → Result (List Entry) Refusal
+Run setup events =
     if not (are_few setup events) then Err (refused (refusals.BadSetup fields.Events) 0)
     else unless_bad (first_bad setup) (transcript_of (run setup [] events))
-
--- the run of a setup that is taken yet
-unfoldable pub Run : Setup → List Event → Result (List Entry) Refusal
-Run setup events = if not (is_taken setup) then Err (refused refusals.NotYet 0) else whole_run setup events

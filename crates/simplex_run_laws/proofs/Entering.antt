@@ -104,7 +104,6 @@ made_enters setup before (events.Crash node) =
 made_enters setup before (events.Inject member channel to bytes) =
     either before (events.Inject member channel to bytes) _ (on_inject setup before member channel to bytes) (Err _)
     (either before (events.Inject member channel to bytes) (is_honest setup member) (Err _) (Ok _) tt (record { counted = refl; who = refl })) tt
-made_enters setup before events.Later = tt
 
 -- where what is forged is refused
 unless_enters : (before : List Noted) (event : Event) (o : Option Signed) (noted : Noted) → IsEntryOf (length before + 1) event noted.entry → Enters before event (unless o noted)

@@ -1,5 +1,5 @@
 -- An event is not refused exactly where it meets its conditions.
-use Rattle.std.proofs.Common.{◌≡◌, ℕ, ◌+◌, ◌-◌, ◌^◌, ◌↔◌, nat_le, Bool, true, false, List, Option, Some, None, Result, Ok, Err, is_ok, IsOk, refl, sym, ap, ◌∙◌, arith, ◌&&◌, nat_lt, if◌then◌else◌}
+use Rattle.std.proofs.Common.{◌≡◌, ℕ, ◌+◌, ◌-◌, ◌^◌, ◌↔◌, nat_le, Bool, true, false, List, Option, Some, None, Result, Ok, Err, is_ok, IsOk, refl, arith, ◌&&◌, nat_lt, if◌then◌else◌}
 use Rattle.std.specs.List.{list_all}
 use Rattle.simplex_values.specs.declared.answer.Answer.{Answer}
 use Rattle.simplex_values.specs.declared.plan.Channel.{Channel}
@@ -17,24 +17,52 @@ use Rattle.simplex_transcript.specs.declared.refusal.RunError.{RunError}
 use Rattle.simplex_transcript.specs.declared.refusal.RunError.TheVariants as refusals
 use Rattle.simplex_steps.specs.Engine.{EngineMade, Did, takes_reply}
 use Rattle.simplex_run.specs.Life.{Noted, Life, Stopped, Running, clock_of, life_in}
-use Rattle.simplex_run.specs.Kinds.{members_of, is_node, is_honest, are_honest}
+use Rattle.simplex_run.specs.Kinds.{members_of, is_node, is_honest, is_faulty_member, runs_engine}
 use Rattle.simplex_run.specs.Requests.{request_number, packet_for}
-use Rattle.simplex_run.specs.Entries.{noted_blank, is_at_end, is_own_floor, on_start, on_packet, on_deliver, on_step, on_request, on_answer, on_crash, on_hearing, on_inject, noted_idle, if_node, by_engine, made_of, entry_of}
-use Rattle.simplex_run.proofs.Honest.{engine_honest, honest_member, entry_made}
-use Rattle.simplex_run_laws.specs.Conditions.{HasRoom, MayStart, MayTick, MayDeliver, MayStep, MayAnswer, MayCrash, Meets}
-use Rattle.simplex_run_laws.proofs.Tests.{both, ok_if, ok_unless, if_ok, unless_ok, within, is_within, node_is, is_member, room_is, has_room}
+use Rattle.simplex_run.specs.Entries.{noted_blank, is_at_end, is_own_floor, on_start, on_packet, on_deliver, on_step, on_request, on_answer, on_crash, on_hearing, on_inject, noted_idle, by_engine, made_of, entry_of}
+use Rattle.simplex_run_laws.specs.Conditions.{IsNode, HasEngine, HasRoom, MayStart, MayTick, MayDeliver, MayStep, MayAnswer, MayCrash, MayInject, May, Meets}
+use Rattle.simplex_run_laws.proofs.Tests.{both, and_true, ok_if, ok_unless, if_ok, unless_ok, below, is_below, within, is_within, node_is, is_there, nodes_are, are_there, not_honest, not_faultless, room_is, has_room}
 use Rattle.simplex_run_laws.proofs.Floors.{own_floor, floor_reported}
+use Rattle.simplex_run_laws.proofs.Forging.{unforged_ok, ok_unforged}
 use Rattle.simplex_run_laws.proofs.Places.{packet_sent, sent_packet, number_asked, asked_number}
 
 -- ---- a node
 
-by_ok : (setup : Setup) (node : Node) (run other : Result Noted RunError) → are_honest setup ≡ true → is_ok (if_node setup node run) ≡ true
-    → is_ok (by_engine setup node run other) ≡ true
-by_ok setup node run other h e = ap is_ok (engine_honest setup node run other h) ∙ e
+-- a node with an engine, or with none
+choose : (b : Bool) (r s : Result Noted RunError) → (b ≡ true → is_ok r ≡ true) → (b ≡ false → is_ok s ≡ true) → is_ok (if b then r else s) ≡ true
+choose true r s p q = p refl
+choose false r s p q = q refl
 
-ok_by : (setup : Setup) (node : Node) (run other : Result Noted RunError) → are_honest setup ≡ true → is_ok (by_engine setup node run other) ≡ true
-    → is_ok (if_node setup node run) ≡ true
-ok_by setup node run other h e = sym (ap is_ok (engine_honest setup node run other h)) ∙ e
+by_ok : (setup : Setup) (node : Node) (run other : Result Noted RunError) → IsNode setup node → (HasEngine setup node → is_ok run ≡ true) → is_ok other ≡ true
+    → is_ok (by_engine setup node run other) ≡ true
+by_ok setup node run other there p q =
+    ok_if (is_node setup node) (if runs_engine setup node.member then run else other) refusals.NoMember (node_is setup node there)
+    (choose (runs_engine setup node.member) run other p (λ _. q))
+
+ok_by : (setup : Setup) (node : Node) (run other : Result Noted RunError) → is_ok (by_engine setup node run other) ≡ true
+    → IsNode setup node × (HasEngine setup node → is_ok run ≡ true) × (runs_engine setup node.member ≡ false → is_ok other ≡ true)
+ok_by setup node run other e =
+    let outer = if_ok (is_node setup node) (if runs_engine setup node.member then run else other) refusals.NoMember e in
+    let inner = chosen (runs_engine setup node.member) outer.1 in
+    (is_there setup node outer.0, inner.0, inner.1)
+  where
+    chosen : (b : Bool) → is_ok (if b then run else other) ≡ true → (b ≡ true → is_ok run ≡ true) × (b ≡ false → is_ok other ≡ true)
+    chosen true h = (λ _. h, λ e. cc)
+    chosen false h = (λ e. cc, λ _. h)
+
+-- where one with none is refused
+engine_ok : (setup : Setup) (node : Node) (run : Result Noted RunError) (error : RunError) → IsNode setup node → HasEngine setup node → is_ok run ≡ true
+    → is_ok (by_engine setup node run (Err error)) ≡ true
+engine_ok setup node run error there engine h =
+    ok_if (is_node setup node) (if runs_engine setup node.member then run else Err error) refusals.NoMember (node_is setup node there)
+    (ok_if (runs_engine setup node.member) run error engine h)
+
+ok_engine : (setup : Setup) (node : Node) (run : Result Noted RunError) (error : RunError) → is_ok (by_engine setup node run (Err error)) ≡ true
+    → IsNode setup node × HasEngine setup node × (is_ok run ≡ true)
+ok_engine setup node run error e =
+    let outer = if_ok (is_node setup node) (if runs_engine setup node.member then run else Err error) refusals.NoMember e in
+    let inner = if_ok (runs_engine setup node.member) run error outer.1 in
+    (is_there setup node outer.0, inner.0, inner.1)
 
 -- ---- a start
 
@@ -43,27 +71,27 @@ start_ok : (setup : Setup) (before : List Noted) (node : Node) (floor : Option F
 start_ok setup before node floor stop sections (Running made past) is own = cc
 start_ok setup before node floor stop sections (Stopped held) is own = ok_if (is_own_floor setup before floor) (Ok _) refusals.ForeignFloor own refl
 
-may_start : (setup : Setup) (before : List Noted) (node : Node) (floor : Option Finalization) (stop : Stop) → are_honest setup ≡ true → MayStart setup before node floor
+may_start : (setup : Setup) (before : List Noted) (node : Node) (floor : Option Finalization) (stop : Stop) → MayStart setup before node floor
     → is_ok (made_of setup before (events.Start node floor stop)) ≡ true
 unfolding made_of
-may_start setup before node floor stop h m =
-    by_ok setup node (on_start setup before node floor stop (life_in setup before node)) (Err refusals.NotStopped) h
-    (ok_if (is_node setup node) (on_start setup before node floor stop (life_in setup before node)) refusals.NoMember (node_is setup node h m.member)
-    (start_ok setup before node floor stop m.sections (life_in setup before node) m.stopped (own_floor setup before floor m.reported)))
+may_start setup before node floor stop m =
+    engine_ok setup node (on_start setup before node floor stop (life_in setup before node)) refusals.NotStopped m.there m.engine
+    (start_ok setup before node floor stop m.sections (life_in setup before node) m.stopped (own_floor setup before floor m.reported))
 
 ok_start : (setup : Setup) (before : List Noted) (node : Node) (floor : Option Finalization) (stop : Stop) (life : Life)
     → is_ok (on_start setup before node floor stop life) ≡ true → ((sections : List Section) × (life ≡ Stopped sections)) × (is_own_floor setup before floor ≡ true)
 ok_start setup before node floor stop (Running made past) h = cc
 ok_start setup before node floor stop (Stopped held) h = ((held, refl), (if_ok (is_own_floor setup before floor) (Ok _) refusals.ForeignFloor h).0)
 
-did_start : (setup : Setup) (before : List Noted) (node : Node) (floor : Option Finalization) (stop : Stop) → are_honest setup ≡ true
+did_start : (setup : Setup) (before : List Noted) (node : Node) (floor : Option Finalization) (stop : Stop)
     → is_ok (made_of setup before (events.Start node floor stop)) ≡ true → MayStart setup before node floor
 unfolding made_of
-did_start setup before node floor stop h e =
-    let outer = if_ok (is_node setup node) (on_start setup before node floor stop (life_in setup before node)) refusals.NoMember (ok_by setup node (on_start setup before node floor stop (life_in setup before node)) (Err refusals.NotStopped) h e) in
-    let inner = ok_start setup before node floor stop (life_in setup before node) outer.1 in
+did_start setup before node floor stop e =
+    let outer = ok_engine setup node (on_start setup before node floor stop (life_in setup before node)) refusals.NotStopped e in
+    let inner = ok_start setup before node floor stop (life_in setup before node) outer.2 in
     record {
-      member = is_member setup node h outer.0;
+      there = outer.0;
+      engine = outer.1;
       sections = inner.0.0;
       stopped = inner.0.1;
       reported = floor_reported setup before floor inner.1;
@@ -99,12 +127,19 @@ deliver_ok setup before node at packet made past (Running m p) is found room =
     let is_past : past ≡ p = cc in
     packet_ok setup before node at packet m p (packet_for before node at) found (rw (is_made, is_past) at room)
 
-may_deliver : (setup : Setup) (before : List Noted) (node : Node) (at : Ref) → are_honest setup ≡ true → MayDeliver setup before node at → is_ok (made_of setup before (events.Deliver node at)) ≡ true
+hearing_ok : (setup : Setup) (before : List Noted) (node : Node) (at : Ref) (packet : Packet) (o : Option Packet) → o ≡ Some packet
+    → is_ok (on_hearing setup before node at o) ≡ true
+hearing_ok setup before node at packet None is = cc
+hearing_ok setup before node at packet (Some p) is = refl
+
+may_deliver : (setup : Setup) (before : List Noted) (node : Node) (at : Ref) → MayDeliver setup before node at → is_ok (made_of setup before (events.Deliver node at)) ≡ true
 unfolding made_of
-may_deliver setup before node at h m =
-    by_ok setup node (on_deliver setup before node at (life_in setup before node)) (on_hearing setup before node at (packet_for before node at)) h
-    (ok_if (is_node setup node) (on_deliver setup before node at (life_in setup before node)) refusals.NoMember (node_is setup node h m.up.member)
-    (deliver_ok setup before node at m.packet m.made m.past (life_in setup before node) m.up.runs (packet_sent before node at m.packet m.sent) m.room))
+may_deliver setup before node at m =
+    by_ok setup node (on_deliver setup before node at (life_in setup before node)) (on_hearing setup before node at (packet_for before node at)) m.there
+    (λ engine.
+    let ready = m.ready engine in
+    deliver_ok setup before node at m.packet ready.made ready.past (life_in setup before node) ready.up (packet_sent before node at m.packet m.sent) ready.room)
+    (hearing_ok setup before node at m.packet (packet_for before node at) (packet_sent before node at m.packet m.sent))
 
 ok_packet : (setup : Setup) (before : List Noted) (node : Node) (at : Ref) (made : EngineMade) (past : List Did) (o : Option Packet)
     → is_ok (on_packet setup before node at o made past) ≡ true → ((packet : Packet) × (o ≡ Some packet)) × HasRoom setup made past
@@ -121,20 +156,31 @@ ok_deliver : (setup : Setup) (before : List Noted) (node : Node) (at : Ref) (lif
 ok_deliver setup before node at (Stopped held) h = cc
 ok_deliver setup before node at (Running made past) h = (made, past, refl, h)
 
-did_deliver : (setup : Setup) (before : List Noted) (node : Node) (at : Ref) → are_honest setup ≡ true → is_ok (made_of setup before (events.Deliver node at)) ≡ true → MayDeliver setup before node at
+ok_hearing : (setup : Setup) (before : List Noted) (node : Node) (at : Ref) (o : Option Packet) → is_ok (on_hearing setup before node at o) ≡ true
+    → (packet : Packet) × (o ≡ Some packet)
+ok_hearing setup before node at None h = cc
+ok_hearing setup before node at (Some packet) h = (packet, refl)
+
+did_deliver : (setup : Setup) (before : List Noted) (node : Node) (at : Ref) → is_ok (made_of setup before (events.Deliver node at)) ≡ true → MayDeliver setup before node at
 unfolding made_of
-did_deliver setup before node at h e =
-    let outer = if_ok (is_node setup node) (on_deliver setup before node at (life_in setup before node)) refusals.NoMember (ok_by setup node (on_deliver setup before node at (life_in setup before node)) (on_hearing setup before node at (packet_for before node at)) h e) in
-    let run = ok_deliver setup before node at (life_in setup before node) outer.1 in
-    let inner = ok_packet setup before node at run.0 run.1 (packet_for before node at) run.3 in
-    record {
-      made = run.0;
-      past = run.1;
-      up = record { member = is_member setup node h outer.0; runs = run.2 };
-      room = inner.1;
-      packet = inner.0.0;
-      sent = sent_packet before node at inner.0.0 inner.0.1;
-    }
+did_deliver setup before node at e =
+    let outer = ok_by setup node (on_deliver setup before node at (life_in setup before node)) (on_hearing setup before node at (packet_for before node at)) e in
+    by (runs_engine setup node.member) refl outer.0 outer.1 outer.2
+  where
+    by : (b : Bool) → runs_engine setup node.member ≡ b → IsNode setup node → (HasEngine setup node → is_ok (on_deliver setup before node at (life_in setup before node)) ≡ true)
+        → (runs_engine setup node.member ≡ false → is_ok (on_hearing setup before node at (packet_for before node at)) ≡ true) → MayDeliver setup before node at
+    by true b there p q =
+        let run = ok_deliver setup before node at (life_in setup before node) (p b) in
+        let inner = ok_packet setup before node at run.0 run.1 (packet_for before node at) run.3 in
+        record {
+          there = there;
+          packet = inner.0.0;
+          sent = sent_packet before node at inner.0.0 inner.0.1;
+          ready = λ _. record { made = run.0; past = run.1; up = run.2; room = inner.1 };
+        }
+    by false b there p q =
+        let found = ok_hearing setup before node at (packet_for before node at) (q b) in
+        record { there = there; packet = found.0; sent = sent_packet before node at found.0 found.1; ready = λ engine. absurd (cc (b, engine)) }
 
 -- ---- a step
 
@@ -146,13 +192,14 @@ step_ok setup before node source stop made past (Running m p) is room =
     let is_past : past ≡ p = cc in
     ok_unless (is_at_end setup m p) (Ok _) refusals.ViewEnd (room_is setup m p (rw (is_made, is_past) at room)) refl
 
-may_step : (setup : Setup) (before : List Noted) (node : Node) (source : StepSource) (stop : Stop) → are_honest setup ≡ true → MayStep setup before node
+may_step : (setup : Setup) (before : List Noted) (node : Node) (source : StepSource) (stop : Stop) → MayStep setup before node
     → is_ok (made_of setup before (events.Step node source stop)) ≡ true
 unfolding made_of
-may_step setup before node source stop h m =
-    by_ok setup node (on_step setup before node source stop (life_in setup before node)) (Ok (noted_idle before (events.Step node source stop) node)) h
-    (ok_if (is_node setup node) (on_step setup before node source stop (life_in setup before node)) refusals.NoMember (node_is setup node h m.up.member)
-    (step_ok setup before node source stop m.made m.past (life_in setup before node) m.up.runs m.room))
+may_step setup before node source stop m =
+    by_ok setup node (on_step setup before node source stop (life_in setup before node)) (Ok (noted_idle before (events.Step node source stop) node)) m.there
+    (λ engine.
+    let ready = m.ready engine in
+    step_ok setup before node source stop ready.made ready.past (life_in setup before node) ready.up ready.room) refl
 
 ok_step : (setup : Setup) (before : List Noted) (node : Node) (source : StepSource) (stop : Stop) (life : Life) → is_ok (on_step setup before node source stop life) ≡ true
     → Running_with life (HasRoom setup)
@@ -160,13 +207,17 @@ ok_step setup before node source stop (Stopped held) h = cc
 ok_step setup before node source stop (Running made past) h =
     (made, past, refl, has_room setup made past (unless_ok (is_at_end setup made past) (Ok _) refusals.ViewEnd h).0)
 
-did_step : (setup : Setup) (before : List Noted) (node : Node) (source : StepSource) (stop : Stop) → are_honest setup ≡ true → is_ok (made_of setup before (events.Step node source stop)) ≡ true
+did_step : (setup : Setup) (before : List Noted) (node : Node) (source : StepSource) (stop : Stop) → is_ok (made_of setup before (events.Step node source stop)) ≡ true
     → MayStep setup before node
 unfolding made_of
-did_step setup before node source stop h e =
-    let outer = if_ok (is_node setup node) (on_step setup before node source stop (life_in setup before node)) refusals.NoMember (ok_by setup node (on_step setup before node source stop (life_in setup before node)) (Ok (noted_idle before (events.Step node source stop) node)) h e) in
-    let run = ok_step setup before node source stop (life_in setup before node) outer.1 in
-    record { made = run.0; past = run.1; up = record { member = is_member setup node h outer.0; runs = run.2 }; room = run.3 }
+did_step setup before node source stop e =
+    let outer = ok_by setup node (on_step setup before node source stop (life_in setup before node)) (Ok (noted_idle before (events.Step node source stop) node)) e in
+    record {
+      there = outer.0;
+      ready = λ engine.
+          let run = ok_step setup before node source stop (life_in setup before node) (outer.1 engine) in
+          record { made = run.0; past = run.1; up = run.2; room = run.3 };
+    }
 
 -- ---- an answer
 
@@ -185,13 +236,12 @@ answer_ok setup before node at answer number made past (Running m p) is found ta
     let is_past : past ≡ p = cc in
     request_ok setup before node at answer number m p (request_number before node at) found (rw (is_made, is_past) at takes)
 
-may_answer : (setup : Setup) (before : List Noted) (node : Node) (at : Ref) (answer : Answer) → are_honest setup ≡ true → MayAnswer setup before node at answer
+may_answer : (setup : Setup) (before : List Noted) (node : Node) (at : Ref) (answer : Answer) → MayAnswer setup before node at answer
     → is_ok (made_of setup before (events.Answer node at answer)) ≡ true
 unfolding made_of
-may_answer setup before node at answer h m =
-    by_ok setup node (on_answer setup before node at answer (life_in setup before node)) (Err refusals.NotPending) h
-    (ok_if (is_node setup node) (on_answer setup before node at answer (life_in setup before node)) refusals.NoMember (node_is setup node h m.up.member)
-    (answer_ok setup before node at answer m.number m.made m.past (life_in setup before node) m.up.runs (number_asked before node at m.number m.asked) m.pending))
+may_answer setup before node at answer m =
+    engine_ok setup node (on_answer setup before node at answer (life_in setup before node)) refusals.NotPending m.there m.engine
+    (answer_ok setup before node at answer m.number m.made m.past (life_in setup before node) m.up (number_asked before node at m.number m.asked) m.pending)
 
 ok_request : (setup : Setup) (before : List Noted) (node : Node) (at : Ref) (answer : Answer) (made : EngineMade) (past : List Did) (o : Option ℕ)
     → is_ok (on_request setup before node at answer o made past) ≡ true → (number : ℕ) × (o ≡ Some number) × (takes_reply made past number answer ≡ true)
@@ -204,17 +254,19 @@ ok_answer : (setup : Setup) (before : List Noted) (node : Node) (at : Ref) (answ
 ok_answer setup before node at answer (Stopped held) h = cc
 ok_answer setup before node at answer (Running made past) h = (made, past, refl, h)
 
-did_answer : (setup : Setup) (before : List Noted) (node : Node) (at : Ref) (answer : Answer) → are_honest setup ≡ true → is_ok (made_of setup before (events.Answer node at answer)) ≡ true
+did_answer : (setup : Setup) (before : List Noted) (node : Node) (at : Ref) (answer : Answer) → is_ok (made_of setup before (events.Answer node at answer)) ≡ true
     → MayAnswer setup before node at answer
 unfolding made_of
-did_answer setup before node at answer h e =
-    let outer = if_ok (is_node setup node) (on_answer setup before node at answer (life_in setup before node)) refusals.NoMember (ok_by setup node (on_answer setup before node at answer (life_in setup before node)) (Err refusals.NotPending) h e) in
-    let run = ok_answer setup before node at answer (life_in setup before node) outer.1 in
+did_answer setup before node at answer e =
+    let outer = ok_engine setup node (on_answer setup before node at answer (life_in setup before node)) refusals.NotPending e in
+    let run = ok_answer setup before node at answer (life_in setup before node) outer.2 in
     let inner = ok_request setup before node at answer run.0 run.1 (request_number before node at) run.3 in
     record {
+      there = outer.0;
+      engine = outer.1;
       made = run.0;
       past = run.1;
-      up = record { member = is_member setup node h outer.0; runs = run.2 };
+      up = run.2;
       number = inner.0;
       asked = asked_number before node at inner.0 inner.1;
       pending = inner.2;
@@ -226,66 +278,82 @@ crash_ok : (before : List Noted) (node : Node) (made : EngineMade) (past : List 
 crash_ok before node made past (Stopped held) is = cc
 crash_ok before node made past (Running m p) is = refl
 
-may_crash : (setup : Setup) (before : List Noted) (node : Node) → are_honest setup ≡ true → MayCrash setup before node → is_ok (made_of setup before (events.Crash node)) ≡ true
+may_crash : (setup : Setup) (before : List Noted) (node : Node) → MayCrash setup before node → is_ok (made_of setup before (events.Crash node)) ≡ true
 unfolding made_of
-may_crash setup before node h m =
-    by_ok setup node (on_crash before node (life_in setup before node)) (Ok (noted_idle before (events.Crash node) node)) h
-    (ok_if (is_node setup node) (on_crash before node (life_in setup before node)) refusals.NoMember (node_is setup node h m.up.member)
-    (crash_ok before node m.made m.past (life_in setup before node) m.up.runs))
+may_crash setup before node m =
+    by_ok setup node (on_crash before node (life_in setup before node)) (Ok (noted_idle before (events.Crash node) node)) m.there
+    (λ engine. let run = m.running engine in crash_ok before node run.made run.past (life_in setup before node) run.up) refl
 
 ok_crash : (before : List Noted) (node : Node) (life : Life) → is_ok (on_crash before node life) ≡ true → Running_with life (λ made past. Unit {0})
 ok_crash before node (Stopped held) h = cc
 ok_crash before node (Running made past) h = (made, past, refl, tt)
 
-did_crash : (setup : Setup) (before : List Noted) (node : Node) → are_honest setup ≡ true → is_ok (made_of setup before (events.Crash node)) ≡ true → MayCrash setup before node
+did_crash : (setup : Setup) (before : List Noted) (node : Node) → is_ok (made_of setup before (events.Crash node)) ≡ true → MayCrash setup before node
 unfolding made_of
-did_crash setup before node h e =
-    let outer = if_ok (is_node setup node) (on_crash before node (life_in setup before node)) refusals.NoMember (ok_by setup node (on_crash before node (life_in setup before node)) (Ok (noted_idle before (events.Crash node) node)) h e) in
-    let run = ok_crash before node (life_in setup before node) outer.1 in
-    record { made = run.0; past = run.1; up = record { member = is_member setup node h outer.0; runs = run.2 } }
+did_crash setup before node e =
+    let outer = ok_by setup node (on_crash before node (life_in setup before node)) (Ok (noted_idle before (events.Crash node) node)) e in
+    record {
+      there = outer.0;
+      running = λ engine.
+          let run = ok_crash before node (life_in setup before node) (outer.1 engine) in
+          record { made = run.0; past = run.1; up = run.2 };
+    }
+
+-- ---- bytes that a faulty member sends
+
+inject_ok : (setup : Setup) (member : ℕ) (noted : Noted) → is_faulty_member setup member ≡ true → is_ok {T = Noted} (if is_honest setup member then Err refusals.NotFaulty else Ok noted) ≡ true
+inject_ok setup member noted faulty = ok_unless (is_honest setup member) (Ok noted) refusals.NotFaulty (not_honest setup member faulty) refl
+
+may_inject : (setup : Setup) (before : List Noted) (member : ℕ) (channel : Channel) (to : List Node) (bytes : List ℕ) → MayInject setup member to
+    → is_ok (made_of setup before (events.Inject member channel to bytes)) ≡ true
+unfolding made_of
+may_inject setup before member channel to bytes m =
+    ok_if (nat_lt member (members_of setup) && list_all (is_node setup) to) (on_inject setup before member channel to bytes) refusals.NoMember
+    (and_true (nat_lt member (members_of setup)) (list_all (is_node setup) to) (is_below member (members_of setup) m.there) (nodes_are setup to m.nodes))
+    (inject_ok setup member _ m.faulty)
+
+did_inject : (setup : Setup) (before : List Noted) (member : ℕ) (channel : Channel) (to : List Node) (bytes : List ℕ)
+    → is_ok (made_of setup before (events.Inject member channel to bytes)) ≡ true → MayInject setup member to
+unfolding made_of
+did_inject setup before member channel to bytes e =
+    let outer = if_ok (nat_lt member (members_of setup) && list_all (is_node setup) to) (on_inject setup before member channel to bytes) refusals.NoMember e in
+    let parts = both (nat_lt member (members_of setup)) (list_all (is_node setup) to) outer.0 in
+    record {
+      there = below member (members_of setup) parts.0;
+      faulty = not_faultless setup member parts.0 (unless_ok (is_honest setup member) (Ok _) refusals.NotFaulty outer.1).0;
+      nodes = are_there setup to parts.1;
+    }
 
 -- ---- any event
 
-meets_made : (setup : Setup) (before : List Noted) (event : Event) → are_honest setup ≡ true → Meets setup before event → is_ok (made_of setup before event) ≡ true
-unfolding Meets
-meets_made setup before (events.Start node floor stop) h m = may_start setup before node floor stop h m
-meets_made setup before (events.Tick ms) h m = may_tick setup before ms m
-meets_made setup before (events.Deliver node at) h m = may_deliver setup before node at h m
-meets_made setup before (events.Step node source stop) h m = may_step setup before node source stop h m
-meets_made setup before (events.Answer node at answer) h m = may_answer setup before node at answer h m
-meets_made setup before (events.Crash node) h m = may_crash setup before node h m
-meets_made setup before (events.Inject member channel to bytes) h m = absurd m
-meets_made setup before events.Later h m = absurd m
+may_made : (setup : Setup) (before : List Noted) (event : Event) → May setup before event → is_ok (made_of setup before event) ≡ true
+unfolding May
+may_made setup before (events.Start node floor stop) m = may_start setup before node floor stop m
+may_made setup before (events.Tick ms) m = may_tick setup before ms m
+may_made setup before (events.Deliver node at) m = may_deliver setup before node at m
+may_made setup before (events.Step node source stop) m = may_step setup before node source stop m
+may_made setup before (events.Answer node at answer) m = may_answer setup before node at answer m
+may_made setup before (events.Crash node) m = may_crash setup before node m
+may_made setup before (events.Inject member channel to bytes) m = may_inject setup before member channel to bytes m
 
-pub meets_ok : (setup : Setup) (before : List Noted) (event : Event) → are_honest setup ≡ true → Meets setup before event → IsOk (entry_of setup before event)
-meets_ok setup before event h m = ap is_ok (entry_made setup before event h) ∙ meets_made setup before event h m
+made_may : (setup : Setup) (before : List Noted) (event : Event) → is_ok (made_of setup before event) ≡ true → May setup before event
+unfolding May made_of
+made_may setup before (events.Start node floor stop) e = did_start setup before node floor stop e
+made_may setup before (events.Tick ms) e = did_tick setup before ms e
+made_may setup before (events.Deliver node at) e = did_deliver setup before node at e
+made_may setup before (events.Step node source stop) e = did_step setup before node source stop e
+made_may setup before (events.Answer node at answer) e = did_answer setup before node at answer e
+made_may setup before (events.Crash node) e = did_crash setup before node e
+made_may setup before (events.Inject member channel to bytes) e = did_inject setup before member channel to bytes e
 
--- no honest member is made to send bytes
-refused_then : (b : Bool) (noted : Noted) → b ≡ true → is_ok {T = Noted} (if b then Err refusals.NotFaulty else Ok noted) ≡ true → ⊥
-refused_then true noted h e = cc
-refused_then false noted h e = cc
+pub meets_ok : (setup : Setup) (before : List Noted) (event : Event) → Meets setup before event → IsOk (entry_of setup before event)
+unfolding entry_of
+meets_ok setup before event m = unforged_ok setup before (made_of setup before event) (may_made setup before event m.may) m.genuine
 
-no_inject : (setup : Setup) (before : List Noted) (member : ℕ) (channel : Channel) (to : List Node) (bytes : List ℕ) → are_honest setup ≡ true
-    → is_ok (made_of setup before (events.Inject member channel to bytes)) ≡ true → ⊥
-unfolding made_of
-no_inject setup before member channel to bytes h e =
-    let outer = if_ok (nat_lt member (members_of setup) && list_all (is_node setup) to) (on_inject setup before member channel to bytes) refusals.NoMember e in
-    let there = both (nat_lt member (members_of setup)) (list_all (is_node setup) to) outer.0 in
-    refused_then (is_honest setup member) _ (honest_member setup member h there.0) outer.1
+pub ok_meets : (setup : Setup) (before : List Noted) (event : Event) → IsOk (entry_of setup before event) → Meets setup before event
+unfolding entry_of
+ok_meets setup before event e =
+    let parts = ok_unforged setup before (made_of setup before event) e in record { may = made_may setup before event parts.0; genuine = parts.1 }
 
-made_meets : (setup : Setup) (before : List Noted) (event : Event) → are_honest setup ≡ true → is_ok (made_of setup before event) ≡ true → Meets setup before event
-unfolding Meets made_of
-made_meets setup before (events.Start node floor stop) h e = did_start setup before node floor stop h e
-made_meets setup before (events.Tick ms) h e = did_tick setup before ms e
-made_meets setup before (events.Deliver node at) h e = did_deliver setup before node at h e
-made_meets setup before (events.Step node source stop) h e = did_step setup before node source stop h e
-made_meets setup before (events.Answer node at answer) h e = did_answer setup before node at answer h e
-made_meets setup before (events.Crash node) h e = did_crash setup before node h e
-made_meets setup before (events.Inject member channel to bytes) h e = no_inject setup before member channel to bytes h e
-made_meets setup before events.Later h e = cc
-
-pub ok_meets : (setup : Setup) (before : List Noted) (event : Event) → are_honest setup ≡ true → IsOk (entry_of setup before event) → Meets setup before event
-ok_meets setup before event h e = made_meets setup before event h (sym (ap is_ok (entry_made setup before event h)) ∙ e)
-
-pub exact : (setup : Setup) (before : List Noted) (event : Event) → are_honest setup ≡ true → IsOk (entry_of setup before event) ↔ Meets setup before event
-exact setup before event h = (ok_meets setup before event h, meets_ok setup before event h)
+pub exact : (setup : Setup) (before : List Noted) (event : Event) → IsOk (entry_of setup before event) ↔ Meets setup before event
+exact setup before event = (ok_meets setup before event, meets_ok setup before event)

@@ -26,7 +26,7 @@ same_bytes xs ys e = (bytes_eq-Decides xs ys).0 e
 self_bytes : (xs : List ℕ) → bytes_eq xs xs ≡ true
 self_bytes xs = (bytes_eq-Decides xs xs).1 refl
 
-same_rounds : (r s : Round) → is_same_round r s ≡ true → r ≡ s
+pub same_rounds : (r s : Round) → is_same_round r s ≡ true → r ≡ s
 same_rounds r s e =
     let parts = both (r.epoch == s.epoch) (r.view == s.view) e in
     whole r.epoch s.epoch r.view s.view (eqb-true r.epoch s.epoch parts.0) (eqb-true r.view s.view parts.1)
@@ -34,7 +34,7 @@ same_rounds r s e =
     whole : (a b v w : ℕ) → a ≡ b → v ≡ w → ◌≡◌ {A = Round} (record { epoch = a; view = v }) (record { epoch = b; view = w })
     whole a b v w i k = rw (i, k) refl
 
-same_proposals : (p q : Proposal) → is_same_proposal p q ≡ true → p ≡ q
+pub same_proposals : (p q : Proposal) → is_same_proposal p q ≡ true → p ≡ q
 same_proposals p q e =
     let outer = both (is_same_round p.round q.round && p.parent == q.parent) (bytes_eq p.payload q.payload) e in
     let inner = both (is_same_round p.round q.round) (p.parent == q.parent) outer.0 in
@@ -45,12 +45,13 @@ same_proposals p q e =
         → ◌≡◌ {A = Proposal} (record { round = a; parent = e; payload = x }) (record { round = b; parent = f; payload = y })
     whole a b e f x y i k l = rw (i, k, l) refl
 
-self_proposal : (p : Proposal) → is_same_proposal p p ≡ true
+pub self_round : (r : Round) → is_same_round r r ≡ true
+self_round r = and_true (r.epoch == r.epoch) (r.view == r.view) (number_is r.epoch r.epoch refl) (number_is r.view r.view refl)
+
+pub self_proposal : (p : Proposal) → is_same_proposal p p ≡ true
 self_proposal p =
     and_true (is_same_round p.round p.round && p.parent == p.parent) (bytes_eq p.payload p.payload)
-    (and_true (is_same_round p.round p.round) (p.parent == p.parent)
-    (and_true (p.round.epoch == p.round.epoch) (p.round.view == p.round.view) (number_is p.round.epoch p.round.epoch refl) (number_is p.round.view p.round.view refl))
-    (number_is p.parent p.parent refl)) (self_bytes p.payload)
+    (and_true (is_same_round p.round p.round) (p.parent == p.parent) (self_round p.round) (number_is p.parent p.parent refl)) (self_bytes p.payload)
 
 same_attestation : (x y : Attestation) → is_same_attestation x y ≡ true → x ≡ y
 same_attestation x y e =

@@ -1,16 +1,19 @@
 -- What tests say.
-use Rattle.std.proofs.Common.{◌≡◌, ℕ, ◌-◌, ◌*◌, ◌<◌, ◌≤◌, ◌==◌, ◌&&◌, nat_lt, nat_le, Bool, true, false, List, Result, Err, is_ok, refl, sym, ◌∙◌, arith, eqb-true, eq-eqb, if◌then◌else◌}
+use Rattle.std.proofs.Common.{◌≡◌, ℕ, zero, suc, ◌-◌, ◌*◌, ◌<◌, ◌≤◌, ◌==◌, ◌&&◌, nat_lt, nat_le, not, Bool, true, false, List, [], ◌∷◌, length, All, Option, Some, None, Result, Err, is_ok, refl, arith, eqb-true, eq-eqb, if◌then◌else◌}
+use Rattle.std.specs.List.{list_all, slice_get}
+use Rattle.std.specs.Option.{option_map_or}
+use Rattle.std.proofs.lemmas.List.Elements.{All-nil, All-cons, All-head, All-tail}
 use Rattle.std.proofs.lemmas.Bool.Decides.{nat_tests}
 use Rattle.simplex_values.specs.Terms.{greatest_view}
 use Rattle.simplex_transcript.specs.declared.node.Node.{Node}
 use Rattle.simplex_transcript.specs.declared.setup.Setup.{Setup}
+use Rattle.simplex_transcript.specs.declared.setup.MemberKind.{MemberKind}
 use Rattle.simplex_transcript.specs.declared.refusal.RunError.{RunError}
 use Rattle.simplex_steps.specs.Engine.{EngineMade, Did}
 use Rattle.simplex_run.specs.Life.{Noted}
-use Rattle.simplex_run.specs.Kinds.{members_of, are_honest, is_node, is_same_node}
+use Rattle.simplex_run.specs.Kinds.{members_of, halves_of, is_faulty, is_honest, is_faulty_member, is_node, is_same_node}
 use Rattle.simplex_run.specs.Entries.{is_at_end}
-use Rattle.simplex_run.proofs.Honest.{node_honest}
-use Rattle.simplex_run_laws.specs.Conditions.{IsMember, HasRoom, view_in}
+use Rattle.simplex_run_laws.specs.Conditions.{IsNode, HasRoom, view_in}
 
 pub both : (a b : Bool) → (a && b) ≡ true → (a ≡ true) × (b ≡ true)
 both true b e = (refl, e)
@@ -66,15 +69,27 @@ number_is_not a b h = grind (arith, nat_tests)
 
 -- ---- nodes
 
-pub node_is : (setup : Setup) (node : Node) → are_honest setup ≡ true → IsMember setup node → is_node setup node ≡ true
-node_is setup node h m =
-    node_honest setup node h
-    ∙ and_true (nat_lt node.member (members_of setup)) (node.half == 0) (is_below node.member (members_of setup) m.member) (number_is node.half 0 m.half)
+pub node_is : (setup : Setup) (node : Node) → IsNode setup node → is_node setup node ≡ true
+node_is setup node n =
+    and_true (nat_lt node.member (members_of setup)) (nat_lt node.half (halves_of setup node.member)) (is_below node.member (members_of setup) n.member)
+    (is_below node.half (halves_of setup node.member) n.half)
 
-pub is_member : (setup : Setup) (node : Node) → are_honest setup ≡ true → is_node setup node ≡ true → IsMember setup node
-is_member setup node h e =
-    let parts = both (nat_lt node.member (members_of setup)) (node.half == 0) (sym (node_honest setup node h) ∙ e) in
-    record { member = below node.member (members_of setup) parts.0; half = eqb-true node.half 0 parts.1 }
+pub is_there : (setup : Setup) (node : Node) → is_node setup node ≡ true → IsNode setup node
+is_there setup node e =
+    let parts = both (nat_lt node.member (members_of setup)) (nat_lt node.half (halves_of setup node.member)) e in
+    record { member = below node.member (members_of setup) parts.0; half = below node.half (halves_of setup node.member) parts.1 }
+
+pub nodes_are : (setup : Setup) (to : List Node) → All (IsNode setup) to → list_all (is_node setup) to ≡ true
+nodes_are setup [] h = refl
+nodes_are setup (node ∷ to) h =
+    and_true (is_node setup node) (list_all (is_node setup) to) (node_is setup node (All-head (IsNode setup) node to h))
+    (nodes_are setup to (All-tail (IsNode setup) node to h))
+
+pub are_there : (setup : Setup) (to : List Node) → list_all (is_node setup) to ≡ true → All (IsNode setup) to
+are_there setup [] e = All-nil (IsNode setup)
+are_there setup (node ∷ to) e =
+    let parts = both (is_node setup node) (list_all (is_node setup) to) e in
+    All-cons (IsNode setup) node to (is_there setup node parts.0) (are_there setup to parts.1)
 
 pub same_node : (a b : Node) → is_same_node a b ≡ true → a ≡ b
 same_node a b e =
@@ -86,6 +101,29 @@ same_node a b e =
 
 pub same_self : (a : Node) → is_same_node a a ≡ true
 same_self a = and_true (a.member == a.member) (a.half == a.half) (number_is a.member a.member refl) (number_is a.half a.half refl)
+
+-- ---- kinds
+
+-- a member that exists is honest or faulty
+pub not_honest : (setup : Setup) (member : ℕ) → is_faulty_member setup member ≡ true → is_honest setup member ≡ false
+not_honest setup member e = by (slice_get setup.members member) e
+  where
+    by : (o : Option MemberKind) → option_map_or is_faulty o false ≡ true → option_map_or (λ kind. not (is_faulty kind)) o false ≡ false
+    by None h = cc
+    by (Some kind) h = rw h refl
+
+faulty_at : (list : List MemberKind) (member : ℕ) → nat_lt member (length list) ≡ true → option_map_or (λ kind. not (is_faulty kind)) (slice_get list member) false ≡ false
+    → option_map_or is_faulty (slice_get list member) false ≡ true
+faulty_at [] member i e = absurd (grind (arith, nat_tests, i))
+faulty_at (kind ∷ list) zero i e = by (is_faulty kind) e
+  where
+    by : (b : Bool) → not b ≡ false → b ≡ true
+    by true h = refl
+    by false h = cc
+faulty_at (kind ∷ list) (suc member) i e = faulty_at list member (grind (arith, nat_tests, i)) e
+
+pub not_faultless : (setup : Setup) (member : ℕ) → nat_lt member (members_of setup) ≡ true → is_honest setup member ≡ false → is_faulty_member setup member ≡ true
+not_faultless setup member i e = faulty_at setup.members member i e
 
 -- ---- room
 

@@ -10,10 +10,8 @@ use Rattle.simplex_transcript.specs.declared.refusal.Refusal.{Refusal}
 use Rattle.simplex_run.specs.Life.{Noted}
 use Rattle.simplex_run.specs.Entries.{entry_of}
 use Rattle.simplex_run.specs.Setups.{first_bad}
-use Rattle.simplex_run.specs.Run.{unless_refused, run, transcript_of, unless_bad, is_taken, are_few, whole_run, Run}
-use Rattle.simplex_run.specs.Kinds.{are_honest}
-use Rattle.simplex_run.proofs.Honest.{taken_honest}
-use Rattle.simplex_run_laws.specs.Complete.{MeetAll, IsProper, MakesTranscript}
+use Rattle.simplex_run.specs.Run.{unless_refused, run, transcript_of, unless_bad, are_few, Run}
+use Rattle.simplex_run_laws.specs.Complete.{MeetAll, IsPossible, HasRun}
 use Rattle.simplex_run_laws.proofs.Exact.{meets_ok, ok_meets}
 
 -- ---- entry by entry
@@ -39,13 +37,13 @@ run_more setup first event before noted ran is = run_on setup [] first (event �
 
 -- ---- complete
 
-met_runs : (setup : Setup) (first rest : List Event) (before : List Noted) → are_honest setup ≡ true → MeetAll setup (first ++ rest) → run setup [] first ≡ Ok before
+met_runs : (setup : Setup) (first rest : List Event) (before : List Noted) → MeetAll setup (first ++ rest) → run setup [] first ≡ Ok before
     → is_ok (run setup before rest) ≡ true
 unfolding run unless_refused MeetAll
-met_runs setup first [] before h met ran = refl
-met_runs setup first (event ∷ rest) before h met ran =
-    by (entry_of setup before event) refl (meets_ok setup before event h (met first event rest before refl ran))
-    (λ noted is. met_runs setup (first ++ event ∷ []) rest (noted ∷ before) h (subst (MeetAll setup) (sym (append_assoc first (event ∷ []) rest)) met)
+met_runs setup first [] before met ran = refl
+met_runs setup first (event ∷ rest) before met ran =
+    by (entry_of setup before event) refl (meets_ok setup before event (met first event rest before refl ran))
+    (λ noted is. met_runs setup (first ++ event ∷ []) rest (noted ∷ before) (subst (MeetAll setup) (sym (append_assoc first (event ∷ []) rest)) met)
     (run_more setup first event before noted ran is))
   where
     by : (r : Result Noted RunError) → entry_of setup before event ≡ r → is_ok r ≡ true
@@ -54,46 +52,43 @@ met_runs setup first (event ∷ rest) before h met ran =
     by (Err error) is ok old = cc
     by (Ok noted) is ok old = old noted is
 
-all_run : (setup : Setup) (events : List Event) → are_honest setup ≡ true → MeetAll setup events → is_ok (run setup [] events) ≡ true
+all_run : (setup : Setup) (events : List Event) → MeetAll setup events → is_ok (run setup [] events) ≡ true
 unfolding run
-all_run setup events h met = met_runs setup [] events [] h met refl
+all_run setup events met = met_runs setup [] events [] met refl
 
 answers : (r : Result (List Noted) Refusal) → is_ok r ≡ true → (entries : List Entry) × (transcript_of r ≡ Ok entries)
 answers (Ok noted) ok = (_, refl)
 answers (Err refusal) ok = cc
 
-valid_run : (taken few : Bool) (bad : Option Field) (one other : Refusal) (r : Result (List Entry) Refusal) → taken ≡ true → few ≡ true → IsNone bad
-    → (if not taken then Err one else if not few then Err other else unless_bad bad r) ≡ r
-valid_run true true None one other r t f g = refl
-valid_run true true (Some field) one other r t f g = cc
-valid_run true false bad one other r t f g = cc
-valid_run false few bad one other r t f g = cc
+valid_run : (few : Bool) (bad : Option Field) (other : Refusal) (r : Result (List Entry) Refusal) → few ≡ true → IsNone bad
+    → (if not few then Err other else unless_bad bad r) ≡ r
+valid_run true None other r f g = refl
+valid_run true (Some field) other r f g = cc
+valid_run false bad other r f g = cc
 
-pub complete : (setup : Setup) (events : List Event) → IsProper setup events → MakesTranscript setup events
-unfolding Run whole_run
-complete setup events p =
-    let ran = answers (run setup [] events) (all_run setup events (taken_honest setup p.valid.taken) p.met) in
-    (ran.0, valid_run (is_taken setup) (are_few setup events) (first_bad setup) _ _ (transcript_of (run setup [] events)) p.valid.taken p.valid.few p.valid.good ∙ ran.1)
+pub possible : (setup : Setup) (events : List Event) → IsPossible setup events → HasRun setup events
+unfolding Run
+possible setup events p =
+    let ran = answers (run setup [] events) (all_run setup events p.met) in
+    (ran.0, valid_run (are_few setup events) (first_bad setup) _ (transcript_of (run setup [] events)) p.valid.few p.valid.good ∙ ran.1)
 
 -- ---- and nothing else
 
-pub record Parts (taken few : Bool) (bad : Option Field) (r : Result (List Entry) Refusal) (entries : List Entry) : Type 0 where
-  pub is_taken : taken ≡ true
+pub record Parts (few : Bool) (bad : Option Field) (r : Result (List Entry) Refusal) (entries : List Entry) : Type 0 where
   pub are_few : few ≡ true
   pub is_good : IsNone bad
   pub ran : r ≡ Ok entries
 
-parts_of : (taken few : Bool) (bad : Option Field) (one other : Refusal) (r : Result (List Entry) Refusal) (entries : List Entry)
-    → (if not taken then Err one else if not few then Err other else unless_bad bad r) ≡ Ok entries → Parts taken few bad r entries
-parts_of true true None one other r entries e = record { is_taken = refl; are_few = refl; is_good = refl; ran = e }
-parts_of true true (Some field) one other r entries e = cc
-parts_of true false bad one other r entries e = cc
-parts_of false few bad one other r entries e = cc
+parts_of : (few : Bool) (bad : Option Field) (other : Refusal) (r : Result (List Entry) Refusal) (entries : List Entry)
+    → (if not few then Err other else unless_bad bad r) ≡ Ok entries → Parts few bad r entries
+parts_of true None other r entries e = record { are_few = refl; is_good = refl; ran = e }
+parts_of true (Some field) other r entries e = cc
+parts_of false bad other r entries e = cc
 
 pub parts : (setup : Setup) (events : List Event) (entries : List Entry) → Run setup events ≡ Ok entries
-    → Parts (is_taken setup) (are_few setup events) (first_bad setup) (transcript_of (run setup [] events)) entries
-unfolding Run whole_run
-parts setup events entries e = parts_of (is_taken setup) (are_few setup events) (first_bad setup) _ _ (transcript_of (run setup [] events)) entries e
+    → Parts (are_few setup events) (first_bad setup) (transcript_of (run setup [] events)) entries
+unfolding Run
+parts setup events entries e = parts_of (are_few setup events) (first_bad setup) _ (transcript_of (run setup [] events)) entries e
 
 -- the entries of a transcript, the newest first
 pub noted_in : (r : Result (List Noted) Refusal) (entries : List Entry) → transcript_of r ≡ Ok entries
@@ -110,20 +105,17 @@ first_ok setup before next rest noted e = by (entry_of setup before next) e
     by (Ok n) h = refl
     by (Err error) h = cc
 
-ran_met : (setup : Setup) (events : List Event) (noted : List Noted) → are_honest setup ≡ true → run setup [] events ≡ Ok noted → MeetAll setup events
+ran_met : (setup : Setup) (events : List Event) (noted : List Noted) → run setup [] events ≡ Ok noted → MeetAll setup events
 unfolding MeetAll
-ran_met setup events noted h e first next rest before is ran =
+ran_met setup events noted e first next rest before is ran =
     let whole : run setup before (next ∷ rest) ≡ Ok noted = sym (run_on setup [] first (next ∷ rest) before ran) ∙ ap (λ list. run setup [] list) (sym is) ∙ e in
-    ok_meets setup before next h (first_ok setup before next rest noted whole)
+    ok_meets setup before next (first_ok setup before next rest noted whole)
 
-pub sound : (setup : Setup) (events : List Event) (entries : List Entry) → Run setup events ≡ Ok entries → IsProper setup events
-sound setup events entries e =
+pub run_possible : (setup : Setup) (events : List Event) (entries : List Entry) → Run setup events ≡ Ok entries → IsPossible setup events
+run_possible setup events entries e =
     let p = parts setup events entries e in
     let noted = noted_in (run setup [] events) entries p.ran in
-    record {
-      valid = record { taken = p.is_taken; few = p.are_few; good = p.is_good };
-      met = ran_met setup events noted.0 (taken_honest setup p.is_taken) noted.1;
-    }
+    record { valid = record { few = p.are_few; good = p.is_good }; met = ran_met setup events noted.0 noted.1 }
 
 -- ---- how long it is
 

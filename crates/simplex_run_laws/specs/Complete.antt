@@ -8,8 +8,7 @@ use Rattle.simplex_transcript.specs.declared.setup.Setup.{Setup}
 use Rattle.simplex_run.specs.Life.{Noted}
 use Rattle.simplex_run.specs.Entries.{node_of}
 use Rattle.simplex_run.specs.Setups.{first_bad}
-use Rattle.simplex_run.specs.Run.{is_taken, are_few, run}
-use Rattle.simplex_run.specs.Run as runs
+use Rattle.simplex_run.specs.Run.{are_few, run, Run}
 use Rattle.simplex_run_laws.specs.Conditions.{Meets}
 
 -- the node that an event names
@@ -21,7 +20,6 @@ node_named (events.Step node source stop) = Some node
 node_named (events.Answer node at answer) = Some node
 node_named (events.Crash node) = Some node
 node_named (events.Inject member channel to bytes) = Some (node_of member)
-node_named events.Later = None
 
 -- the entry has this number, and is of the node that the event names
 pub record IsEntryOf (number : ℕ) (event : Event) (entry : Entry) : Type 0 where
@@ -39,9 +37,8 @@ pub record IsOneEach (entries : List Entry) (events : List Event) : Type 0 where
   pub count : length entries ≡ length events
   pub each : AreEach 1 events entries
 
--- the setup is taken, none of its items breaks its limit, and there are no more events than may be
+-- none of the setup's items breaks its limit, and there are no more events than may be
 pub record IsValid (setup : Setup) (events : List Event) : Type 0 where
-  pub taken : is_taken setup ≡ true
   pub few : are_few setup events ≡ true
   pub good : IsNone (first_bad setup)
 
@@ -52,10 +49,10 @@ MeetAll setup events =
     → events ≡ first ++ next ∷ rest → run setup [] first ≡ Ok before → Meets setup before next
 
 -- the setup is valid, and each event meets its conditions
-pub record IsProper (setup : Setup) (events : List Event) : Type 0 where
+pub record IsPossible (setup : Setup) (events : List Event) : Type 0 where
   pub valid : IsValid setup events
   pub met : MeetAll setup events
 
--- they make a transcript
-abbrev pub MakesTranscript : Setup → List Event → Type 0
-MakesTranscript setup events = (entries : List Entry) × (runs.Run setup events ≡ Ok entries)
+-- they have a run: it is not refused
+abbrev pub HasRun : Setup → List Event → Type 0
+HasRun setup events = (entries : List Entry) × (Run setup events ≡ Ok entries)

@@ -1,5 +1,5 @@
--- The conditions of an event, on the entries before it. All members are honest, and run engines.
-use Rattle.std.specs.Prelude.{◌≡◌, ℕ, ◌+◌, ◌-◌, ◌*◌, ◌^◌, ◌<◌, ◌≤◌, true, List, IfSome, Option}
+-- The conditions of an event, on the entries before it, for every kind of member.
+use Rattle.std.specs.Prelude.{◌≡◌, ℕ, ◌+◌, ◌-◌, ◌*◌, ◌^◌, ◌<◌, ◌≤◌, true, List, All, IfSome, IfOk, Option}
 use Rattle.simplex_values.specs.declared.answer.Answer.{Answer}
 use Rattle.simplex_values.specs.Terms.{greatest_view}
 use Rattle.simplex_wire.specs.declared.certificate.Finalization.{Finalization}
@@ -13,19 +13,25 @@ use Rattle.simplex_transcript.specs.declared.node.Ref.{Ref}
 use Rattle.simplex_transcript.specs.declared.setup.Setup.{Setup}
 use Rattle.simplex_steps.specs.VoterLife.{place_of}
 use Rattle.simplex_steps.specs.Engine.{EngineMade, Did, voter_in, voter_past, takes_reply}
-use Rattle.simplex_run.specs.Members.{members_of}
+use Rattle.simplex_run.specs.Kinds.{members_of, halves_of, runs_engine, is_faulty_member}
 use Rattle.simplex_run.specs.Life.{Noted, Stopped, Running, clock_of, life_in}
+use Rattle.simplex_run.specs.Entries.{made_of}
 use Rattle.simplex_run_laws.specs.Earlier.{IsReported, IsSentTo, IsAsked}
+use Rattle.simplex_run_laws.specs.Forging.{ForgesNothing}
 
--- the node exists: it is the first half of a member
-pub record IsMember (setup : Setup) (node : Node) : Type 0 where
+-- the node exists: it is the first half of a member, or the second half of a twin
+pub record IsNode (setup : Setup) (node : Node) : Type 0 where
   pub member : node.member < members_of setup
-  pub half : node.half ≡ 0
+  pub half : node.half < halves_of setup node.member
 
--- the node is a member's, and its engine runs: what it was made with, and its history
-pub record IsUp (setup : Setup) (before : List Noted) (node : Node) (made : EngineMade) (past : List Did) : Type 0 where
-  pub member : IsMember setup node
-  pub runs : life_in setup before node ≡ Running made past
+-- The node is one that has an engine. A node without one belongs to a faulty member: it is never stopped, hears what comes,
+-- and does nothing of itself
+abbrev pub HasEngine : Setup → Node → Type 0
+HasEngine setup node = runs_engine setup node.member ≡ true
+
+-- the node's engine runs: what it was made with, and its history
+abbrev pub IsUp : Setup → List Noted → Node → EngineMade → List Did → Type 0
+IsUp setup before node made past = life_in setup before node ≡ Running made past
 
 -- the view that an engine is in
 abbrev pub view_in : EngineMade → List Did → ℕ
@@ -35,9 +41,23 @@ view_in made past = current_of (voter_in made past).rules (place_of (voter_in ma
 abbrev pub HasRoom : Setup → EngineMade → List Did → Type 0
 HasRoom setup made past = view_in made past ≤ greatest_view - 2 * setup.term - setup.lookahead
 
--- a stopped node of a member starts at genesis, or at a finalization that was reported
+-- the node's engine runs
+pub record IsRunning (setup : Setup) (before : List Noted) (node : Node) : Type 0 where
+  pub made : EngineMade
+  pub past : List Did
+  pub up : IsUp setup before node made past
+
+-- the node's engine runs, and its view is not near the greatest one
+pub record IsReady (setup : Setup) (before : List Noted) (node : Node) : Type 0 where
+  pub made : EngineMade
+  pub past : List Did
+  pub up : IsUp setup before node made past
+  pub room : HasRoom setup made past
+
+-- a stopped node with an engine starts at genesis, or at a finalization that an honest member reported
 pub record MayStart (setup : Setup) (before : List Noted) (node : Node) (floor : Option Finalization) : Type 0 where
-  pub member : IsMember setup node
+  pub there : IsNode setup node
+  pub engine : HasEngine setup node
   pub sections : List Section
   pub stopped : life_in setup before node ≡ Stopped sections
   pub reported : IfSome floor (IsReported setup before)
@@ -46,24 +66,22 @@ pub record MayStart (setup : Setup) (before : List Noted) (node : Node) (floor :
 pub record MayTick (before : List Noted) (ms : ℕ) : Type 0 where
   pub early : clock_of before + ms < 2 ^ 63
 
--- a node that runs takes a packet that went to it
+-- a packet that went to the node comes to it; if it has an engine, this is ready
 pub record MayDeliver (setup : Setup) (before : List Noted) (node : Node) (at : Ref) : Type 0 where
-  pub made : EngineMade
-  pub past : List Did
-  pub up : IsUp setup before node made past
-  pub room : HasRoom setup made past
+  pub there : IsNode setup node
   pub packet : Packet
   pub sent : IsSentTo before at node packet
+  pub ready : HasEngine setup node → IsReady setup before node
 
--- a node that runs makes a step, from any source
+-- a node makes a step, from any source; if it has an engine, this is ready
 pub record MayStep (setup : Setup) (before : List Noted) (node : Node) : Type 0 where
-  pub made : EngineMade
-  pub past : List Did
-  pub up : IsUp setup before node made past
-  pub room : HasRoom setup made past
+  pub there : IsNode setup node
+  pub ready : HasEngine setup node → IsReady setup before node
 
--- a node that runs is told the answer to a request that it asked, still waits for, and that takes an answer of this kind
+-- an engine that runs is told the answer to a request that it asked, still waits for, and that takes an answer of this kind
 pub record MayAnswer (setup : Setup) (before : List Noted) (node : Node) (at : Ref) (answer : Answer) : Type 0 where
+  pub there : IsNode setup node
+  pub engine : HasEngine setup node
   pub made : EngineMade
   pub past : List Did
   pub up : IsUp setup before node made past
@@ -71,20 +89,28 @@ pub record MayAnswer (setup : Setup) (before : List Noted) (node : Node) (at : R
   pub asked : IsAsked before at node number
   pub pending : takes_reply made past number answer ≡ true
 
--- a node that runs stops
+-- a node stops; if it has an engine, this runs
 pub record MayCrash (setup : Setup) (before : List Noted) (node : Node) : Type 0 where
-  pub made : EngineMade
-  pub past : List Did
-  pub up : IsUp setup before node made past
+  pub there : IsNode setup node
+  pub running : HasEngine setup node → IsRunning setup before node
 
--- The event meets its conditions. No honest member is made to send bytes, and an event of a form that is not taken yet
--- meets none
-unfoldable pub Meets : Setup → List Noted → Event → Type 0
-Meets setup before (events.Start node floor stop) = MayStart setup before node floor
-Meets setup before (events.Tick ms) = MayTick before ms
-Meets setup before (events.Deliver node at) = MayDeliver setup before node at
-Meets setup before (events.Step node source stop) = MayStep setup before node
-Meets setup before (events.Answer node at answer) = MayAnswer setup before node at answer
-Meets setup before (events.Crash node) = MayCrash setup before node
-Meets setup before (events.Inject member channel to bytes) = ⊥
-Meets setup before events.Later = ⊥
+-- a faulty member sends any bytes to any nodes
+pub record MayInject (setup : Setup) (member : ℕ) (to : List Node) : Type 0 where
+  pub there : member < members_of setup
+  pub faulty : is_faulty_member setup member ≡ true
+  pub nodes : All (IsNode setup) to
+
+-- the event may happen, but for what its packets hold
+unfoldable pub May : Setup → List Noted → Event → Type 0
+May setup before (events.Start node floor stop) = MayStart setup before node floor
+May setup before (events.Tick ms) = MayTick before ms
+May setup before (events.Deliver node at) = MayDeliver setup before node at
+May setup before (events.Step node source stop) = MayStep setup before node
+May setup before (events.Answer node at answer) = MayAnswer setup before node at answer
+May setup before (events.Crash node) = MayCrash setup before node
+May setup before (events.Inject member channel to bytes) = MayInject setup member to
+
+-- the event meets its conditions: it may happen, and the entry that it makes forges nothing
+pub record Meets (setup : Setup) (before : List Noted) (event : Event) : Type 0 where
+  pub may : May setup before event
+  pub genuine : IfOk (made_of setup before event) (λ noted. ForgesNothing setup before noted.entry)

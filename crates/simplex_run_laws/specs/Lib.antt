@@ -1,3 +1,4 @@
 pub mod Earlier
+pub mod Forging
 pub mod Conditions
 pub mod Complete

@@ -1,4 +1,4 @@
-//! How long a transcript is.
+//! How long a run is.
 ghost use Rattle.std.specs.Prelude.{◌≡◌, List, Ok};
 ghost use Rattle.simplex_transcript.specs.declared.entry.Entry.{Entry};
 ghost use Rattle.simplex_transcript.specs.declared.event.Event.{Event};
@@ -6,7 +6,7 @@ ghost use Rattle.simplex_transcript.specs.declared.setup.Setup.{Setup};
 ghost use Rattle.simplex_run.specs.Run as runs;
 ghost use Rattle.simplex_run_laws.specs.Complete.{IsOneEach};
 
-/// A transcript has one entry for each event.
-pub fn transcripts_have_one_entry_each()
+/// A run has one entry for each event.
+pub fn runs_have_one_entry_each()
     ensures { (setup : Setup) (events : List Event) (entries : List Entry) → runs.Run setup events ≡ Ok entries → IsOneEach entries events }
 {}

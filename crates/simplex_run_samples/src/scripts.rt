@@ -2,7 +2,7 @@
 ghost use Rattle.std.specs.Prelude.{◌≡◌, [], ◌∷◌, Ok, Err, true, false, map};
 ghost use Rattle.simplex_transcript.specs.declared.field.Field.TheVariants as fields;
 ghost use Rattle.simplex_transcript.specs.declared.refusal.RunError.TheVariants as refusals;
-ghost use Rattle.simplex_run.specs.Run.{whole_run, refused};
+ghost use Rattle.simplex_run.specs.Run.{Run, refused};
 ghost use Rattle.simplex_run.specs.Twins.{is_in_part, elected};
 ghost use Rattle.simplex_run.specs.Routing.{is_routed};
 ghost use Rattle.simplex_run_samples.specs.Lists.{scripted, round_with, node, second};
@@ -33,8 +33,8 @@ pub fn terms_of_scripts_come_out()
 
 /// A script whose leader neither half hears, whose leader is no member, or whose mask has none, is refused.
 pub fn bad_scripts_come_out()
-    ensures good { whole_run (scripted 1 (round_with 3 11 6 ∷ [])) [] ≡ Ok [] }
-    ensures leader_unseen { whole_run (scripted 1 (round_with 3 6 6 ∷ [])) [] ≡ Err (refused (refusals.BadSetup fields.Scenario) 0) }
-    ensures no_leader { whole_run (scripted 1 (round_with 4 15 6 ∷ [])) [] ≡ Err (refused (refusals.BadSetup fields.Scenario) 0) }
-    ensures no_mask { whole_run (scripted 1 (round_with 3 11 16 ∷ [])) [] ≡ Err (refused (refusals.BadSetup fields.Scenario) 0) }
+    ensures good { Run (scripted 1 (round_with 3 11 6 ∷ [])) [] ≡ Ok [] }
+    ensures leader_unseen { Run (scripted 1 (round_with 3 6 6 ∷ [])) [] ≡ Err (refused (refusals.BadSetup fields.Scenario) 0) }
+    ensures no_leader { Run (scripted 1 (round_with 4 15 6 ∷ [])) [] ≡ Err (refused (refusals.BadSetup fields.Scenario) 0) }
+    ensures no_mask { Run (scripted 1 (round_with 3 11 16 ∷ [])) [] ≡ Err (refused (refusals.BadSetup fields.Scenario) 0) }
 {}

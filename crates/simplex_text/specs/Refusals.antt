@@ -21,7 +21,6 @@ error_name errors.ViewEnd = codes "ViewEnd"
 error_name (errors.Forged member subject) = codes "Forged"
 error_name errors.Failed = codes "Failed"
 error_name errors.Memory = codes "Memory"
-error_name errors.NotYet = codes "NotYet"
 
 -- the line on a cause and its event
 abbrev pub refused_line : List ℕ → ℕ → List ℕ

@@ -24,7 +24,6 @@ fn name(alloc: Global, error: &RunError) -> Result<String, AllocError>
         RunError::Forged { .. } => String::from_str(alloc, "Forged"),
         RunError::Failed => String::from_str(alloc, "Failed"),
         RunError::Memory => String::from_str(alloc, "Memory"),
-        RunError::NotYet => String::from_str(alloc, "NotYet"),
     }
 }
 

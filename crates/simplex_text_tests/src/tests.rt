@@ -153,7 +153,6 @@ fn refusals_are_named(rt: HostRuntime) -> Result<(), Fail> {
     let setup = RunError::BadSetup(Field::LeaderTimeout);
     let texts = [
         (setup, 0, "refused BadSetup:leader_timeout at 0\n"),
-        (RunError::NotYet, 1, "refused NotYet at 1\n"),
         (RunError::NotPending, 12, "refused NotPending at 12\n"),
         (forged, 3, "refused Forged at 3\n"),
     ];

@@ -67,6 +67,4 @@ pub enum Event {
         to: Sequence<Node>,
         bytes: Bytes,
     },
-    /// An event of a form that is not taken yet.
-    Later,
 }

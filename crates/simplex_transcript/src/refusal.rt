@@ -45,9 +45,6 @@ pub enum RunError {
     /// Want of memory.
     #[error("Memory")]
     Memory,
-    /// The setup has a value, or the event a form, that is not taken yet.
-    #[error("NotYet")]
-    NotYet,
 }
 
 /// Why a run ended, and at which event: 0 for the setup.

@@ -2,7 +2,7 @@
 use Rattle.std.proofs.Common.{◌≡◌, length}
 use Rattle.std.specs.List.{list_any}
 use Rattle.std.specs.Char.{is_ascii_uppercase}
-use Rattle.simplex_form.proofs.events.has_upper_case.Given as goal
+use Rattle.simplex_form.proofs.hex_text.has_upper_case.Given as goal
 
 abbrev pub invariant-loop-rest : goal.invariant-loop-rest
 invariant-loop-rest l = list_any is_ascii_uppercase l.rest ≡ list_any is_ascii_uppercase l.text
