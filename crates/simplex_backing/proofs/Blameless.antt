@@ -38,8 +38,10 @@ use Rattle.simplex_backing.proofs.Backers.{Backers}
 use Rattle.simplex_backing.proofs.Good.{IsSized, IsGood}
 use Rattle.simplex_backing.proofs.Hearing.{IsFineDid, IsFineInput, IsFineTimed, InOwnMail, InVoterMail, inputs_fine, came_counted, handed_all}
 use Rattle.simplex_backing.proofs.Mailing.{batcher_holds}
-use Rattle.simplex_backing.proofs.Packets.{FineOn, delivered_fine}
-use Rattle.simplex_backing.proofs.Running.{IsFineEngine, IsLifeFine, IsFineRun, run_fine}
+use Rattle.simplex_backing.proofs.Packets.{FineOn, IsFinePacket}
+use Rattle.simplex_backing.proofs.Delivered.{packet_delivered}
+use Rattle.simplex_backing.proofs.Engines.{IsFineEngine, IsLifeFine, IsFineRun}
+use Rattle.simplex_backing.proofs.Running.{run_fine}
 use Rattle.simplex_safety.proofs.Turns.{IsTaken, IsTurn, entry_turn}
 use Rattle.simplex_backing.proofs.Worlds.{backers_of, sized_of, people_of, floors_hold, voted_lived}
 use Rattle.std.specs.List.{list_all}
@@ -116,7 +118,7 @@ module _ (backers : Backers) (member term : ℕ) (sent : List Sent) (honest : ¬
       → Spares member did.out.calls
   taken_spares before at made past did t run fine = elim t [
     | inl h ↦ subst (λ (d : Did). Spares member d.out.calls) (sym h.is)
-        (heard_spares made past h.packet.from.member h.packet.channel h.packet.bytes (clock_of before) (delivered_fine backers before at h.ref h.packet run.packets h.found) fine)
+        (heard_spares made past h.packet.from.member h.packet.channel h.packet.bytes (clock_of before) (packet_delivered (IsFinePacket backers) before at h.ref h.packet run.packets h.found) fine)
     | inr other ↦ elim other [
       | inl s ↦ subst (λ (d : Did). Spares member d.out.calls) (sym s.is) (step_spares made past s.source (clock_of before) s.stop fine)
       | inr r ↦ subst (λ (d : Did). Spares member d.out.calls) (sym r.is) (none member)

@@ -69,7 +69,7 @@ use Rattle.simplex_backing.proofs.Good.{IsGood}
 use Rattle.simplex_backing.proofs.Mailing.{InHanded, batcher_holds, voter_holds, InResolverMail}
 use Rattle.simplex_backing.proofs.Naming.{Names, backed_names, backers_named}
 use Rattle.simplex_backing.proofs.Offering.{proposals_named}
-use Rattle.simplex_backing.proofs.Running.{reported_good}
+use Rattle.simplex_backing.proofs.Reporting.{reported_good}
 use Rattle.simplex_safety.proofs.Turns.{IsTaken, IsTurn, entry_turn}
 use Rattle.simplex_safety.proofs.Epochs.{AllNamed, step_named, start_named}
 use Rattle.simplex_safety.proofs.Naming.{NamesRecord, NamesCall, NamesHanded, NamesPending, NamesInput, NamesFloor, NamesDesk}

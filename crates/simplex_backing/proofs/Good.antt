@@ -84,7 +84,7 @@ abbrev pub AllBytes : List ℕ → Type 0
 AllBytes [] = Unit {0}
 AllBytes (b ∷ bytes) = (b < 256) × AllBytes bytes
 
-bytes-append : (xs ys : List ℕ) → AllBytes xs → AllBytes ys → AllBytes (xs ++ ys)
+pub bytes-append : (xs ys : List ℕ) → AllBytes xs → AllBytes ys → AllBytes (xs ++ ys)
 bytes-append [] ys h k = k
 bytes-append (x ∷ xs) ys h k = (h.0, bytes-append xs ys h.1 k)
 
@@ -102,7 +102,7 @@ unfolding digest_bytes
 digest_all h zero = tt
 digest_all h (suc n) = bytes-append (digest_bytes h n) (to_be_bytes w32 (slice_index h n)) (digest_all h n) (word_bytes (slice_index h n))
 
-sha_bytes : (m : List ℕ) → IsBytes (sha256 m)
+pub sha_bytes : (m : List ℕ) → IsBytes (sha256 m)
 unfolding sha256
 sha_bytes m = to_bytes (digest_bytes (final_hash initial_hash_256 m) 8) (digest_all (final_hash initial_hash_256 m) 8)
 

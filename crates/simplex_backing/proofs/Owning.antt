@@ -44,7 +44,7 @@ use Rattle.simplex_backing.proofs.Backers.{Counts}
 use Rattle.simplex_backing.proofs.Epochs.{rules_epoch}
 use Rattle.simplex_backing.proofs.Good.{both, certified_parts, each_verifies}
 use Rattle.simplex_backing.proofs.Packets.{fits_vote}
-use Rattle.simplex_backing.proofs.Running.{plain_attests, keyed_own}
+use Rattle.simplex_backing.proofs.Signing.{plain_attests, keyed_own}
 use Rattle.simplex_backing.proofs.Standing.{standing_good}
 use Rattle.simplex_backing.proofs.Worlds.{backers_of, fine_of, earlier, vote_went_out, low_fits, find, floors_hold}
 

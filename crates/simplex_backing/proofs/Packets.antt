@@ -1,7 +1,6 @@
 -- What is read from the packets of a run: votes that were sent, and backed certificates.
-use Rattle.std.proofs.Common.{◌≡◌, ℕ, zero, suc, ◌+◌, ◌<◌, length, ◌++◌, ◌==◌, Bool, true, false, List, [], ◌∷◌, All, Contains, Option, Some, None, Ok, refl, sym, ap, ◌∙◌, subst, inl, inr, if◌then◌else◌, Result, Err}
-use Rattle.std.specs.List.{flat_map, slice_get, list_any}
-use Rattle.std.specs.Option.{option_and_then}
+use Rattle.std.proofs.Common.{◌≡◌, ℕ, ◌<◌, ◌++◌, true, List, [], ◌∷◌, All, Contains, Ok, refl, sym, ap, ◌∙◌, subst, inl, inr, Result, Err}
+use Rattle.std.specs.List.{flat_map}
 use Rattle.std.proofs.lemmas.List.Elements.{All-nil, All-cons, All-head, All-tail, Contains-append_left, Contains-append_right}
 use Rattle.simplex_values.specs.declared.plan.Channel.{Channel}
 use Rattle.simplex_values.specs.declared.plan.Channel.TheVariants as channels
@@ -30,16 +29,13 @@ use Rattle.simplex_messages.specs.declared.call.Call.{Call}
 use Rattle.simplex_messages.specs.declared.call.Call.TheVariants as calls
 use Rattle.simplex_transcript.specs.declared.entry.Packet.{Packet}
 use Rattle.simplex_transcript.specs.declared.node.Node.{Node}
-use Rattle.simplex_transcript.specs.declared.node.Ref.{Ref}
 use Rattle.simplex_transcript.specs.declared.setup.Setup.{Setup}
 use Rattle.simplex_run.specs.Life.{Noted}
 use Rattle.simplex_run.specs.Members.{members_of, is_same_node}
-use Rattle.simplex_run.specs.Requests.{packet_at, if_for, packet_for}
 use Rattle.simplex_run.specs.Entries.{node_of, packets_of}
 use Rattle.simplex_agreement.proofs.ListFacts.{not_in_empty, Contains-here, Contains-there, Contains-cons_cases}
 use Rattle.simplex_evidence.specs.Wire.{Fits}
 use Rattle.simplex_safety.specs.Sayings.{Each, InCall}
-use Rattle.simplex_safety.proofs.Telling.{some_is}
 use Rattle.simplex_backing.specs.Voting.{vote_in, sent_votes, HasVoted}
 use Rattle.simplex_backing.proofs.Backers.{Backers, Counts}
 use Rattle.simplex_backing.specs.Backed.{read_certificate, in_body, in_response, certificate_on, IsVerifying}
@@ -68,7 +64,7 @@ SpokenOn backers sender _ bytes = Unit {0}
 abbrev pub IsSpoken : Backers → Packet → Type 0
 IsSpoken backers p = SpokenOn backers p.from.member p.channel p.bytes
 
-vote_fits : (v : Vote) → FitsVote v → Fits (vote_subject v)
+pub vote_fits : (v : Vote) → FitsVote v → Fits (vote_subject v)
 vote_fits (votes.Notarize v) f = f.0
 vote_fits (votes.Nullify v) f = f.0
 vote_fits (votes.Finalize v) f = f.0
@@ -246,35 +242,3 @@ tested_fine backers later before [] whole_is b t = tt
 tested_fine backers later before (p ∷ ps) whole_is b t =
     let first = t.0 in
     (tested_on backers later before p.from.member p.channel p.bytes whole_is first.from b.0 first.passes, tested_fine backers later before ps whole_is b.1 t.1)
-
--- ---- the packet that is delivered
-
-one_of : {A : Type 0} (P : A → Type 0) (xs : List A) (i : ℕ) (x : A) → Each P xs → slice_get xs i ≡ Some x → P x
-one_of P [] i x h e = cc
-one_of P (y ∷ xs) zero x h e = let same : y ≡ x = cc in subst P same h.0
-one_of P (y ∷ xs) (suc i) x h e = one_of P xs i x h.1 e
-
-packet_fine : (backers : Backers) (before : List Noted) (ref : Ref) (p : Packet) → Each (λ (n : Noted). Each (IsFinePacket backers) n.entry.packets) before → packet_at before ref ≡ Some p → IsFinePacket backers p
-unfolding packet_at
-packet_fine backers [] ref p h e = cc
-packet_fine backers (noted ∷ before) ref p h e = at (length before + 1 == ref.event) e (packet_fine backers before ref p h.1)
-  where
-    at : (b : Bool) → (if b then slice_get noted.entry.packets ref.place else packet_at before ref) ≡ Some p → (packet_at before ref ≡ Some p → IsFinePacket backers p) → IsFinePacket backers p
-    at true f old = one_of (IsFinePacket backers) noted.entry.packets ref.place p h.0 f
-    at false f old = old f
-
-if_fine : (backers : Backers) (node : Node) (p q : Packet) → if_for node p ≡ Some q → IsFinePacket backers p → IsFinePacket backers q
-if_fine backers node p q e f = at (list_any (is_same_node node) p.to) e
-  where
-    at : (b : Bool) → (if b then Some p else None) ≡ Some q → IsFinePacket backers q
-    at true h = subst (IsFinePacket backers) (some_is p q h) f
-    at false h = cc
-
-pub delivered_fine : (backers : Backers) (before : List Noted) (node : Node) (ref : Ref) (p : Packet) → Each (λ (n : Noted). Each (IsFinePacket backers) n.entry.packets) before → packet_for before node ref ≡ Some p
-    → IsFinePacket backers p
-unfolding packet_for
-delivered_fine backers before node ref p h e = at (packet_at before ref) refl e
-  where
-    at : (o : Option Packet) → packet_at before ref ≡ o → option_and_then (if_for node) o ≡ Some p → IsFinePacket backers p
-    at None f k = cc
-    at (Some q) f k = if_fine backers node q p k (packet_fine backers before ref q h f)

@@ -15,10 +15,11 @@ use Rattle.simplex_run.specs.Life.{Noted}
 use Rattle.simplex_run.specs.Members.{members_of}
 use Rattle.simplex_run.specs.Setups.{faulty_in, first_bad}
 use Rattle.simplex_run.specs.Entries.{entry_of}
-use Rattle.simplex_run.specs.Run.{is_taken, refused, are_few, unless_refused, run, transcript_of, unless_bad, Run, whole_run}
+use Rattle.simplex_run.specs.Run.{refused, are_few, unless_refused, run, transcript_of, unless_bad, Run}
 use Rattle.simplex_safety.specs.Histories.{IsRun}
 use Rattle.simplex_safety.specs.Sayings.{Each}
 use Rattle.simplex_backing.specs.Fitting.{IsTyped, AreTyped}
+use Rattle.simplex_backing.specs.MostlyHonest.{IsMostlyHonest}
 use Rattle.simplex_backing.specs.Safe.{IsSafe, RunsSafely}
 use Rattle.simplex_backing.proofs.Good.{both}
 use Rattle.simplex_backing.proofs.Safely.{mostly_honest_is_safe, faulty_counted}
@@ -27,7 +28,7 @@ ok_is : {E A : Type 0} (a b : A) → ◌≡◌ {A = Result A E} (Ok a) (Ok b) �
 ok_is a b e = cc
 
 -- what a run makes of entries of a run are entries of a run
-run_is_run : (setup : Setup) (before : List Noted) (events : List Event) (noted : List Noted) → IsRun setup before → run setup before events ≡ Ok noted → IsRun setup noted
+pub run_is_run : (setup : Setup) (before : List Noted) (events : List Event) (noted : List Noted) → IsRun setup before → run setup before events ≡ Ok noted → IsRun setup noted
 unfolding run unless_refused IsRun
 run_is_run setup before [] noted ran e = subst (IsRun setup) (ok_is before noted e) ran
 run_is_run setup before (event ∷ events) noted ran e =
@@ -106,9 +107,9 @@ entries_typed : (noted : List Noted) (entries : List Entry) → reverse (map (λ
 entries_typed noted entries e h =
     each_of noted (each_turned IsTyped (map (λ (n : Noted). n.entry) noted) [] (subst (Each IsTyped) (sym e) h)).0
 
-pub limited_is_safe : (setup : Setup) (noted : List Noted) → IsLimited setup → IsRun setup noted → AreTyped noted → IsSafe setup noted
-limited_is_safe setup noted l ran typed =
-    mostly_honest_is_safe setup noted (record {
+pub mostly_honest : (setup : Setup) (noted : List Noted) → IsLimited setup → IsRun setup noted → AreTyped noted → IsMostlyHonest setup noted
+mostly_honest setup noted l ran typed =
+    record {
       some = l.some;
       not_many = fewer (members_of setup) l.most;
       term = l.term;
@@ -116,20 +117,19 @@ limited_is_safe setup noted l ran typed =
       few = subst (λ n. n ≤ max_faulty (members_of setup)) (sym (faulty_counted 0 setup.members)) l.few;
       ran = ran;
       typed = typed;
-    })
+    }
   where
     fewer : (n : ℕ) → n ≤ 256 → n < 2 ^ 16
     fewer n h = omega (arith, h)
 
+limited_is_safe : (setup : Setup) (noted : List Noted) → IsLimited setup → IsRun setup noted → AreTyped noted → IsSafe setup noted
+limited_is_safe setup noted l ran typed = mostly_honest_is_safe setup noted (mostly_honest setup noted l ran typed)
+
 -- the whole run of any setup
-pub whole_runs_safely : (setup : Setup) (events : List Event) (entries : List Entry) → whole_run setup events ≡ Ok entries → Each IsTyped entries → RunsSafely setup events
-unfolding whole_run IsRun
-whole_runs_safely setup events entries e typed noted ran =
+pub runs_safely : (setup : Setup) (events : List Event) (entries : List Entry) → Run setup events ≡ Ok entries → Each IsTyped entries → RunsSafely setup events
+unfolding Run IsRun
+runs_safely setup events entries e typed noted ran =
     let few = not_refused (are_few setup events) (refused (refusals.BadSetup fields.Events) 0) _ entries e in
     let parts = unbad (first_bad setup) (transcript_of (run setup [] events)) entries few.1 in
     let made : transcript_of (Ok noted) ≡ Ok entries = subst (λ r. transcript_of r ≡ Ok entries) ran parts.1 in
     limited_is_safe setup noted (limited setup parts.0) (run_is_run setup [] events noted tt ran) (entries_typed noted entries (ok_is _ entries made) typed)
-
-pub runs_safely : (setup : Setup) (events : List Event) (entries : List Entry) → Run setup events ≡ Ok entries → Each IsTyped entries → RunsSafely setup events
-unfolding Run
-runs_safely setup events entries e typed = whole_runs_safely setup events entries (not_refused (is_taken setup) (refused refusals.NotYet 0) (whole_run setup events) entries e).1 typed

@@ -56,7 +56,7 @@ use Rattle.simplex_backing.proofs.Naming.{in_map}
 use Rattle.simplex_backing.proofs.Testing.{in_flat, vote_here}
 use Rattle.simplex_run.specs.Members.{rules_of}
 use Rattle.simplex_safety.proofs.Further.{same_node}
-use Rattle.simplex_backing.proofs.Running.{plain_attests}
+use Rattle.simplex_backing.proofs.Signing.{plain_attests}
 use Rattle.simplex_transcript.specs.declared.event.Event.TheVariants as events
 use Rattle.simplex_run.specs.Life as life
 use Rattle.simplex_run.specs.Forged.{unless_forged, first_forged, is_forged, signed_in}

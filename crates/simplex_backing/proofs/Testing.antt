@@ -191,7 +191,7 @@ genuine_each : (setup : Setup) (before : List Noted) (subject : Subject) (list :
 genuine_each setup before subject [] h = All-nil (IsGenuine setup before subject)
 genuine_each setup before subject (a ∷ list) h = All-cons (IsGenuine setup before subject) a list (genuine_where setup before subject a h.0) (genuine_each setup before subject list h.1)
 
-abbrev NoneForged : Setup → List Noted → List Signed → Type 0
+abbrev pub NoneForged : Setup → List Noted → List Signed → Type 0
 NoneForged setup before list = Each (λ (s : Signed). is_forged setup before s ≡ false) list
 
 certificate_passes : (setup : Setup) (before : List Noted) (r : Result Certificate DecodeError) (c : Certificate) → NoneForged setup before (signed_in_certificate r) → Contains (read_certificate r) c

@@ -65,7 +65,9 @@ use Rattle.simplex_backing.specs.Backed.{IsVerifying, StandsIn}
 use Rattle.simplex_backing.specs.Fitting.{RecordFits, CallFits, AreTyped}
 use Rattle.simplex_backing.specs.MostlyHonest.{IsMostlyHonest}
 use Rattle.simplex_backing.proofs.Good.{IsGood, IsSized, both, certified_parts, each_verifies}
-use Rattle.simplex_backing.proofs.Running.{IsFineRun, run_fine, reported_good}
+use Rattle.simplex_backing.proofs.Engines.{IsFineRun}
+use Rattle.simplex_backing.proofs.Reporting.{reported_good}
+use Rattle.simplex_backing.proofs.Running.{run_fine}
 use Rattle.simplex_backing.proofs.Shapes.{IsSentBy, entry_shape}
 use Rattle.simplex_backing.proofs.Standing.{stands_good}
 use Rattle.simplex_run.specs.Kinds.{is_faulty_member}
@@ -91,7 +93,7 @@ earlier setup noted before o =
 
 -- ---- a vote that was sent is one of the life's
 
-in_flat_map : {A B : Type 0} (f : A → List B) (xs : List A) (y : B) → Contains (flat_map f xs) y → (x : A) × Contains xs x × Contains (f x) y
+pub in_flat_map : {A B : Type 0} (f : A → List B) (xs : List A) (y : B) → Contains (flat_map f xs) y → (x : A) × Contains xs x × Contains (f x) y
 in_flat_map f [] y k = absurd (not_in_empty y k)
 in_flat_map f (x ∷ xs) y k =
     elim (Contains-append_cases (f x) (flat_map f xs) y k) [
@@ -405,7 +407,7 @@ module _ (setup : Setup) (noted : List Noted) (ran : IsRun setup noted) (p : IsP
 
 -- ---- no start is at view 0
 
-reported_above : (setup : Setup) (before : List Noted) → IsMostlyHonest setup before → AreFloors before → IsReportedAbove setup before
+pub reported_above : (setup : Setup) (before : List Noted) → IsMostlyHonest setup before → AreFloors before → IsReportedAbove setup before
 reported_above setup before o floors f e =
     let p = people_of setup before o floors in
     let fine = fine_of setup before o in

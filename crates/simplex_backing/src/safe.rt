@@ -9,8 +9,7 @@ ghost use Rattle.simplex_backing.specs.Fitting.{IsTyped};
 ghost use Rattle.simplex_backing.specs.Safe.{RunsSafely};
 
 /// Where setup and events make a transcript, whose values keep to their types, its run is safe: of every setup, with
-/// members of all kinds, and of those that are taken yet.
+/// members of all kinds.
 pub fn runs_are_safe()
-    ensures whole { (setup : Setup) (events : List Event) (entries : List Entry) → runs.whole_run setup events ≡ Ok entries → Each IsTyped entries → RunsSafely setup events }
-    ensures taken { (setup : Setup) (events : List Event) (entries : List Entry) → runs.Run setup events ≡ Ok entries → Each IsTyped entries → RunsSafely setup events }
+    ensures { (setup : Setup) (events : List Event) (entries : List Entry) → runs.Run setup events ≡ Ok entries → Each IsTyped entries → RunsSafely setup events }
 {}

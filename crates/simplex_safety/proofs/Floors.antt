@@ -79,7 +79,6 @@ no_start (events.Step at source stop) h = tt
 no_start (events.Answer at ref answer) h = tt
 no_start (events.Crash at) h = tt
 no_start (events.Inject who channel to bytes) h = tt
-no_start events.Later h = tt
 
 pub start_above : (setup : Setup) (before : List Noted) (event : Event) (noted : Noted) → IsReportedAbove setup before → entry_of setup before event ≡ Ok noted → IsStartAbove noted.event
 start_above setup before event noted above e = elim (entry_turn setup before event noted e) [

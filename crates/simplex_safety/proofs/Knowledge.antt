@@ -73,7 +73,6 @@ module _ (Good : agreement.Certificate → Type 0) where
   floor_good node (events.Answer at ref answer) c g k = absurd (not_in_empty c k)
   floor_good node (events.Crash at) c g k = absurd (not_in_empty c k)
   floor_good node (events.Inject who channel to bytes) c g k = absurd (not_in_empty c k)
-  floor_good node events.Later c g k = absurd (not_in_empty c k)
 
   floors_good : (node : Node) (noted : List Noted) (c : agreement.Certificate) → Each (InNoted States) noted → Contains (floors_of node noted) c → Good c
   unfolding floors_of

@@ -35,7 +35,7 @@ use Rattle.simplex_lives.specs.Member.{Member, newborn, run}
 use Rattle.simplex_conduct.specs.Life.{IsFloor}
 use Rattle.simplex_conduct.specs.Life as conduct
 use Rattle.simplex_safety.specs.Histories.{IsRun, IsStartAbove, AreFloors, IsAt, calls_of, AreStored, AreConstructed, IsLivedBy}
-use Rattle.simplex_safety.proofs.Turns.{IsBeginning, IsTaken, IsGoing, IsCrash, entry_turn}
+use Rattle.simplex_safety.proofs.Turns.{IsBeginning, IsTaken, IsGoing, IsCrash, IsEngineless, IsTurn, entry_turn}
 use Rattle.simplex_safety.proofs.Further.{Further, same_self, same_node, go_further, stay}
 use Rattle.simplex_safety.proofs.Events.{start_further, batcher_further, nothing_further, voter_further, answer_further, crash_further, resolver_further}
 use Rattle.simplex_messages.specs.declared.resolver.MailboxMessage.{MailboxMessage}
@@ -216,9 +216,13 @@ crash_lives setup before event noted node pos c lived =
 
 -- ---- every event
 
-pub event_lives : (setup : Setup) (before : List Noted) (event : Event) (noted : Noted) (node : Node) → 0 < setup.term → ¬ (Contains (faulty_of setup) node.member) → IsStartAbove noted.event
-    → entry_of setup before event ≡ Ok noted → IsLivedBy setup before node → IsLivedBy setup (noted ∷ before) node
-event_lives setup before event noted node pos honest above e lived = elim (entry_turn setup before event noted e) [
+-- the node acts by an engine alone
+abbrev pub ActsByEngine : Setup → Node → Type 0
+ActsByEngine setup node = (noted : Noted) → IsEngineless setup noted → is_of node noted.event ≡ false
+
+pub turn_lives : (setup : Setup) (before : List Noted) (event : Event) (noted : Noted) (node : Node) → 0 < setup.term → ActsByEngine setup node → IsStartAbove noted.event
+    → IsTurn setup before event noted → IsLivedBy setup before node → IsLivedBy setup (noted ∷ before) node
+turn_lives setup before event noted node pos acts above turn lived = elim turn [
   | inl b ↦ beginning_lives setup before event noted node pos above b lived
   | inr other ↦ elim other [
     | inl g ↦ going_lives setup before event noted node pos g lived
@@ -226,7 +230,7 @@ event_lives setup before event noted node pos honest above e lived = elim (entry
       | inl c ↦ crash_lives setup before event noted node pos c lived
       | inr last ↦ elim last [
         | inl t ↦ subst (λ n. IsLivedBy setup (n ∷ before) node) t.is (stay setup (noted_blank before (events.Tick t.ms) None) before node refl lived)
-        | inr a ↦ stay setup noted before node (a.honest node honest) lived
+        | inr a ↦ stay setup noted before node (acts noted a) lived
       ]
     ]
   ]
@@ -248,8 +252,12 @@ none_yet setup node =
       at = record { up = refl; blank = refl; journal = refl; stored = refl; rising = tt; own = λ v c. absurd (omega (arith, c.1)) };
     }
 
-pub node_lives : (setup : Setup) (noted : List Noted) (node : Node) → 0 < setup.term → ¬ (Contains (faulty_of setup) node.member) → IsRun setup noted → AreFloors noted → IsLivedBy setup noted node
+-- so each node lives that acts by an engine alone, whoever its member is
+pub engine_lives : (setup : Setup) (noted : List Noted) (node : Node) → 0 < setup.term → ActsByEngine setup node → IsRun setup noted → AreFloors noted → IsLivedBy setup noted node
 unfolding IsRun AreFloors
-node_lives setup [] node pos honest ran floors = none_yet setup node
-node_lives setup (noted ∷ before) node pos honest ran floors =
-    event_lives setup before ran.0 noted node pos honest floors.0 ran.1 (node_lives setup before node pos honest ran.2 floors.1)
+engine_lives setup [] node pos acts ran floors = none_yet setup node
+engine_lives setup (noted ∷ before) node pos acts ran floors =
+    turn_lives setup before ran.0 noted node pos acts floors.0 (entry_turn setup before ran.0 noted ran.1) (engine_lives setup before node pos acts ran.2 floors.1)
+
+pub node_lives : (setup : Setup) (noted : List Noted) (node : Node) → 0 < setup.term → ¬ (Contains (faulty_of setup) node.member) → IsRun setup noted → AreFloors noted → IsLivedBy setup noted node
+node_lives setup noted node pos honest ran floors = engine_lives setup noted node pos (λ n a. a.honest node honest) ran floors

@@ -32,7 +32,6 @@ module _ (P Q : Certificate → Type 0) (f : (c : Certificate) → P c → Q c) 
   in_start (events.Answer at ref answer) h = tt
   in_start (events.Crash at) h = tt
   in_start (events.Inject who channel to bytes) h = tt
-  in_start events.Later h = tt
 
   record_more : (a : Artifact) → InRecord P a → InRecord Q a
   record_more (artifacts.Notarization c) h = f _ h

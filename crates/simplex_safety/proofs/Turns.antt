@@ -35,7 +35,7 @@ use Rattle.simplex_safety.proofs.Members.{engineless_faulty, unhonest_faulty, fa
 pub ok_is : {E A : Type 0} (a b : A) → ◌≡◌ {A = Result A E} (Ok a) (Ok b) → a ≡ b
 ok_is a b e = cc
 
-if_ok : {E A : Type 0} (b : Bool) (x : Result A E) (error : E) (a : A) → (if b then x else Err error) ≡ Ok a → (b ≡ true) × (x ≡ Ok a)
+pub if_ok : {E A : Type 0} (b : Bool) (x : Result A E) (error : E) (a : A) → (if b then x else Err error) ≡ Ok a → (b ≡ true) × (x ≡ Ok a)
 if_ok true x error a e = (refl, e)
 if_ok false x error a e = cc
 
@@ -292,7 +292,7 @@ parted setup at event before noted x y e f g = (let p = if_ok (is_node setup at)
 none_made : {A : Type 0} (setup : Setup) (error : RunError) (noted : Noted) → ◌≡◌ {A = Result Noted RunError} (Err error) (Ok noted) → A
 none_made setup error noted e = cc
 
-made_turn : (setup : Setup) (before : List Noted) (event : Event) (noted : Noted) → made_of setup before event ≡ Ok noted → IsTurn setup before event noted
+pub made_turn : (setup : Setup) (before : List Noted) (event : Event) (noted : Noted) → made_of setup before event ≡ Ok noted → IsTurn setup before event noted
 unfolding made_of
 made_turn setup before (events.Start at floor stop) noted e =
     parted setup at (events.Start at floor stop) before noted _ _ e (λ is runs h. start_turn setup before at floor stop noted is runs (life_in setup before at) refl h) (λ is none h. none_made setup _ noted h)
@@ -314,7 +314,6 @@ made_turn setup before (events.Inject who channel to bytes) noted e =
   where
     below : (a b : ℕ) (t : Bool) → (nat_lt a b && t) ≡ true → a < b
     below a b t h = grind (arith, nat_tests, common_steps, h)
-made_turn setup before events.Later noted e = cc
 
 pub entry_turn : (setup : Setup) (before : List Noted) (event : Event) (noted : Noted) → entry_of setup before event ≡ Ok noted → IsTurn setup before event noted
 entry_turn setup before event noted e = made_turn setup before event noted (was_made setup before event noted e)
