@@ -1,0 +1,4 @@
+pub mod Scripts
+pub mod Leading
+pub mod FaultyMember
+pub mod NodeEngine

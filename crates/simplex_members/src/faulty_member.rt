@@ -1,0 +1,133 @@
+//! Faulty members without an engine.
+ghost use Rattle.std.specs.Prelude.{◌≡◌, ◌<◌, ◌∷◌, [], ℕ, List, length, true, false, IsNone, IfOk, OnOk};
+ghost use Rattle.simplex_transcript.specs.declared.setup.Setup as setup;
+ghost use Rattle.simplex_run.specs.Kinds as kinds;
+ghost use Rattle.simplex_run.specs.Members.{kind_of};
+ghost use Rattle.simplex_run.specs.Mocks.{Heard, heard_by};
+ghost use Rattle.simplex_run.specs.Setups as setups;
+ghost use Rattle.simplex_members.specs.FaultyMember.{FaultyStands, is_impersonator};
+
+use crate::electors::{NodeElector, elector_of};
+use crate::schemes::{kind_of, random_of, scheme_of};
+use simplex_faults::Sent;
+use simplex_mocks::conflicter::{self, Conflicter};
+use simplex_mocks::equivocator::{self, Equivocator};
+use simplex_mocks::impersonator::{self, Impersonator};
+use simplex_mocks::nuller::{self, Nuller};
+use simplex_mocks::nullify_only::{self, NullifyOnly};
+use simplex_mocks::outdated::{self, Outdated};
+use simplex_mocks::reconfigurer::{self, Reconfigurer};
+use simplex_transcript::{MemberKind, Setup};
+use simplex_types::{Channel, Epoch, Keyed, Participant, Sequence, ViewDelta};
+use std::alloc::{AllocError, Global};
+
+/// A faulty member without an engine: it only answers what it hears.
+#[derive(Drop)]
+pub enum FaultyMember {
+    /// Sends nothing.
+    Silent,
+    /// Votes for two proposals.
+    Conflicter(Conflicter<Keyed>),
+    /// Proposes two payloads to different members.
+    Equivocator(Equivocator<Keyed, NodeElector>),
+    /// Votes under another member's number.
+    Impersonator(Impersonator<Keyed>),
+    /// Nullifies and finalizes a view.
+    Nuller(Nuller<Keyed>),
+    /// Nullifies each view.
+    NullifyOnly(NullifyOnly<Keyed>),
+    /// Votes for what was proposed some views before.
+    Outdated(Outdated<Keyed>),
+    /// Votes in the next epoch.
+    Reconfigurer(Reconfigurer<Keyed>),
+}
+
+impl FaultyMember {
+    /// A member of the setup, which has heard nothing.
+    pub fn new(
+        alloc: Global,
+        setup: &Setup,
+        member: Participant,
+    ) -> Result<FaultyMember, AllocError>
+        requires good { IsNone (setups.first_bad setup.now) }
+        requires below { member < length setup.now.members }
+        requires without_engine { kinds.runs_engine setup.now member ≡ false }
+        ensures { IfOk result (λ made. FaultyStands made setup.now member []) }
+    {
+        let scheme = scheme_of(alloc, setup, member)?;
+        let random = random_of(setup, member);
+        match kind_of(setup, member) {
+            MemberKind::Silent => Ok(FaultyMember::Silent),
+            MemberKind::Conflicter => {
+                let config = conflicter::Config { scheme, random };
+                Ok(FaultyMember::Conflicter(Conflicter::new(config)))
+            }
+            MemberKind::Equivocator => {
+                let config = equivocator::Config {
+                    scheme,
+                    elector: elector_of(alloc, setup)?,
+                    epoch: Epoch(setup.epoch),
+                    random,
+                };
+                Ok(FaultyMember::Equivocator(Equivocator::new(alloc, config)))
+            }
+            MemberKind::Impersonator => {
+                let config = impersonator::Config { scheme, random };
+                Ok(FaultyMember::Impersonator(Impersonator::new(config)))
+            }
+            MemberKind::Nuller => {
+                let config = nuller::Config { scheme, random };
+                Ok(FaultyMember::Nuller(Nuller::new(config)))
+            }
+            MemberKind::NullifyOnly => {
+                let config = nullify_only::Config { scheme, random };
+                Ok(FaultyMember::NullifyOnly(NullifyOnly::new(config)))
+            }
+            MemberKind::Outdated(delta) => {
+                let config = outdated::Config {
+                    scheme,
+                    random,
+                    view_delta: ViewDelta(delta),
+                };
+                Ok(FaultyMember::Outdated(Outdated::new(alloc, config)))
+            }
+            MemberKind::Reconfigurer => {
+                let config = reconfigurer::Config { scheme, random };
+                Ok(FaultyMember::Reconfigurer(Reconfigurer::new(config)))
+            }
+            MemberKind::Honest
+            | MemberKind::Corrupt
+            | MemberKind::Unrecovering
+            | MemberKind::Twin => unreachable!(),
+        }
+    }
+
+    /// What it sends on hearing the bytes.
+    pub fn hear(
+        &mut self,
+        alloc: Global,
+        channel: Channel,
+        bytes: &[u8],
+    ) -> Result<Sequence<Sent>, AllocError>
+        // The messages of the definition.
+        ensures sends { (setup : setup.Setup) (member : ℕ) (past : List Heard) → FaultyStands self.old setup member past
+            → IfOk result (λ sent. sent ≡ heard_by setup member (kind_of setup member) past (record { channel = channel; bytes = bytes.now })) }
+        // It has heard this too.
+        ensures stands { (setup : setup.Setup) (member : ℕ) (past : List Heard) → FaultyStands self.old setup member past
+            → OnOk result (FaultyStands self.new setup member (record { channel = channel; bytes = bytes.now } ∷ past)) }
+        // Nothing that an impersonator hears changes it.
+        ensures unmoved { (setup : setup.Setup) (member : ℕ) (past : List Heard) → FaultyStands self.old setup member past
+            → is_impersonator (kind_of setup member) ≡ true → OnOk result (FaultyStands self.new setup member past) }
+    {
+        match self {
+            FaultyMember::Silent => Ok(Sequence::new(alloc)),
+            FaultyMember::Conflicter(member) => member.hear(alloc, channel, bytes),
+            FaultyMember::Equivocator(member) => member.hear(alloc, channel, bytes),
+            FaultyMember::Impersonator(member) => member.hear(alloc, channel, bytes),
+            FaultyMember::Nuller(member) => member.hear(alloc, channel, bytes),
+            FaultyMember::NullifyOnly(member) => member.hear(alloc, channel, bytes),
+            FaultyMember::Outdated(member) => member.hear(alloc, channel, bytes),
+            FaultyMember::Reconfigurer(member) => member.hear(alloc, channel, bytes),
+        }
+    }
+}

@@ -1,0 +1,10 @@
+pub mod Lists
+pub mod Seating
+pub mod Scripts
+pub mod Routes
+pub mod KeptPackets
+pub mod Asked
+pub mod Told
+pub mod Voting
+pub mod Forging
+pub mod Keeping

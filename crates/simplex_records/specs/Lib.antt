@@ -1,0 +1,9 @@
+pub mod Seats
+pub mod Packets
+pub mod Requests
+pub mod Reported
+pub mod Votes
+pub mod Routes
+pub mod Forgeries
+pub mod Events
+pub mod Stands
