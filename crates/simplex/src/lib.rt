@@ -8,8 +8,12 @@
 //! - [`actors`]: the voter, the batcher and the resolver, what they take and what their steps give;
 //! - [`journal`], [`mailbox`], [`io`]: what they stand on;
 //! - [`Engine`]: a member's actors and the mail between them;
-//! - [`Network`] and [`run_network`]: engines of many members under a list of events, with the entries that they make;
-//! - [`form`], [`text`] and [`program`]: such a run as JSON, its lines, and both behind one call;
+//! - [`Network`] and [`run_network`]: members of every kind, honest and faulty, under a list of events, with the entries
+//!   that they make;
+//! - [`form`] (`read_run`, `read_setup`, `read_event`, `read_value`, ..), [`text`] and [`program`]: such a run as JSON, its
+//!   lines, and both behind one call;
+//! - [`mocks`], [`twins`]: members that break the rules, what an engine is tried with, and scripts for twins;
+//! - [`report`]: two reporters in one, and reports of schemes whose signatures prove nothing;
 //! - [`state`], [`round`], [`repair`], [`fetch`]: the parts of which the actors are made.
 //!
 //! Whoever writes contracts finds the definitions that `run_network` and `program` promise in this crate's `specs/`. It may
@@ -26,9 +30,11 @@ pub use simplex_form as form;
 pub use simplex_io as io;
 pub use simplex_journal as journal;
 pub use simplex_mailbox as mailbox;
+pub use simplex_mocks as mocks;
 pub use simplex_network::{Network, NodeEngine, Transcript, run_network};
 pub use simplex_program::{Exit, LIMIT, program};
 pub use simplex_repair as repair;
+pub use simplex_report as report;
 pub use simplex_round as round;
 pub use simplex_state as state;
 pub use simplex_text as text;
@@ -36,5 +42,6 @@ pub use simplex_transcript::{
     Entry, Event, Field, MemberKind, Node, Packet, Ref, Refusal, RunError, Setup, SetupRound,
     StepSource, Took,
 };
+pub use simplex_twins as twins;
 pub use simplex_types as types;
 pub use simplex_types::elector;

@@ -1,157 +1,325 @@
--- A network behind one event more.
-use Rattle.std.proofs.Common.{◌≡◌, ℕ, List, ◌∷◌, Bool, true, false, arith, refl, sym, subst, ◌∙◌, if◌then◌else◌}
-use Rattle.std.specs.Prelude.{◌==◌, ◌&&◌, Option, Some, None, Result, Ok, Err}
+-- What each event comes to, by what was found of its node.
+use Rattle.std.proofs.Common.{◌≡◌, ℕ, List, [], ◌∷◌, Bool, true, false, refl, sym, ap, ◌∙◌, length, ◌+◌, ◌-◌, ◌*◌, ◌≤◌, ◌<◌, ◌^◌, arith, map, if◌then◌else◌}
+use Rattle.std.specs.Prelude.{◌&&◌, nat_lt, nat_le, Option, Some, None, Result, Ok, Err}
+use Rattle.std.specs.List.{list_all, slice_get}
+use Rattle.std.specs.Option.{option_map_or}
 use Rattle.std.proofs.lemmas.Grind.{common_steps}
+use Rattle.simplex_values.specs.declared.answer.Answer.{Answer}
+use Rattle.simplex_values.specs.declared.plan.Channel.{Channel}
+use Rattle.simplex_values.specs.Terms.{greatest_view}
 use Rattle.simplex_wire.specs.declared.certificate.Finalization.{Finalization}
-use Rattle.simplex_journal.specs.Journal.{Section, crashed}
 use Rattle.simplex_messages.specs.declared.step.Stop.{Stop}
-use Rattle.simplex_transcript.specs.declared.event.Event.{Event}
+use Rattle.simplex_messages.specs.declared.step.Stop.TheVariants as stops
 use Rattle.simplex_transcript.specs.declared.event.Event.TheVariants as events
+use Rattle.simplex_transcript.specs.declared.event.StepSource.{StepSource}
+use Rattle.simplex_transcript.specs.declared.entry.Packet.{Packet}
+use Rattle.simplex_transcript.specs.declared.entry.Took.TheVariants as tooks
 use Rattle.simplex_transcript.specs.declared.node.Node.{Node}
+use Rattle.simplex_transcript.specs.declared.node.Ref.{Ref}
 use Rattle.simplex_transcript.specs.declared.setup.Setup.{Setup}
+use Rattle.simplex_transcript.specs.declared.setup.MemberKind.{MemberKind}
+use Rattle.simplex_transcript.specs.declared.setup.MemberKind.TheVariants as kinds
 use Rattle.simplex_transcript.specs.declared.refusal.RunError.{RunError}
 use Rattle.simplex_transcript.specs.declared.refusal.RunError.TheVariants as refusals
-use Rattle.simplex_engine.specs.declared.input.Input.{Input}
-use Rattle.simplex_run.specs.Members.{floor_of, engine_of}
-use Rattle.simplex_book.specs.Plain.{is_node}
-use Rattle.simplex_run.specs.Life.{Noted, Life, Stopped, Running, clock_of, is_of, after, life_in, sections_in}
-use Rattle.simplex_run.specs.Entries.{node_of, noted_blank, on_crash}
-use Rattle.simplex_book.specs.Plain.{on_start, is_own_floor}
-use Rattle.simplex_book.specs.Events.{IsOf}
-use Rattle.simplex_network.specs.declared.host.Host.{Host}
-use Rattle.simplex_network.specs.NodeEngine.{NodeConfig, made_with}
-use Rattle.simplex_network.specs.Lives.{view_in, after_poll, after_start, changed}
-use Rattle.simplex_network.specs.Polls.{IsInput, noted_start, member_in}
-use Rattle.simplex_network.specs.Stands.{HostStands, HostsStand, lives_in}
-use Rattle.simplex_network.proofs.Polled.{IsNotedPoll}
+use Rattle.simplex_steps.specs.Engine.{EngineMade, Did, runs, replied, takes_reply}
+use Rattle.simplex_engine.specs.declared.input.Input.TheVariants as inputs
+use Rattle.simplex_engine.specs.Polled.{polled, refusal_of}
+use Rattle.simplex_run.specs.Kinds.{members_of, is_of_kind, is_node, is_honest, has_engine, runs_engine, node_of}
+use Rattle.simplex_run.specs.Members.{kind_of}
+use Rattle.simplex_run.specs.Life.{Noted, Running, clock_of, life_in}
+use Rattle.simplex_run.specs.Requests.{request_number, packet_for}
+use Rattle.simplex_run.specs.Mocks.{Sent, heard_by}
+use Rattle.simplex_run.specs.Hearing.{heard_of, heard_in}
+use Rattle.simplex_run.specs.Forged.{unless_forged}
+use Rattle.simplex_run.specs.Entries.{taken_of, noted_with, noted_blank, noted_idle, noted_packets, sent_by, is_own_floor, made_of, entry_of}
+use Rattle.simplex_forging.specs.Forging.{is_impersonator}
+use Rattle.simplex_network.specs.Polls.{tested_of, noted_poll, unless, on_poll, noted_start}
+use Rattle.simplex_network.specs.Stands.{heard_test}
+use Rattle.simplex_network.proofs.Found.{AtStopped, AtRunning, AtFaulty}
+use Rattle.simplex_network.proofs.Polled.{poll-taken}
 
--- ---- lives that are alike
+-- ---- tests
 
-pub hosts-like : (list : List Host) (lives others : ℕ → Life) → ((at : ℕ) → lives at ≡ others at) → HostsStand list lives → HostsStand list others
-unfolding HostsStand
-hosts-like list lives others same stand = λ at host is. subst (λ life. HostStands host life) (same at) (stand at host is)
+pub if_end : {A : Type 0} (b : Bool) (x y : A) → b ≡ true → (if b then x else y) ≡ x
+if_end true x y e = refl
+if_end false x y e = absurd (cc)
 
-one_at : (lives : ℕ → Life) (member at : ℕ) (to : Life → Life) (mine : Bool) (new : Life → Life) → to (lives member) ≡ new (lives member) → mine ≡ (member == at)
-    → (b : Bool) → (member == at) ≡ b → (if b && true then to (lives at) else lives at) ≡ (if mine then new (lives at) else lives at)
-one_at lives member at to mine new same of true e =
-    let here : member ≡ at = grind (arith, common_steps) in
-    let it : mine ≡ true = of ∙ e in
-    rw it (subst (λ k. to (lives k) ≡ new (lives k)) here same)
-one_at lives member at to mine new same of false e = let it : mine ≡ false = of ∙ e in rw it refl
+pub if_not : {A : Type 0} (b : Bool) (x y : A) → b ≡ false → (if b then x else y) ≡ y
+if_not true x y e = absurd (cc)
+if_not false x y e = refl
 
--- one node is changed as the event says
-pub lives-changed : (setup : Setup) (before : List Noted) (noted : Noted) (member : ℕ) (to : Life → Life)
-    → ((at : ℕ) → is_of (node_of at) noted.event ≡ (member == at))
-    → to (lives_in setup before member) ≡ after setup noted.event noted.did (lives_in setup before member)
-    → (at : ℕ) → changed (node_of member) to (lives_in setup before) at ≡ lives_in setup (noted ∷ before) at
-unfolding changed life_in
-lives-changed setup before noted member to of same at =
-    one_at (lives_in setup before) member at to (is_of (node_of at) noted.event) (λ life. after setup noted.event noted.did life) same (of at) (member == at) refl
+-- the view is too near the greatest
+abbrev pub is_near : Setup → ℕ → Bool
+is_near setup view = nat_lt (greatest_view - 2 * setup.term - setup.lookahead) view
 
--- ---- an input
+-- what is tested of a packet that is delivered
+tested_by : (b : Bool) (x y : Result Noted RunError) → x ≡ y → (if b then x else y) ≡ y
+tested_by true x y e = e
+tested_by false x y e = refl
 
-pub input-of : (event : Event) (member : ℕ) (starts : Bool) (noted : Noted) → noted.event ≡ event → IsOf event member starts → IsOf noted.event member starts
-input-of event member starts noted is of = rw is of
+refused_whole : (setup : Setup) (before : List Noted) (r : Result Noted RunError) (error : RunError) → r ≡ Err error → unless_forged setup before r ≡ Err error
+unfolding unless_forged
+refused_whole setup before r error e = rw e refl
 
-pub lives-polled : (setup : Setup) (before : List Noted) (event : Event) (member : ℕ) (input : Input) (stop : Stop) (now : ℕ) (noted : Noted) (list : List Host)
-    → now ≡ clock_of before → IsInput event member → IsNotedPoll setup before event input stop (lives_in setup before member) noted
-    → HostsStand list (changed (node_of member) (after_poll input now stop) (lives_in setup before))
-    → HostsStand list (lives_in setup (noted ∷ before))
-lives-polled setup before event member input stop now noted list clock is poll stand =
-    hosts-like list (changed (node_of member) (after_poll input now stop) (lives_in setup before)) (lives_in setup (noted ∷ before))
-    (lives-changed setup before noted member (after_poll input now stop) (input-of event member false noted poll.same is.of).of
-    (rw clock (sym (poll.goes (λ did. is.goes setup did (lives_in setup before member))))))
-    stand
+-- an event that is refused before its packets are looked at
+deliver_refused : (setup : Setup) (before : List Noted) (node : Node) (at : Ref) (error : RunError) → made_of setup before (events.Deliver node at) ≡ Err error
+    → tested_of setup before (events.Deliver node at) ≡ Err error
+unfolding tested_of entry_of
+deliver_refused setup before node at error e =
+    tested_by (is_of_kind is_impersonator setup node.member) _ (made_of setup before (events.Deliver node at)) (refused_whole setup before _ error e ∙ sym e) ∙ e
 
--- ---- a start
+-- ---- no such node
 
-true_and : (b : Bool) → (b && true) ≡ b
-true_and true = refl
-true_and false = refl
+pub start-missing : (setup : Setup) (before : List Noted) (node : Node) (floor : Option Finalization) (stop : Stop) → is_node setup node ≡ false
+    → tested_of setup before (events.Start node floor stop) ≡ Err refusals.NoMember
+unfolding tested_of made_of
+start-missing setup before node floor stop e = rw e refl
 
-pub start-of : (member : ℕ) (floor : Option Finalization) (stop : Stop) → IsOf (events.Start (node_of member) floor stop) member true
-start-of member floor stop = record { of = λ at. true_and (member == at); start = refl }
+pub deliver-missing : (setup : Setup) (before : List Noted) (node : Node) (at : Ref) → is_node setup node ≡ false
+    → tested_of setup before (events.Deliver node at) ≡ Err refusals.NoMember
+unfolding made_of
+deliver-missing setup before node at e = deliver_refused setup before node at refusals.NoMember made
+  where
+    made : made_of setup before (events.Deliver node at) ≡ Err refusals.NoMember
+    made = rw e refl
 
-pub lives-started : (setup : Setup) (before : List Noted) (member : ℕ) (floor : Option Finalization) (stop : Stop) (now : ℕ) (config : NodeConfig) (list : List Host)
-    → now ≡ clock_of before → ((sections : List Section) → made_with config sections ≡ engine_of setup member (floor_of setup floor) sections)
-    → HostsStand list (changed (node_of member) (λ life. after_start (made_with config (sections_in life)) now stop) (lives_in setup before))
-    → HostsStand list (lives_in setup (noted_start setup before member floor stop (lives_in setup before member) ∷ before))
-unfolding after_start after
-lives-started setup before member floor stop now config list clock made stand =
-    hosts-like list (changed (node_of member) (λ life. after_start (made_with config (sections_in life)) now stop) (lives_in setup before))
-    (lives_in setup (noted_start setup before member floor stop (lives_in setup before member) ∷ before))
-    (lives-changed setup before (noted_start setup before member floor stop (lives_in setup before member)) member
-    (λ life. after_start (made_with config (sections_in life)) now stop) (start-of member floor stop).of
-    (rw (made (sections_in (lives_in setup before member)), clock) refl))
-    stand
+pub step-missing : (setup : Setup) (before : List Noted) (node : Node) (source : StepSource) (stop : Stop) → is_node setup node ≡ false
+    → tested_of setup before (events.Step node source stop) ≡ Err refusals.NoMember
+unfolding tested_of made_of
+step-missing setup before node source stop e = rw e refl
 
-pub start-is : (setup : Setup) (before : List Noted) (member : ℕ) (floor : Option Finalization) (stop : Stop) (life : Life) → None ≡ view_in life
-    → true ≡ is_own_floor before floor → on_start setup before (node_of member) floor stop life ≡ Ok (noted_start setup before member floor stop life)
-unfolding view_in
-start-is setup before member floor stop (Stopped sections) is own = rw (← own) refl
-start-is setup before member floor stop (Running made past) is own = absurd (cc)
+pub answer-missing : (setup : Setup) (before : List Noted) (node : Node) (at : Ref) (answer : Answer) → is_node setup node ≡ false
+    → tested_of setup before (events.Answer node at answer) ≡ Err refusals.NoMember
+unfolding tested_of made_of
+answer-missing setup before node at answer e = rw e refl
 
-pub start-running : (setup : Setup) (before : List Noted) (node : Node) (floor : Option Finalization) (stop : Stop) (view : ℕ) (life : Life) → Some view ≡ view_in life
-    → on_start setup before node floor stop life ≡ Err refusals.NotStopped
-unfolding view_in
-start-running setup before node floor stop view (Stopped sections) is = absurd (cc)
-start-running setup before node floor stop view (Running made past) is = refl
+pub crash-missing : (setup : Setup) (before : List Noted) (node : Node) → is_node setup node ≡ false → tested_of setup before (events.Crash node) ≡ Err refusals.NoMember
+unfolding tested_of made_of
+crash-missing setup before node e = rw e refl
 
-pub start-foreign : (setup : Setup) (before : List Noted) (node : Node) (floor : Option Finalization) (stop : Stop) (life : Life) → None ≡ view_in life
-    → false ≡ is_own_floor before floor → on_start setup before node floor stop life ≡ Err refusals.ForeignFloor
-unfolding view_in
-start-foreign setup before node floor stop (Stopped sections) is own = rw (← own) refl
-start-foreign setup before node floor stop (Running made past) is own = absurd (cc)
+-- ---- a stopped node
 
--- ---- a crash, and a tick
+pub start-stopped : (setup : Setup) (before : List Noted) (node : Node) (floor : Option Finalization) (stop : Stop) → (s : AtStopped setup before node)
+    → is_own_floor setup before floor ≡ true → tested_of setup before (events.Start node floor stop) ≡ Ok (noted_start setup before node floor stop (life_in setup before node))
+unfolding tested_of made_of
+start-stopped setup before node floor stop s own = rw (s.exists, s.engine, s.life, own) refl
 
-pub crash-is : (before : List Noted) (node : Node) (view : ℕ) (life : Life) → Some view ≡ view_in life
-    → on_crash before node life ≡ Ok (noted_blank before (events.Crash node) (Some node))
-unfolding view_in
-crash-is before node view (Stopped sections) is = absurd (cc)
-crash-is before node view (Running made past) is = refl
+pub start-foreign : (setup : Setup) (before : List Noted) (node : Node) (floor : Option Finalization) (stop : Stop) → (s : AtStopped setup before node)
+    → is_own_floor setup before floor ≡ false → tested_of setup before (events.Start node floor stop) ≡ Err refusals.ForeignFloor
+unfolding tested_of made_of
+start-foreign setup before node floor stop s own = rw (s.exists, s.engine, s.life, own) refl
 
-pub crash-stopped : (before : List Noted) (node : Node) (life : Life) → None ≡ view_in life → on_crash before node life ≡ Err refusals.NotRunning
-unfolding view_in
-crash-stopped before node (Stopped sections) is = refl
-crash-stopped before node (Running made past) is = absurd (cc)
+pub deliver-stopped : (setup : Setup) (before : List Noted) (node : Node) (at : Ref) → AtStopped setup before node
+    → tested_of setup before (events.Deliver node at) ≡ Err refusals.NotRunning
+unfolding made_of
+deliver-stopped setup before node at s = deliver_refused setup before node at refusals.NotRunning made
+  where
+    made : made_of setup before (events.Deliver node at) ≡ Err refusals.NotRunning
+    made = rw (s.exists, s.engine, s.life) refl
 
-pub crash-of : (member : ℕ) → IsOf (events.Crash (node_of member)) member false
-crash-of member = record { of = λ at. true_and (member == at); start = refl }
+pub step-stopped : (setup : Setup) (before : List Noted) (node : Node) (source : StepSource) (stop : Stop) → AtStopped setup before node
+    → tested_of setup before (events.Step node source stop) ≡ Err refusals.NotRunning
+unfolding tested_of made_of
+step-stopped setup before node source stop s = rw (s.exists, s.engine, s.life) refl
 
-pub lives-crashed : (setup : Setup) (before : List Noted) (member : ℕ) (list : List Host)
-    → HostsStand list (changed (node_of member) (λ life. Stopped (crashed 0 (sections_in life))) (lives_in setup before))
-    → HostsStand list (lives_in setup (noted_blank before (events.Crash (node_of member)) (Some (node_of member)) ∷ before))
-unfolding after
-lives-crashed setup before member list stand =
-    hosts-like list (changed (node_of member) (λ life. Stopped (crashed 0 (sections_in life))) (lives_in setup before))
-    (lives_in setup (noted_blank before (events.Crash (node_of member)) (Some (node_of member)) ∷ before))
-    (lives-changed setup before (noted_blank before (events.Crash (node_of member)) (Some (node_of member))) member
-    (λ life. Stopped (crashed 0 (sections_in life))) (crash-of member).of refl)
-    stand
+pub answer-stopped : (setup : Setup) (before : List Noted) (node : Node) (at : Ref) (answer : Answer) → AtStopped setup before node
+    → tested_of setup before (events.Answer node at answer) ≡ Err refusals.NotRunning
+unfolding tested_of made_of
+answer-stopped setup before node at answer s = rw (s.exists, s.engine, s.life) refl
 
-pub lives-ticked : (setup : Setup) (before : List Noted) (ms : ℕ) (list : List Host) → HostsStand list (lives_in setup before)
-    → HostsStand list (lives_in setup (noted_blank before (events.Tick ms) None ∷ before))
-unfolding life_in
-lives-ticked setup before ms list stand =
-    hosts-like list (lives_in setup before) (lives_in setup (noted_blank before (events.Tick ms) None ∷ before)) (λ at. refl) stand
+pub crash-stopped : (setup : Setup) (before : List Noted) (node : Node) → AtStopped setup before node → tested_of setup before (events.Crash node) ≡ Err refusals.NotRunning
+unfolding tested_of made_of
+crash-stopped setup before node s = rw (s.exists, s.engine, s.life) refl
 
--- ---- nodes
+-- ---- a running node
 
-in_by : {A : Type 0} (member other : ℕ) (b : Bool) (next : Result A RunError) → Some member ≡ (if b then Some other else None)
-    → (if b then next else Err refusals.NoMember) ≡ next
-in_by member other true next is = refl
-in_by member other false next is = absurd (cc)
+pub start-running : (setup : Setup) (before : List Noted) (node : Node) (floor : Option Finalization) (stop : Stop) (view : ℕ) → AtRunning setup before node view
+    → tested_of setup before (events.Start node floor stop) ≡ Err refusals.NotStopped
+unfolding tested_of made_of
+start-running setup before node floor stop view s = rw (s.exists, s.engine, s.life) refl
 
-out_by : {A : Type 0} (other : ℕ) (b : Bool) (next : Result A RunError) → None ≡ (if b then Some other else None)
-    → (if b then next else Err refusals.NoMember) ≡ Err refusals.NoMember
-out_by other true next is = absurd (cc)
-out_by other false next is = refl
+pub crash-running : (setup : Setup) (before : List Noted) (node : Node) (view : ℕ) → AtRunning setup before node view
+    → tested_of setup before (events.Crash node) ≡ Ok (noted_blank before (events.Crash node) (Some node))
+unfolding tested_of made_of
+crash-running setup before node view s = rw (s.exists, s.engine, s.life) refl
 
-pub node-in : {A : Type 0} (setup : Setup) (node : Node) (member : ℕ) (next : Result A RunError) → Some member ≡ member_in setup node
-    → (if is_node setup node then next else Err refusals.NoMember) ≡ next
-node-in setup node member next is = in_by member node.member (is_node setup node) next is
+pub step-near : (setup : Setup) (before : List Noted) (node : Node) (source : StepSource) (stop : Stop) (view : ℕ) → AtRunning setup before node view → is_near setup view ≡ true
+    → tested_of setup before (events.Step node source stop) ≡ Err refusals.ViewEnd
+unfolding tested_of made_of
+step-near setup before node source stop view s near = rw (s.exists, s.engine, s.life) (if_end _ _ _ (rw s.current at near))
 
-pub node-out : {A : Type 0} (setup : Setup) (node : Node) (next : Result A RunError) → None ≡ member_in setup node
-    → (if is_node setup node then next else Err refusals.NoMember) ≡ Err refusals.NoMember
-node-out setup node next is = out_by node.member (is_node setup node) next is
+pub step-is : (setup : Setup) (before : List Noted) (node : Node) (source : StepSource) (stop : Stop) (view : ℕ) → (s : AtRunning setup before node view) → is_near setup view ≡ false
+    → tested_of setup before (events.Step node source stop) ≡ on_poll setup before (events.Step node source stop) node (inputs.Step source) stop None (Running s.made s.past)
+unfolding tested_of made_of noted_poll polled refusal_of
+step-is setup before node source stop view s near =
+    rw (s.exists, s.engine, s.life) (if_not _ _ _ (rw s.current at near))
+    ∙ sym (poll-taken setup before (events.Step node source stop) node (inputs.Step source) stop None s.made s.past (rw s.goes refl))
+
+-- whoever runs an engine is no impersonator
+no_mock : (setup : Setup) (member : ℕ) → runs_engine setup member ≡ true → is_of_kind is_impersonator setup member ≡ false
+no_mock setup member engine = by (slice_get setup.members member) engine
+  where
+    by : (o : Option MemberKind) → option_map_or has_engine o false ≡ true → option_map_or is_impersonator o false ≡ false
+    by None e = refl
+    by (Some kinds.Honest) e = refl
+    by (Some kinds.Silent) e = refl
+    by (Some kinds.Conflicter) e = refl
+    by (Some kinds.Equivocator) e = refl
+    by (Some kinds.Impersonator) e = cc
+    by (Some kinds.Nuller) e = refl
+    by (Some kinds.NullifyOnly) e = refl
+    by (Some (kinds.Outdated views)) e = refl
+    by (Some kinds.Reconfigurer) e = refl
+    by (Some kinds.Corrupt) e = refl
+    by (Some kinds.Unrecovering) e = refl
+    by (Some kinds.Twin) e = refl
+
+deliver_made : (setup : Setup) (before : List Noted) (node : Node) (at : Ref) (r : Result Noted RunError) → runs_engine setup node.member ≡ true
+    → made_of setup before (events.Deliver node at) ≡ r → tested_of setup before (events.Deliver node at) ≡ r
+unfolding tested_of
+deliver_made setup before node at r engine e = rw (no_mock setup node.member engine) e
+
+pub deliver-lacks : (setup : Setup) (before : List Noted) (node : Node) (at : Ref) (view : ℕ) → AtRunning setup before node view → packet_for before node at ≡ None
+    → tested_of setup before (events.Deliver node at) ≡ Err refusals.NoPacket
+unfolding made_of
+deliver-lacks setup before node at view s none = deliver_refused setup before node at refusals.NoPacket made
+  where
+    made : made_of setup before (events.Deliver node at) ≡ Err refusals.NoPacket
+    made = rw (s.exists, s.engine, s.life, none) refl
+
+pub deliver-near : (setup : Setup) (before : List Noted) (node : Node) (at : Ref) (view : ℕ) (packet : Packet) → AtRunning setup before node view
+    → packet_for before node at ≡ Some packet → is_near setup view ≡ true → tested_of setup before (events.Deliver node at) ≡ Err refusals.ViewEnd
+unfolding made_of
+deliver-near setup before node at view packet s some near = deliver_refused setup before node at refusals.ViewEnd made
+  where
+    made : made_of setup before (events.Deliver node at) ≡ Err refusals.ViewEnd
+    made = rw (s.exists, s.engine, s.life, some) (if_end _ _ _ (rw s.current at near))
+
+pub deliver-is : (setup : Setup) (before : List Noted) (node : Node) (at : Ref) (view : ℕ) (packet : Packet) → (s : AtRunning setup before node view)
+    → packet_for before node at ≡ Some packet → is_near setup view ≡ false
+    → tested_of setup before (events.Deliver node at)
+    ≡ on_poll setup before (events.Deliver node at) node (inputs.Deliver packet.from.member packet.channel packet.bytes) stops.None (Some (tooks.Packet at)) (Running s.made s.past)
+unfolding made_of noted_poll polled refusal_of
+deliver-is setup before node at view packet s some near = deliver_made setup before node at _ s.engine made
+  where
+    made : made_of setup before (events.Deliver node at)
+        ≡ on_poll setup before (events.Deliver node at) node (inputs.Deliver packet.from.member packet.channel packet.bytes) stops.None (Some (tooks.Packet at)) (Running s.made s.past)
+    made =
+        rw (s.exists, s.engine, s.life, some) (if_not _ _ _ (rw s.current at near))
+        ∙ sym (poll-taken setup before (events.Deliver node at) node (inputs.Deliver packet.from.member packet.channel packet.bytes) stops.None (Some (tooks.Packet at)) s.made s.past
+        (rw s.goes refl))
+
+pub answer-none : (setup : Setup) (before : List Noted) (node : Node) (at : Ref) (answer : Answer) (view : ℕ) → AtRunning setup before node view
+    → None ≡ request_number before node at → tested_of setup before (events.Answer node at answer) ≡ Err refusals.NotPending
+unfolding tested_of made_of
+answer-none setup before node at answer view s none = rw (s.exists, s.engine, s.life, ← none) refl
+
+answer_by : (setup : Setup) (before : List Noted) (node : Node) (at : Ref) (answer : Answer) (number : ℕ) (made : EngineMade) (past : List Did) → runs past ≡ true
+    → (b : Bool) → takes_reply made past number answer ≡ b
+    → (if b then Ok (noted_with setup before (events.Answer node at answer) node None (replied number answer (clock_of before))) else Err refusals.NotPending)
+    ≡ on_poll setup before (events.Answer node at answer) node (inputs.Answer number answer) stops.None None (Running made past)
+unfolding on_poll unless noted_poll polled refusal_of taken_of
+answer_by setup before node at answer number made past goes true e = rw (goes, e) refl
+answer_by setup before node at answer number made past goes false e = rw (goes, e) refl
+
+pub answer-is : (setup : Setup) (before : List Noted) (node : Node) (at : Ref) (answer : Answer) (number view : ℕ) → (s : AtRunning setup before node view)
+    → Some number ≡ request_number before node at
+    → tested_of setup before (events.Answer node at answer) ≡ on_poll setup before (events.Answer node at answer) node (inputs.Answer number answer) stops.None None (Running s.made s.past)
+unfolding tested_of made_of
+answer-is setup before node at answer number view s some =
+    rw (s.exists, s.engine, s.life, ← some) (answer_by setup before node at answer number s.made s.past s.goes (takes_reply s.made s.past number answer) refl)
+
+-- ---- a node of a faulty member without an engine
+
+pub start-faulty : (setup : Setup) (before : List Noted) (node : Node) (floor : Option Finalization) (stop : Stop) → AtFaulty setup node
+    → tested_of setup before (events.Start node floor stop) ≡ Err refusals.NotStopped
+unfolding tested_of made_of
+start-faulty setup before node floor stop s = rw (s.exists, s.engine) refl
+
+pub answer-faulty : (setup : Setup) (before : List Noted) (node : Node) (at : Ref) (answer : Answer) → AtFaulty setup node
+    → tested_of setup before (events.Answer node at answer) ≡ Err refusals.NotPending
+unfolding tested_of made_of
+answer-faulty setup before node at answer s = rw (s.exists, s.engine) refl
+
+pub step-faulty : (setup : Setup) (before : List Noted) (node : Node) (source : StepSource) (stop : Stop) → AtFaulty setup node
+    → tested_of setup before (events.Step node source stop) ≡ Ok (noted_idle before (events.Step node source stop) node)
+unfolding tested_of made_of
+step-faulty setup before node source stop s = rw (s.exists, s.engine) refl
+
+pub crash-faulty : (setup : Setup) (before : List Noted) (node : Node) → AtFaulty setup node
+    → tested_of setup before (events.Crash node) ≡ Ok (noted_idle before (events.Crash node) node)
+unfolding tested_of made_of
+crash-faulty setup before node s = rw (s.exists, s.engine) refl
+
+pub hear-lacks : (setup : Setup) (before : List Noted) (node : Node) (at : Ref) → is_node setup node ≡ true → runs_engine setup node.member ≡ false → packet_for before node at ≡ None
+    → tested_of setup before (events.Deliver node at) ≡ Err refusals.NoPacket
+unfolding made_of
+hear-lacks setup before node at exists engine none = deliver_refused setup before node at refusals.NoPacket made
+  where
+    made : made_of setup before (events.Deliver node at) ≡ Err refusals.NoPacket
+    made = rw (exists, engine, none) refl
+
+-- what it sends when it hears the packet
+abbrev pub noted_hearing : Setup → List Noted → Node → Ref → Packet → Noted
+noted_hearing setup before node at packet =
+    noted_packets before (events.Deliver node at) node (Some (tooks.Packet at))
+    (map (sent_by setup node) (heard_by setup node.member (kind_of setup node.member) (heard_in before node) (heard_of packet)))
+
+hear_made : (setup : Setup) (before : List Noted) (node : Node) (at : Ref) (packet : Packet) → is_node setup node ≡ true → runs_engine setup node.member ≡ false
+    → packet_for before node at ≡ Some packet → made_of setup before (events.Deliver node at) ≡ Ok (noted_hearing setup before node at packet)
+unfolding made_of
+hear_made setup before node at packet exists engine some = rw (exists, engine, some) refl
+
+-- only where it may be forged it is tested
+pub hear-is : (setup : Setup) (before : List Noted) (node : Node) (at : Ref) (packet : Packet) → is_node setup node ≡ true → runs_engine setup node.member ≡ false
+    → packet_for before node at ≡ Some packet
+    → tested_of setup before (events.Deliver node at) ≡ heard_test setup before node (noted_hearing setup before node at packet)
+unfolding tested_of entry_of
+hear-is setup before node at packet exists engine some = by (is_of_kind is_impersonator setup node.member)
+  where
+    made : made_of setup before (events.Deliver node at) ≡ Ok (noted_hearing setup before node at packet)
+    made = hear_made setup before node at packet exists engine some
+
+    by : (b : Bool) → (if b then unless_forged setup before (made_of setup before (events.Deliver node at)) else made_of setup before (events.Deliver node at))
+        ≡ (if b then unless_forged setup before (Ok (noted_hearing setup before node at packet)) else Ok (noted_hearing setup before node at packet))
+    by true = ap (λ r. unless_forged setup before r) made
+    by false = made
+
+-- ---- bytes that are injected
+
+pub inject-missing : (setup : Setup) (before : List Noted) (member : ℕ) (channel : Channel) (to : List Node) (bytes : List ℕ)
+    → (nat_lt member (members_of setup) && list_all (is_node setup) to) ≡ false → tested_of setup before (events.Inject member channel to bytes) ≡ Err refusals.NoMember
+unfolding tested_of entry_of made_of unless_forged
+inject-missing setup before member channel to bytes e = rw e refl
+
+pub inject-honest : (setup : Setup) (before : List Noted) (member : ℕ) (channel : Channel) (to : List Node) (bytes : List ℕ)
+    → (nat_lt member (members_of setup) && list_all (is_node setup) to) ≡ true → is_honest setup member ≡ true
+    → tested_of setup before (events.Inject member channel to bytes) ≡ Err refusals.NotFaulty
+unfolding tested_of entry_of made_of unless_forged
+inject-honest setup before member channel to bytes e honest = rw (e, honest) refl
+
+-- what the bytes make
+abbrev pub noted_bytes : List Noted → ℕ → Channel → List Node → List ℕ → Noted
+noted_bytes before member channel to bytes =
+    noted_packets before (events.Inject member channel to bytes) (node_of member) None
+    (record { from = node_of member; channel = channel; to = to; bytes = bytes } ∷ [])
+
+pub inject-is : (setup : Setup) (before : List Noted) (member : ℕ) (channel : Channel) (to : List Node) (bytes : List ℕ)
+    → (nat_lt member (members_of setup) && list_all (is_node setup) to) ≡ true → is_honest setup member ≡ false
+    → tested_of setup before (events.Inject member channel to bytes) ≡ unless_forged setup before (Ok (noted_bytes before member channel to bytes))
+unfolding tested_of entry_of made_of
+inject-is setup before member channel to bytes e faulty = rw (e, faulty) refl
+
+-- ---- a tick
+
+pub tick-late : (setup : Setup) (before : List Noted) (clock ms : ℕ) → clock ≡ clock_of before → clock < 2 ^ 63 → (2 ^ 63 - 1) - clock < ms
+    → tested_of setup before (events.Tick ms) ≡ Err refusals.ClockEnd
+unfolding tested_of made_of
+tick-late setup before clock ms is early late =
+    let past : nat_le (clock_of before + ms) (2 ^ 63 - 1) ≡ false = rw (← is) (grind (arith, common_steps)) in rw past refl
+
+pub tick-is : (setup : Setup) (before : List Noted) (clock ms : ℕ) → clock ≡ clock_of before → clock < 2 ^ 63 → ms ≤ (2 ^ 63 - 1) - clock
+    → tested_of setup before (events.Tick ms) ≡ Ok (noted_blank before (events.Tick ms) None)
+unfolding tested_of made_of
+tick-is setup before clock ms is early within =
+    let held : nat_le (clock_of before + ms) (2 ^ 63 - 1) ≡ true = rw (← is) (grind (arith, common_steps)) in rw held refl

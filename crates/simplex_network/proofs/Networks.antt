@@ -1,40 +1,49 @@
 -- A whole network behind one event more.
-use Rattle.std.proofs.Common.{◌≡◌, ℕ, List, [], ◌∷◌, Bool, true, false, arith, refl, sym, ap, ◌∙◌, length, ◌+◌, ◌≤◌, ◌<◌, ◌^◌, ◌-◌, if◌then◌else◌}
-use Rattle.std.specs.Prelude.{Option, Some, None, Result, Ok, Err, nat_le}
+use Rattle.std.proofs.Common.{◌≡◌, ◌⊎◌, inl, inr, ℕ, List, [], ◌∷◌, Bool, true, false, arith, refl, sym, ap, subst, ◌∙◌, length, ◌+◌, ◌<◌, ◌^◌, if◌then◌else◌}
+use Rattle.std.specs.Prelude.{Option, Some, None, Result, Ok, Err}
 use Rattle.std.specs.Option.{option_or, option_and_then}
-use Rattle.std.proofs.lemmas.Grind.{common_steps}
 use Rattle.simplex_wire.specs.declared.certificate.Finalization.{Finalization}
 use Rattle.simplex_journal.specs.Journal.{Section, crashed}
 use Rattle.simplex_messages.specs.declared.step.Outcome.{Outcome}
+use Rattle.simplex_messages.specs.declared.step.Outcome.TheVariants as outcomes
 use Rattle.simplex_messages.specs.declared.step.Stop.{Stop}
 use Rattle.simplex_messages.specs.declared.step.StepOut.{StepOut}
 use Rattle.simplex_transcript.specs.declared.event.Event.{Event}
 use Rattle.simplex_transcript.specs.declared.event.Event.TheVariants as events
+use Rattle.simplex_transcript.specs.declared.event.StepSource.{StepSource}
 use Rattle.simplex_transcript.specs.declared.entry.Entry.{Entry}
+use Rattle.simplex_transcript.specs.declared.entry.Packet.{Packet}
 use Rattle.simplex_transcript.specs.declared.entry.Took.{Took}
 use Rattle.simplex_transcript.specs.declared.entry.Took.TheVariants as tooks
 use Rattle.simplex_transcript.specs.declared.node.Node.{Node}
 use Rattle.simplex_transcript.specs.declared.setup.Setup.{Setup}
 use Rattle.simplex_transcript.specs.declared.refusal.RunError.{RunError}
-use Rattle.simplex_transcript.specs.declared.refusal.RunError.TheVariants as refusals
 use Rattle.simplex_steps.specs.Engine.{Did, begun}
 use Rattle.simplex_engine.specs.declared.input.Input.{Input}
 use Rattle.simplex_engine.specs.declared.input.TakenInside.{TakenInside}
+use Rattle.simplex_run.specs.Kinds.{members_of, is_node, is_same_node, runs_engine}
 use Rattle.simplex_run.specs.Members.{floor_of, engine_of}
-use Rattle.simplex_book.specs.Plain.{is_node}
-use Rattle.simplex_run.specs.Life.{Noted, Life, Stopped, clock_of, life_in, sections_in}
+use Rattle.simplex_run.specs.Life.{Noted, Life, Stopped, clock_of, is_of, after, life_in, sections_in}
 use Rattle.simplex_run.specs.Requests.{is_start}
-use Rattle.simplex_run.specs.Entries.{node_of, noted_blank, blank_entry}
-use Rattle.simplex_book.specs.Plain.{entry_with, entry_of}
-use Rattle.simplex_book.specs.Events.{IsOf}
-use Rattle.simplex_book.specs.Stands.{BookStands}
+use Rattle.simplex_run.specs.Mocks.{Heard}
+use Rattle.simplex_run.specs.Hearing.{heard_at, heard_in}
+use Rattle.simplex_run.specs.Entries.{noted_blank, noted_idle, blank_entry, entry_with}
+use Rattle.simplex_safety.proofs.Further.{same_node}
+use Rattle.simplex_members.specs.NodeEngine.{NodeConfig, made_with}
+use Rattle.simplex_records.specs.Seats.{seat_of}
+use Rattle.simplex_records.specs.Events as records
+use Rattle.simplex_records.specs.Stands.{RecordsStand}
+use Rattle.simplex_records.proofs.KeptPackets.{packets-from}
+use Rattle.simplex_records.proofs.Seating.{same-seat}
 use Rattle.simplex_network.specs.declared.network.Network.{Network}
-use Rattle.simplex_network.specs.NodeEngine.{NodeEngine, NodeConfig, made_with}
-use Rattle.simplex_network.specs.Lives.{goes_on, view_in, after_poll, IsPolled, IsStarted, after_start, changed}
-use Rattle.simplex_network.specs.Polls.{on_poll, IsInput, noted_start, named, member_in}
-use Rattle.simplex_network.specs.Stands.{Keeps, HostsStand, EngineOf, lives_in, entered}
-use Rattle.simplex_network.proofs.Polled.{life-goes, poll-noted, poll-entered}
-use Rattle.simplex_network.proofs.Events.{input-of, lives-polled, lives-started, start-of, lives-crashed, lives-ticked}
+use Rattle.simplex_network.specs.NodeEngine.{NodeEngine}
+use Rattle.simplex_network.specs.Parts.{Part, Lives, Hears, part_in, after_poll, IsPolled, IsStarted, after_start, changed}
+use Rattle.simplex_network.specs.Polls.{on_poll, IsOf, IsInput, noted_start, named}
+use Rattle.simplex_network.specs.Stands.{Keeps, HostsStand, EngineOf, LivesAs, IsIdle, entered}
+use Rattle.simplex_network.proofs.Polled.{poll-noted, poll-entered}
+use Rattle.simplex_network.proofs.ManyHosts.{hosts-like}
+use Rattle.simplex_network.proofs.Moves.{parts-live, parts-still}
+use Rattle.simplex_network.proofs.Senders.{senders-none, senders-more, senders-same}
 
 same_entry : (a b : Entry) → ◌≡◌ {A = Result Entry RunError} (Ok a) (Ok b) → a ≡ b
 same_entry a b e = cc
@@ -43,175 +52,244 @@ same_entry a b e = cc
 both_entries : (noted : Noted) (entry : Entry) (r : Result Noted RunError) → r ≡ Ok noted → entered r ≡ Ok entry → noted.entry ≡ entry
 both_entries noted entry r is enters = same_entry noted.entry entry (ap (λ x. entered x) (sym is) ∙ enters)
 
+-- an event of the node is one of its seat
+at_seat : (event : Event) (node : Node) (starts : Bool) → node.half < 2 → IsOf event node starts → records.IsOf event (seat_of node) starts
+at_seat event node starts half is = record { of = λ at. is.of _ ∙ same-seat node at half; start = is.start }
+
 -- a network that is seen apart and put together
 pub network-same : (old new : Network) (setup : Setup) (before : List Noted) → new.setup ≡ old.setup → new.failed ≡ old.failed → new.clock ≡ old.clock
-    → new.hosts ≡ old.hosts → new.book ≡ old.book → Keeps old setup before → Keeps new setup before
-network-same old new setup before same_setup same_failed same_clock same_hosts same_book s =
+    → new.hosts ≡ old.hosts → new.records ≡ old.records → Keeps old setup before → Keeps new setup before
+network-same old new setup before same_setup same_failed same_clock same_hosts same_records s =
     record {
       given = same_setup ∙ s.given;
       alive = same_failed ∙ s.alive;
       clock = same_clock ∙ s.clock;
       hosts = rw (same_setup, same_hosts) s.hosts;
-      book = rw same_book s.book;
+      records = rw same_records s.records;
+      senders = s.senders;
     }
 
 -- a network of which no event was made
 pub network-new : (network : Network) (setup : Setup) → network.setup ≡ setup → network.failed ≡ false → network.clock ≡ 0
-    → HostsStand network.hosts.list.items (λ _. Stopped []) → BookStands network.book [] → Keeps network setup []
-unfolding clock_of life_in
-network-new network setup given alive clock hosts book = record { given = given; alive = alive; clock = clock; hosts = hosts; book = book }
+    → HostsStand setup network.hosts.list.items (part_in setup []) → RecordsStand network.records setup [] → Keeps network setup []
+unfolding clock_of
+network-new network setup given alive clock hosts kept = record { given = given; alive = alive; clock = clock; hosts = rw given hosts; records = kept; senders = senders-none setup }
 
--- what the view of a member's engine is found to be
-pub network-finds : (network : Network) (setup : Setup) (before : List Noted) (node : Node) (member : ℕ) (found : Option ℕ) → Keeps network setup before
-    → node ≡ node_of member
-    → ((lives : ℕ → Life) → HostsStand network.hosts.list.items lives → goes_on (lives member) ≡ true → found ≡ view_in (lives member))
-    → found ≡ view_in (life_in setup before node)
-network-finds network setup before node member found s is finds =
-    rw is (rw s.given at (finds (lives_in network.setup before) s.hosts (life-goes network.setup before (node_of member))))
+-- ---- a node's part
 
--- the engine that is shown of a node
-shown_by : (member other : ℕ) (b : Bool) (life : Life) (shown : Option NodeEngine) → Some member ≡ (if b then Some other else None) → EngineOf life shown
-    → EngineOf (if b then life else Stopped []) shown
-shown_by member other true life shown is it = it
-shown_by member other false life shown is it = absurd (cc)
+pub part-lives : (setup : Setup) (before : List Noted) (node : Node) (life : Life) → LivesAs setup before node life → part_in setup before node ≡ Lives life
+unfolding part_in
+part-lives setup before node life l = rw (l.0, l.1) refl
 
-pub network-shows : (network : Network) (setup : Setup) (before : List Noted) (node : Node) (member : ℕ) (shown : Option NodeEngine) → Keeps network setup before
-    → Some member ≡ member_in network.setup node → node ≡ node_of member
-    → ((lives : ℕ → Life) → HostsStand network.hosts.list.items lives → EngineOf (lives member) shown)
-    → EngineOf (if is_node setup node then life_in setup before node else Stopped []) shown
-network-shows network setup before node member shown s known is shows =
-    shown_by member node.member (is_node setup node) (life_in setup before node) shown (rw s.given at known)
-    (rw is (rw s.given at (shows (lives_in network.setup before) s.hosts)))
+pub network-shows : (network : Network) (setup : Setup) (before : List Noted) (node : Node) (shown : Option NodeEngine) → Keeps network setup before
+    → is_node network.setup node ≡ true
+    → ((setup : Setup) (parts : Node → Part) → HostsStand setup network.hosts.list.items parts → EngineOf (parts node) shown)
+    → EngineOf (if is_node setup node then part_in setup before node else Lives (Stopped [])) shown
+network-shows network setup before node shown s exists shows =
+    let is : is_node setup node ≡ true = rw s.given at exists in
+    subst (λ (b : Bool). EngineOf (if b then part_in setup before node else Lives (Stopped [])) shown) (sym is)
+    (rw s.given at (shows network.setup (part_in network.setup before) s.hosts))
 
-out_by : (other : ℕ) (b : Bool) (life : Life) → None ≡ (if b then Some other else None) → EngineOf (if b then life else Stopped []) None
-out_by other true life is = absurd (cc)
-out_by other false life is = tt
+pub network-hides : (network : Network) (setup : Setup) (before : List Noted) (node : Node) → Keeps network setup before → is_node network.setup node ≡ false
+    → EngineOf (if is_node setup node then part_in setup before node else Lives (Stopped [])) None
+network-hides network setup before node s missing =
+    let is : is_node setup node ≡ false = rw s.given at missing in
+    subst (λ (b : Bool). EngineOf (if b then part_in setup before node else Lives (Stopped [])) None) (sym is) tt
 
-pub network-hides : (network : Network) (setup : Setup) (before : List Noted) (node : Node) → Keeps network setup before
-    → None ≡ member_in network.setup node → EngineOf (if is_node setup node then life_in setup before node else Stopped []) None
-network-hides network setup before node s out = out_by node.member (is_node setup node) (life_in setup before node) (rw s.given at out)
+-- ---- an input
 
--- the entry of an input of a member's engine
-pub network-entered : (old : Network) (setup : Setup) (before : List Noted) (event : Event) (member : ℕ) (input : Input) (stop : Stop) (outside took shown : Option Took)
-    (outcome : Outcome) (taken : Option TakenInside) (out : StepOut) (entry : Entry) → Keeps old setup before
-    → ((lives : ℕ → Life) → HostsStand old.hosts.list.items lives → IsPolled (lives member) input old.clock stop outcome taken out)
-    → ((before : List Noted) → BookStands old.book before → took ≡ option_and_then (named before (node_of member)) taken)
+-- the entry of an input of a node's engine
+pub network-entered : (old : Network) (setup : Setup) (before : List Noted) (event : Event) (node : Node) (input : Input) (stop : Stop) (outside took shown : Option Took)
+    (outcome : Outcome) (taken : Option TakenInside) (out : StepOut) (entry : Entry) (life : Life) → Keeps old setup before → LivesAs setup before node life
+    → ((setup : Setup) (parts : Node → Part) (life : Life) → HostsStand setup old.hosts.list.items parts → parts node ≡ Lives life → IsPolled life input old.clock stop outcome taken out)
+    → ((setup : Setup) (before : List Noted) → RecordsStand old.records setup before → took ≡ option_and_then (named before node) taken)
     → shown ≡ option_or outside took
-    → ((before : List Noted) (did : Did) → BookStands old.book before → did.out ≡ out → did.outcome ≡ outcome
-    → entry ≡ entry_with old.setup (length before + 1) (node_of member) shown did)
-    → entered (on_poll setup before event member input stop outside (lives_in setup before member)) ≡ Ok entry
-network-entered old setup before event member input stop outside took shown outcome taken out entry s gives names shows enters =
-    let entering : (did : Did) → did.out ≡ out → did.outcome ≡ outcome → entry ≡ entry_with old.setup (length before + 1) (node_of member) (option_or outside took) did =
-    (λ did is ends. rw (← shows) (enters before did s.book is ends)) in
-    poll-entered setup before event member input stop outside took entry old.clock outcome taken out (lives_in setup before member) s.clock
-    (rw s.given at (gives (lives_in old.setup before) s.hosts)) (names before s.book) (rw s.given at entering)
+    → ((before : List Noted) (did : Did) → RecordsStand old.records old.setup before → did.out ≡ out → did.outcome ≡ outcome
+    → entry ≡ entry_with old.setup (length before + 1) node shown did)
+    → entered (on_poll setup before event node input stop outside life) ≡ Ok entry
+network-entered old setup before event node input stop outside took shown outcome taken out entry life s lives gives names shows enters =
+    let entering : (did : Did) → did.out ≡ out → did.outcome ≡ outcome → entry ≡ entry_with old.setup (length before + 1) node (option_or outside took) did =
+    (λ did is ends. rw (← shows) (enters before did (rw s.given s.records) is ends)) in
+    poll-entered setup before event node input stop outside took entry old.clock outcome taken out life s.clock
+    (gives setup (part_in setup before) life (rw s.given at s.hosts) (part-lives setup before node life lives))
+    (names setup before s.records) (rw s.given at entering)
 
--- the entry of a start
-pub network-begun : (old : Network) (setup : Setup) (before : List Noted) (member : ℕ) (floor : Option Finalization) (stop : Stop) (config : NodeConfig)
-    (outcome : Outcome) (out : StepOut) (entry : Entry) → Keeps old setup before
-    → ((sections : List Section) → made_with config sections ≡ engine_of old.setup member (floor_of old.setup floor) sections)
-    → ((lives : ℕ → Life) → HostsStand old.hosts.list.items lives → IsStarted (made_with config (sections_in (lives member))) old.clock stop outcome out)
-    → ((before : List Noted) (did : Did) → BookStands old.book before → did.out ≡ out → did.outcome ≡ outcome
-    → entry ≡ entry_with old.setup (length before + 1) (node_of member) (Some tooks.Floor) did)
-    → entry ≡ (noted_start setup before member floor stop (lives_in setup before member)).entry
-unfolding IsStarted
-network-begun old setup before member floor stop config outcome out entry s made gives enters =
-    let sections = sections_in (lives_in setup before member) in
-    let is : made_with config sections ≡ engine_of setup member (floor_of setup floor) sections = rw s.given at (made sections) in
-    let gave = rw (s.given, s.clock) at (gives (lives_in old.setup before) s.hosts) in
-    let gave_so = rw is at gave in
-    rw s.given at (enters before (begun (engine_of setup member (floor_of setup floor) sections) (clock_of before) stop) s.book (sym gave_so.1) (sym gave_so.0))
-
-pub network-polled : (old new : Network) (setup : Setup) (before : List Noted) (event : Event) (noted : Noted) (member : ℕ) (input : Input) (stop : Stop) (outside : Option Took)
-    (outcome : Outcome) (taken : Option TakenInside) (out : StepOut) (entry : Entry)
+pub network-polled : (old new : Network) (setup : Setup) (before : List Noted) (event : Event) (noted : Noted) (node : Node) (input : Input) (stop : Stop) (outside : Option Took)
+    (outcome : Outcome) (taken : Option TakenInside) (out : StepOut) (entry : Entry) (life : Life) → node.half < 2 → node.member < members_of setup
     → new.setup ≡ old.setup → new.failed ≡ old.failed → new.clock ≡ old.clock
-    → Keeps old setup before → IsInput event member
-    → on_poll setup before event member input stop outside (lives_in setup before member) ≡ Ok noted
-    → entered (on_poll setup before event member input stop outside (lives_in setup before member)) ≡ Ok entry
-    → ((lives : ℕ → Life) → HostsStand old.hosts.list.items lives → IsPolled (lives member) input old.clock stop outcome taken out)
-    → ((lives : ℕ → Life) → HostsStand old.hosts.list.items lives → HostsStand new.hosts.list.items (changed (node_of member) (after_poll input old.clock stop) lives))
-    → ((before : List Noted) (noted : Noted) → noted.entry ≡ entry → IsOf noted.event member false → BookStands old.book before → BookStands new.book (noted ∷ before))
+    → Keeps old setup before → LivesAs setup before node life → IsInput event node
+    → on_poll setup before event node input stop outside life ≡ Ok noted
+    → entered (on_poll setup before event node input stop outside life) ≡ Ok entry
+    → ((setup : Setup) (parts : Node → Part) (life : Life) → HostsStand setup old.hosts.list.items parts → parts node ≡ Lives life → IsPolled life input old.clock stop outcome taken out)
+    → ((setup : Setup) (parts : Node → Part) (life : Life) → HostsStand setup old.hosts.list.items parts → parts node ≡ Lives life
+    → HostsStand setup new.hosts.list.items (changed node (Lives (after_poll input old.clock stop life)) parts))
+    → ((before : List Noted) (noted : Noted) → noted.entry ≡ entry → records.IsOf noted.event (seat_of node) false → RecordsStand old.records old.setup before
+    → RecordsStand new.records old.setup (noted ∷ before))
     → Keeps new setup (noted ∷ before)
-network-polled old new setup before event noted member input stop outside outcome taken out entry same_setup same_failed same_clock s is noted_is entry_is gives moves keeps =
-    let poll = poll-noted setup before event member input stop outside outcome taken out (clock_of before) (lives_in setup before member) noted
-    (rw (s.clock, s.given) at (gives (lives_in old.setup before) s.hosts)) noted_is in
+network-polled old new setup before event noted node input stop outside outcome taken out entry life half below same_setup same_failed same_clock s lives is noted_is entry_is gives moves keeps =
+    let stood : HostsStand setup old.hosts.list.items (part_in setup before) = rw s.given at s.hosts in
+    let part = part-lives setup before node life lives in
+    let poll = poll-noted setup before event node input stop outside outcome taken out (clock_of before) life noted (rw s.clock at (gives setup (part_in setup before) life stood part)) noted_is in
+    let of : IsOf noted.event node false = rw poll.same is.of in
     record {
       given = same_setup ∙ s.given;
       alive = same_failed ∙ s.alive;
       clock = same_clock ∙ s.clock ∙ sym (is.time noted before poll.same);
-      hosts = rw (same_setup, s.given) (lives-polled setup before event member input stop old.clock noted new.hosts.list.items s.clock is poll
-          (rw s.given at (moves (lives_in old.setup before) s.hosts)));
-      book = keeps before noted (both_entries noted entry _ noted_is entry_is) (input-of event member false noted poll.same is.of) s.book;
+      hosts = rw (same_setup, s.given) (hosts-like setup new.hosts.list.items _ (part_in setup (noted ∷ before))
+          (parts-live setup before noted node false (after_poll input old.clock stop life) of lives.0
+          (rw (lives.1, s.clock) (poll.goes (λ did. is.goes setup did life))))
+          (moves setup (part_in setup before) life stood part));
+      records = rw s.given at (keeps before noted (both_entries noted entry _ noted_is entry_is) (at_seat noted.event node false half of) (rw s.given s.records));
+      senders = senders-more setup before noted node below poll.from s.senders;
     }
 
-pub network-started : (old new : Network) (setup : Setup) (before : List Noted) (member : ℕ) (floor : Option Finalization) (stop : Stop) (config : NodeConfig) (entry : Entry)
-    → new.setup ≡ old.setup → new.failed ≡ old.failed → new.clock ≡ old.clock → Keeps old setup before
-    → ((sections : List Section) → made_with config sections ≡ engine_of old.setup member (floor_of old.setup floor) sections)
-    → ((lives : ℕ → Life) → HostsStand old.hosts.list.items lives
-    → HostsStand new.hosts.list.items (changed (node_of member) (λ life. after_start (made_with config (sections_in life)) old.clock stop) lives))
-    → (noted_start setup before member floor stop (lives_in setup before member)).entry ≡ entry
-    → ((before : List Noted) (noted : Noted) → noted.entry ≡ entry → IsOf noted.event member true → BookStands old.book before → BookStands new.book (noted ∷ before))
-    → Keeps new setup (noted_start setup before member floor stop (lives_in setup before member) ∷ before)
+-- ---- a start
+
+start_of : (node : Node) (floor : Option Finalization) (stop : Stop) → IsOf (events.Start node floor stop) node true
+start_of node floor stop = record { of = λ other. refl; start = refl }
+
+pub network-begun : (old : Network) (setup : Setup) (before : List Noted) (node : Node) (floor : Option Finalization) (stop : Stop) (config : NodeConfig)
+    (outcome : Outcome) (out : StepOut) (entry : Entry) (life : Life) → Keeps old setup before → LivesAs setup before node life
+    → ((sections : List Section) → made_with config sections ≡ engine_of old.setup node.member (floor_of old.setup floor) sections)
+    → ((setup : Setup) (parts : Node → Part) (life : Life) → HostsStand setup old.hosts.list.items parts → parts node ≡ Lives life
+    → IsStarted (made_with config (sections_in life)) old.clock stop outcome out)
+    → ((before : List Noted) (did : Did) → RecordsStand old.records old.setup before → did.out ≡ out → did.outcome ≡ outcome
+    → entry ≡ entry_with old.setup (length before + 1) node (Some tooks.Floor) did)
+    → entry ≡ (noted_start setup before node floor stop life).entry
+unfolding IsStarted
+network-begun old setup before node floor stop config outcome out entry life s lives made gives enters =
+    let sections = sections_in life in
+    let is : made_with config sections ≡ engine_of setup node.member (floor_of setup floor) sections = rw s.given at (made sections) in
+    let gave = rw s.clock at (gives setup (part_in setup before) life (rw s.given at s.hosts) (part-lives setup before node life lives)) in
+    let gave_so = rw is at gave in
+    rw s.given at (enters before (begun (engine_of setup node.member (floor_of setup floor) sections) (clock_of before) stop) (rw s.given s.records) (sym gave_so.1) (sym gave_so.0))
+
+start_goes : (setup : Setup) (before : List Noted) (node : Node) (floor : Option Finalization) (stop : Stop) (config : NodeConfig) (life : Life) (now : ℕ) → now ≡ clock_of before
+    → made_with config (sections_in life) ≡ engine_of setup node.member (floor_of setup floor) (sections_in life) → life_in setup before node ≡ life
+    → after setup (events.Start node floor stop) (noted_start setup before node floor stop life).did (life_in setup before node) ≡ after_start (made_with config (sections_in life)) now stop
+unfolding after after_start
+start_goes setup before node floor stop config life now clock made is = rw (is, clock, made) refl
+
+pub network-started : (old new : Network) (setup : Setup) (before : List Noted) (node : Node) (floor : Option Finalization) (stop : Stop) (config : NodeConfig) (entry : Entry) (life : Life)
+    → node.half < 2 → node.member < members_of setup → new.setup ≡ old.setup → new.failed ≡ old.failed → new.clock ≡ old.clock → Keeps old setup before → LivesAs setup before node life
+    → ((sections : List Section) → made_with config sections ≡ engine_of old.setup node.member (floor_of old.setup floor) sections)
+    → ((setup : Setup) (parts : Node → Part) (life : Life) → HostsStand setup old.hosts.list.items parts → parts node ≡ Lives life
+    → HostsStand setup new.hosts.list.items (changed node (Lives (after_start (made_with config (sections_in life)) old.clock stop)) parts))
+    → (noted_start setup before node floor stop life).entry ≡ entry
+    → ((before : List Noted) (noted : Noted) → noted.entry ≡ entry → records.IsOf noted.event (seat_of node) true → RecordsStand old.records old.setup before
+    → RecordsStand new.records old.setup (noted ∷ before))
+    → Keeps new setup (noted_start setup before node floor stop life ∷ before)
 unfolding clock_of
-network-started old new setup before member floor stop config entry same_setup same_failed same_clock s made moves entry_is keeps =
+network-started old new setup before node floor stop config entry life half below same_setup same_failed same_clock s lives made moves entry_is keeps =
+    let noted = noted_start setup before node floor stop life in
+    let stood : HostsStand setup old.hosts.list.items (part_in setup before) = rw s.given at s.hosts in
     record {
       given = same_setup ∙ s.given;
       alive = same_failed ∙ s.alive;
       clock = same_clock ∙ s.clock;
-      hosts = rw (same_setup, s.given) (lives-started setup before member floor stop old.clock config new.hosts.list.items s.clock (rw s.given at made)
-          (rw s.given at (moves (lives_in old.setup before) s.hosts)));
-      book = keeps before (noted_start setup before member floor stop (lives_in setup before member)) entry_is (start-of member floor stop) s.book;
+      hosts = rw (same_setup, s.given) (hosts-like setup new.hosts.list.items _ (part_in setup (noted ∷ before))
+          (parts-live setup before noted node true (after_start (made_with config (sections_in life)) old.clock stop) (start_of node floor stop) lives.0
+          (start_goes setup before node floor stop config life old.clock s.clock (rw s.given at (made (sections_in life))) lives.1))
+          (moves setup (part_in setup before) life stood (part-lives setup before node life lives)));
+      records = rw s.given at (keeps before noted entry_is (at_seat noted.event node true half (start_of node floor stop)) (rw s.given s.records));
+      senders = senders-more setup before noted node below (packets-from setup node (begun (engine_of setup node.member (floor_of setup floor) (sections_in life)) (clock_of before) stop).out.calls) s.senders;
     }
 
-pub network-crashed : (old new : Network) (setup : Setup) (before : List Noted) (noted : Noted) (member : ℕ) (entry : Entry)
-    → new.setup ≡ old.setup → new.failed ≡ old.failed → new.clock ≡ old.clock → Keeps old setup before
-    → noted ≡ noted_blank before (events.Crash (node_of member)) (Some (node_of member))
-    → ((lives : ℕ → Life) → HostsStand old.hosts.list.items lives → HostsStand new.hosts.list.items (changed (node_of member) (λ life. Stopped (crashed 0 (sections_in life))) lives))
-    → entry ≡ blank_entry (length before + 1) (Some (node_of member))
-    → ((before : List Noted) (noted : Noted) → noted.entry ≡ entry → is_start noted.event ≡ false → BookStands old.book before → BookStands new.book (noted ∷ before))
-    → Keeps new setup (noted ∷ before)
+-- ---- a crash
+
+crash_of : (node : Node) → IsOf (events.Crash node) node false
+crash_of node = record { of = λ other. refl; start = refl }
+
+crash_goes : (setup : Setup) (node : Node) (life found : Life) → found ≡ life → after setup (events.Crash node) None found ≡ Stopped (crashed 0 (sections_in life))
+unfolding after
+crash_goes setup node life found is = rw is refl
+
+pub network-crashed : (old new : Network) (setup : Setup) (before : List Noted) (node : Node) (entry : Entry) (life : Life)
+    → new.setup ≡ old.setup → new.failed ≡ old.failed → new.clock ≡ old.clock → Keeps old setup before → LivesAs setup before node life
+    → ((setup : Setup) (parts : Node → Part) (life : Life) → HostsStand setup old.hosts.list.items parts → parts node ≡ Lives life
+    → HostsStand setup new.hosts.list.items (changed node (Lives (Stopped (crashed 0 (sections_in life)))) parts))
+    → entry ≡ (noted_blank before (events.Crash node) (Some node)).entry
+    → ((setup : Setup) (before : List Noted) (noted : Noted) → noted.entry ≡ entry → is_start noted.event ≡ false → RecordsStand old.records setup before
+    → RecordsStand new.records setup (noted ∷ before))
+    → Keeps new setup (noted_blank before (events.Crash node) (Some node) ∷ before)
 unfolding clock_of
-network-crashed old new setup before noted member entry same_setup same_failed same_clock s is moves entry_is keeps =
-    rw is (record {
+network-crashed old new setup before node entry life same_setup same_failed same_clock s lives moves entry_is keeps =
+    let noted = noted_blank before (events.Crash node) (Some node) in
+    let stood : HostsStand setup old.hosts.list.items (part_in setup before) = rw s.given at s.hosts in
+    record {
       given = same_setup ∙ s.given;
       alive = same_failed ∙ s.alive;
       clock = same_clock ∙ s.clock;
-      hosts = rw (same_setup, s.given) (lives-crashed setup before member new.hosts.list.items (rw s.given at (moves (lives_in old.setup before) s.hosts)));
-      book = keeps before (noted_blank before (events.Crash (node_of member)) (Some (node_of member))) (sym entry_is) refl s.book;
-    })
+      hosts = rw (same_setup, s.given) (hosts-like setup new.hosts.list.items _ (part_in setup (noted ∷ before))
+          (parts-live setup before noted node false (Stopped (crashed 0 (sections_in life))) (crash_of node) lives.0 (crash_goes setup node life (life_in setup before node) lives.1))
+          (moves setup (part_in setup before) life stood (part-lives setup before node life lives)));
+      records = keeps setup before noted (sym entry_is) refl s.records;
+      senders = senders-same setup before noted refl s.senders;
+    }
 
-pub network-ticked : (old new : Network) (setup : Setup) (before : List Noted) (noted : Noted) (ms : ℕ) (entry : Entry)
-    → new.setup ≡ old.setup → new.failed ≡ old.failed → new.hosts ≡ old.hosts → new.clock ≡ old.clock + ms → Keeps old setup before
-    → noted ≡ noted_blank before (events.Tick ms) None
-    → entry ≡ blank_entry (length before + 1) None
-    → ((before : List Noted) (noted : Noted) → noted.entry ≡ entry → is_start noted.event ≡ false → BookStands old.book before → BookStands new.book (noted ∷ before))
-    → Keeps new setup (noted ∷ before)
-unfolding clock_of
-network-ticked old new setup before noted ms entry same_setup same_failed same_hosts later s is entry_is keeps =
-    rw is (record {
+-- ---- where no host moves
+
+network_still : (old new : Network) (setup : Setup) (before : List Noted) (noted : Noted) (entry : Entry) → new.setup ≡ old.setup → new.failed ≡ old.failed
+    → new.clock ≡ clock_of (noted ∷ before) → new.hosts ≡ old.hosts → Keeps old setup before
+    → ((other : Node) → runs_engine setup other.member ≡ true → is_of other noted.event ≡ false) → ((other : Node) → heard_at before other noted.event ≡ None)
+    → noted.entry.packets ≡ [] → RecordsStand new.records setup (noted ∷ before) → Keeps new setup (noted ∷ before)
+network_still old new setup before noted entry same_setup same_failed later same_hosts s apart silent none kept =
+    record {
       given = same_setup ∙ s.given;
       alive = same_failed ∙ s.alive;
-      clock = later ∙ ap (λ clock. clock + ms) s.clock;
-      hosts = rw (same_setup, same_hosts, s.given) (lives-ticked setup before ms old.hosts.list.items (rw s.given at s.hosts));
-      book = keeps before (noted_blank before (events.Tick ms) None) (sym entry_is) refl s.book;
-    })
+      clock = later;
+      hosts = rw (same_setup, s.given, same_hosts) (hosts-like setup old.hosts.list.items (part_in setup before) (part_in setup (noted ∷ before))
+          (parts-still setup before noted apart silent) (rw s.given at s.hosts));
+      records = kept;
+      senders = senders-same setup before noted none s.senders;
+    }
 
-pub tick-is : (setup : Setup) (before : List Noted) (clock ms : ℕ) → clock ≡ clock_of before → clock < 2 ^ 63 → ms ≤ (2 ^ 63 - 1) - clock
-    → entry_of setup before (events.Tick ms) ≡ Ok (noted_blank before (events.Tick ms) None)
-unfolding entry_of
-tick-is setup before clock ms is early le = tick_by setup before ms (nat_le (clock_of before + ms) (2 ^ 63 - 1)) (rw (← is) (grind (arith, common_steps)))
+pub network-ticked : (old new : Network) (setup : Setup) (before : List Noted) (ms : ℕ) (entry : Entry)
+    → new.setup ≡ old.setup → new.failed ≡ old.failed → new.hosts ≡ old.hosts → new.clock ≡ old.clock + ms → Keeps old setup before
+    → entry ≡ (noted_blank before (events.Tick ms) None).entry
+    → ((setup : Setup) (before : List Noted) (noted : Noted) → noted.entry ≡ entry → is_start noted.event ≡ false → RecordsStand old.records setup before
+    → RecordsStand new.records setup (noted ∷ before))
+    → Keeps new setup (noted_blank before (events.Tick ms) None ∷ before)
+unfolding clock_of
+network-ticked old new setup before ms entry same_setup same_failed same_hosts later s entry_is keeps =
+    network_still old new setup before (noted_blank before (events.Tick ms) None) entry same_setup same_failed (later ∙ ticked) same_hosts s (λ other runs. refl) (λ other. refl) refl
+    (keeps setup before (noted_blank before (events.Tick ms) None) (sym entry_is) refl s.records)
   where
-    tick_by : (setup : Setup) (before : List Noted) (ms : ℕ) (b : Bool) → b ≡ true
-        → (if b then Ok (noted_blank before (events.Tick ms) None) else Err refusals.ClockEnd) ≡ Ok (noted_blank before (events.Tick ms) None)
-    tick_by setup before ms true e = refl
-    tick_by setup before ms false e = absurd (cc)
+    ticked : old.clock + ms ≡ clock_of (noted_blank before (events.Tick ms) None ∷ before)
+    ticked = rw s.clock refl
 
-pub tick-late : (setup : Setup) (before : List Noted) (clock ms : ℕ) → clock ≡ clock_of before → clock < 2 ^ 63 → (2 ^ 63 - 1) - clock < ms
-    → entry_of setup before (events.Tick ms) ≡ Err refusals.ClockEnd
-unfolding entry_of
-tick-late setup before clock ms is early lt = tick_by setup before ms (nat_le (clock_of before + ms) (2 ^ 63 - 1)) (rw (← is) (grind (arith, common_steps)))
+-- a node of a faulty member without an engine is none of those that run one
+other_engine : (setup : Setup) (node other : Node) → runs_engine setup node.member ≡ false → runs_engine setup other.member ≡ true → is_same_node node other ≡ false
+other_engine setup node other none runs = by (is_same_node node other) refl
   where
-    tick_by : (setup : Setup) (before : List Noted) (ms : ℕ) (b : Bool) → b ≡ false
-        → (if b then Ok (noted_blank before (events.Tick ms) None) else Err refusals.ClockEnd) ≡ Err refusals.ClockEnd
-    tick_by setup before ms true e = absurd (cc)
-    tick_by setup before ms false e = refl
+    by : (b : Bool) → is_same_node node other ≡ b → b ≡ false
+    by true e =
+        let here = same_node node other e in
+        let never : true ≡ false = sym runs ∙ subst (λ (n : Node). runs_engine setup n.member ≡ false) here none in
+        cc
+    by false e = refl
+
+pub network-idle : (old new : Network) (setup : Setup) (before : List Noted) (event : Event) (node : Node) (entry : Entry)
+    → new.setup ≡ old.setup → new.failed ≡ old.failed → new.hosts ≡ old.hosts → new.clock ≡ old.clock → Keeps old setup before
+    → runs_engine setup node.member ≡ false → IsIdle event node
+    → entry ≡ (noted_idle before event node).entry
+    → ((setup : Setup) (before : List Noted) (noted : Noted) → noted.entry ≡ entry → is_start noted.event ≡ false → RecordsStand old.records setup before
+    → RecordsStand new.records setup (noted ∷ before))
+    → Keeps new setup (noted_idle before event node ∷ before)
+unfolding clock_of
+network-idle old new setup before event node entry same_setup same_failed same_hosts same_clock s none idle entry_is keeps = elim idle [
+  | inl step ↦ subst (λ e. Keeps new setup (noted_idle before e node ∷ before)) (sym step.2)
+      (network_still old new setup before (noted_idle before (events.Step node step.0 step.1) node) entry same_setup same_failed
+      (same_clock ∙ s.clock ∙ stepped step.0 step.1) same_hosts s (λ other runs. other_engine setup node other none runs) (λ other. refl) refl
+      (keeps setup before (noted_idle before (events.Step node step.0 step.1) node) (sym entry_is) refl s.records))
+  | inr crash ↦ subst (λ e. Keeps new setup (noted_idle before e node ∷ before)) (sym crash)
+      (network_still old new setup before (noted_idle before (events.Crash node) node) entry same_setup same_failed
+      (same_clock ∙ s.clock ∙ halted) same_hosts s (λ other runs. other_engine setup node other none runs) (λ other. refl) refl
+      (keeps setup before (noted_idle before (events.Crash node) node) (sym entry_is) refl s.records))
+]
+  where
+    stepped : (source : StepSource) (stop : Stop) → clock_of before ≡ clock_of (noted_idle before (events.Step node source stop) node ∷ before)
+    stepped source stop = refl
+
+    halted : clock_of before ≡ clock_of (noted_idle before (events.Crash node) node ∷ before)
+    halted = refl

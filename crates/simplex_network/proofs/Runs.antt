@@ -13,7 +13,7 @@ use Rattle.simplex_transcript.specs.declared.refusal.Refusal.{Refusal}
 use Rattle.simplex_run.specs.Life.{Noted}
 use Rattle.simplex_run.specs.Entries.{entry_of}
 use Rattle.simplex_run.specs.Setups.{first_bad}
-use Rattle.simplex_run.specs.Run.{refused, unless_refused, run, transcript_of, unless_bad, is_taken}
+use Rattle.simplex_run.specs.Run.{refused, unless_refused, run, transcript_of, unless_bad}
 use Rattle.simplex_network.specs.declared.network.Network.{Network}
 use Rattle.simplex_network.specs.Answer.{is_memory, setup_refusal, IsRefused}
 use Rattle.simplex_network.specs.Stands.{StandsFor, MadeBy, Grows, Enters, Refuses, entered}
@@ -48,7 +48,7 @@ next_of : (events : List Event) (i : ℕ) (event : Event) → i < length events 
 next_of events i event lt is = drop_more events i event lt ∙ ap (λ e. e ∷ drop (i + 1) events) (sym is)
 
 pub ran-more : (old new : Network) (setup : Setup) (events : List Event) (entries : List Entry) (i number : ℕ) (event : Event) (entry : Entry) → i < length events
-    → event ≡ get_or events i event → Ran old setup events (drop i events) entries number → Grows old new event → Enters old event entry
+    → event ≡ get_or events i event → Ran old setup events (drop i events) entries number → Grows old new event entry → Enters old event entry
     → Ran new setup events (drop (i + 1) events) (entries ++ entry ∷ []) (number + 1)
 unfolding run unless_refused
 ran-more old new setup events entries i number event entry lt at ran grows enters =
@@ -89,7 +89,7 @@ pub ran-network : (network : Network) (setup : Setup) (events : List Event) (ent
     → Ran network setup events (drop i events) entries number → MadeBy network setup (run setup [] events)
 ran-network network setup events entries i number le ran = rw (all_made network setup events entries i number le ran) ran.stands
 
--- ---- a setup that is taken
+-- ---- a setup that is refused
 
 reason_is : (reason : Option RunError) (error : RunError) → is_memory error ≡ false → IsRefused reason error → reason ≡ Some error
 reason_is reason errors.Memory whole is = absurd (cc)
@@ -101,29 +101,29 @@ bad_by None error ran is = absurd (cc)
 bad_by (Some field) error ran is = let it : errors.BadSetup field ≡ error = cc in rw it refl
 
 -- where it is refused, the run is
-pub taken-refused : (setup : Setup) (error : RunError) (ran : Result (List Entry) Refusal) → is_taken setup ≡ true → is_memory error ≡ false
+pub setup-refused : (setup : Setup) (error : RunError) (ran : Result (List Entry) Refusal) → is_memory error ≡ false
     → IsRefused (setup_refusal setup) error → unless_bad (first_bad setup) ran ≡ Err (refused error 0)
-taken-refused setup error ran taken whole is = bad_by (first_bad setup) error ran (rw taken at (reason_is (setup_refusal setup) error whole is))
+setup-refused setup error ran whole is = bad_by (first_bad setup) error ran (reason_is (setup_refusal setup) error whole is)
 
 none_bad : (bad : Option Field) → option_map errors.BadSetup bad ≡ None → bad ≡ None
 none_bad None is = refl
 none_bad (Some field) is = absurd (cc)
 
 -- where it is not refused, no item breaks its limit
-pub taken-good : (setup : Setup) → is_taken setup ≡ true → setup_refusal setup ≡ None → first_bad setup ≡ None
-taken-good setup taken is = none_bad (first_bad setup) (rw taken at is)
+pub setup-good : (setup : Setup) → setup_refusal setup ≡ None → first_bad setup ≡ None
+setup-good setup is = none_bad (first_bad setup) is
 
--- ---- all of a run of a setup that is taken
+-- ---- all of a run
 
-pub ran-done : (network : Network) (setup : Setup) (events : List Event) (entries : List Entry) (i number : ℕ) → is_taken setup ≡ true → setup_refusal setup ≡ None
+pub ran-done : (network : Network) (setup : Setup) (events : List Event) (entries : List Entry) (i number : ℕ) → setup_refusal setup ≡ None
     → length events ≤ i → Ran network setup events (drop i events) entries number
     → unless_bad (first_bad setup) (transcript_of (run setup [] events)) ≡ Ok entries
-ran-done network setup events entries i number taken allowed le ran = rw (taken-good setup taken allowed) (ran-all network setup events entries i number le ran)
+ran-done network setup events entries i number allowed le ran = rw (setup-good setup allowed) (ran-all network setup events entries i number le ran)
 
 pub ran-ends : (network : Network) (setup : Setup) (events : List Event) (entries : List Entry) (i number : ℕ) (event : Event) (error : RunError) (refusal : Refusal)
-    → is_taken setup ≡ true → setup_refusal setup ≡ None → i < length events → event ≡ get_or events i event → Ran network setup events (drop i events) entries number
+    → setup_refusal setup ≡ None → i < length events → event ≡ get_or events i event → Ran network setup events (drop i events) entries number
     → refusal ≡ refused error (number + 1) → is_memory refusal.error ≡ false → (is_memory error ≡ false → Refuses network event error)
     → unless_bad (first_bad setup) (transcript_of (run setup [] events)) ≡ Err refusal
-ran-ends network setup events entries i number event error refusal taken allowed lt at ran is whole refuses =
-    rw (is, taken-good setup taken allowed)
+ran-ends network setup events entries i number event error refusal allowed lt at ran is whole refuses =
+    rw (is, setup-good setup allowed)
     (ap (λ r. transcript_of r) (ran-refused network setup events entries i number event error lt at ran (refuses (rw is at whole))))

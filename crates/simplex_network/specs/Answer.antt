@@ -1,11 +1,10 @@
 -- Which refusals are no answer of a run, and why a setup is refused.
-use Rattle.std.specs.Prelude.{◌≡◌, Bool, true, false, Option, Some, None, Result, Ok, Err, if◌then◌else◌}
+use Rattle.std.specs.Prelude.{◌≡◌, Bool, true, false, Option, Some, None, Result, Ok, Err}
 use Rattle.std.specs.Option.{option_map}
 use Rattle.simplex_transcript.specs.declared.refusal.RunError.{RunError}
 use Rattle.simplex_transcript.specs.declared.refusal.RunError.TheVariants as errors
 use Rattle.simplex_transcript.specs.declared.setup.Setup.{Setup}
 use Rattle.simplex_run.specs.Setups.{first_bad}
-use Rattle.simplex_run.specs.Run.{is_taken}
 
 -- want of memory, which may come at any event
 abbrev pub is_memory : RunError → Bool
@@ -24,7 +23,7 @@ wants_memory (Err error) = is_memory error
 
 -- why a setup is refused, want of memory apart; none where it is not
 abbrev pub setup_refusal : Setup → Option RunError
-setup_refusal setup = if is_taken setup then option_map errors.BadSetup (first_bad setup) else Some errors.NotYet
+setup_refusal setup = option_map errors.BadSetup (first_bad setup)
 
 -- the setup is refused for this reason, or for want of memory where there is none
 abbrev pub IsRefused : Option RunError → RunError → Type 0

@@ -1,5 +1,5 @@
 pub mod Answer
 pub mod NodeEngine
-pub mod Lives
+pub mod Parts
 pub mod Polls
 pub mod Stands

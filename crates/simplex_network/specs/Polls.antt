@@ -1,16 +1,16 @@
--- What an input that a member's engine is given makes of the entries before it.
-use Rattle.std.specs.Prelude.{◌≡◌, ℕ, false, List, ◌∷◌, Option, Some, None, Result, Ok, Err, if◌then◌else◌}
+-- What is tested for forgeries, and what an input that a node's engine is given makes of the entries before it.
+use Rattle.std.specs.Prelude.{◌≡◌, ℕ, Bool, true, false, List, ◌∷◌, Option, Some, None, Result, Ok, Err, if◌then◌else◌}
 use Rattle.std.specs.Option.{option_map, option_or}
 use Rattle.simplex_messages.specs.declared.step.Stop.{Stop}
 use Rattle.simplex_transcript.specs.declared.event.Event.{Event}
+use Rattle.simplex_transcript.specs.declared.event.Event.TheVariants as events
 use Rattle.simplex_transcript.specs.declared.entry.Took.{Took}
+use Rattle.simplex_transcript.specs.declared.entry.Took.TheVariants as tooks
 use Rattle.simplex_transcript.specs.declared.setup.Setup.{Setup}
 use Rattle.simplex_transcript.specs.declared.node.Node.{Node}
 use Rattle.simplex_transcript.specs.declared.refusal.RunError.{RunError}
 use Rattle.simplex_transcript.specs.declared.refusal.RunError.TheVariants as refusals
 use Rattle.simplex_wire.specs.declared.certificate.Finalization.{Finalization}
-use Rattle.simplex_transcript.specs.declared.event.Event.TheVariants as events
-use Rattle.simplex_transcript.specs.declared.entry.Took.TheVariants as tooks
 use Rattle.simplex_steps.specs.Engine.{EngineMade, Did, begun}
 use Rattle.simplex_engine.specs.declared.input.Input.{Input}
 use Rattle.simplex_engine.specs.declared.input.TakenInside.{TakenInside}
@@ -18,17 +18,20 @@ use Rattle.simplex_engine.specs.declared.input.TakenInside.TheVariants as inside
 use Rattle.simplex_engine.specs.declared.error.PollError.{PollError}
 use Rattle.simplex_engine.specs.declared.error.PollError.TheVariants as errors
 use Rattle.simplex_engine.specs.Polled.{polled, refusal_of}
+use Rattle.simplex_run.specs.Kinds.{is_same_node}
 use Rattle.simplex_run.specs.Members.{floor_of, engine_of}
-use Rattle.simplex_book.specs.Plain.{is_node}
-use Rattle.simplex_run.specs.Life.{Noted, Life, Stopped, Running, clock_of, after, went_on, sections_in}
-use Rattle.simplex_run.specs.Requests.{request_place}
-use Rattle.simplex_run.specs.Entries.{node_of, took_of}
-use Rattle.simplex_book.specs.Plain.{noted_with}
-use Rattle.simplex_book.specs.Events.{IsOf}
+use Rattle.simplex_run.specs.Life.{Noted, Life, Stopped, Running, clock_of, is_of, after, went_on, sections_in}
+use Rattle.simplex_run.specs.Requests.{is_start, request_place}
+use Rattle.simplex_run.specs.Entries.{took_of, noted_with, made_of, entry_of}
+use Rattle.simplex_forging.specs.Forging.{may_forge}
 
--- the member whose node it is
-abbrev pub member_in : Setup → Node → Option ℕ
-member_in setup node = if is_node setup node then Some node.member else None
+-- ---- what is tested
+
+-- what an event makes, where that is tested for forgeries alone in which there may be one
+unfoldable pub tested_of : Setup → List Noted → Event → Result Noted RunError
+tested_of setup before event = if may_forge setup event then entry_of setup before event else made_of setup before event
+
+-- ---- inputs
 
 -- what a refusal of an engine is to the network
 abbrev pub as_run_error : PollError → RunError
@@ -38,23 +41,28 @@ as_run_error errors.NotPending = refusals.NotPending
 as_run_error errors.Memory = refusals.Memory
 
 -- what an engine made of an input. What came from outside is told by the event
-unfoldable pub noted_poll : Setup → List Noted → Event → ℕ → Input → Stop → Option Took → EngineMade → List Did → Noted
-noted_poll setup before event member input stop outside made past =
+unfoldable pub noted_poll : Setup → List Noted → Event → Node → Input → Stop → Option Took → EngineMade → List Did → Noted
+noted_poll setup before event node input stop outside made past =
     let did = polled made past input (clock_of before) stop in
-    noted_with setup before event (node_of member) (option_or outside (took_of before (node_of member) made past did)) did
+    noted_with setup before event node (option_or outside (took_of before node made past did)) did
 
 unfoldable pub unless : Option PollError → Noted → Result Noted RunError
 unless None noted = Ok noted
 unless (Some error) noted = Err (as_run_error error)
 
-unfoldable pub on_poll : Setup → List Noted → Event → ℕ → Input → Stop → Option Took → Life → Result Noted RunError
-on_poll setup before event member input stop outside (Stopped sections) = Err refusals.NotRunning
-on_poll setup before event member input stop outside (Running made past) =
-    unless (refusal_of made past input) (noted_poll setup before event member input stop outside made past)
+unfoldable pub on_poll : Setup → List Noted → Event → Node → Input → Stop → Option Took → Life → Result Noted RunError
+on_poll setup before event node input stop outside (Stopped sections) = Err refusals.NotRunning
+on_poll setup before event node input stop outside (Running made past) =
+    unless (refusal_of made past input) (noted_poll setup before event node input stop outside made past)
 
--- the event is an input of this member's engine
-pub record IsInput (event : Event) (member : ℕ) : Type 0 where
-  pub of : IsOf event member false
+-- the event is one of the node, which starts it or not
+pub record IsOf (event : Event) (node : Node) (starts : Bool) : Type 0 where
+  pub of : (other : Node) → is_of other event ≡ is_same_node node other
+  pub start : is_start event ≡ starts
+
+-- the event is an input of this node's engine
+pub record IsInput (event : Event) (node : Node) : Type 0 where
+  pub of : IsOf event node false
   pub goes : (setup : Setup) (did : Did) (life : Life) → after setup event (Some did) life ≡ went_on did life
   pub time : (noted : Noted) (before : List Noted) → noted.event ≡ event → clock_of (noted ∷ before) ≡ clock_of before
 
@@ -64,8 +72,8 @@ named before node (insides.Message message) = Some (tooks.Message message)
 named before node (insides.Answer request answer) = option_map (λ at. tooks.Request at answer) (request_place before node request)
 named before node insides.Deadline = Some tooks.Timer
 
--- what a start of this member's node makes
-abbrev pub noted_start : Setup → List Noted → ℕ → Option Finalization → Stop → Life → Noted
-noted_start setup before member floor stop life =
-    noted_with setup before (events.Start (node_of member) floor stop) (node_of member) (Some tooks.Floor)
-    (begun (engine_of setup member (floor_of setup floor) (sections_in life)) (clock_of before) stop)
+-- what a start of this node makes
+abbrev pub noted_start : Setup → List Noted → Node → Option Finalization → Stop → Life → Noted
+noted_start setup before node floor stop life =
+    noted_with setup before (events.Start node floor stop) node (Some tooks.Floor)
+    (begun (engine_of setup node.member (floor_of setup floor) (sections_in life)) (clock_of before) stop)

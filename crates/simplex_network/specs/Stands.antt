@@ -1,59 +1,76 @@
 -- Which entries a network stands for.
-use Rattle.std.specs.Prelude.{◌≡◌, ℕ, Bool, true, false, All, List, [], ◌∷◌, Option, Some, None, Result, Ok, Err, if◌then◌else◌}
+use Rattle.std.specs.Prelude.{◌≡◌, ◌<◌, ◌+◌, ◌⊎◌, ℕ, Bool, true, false, IsNone, List, [], ◌∷◌, length, Option, Some, None, Result, Ok, Err, if◌then◌else◌}
 use Rattle.std.specs.List.{slice_get}
 use Rattle.simplex_wire.specs.declared.certificate.Finalization.{Finalization}
+use Rattle.simplex_messages.specs.declared.step.Outcome.{Outcome}
 use Rattle.simplex_messages.specs.declared.step.Stop.{Stop}
 use Rattle.simplex_transcript.specs.declared.event.Event.{Event}
+use Rattle.simplex_transcript.specs.declared.event.Event.TheVariants as events
+use Rattle.simplex_transcript.specs.declared.event.StepSource.{StepSource}
+use Rattle.simplex_transcript.specs.declared.entry.Packet.{Packet}
 use Rattle.simplex_transcript.specs.declared.entry.Took.{Took}
 use Rattle.simplex_transcript.specs.declared.node.Node.{Node}
+use Rattle.simplex_transcript.specs.declared.node.Ref.{Ref}
 use Rattle.simplex_transcript.specs.declared.entry.Entry.{Entry}
 use Rattle.simplex_transcript.specs.declared.setup.Setup.{Setup}
 use Rattle.simplex_transcript.specs.declared.refusal.RunError.{RunError}
 use Rattle.simplex_transcript.specs.declared.refusal.Refusal.{Refusal}
 use Rattle.simplex_engine.specs.declared.input.Input.{Input}
-use Rattle.simplex_run.specs.Kinds.{is_node}
-use Rattle.simplex_run.specs.Run.{is_taken}
+use Rattle.simplex_run.specs.Kinds.{members_of, is_of_kind, is_node, runs_engine}
+use Rattle.simplex_run.specs.Setups.{first_bad}
 use Rattle.simplex_run.specs.Life.{Noted, Life, Stopped, Running, clock_of, life_in}
-use Rattle.simplex_run.specs.Entries.{node_of, entry_of}
-use Rattle.simplex_book.specs.Plain as plain
-use Rattle.simplex_book.specs.Plain.{IsOfHonest}
-use Rattle.simplex_book.specs.Stands.{BookStands}
+use Rattle.simplex_run.specs.Requests.{packet_at}
+use Rattle.simplex_run.specs.Forged.{unless_forged}
+use Rattle.simplex_run.specs.Entries.{entry_of, blank_entry, noted_blank, noted_idle}
+use Rattle.simplex_safety.specs.Histories.{IsRun}
+use Rattle.simplex_backing.specs.Fitting.{IsTyped, AreTyped}
+use Rattle.simplex_forging.specs.Forging.{is_impersonator}
+use Rattle.simplex_members.specs.FaultyMember.{FaultyStands}
+use Rattle.simplex_records.specs.Seats.{seat_of, node_at}
+use Rattle.simplex_records.specs.declared.records.Records.{Records}
+use Rattle.simplex_records.specs.Stands.{RecordsStand}
 use Rattle.simplex_network.specs.declared.host.Host.{Host}
 use Rattle.simplex_network.specs.declared.host.Host.TheVariants as hosts
 use Rattle.simplex_network.specs.declared.network.Network.{Network}
+use Rattle.simplex_network.specs.declared.status.Status.{Status}
 use Rattle.simplex_network.specs.NodeEngine.{NodeEngine, EngineStands}
-use Rattle.simplex_network.specs.Lives.{running_in}
-use Rattle.simplex_network.specs.Polls.{IsInput, on_poll, noted_start}
+use Rattle.simplex_network.specs.Parts.{Part, Lives, Hears, part_in, found_in}
+use Rattle.simplex_network.specs.Polls.{IsInput, tested_of, on_poll, noted_start}
 
--- a host lives this life
-unfoldable pub HostStands : Host → Life → Type 0
-HostStands (hosts.Stopped journal) (Stopped sections) = journal.sections ≡ sections
-HostStands (hosts.Running engine) (Running made past) = EngineStands engine made past
-HostStands (hosts.Stopped journal) (Running made past) = ⊥
-HostStands (hosts.Running engine) (Stopped sections) = ⊥
+-- a host at a node of this member does this
+unfoldable pub HostStands : Setup → ℕ → Host → Part → Type 0
+HostStands setup member (hosts.Stopped journal) (Lives (Stopped sections)) = journal.sections ≡ sections
+HostStands setup member (hosts.Running engine) (Lives (Running made past)) = EngineStands engine made past
+HostStands setup member (hosts.Faulty faulty) (Hears past) = FaultyStands faulty setup member past
+HostStands setup member _ _ = ⊥
 
--- each host lives its member's life
-unfoldable pub HostsStand : List Host → (ℕ → Life) → Type 0
-HostsStand list lives = (at : ℕ) (host : Host) → slice_get list at ≡ Some host → HostStands host (lives at)
+-- each host does its node's part
+unfoldable pub HostsStand : Setup → List Host → (Node → Part) → Type 0
+HostsStand setup list parts = (at : ℕ) (host : Host) → slice_get list at ≡ Some host → HostStands setup (node_at at).member host (parts (node_at at))
 
--- the lives of the members' nodes
-abbrev pub lives_in : Setup → List Noted → ℕ → Life
-lives_in setup before at = life_in setup before (node_of at)
+-- the node has a seat among them
+abbrev pub HasSeat : List Host → Node → Type 0
+HasSeat list node = (node.half < 2) × (seat_of node < length list)
+
+-- each packet was sent by a member
+abbrev pub AreOfMembers : Setup → List Noted → Type 0
+AreOfMembers setup before = (at : Ref) (packet : Packet) → packet_at before at ≡ Some packet → packet.from.member < members_of setup
 
 -- the network keeps what these entries made, the newest first, and never wanted memory
 pub record Keeps (network : Network) (setup : Setup) (before : List Noted) : Type 0 where
   pub given : network.setup ≡ setup
   pub alive : network.failed ≡ false
   pub clock : network.clock ≡ clock_of before
-  pub hosts : HostsStand network.hosts.list.items (lives_in network.setup before)
-  pub book : BookStands network.book before
+  pub hosts : HostsStand network.setup network.hosts.list.items (part_in network.setup before)
+  pub records : RecordsStand network.records setup before
+  pub senders : AreOfMembers setup before
 
--- the network, so set up, made these entries, the newest first, and never wanted memory. Only a setup of one honest member
--- is taken
+-- the network, so set up, made these entries, the newest first, and never wanted memory
 pub record StandsFor (network : Network) (setup : Setup) (before : List Noted) : Type 0 where
   pub keeps : Keeps network setup before
-  pub taken : is_taken setup ≡ true
-  pub honest : All (IsOfHonest setup) before
+  pub good : IsNone (first_bad setup)
+  pub ran : IsRun setup before
+  pub typed : AreTyped before
 
 -- the network made these entries. A run that was refused made none
 abbrev pub MadeBy : Network → Setup → Result (List Noted) Refusal → Type 0
@@ -69,9 +86,9 @@ abbrev pub entered : Result Noted RunError → Result Entry RunError
 entered (Ok noted) = Ok noted.entry
 entered (Err error) = Err error
 
--- whatever entries the old network made, the new one made them and this event's
-abbrev pub Grows : Network → Network → Event → Type 0
-Grows old new event =
+-- whatever entries the old network made, the new one made them and this event's, whose entry is this
+abbrev pub Grows : Network → Network → Event → Entry → Type 0
+Grows old new event entry =
     (setup : Setup) (before : List Noted) (noted : Noted) → StandsFor old setup before → entry_of setup before event ≡ Ok noted
     → StandsFor new setup (noted ∷ before)
 
@@ -90,72 +107,144 @@ abbrev pub Stays : Network → Network → Type 0
 Stays old new = (setup : Setup) (before : List Noted) → StandsFor old setup before → StandsFor new setup before
 
 -- the engine that is shown is the node's, and there is one exactly where its life runs
-abbrev pub EngineOf : Life → Option NodeEngine → Type 0
-EngineOf (Running made past) (Some engine) = EngineStands engine made past
-EngineOf (Running made past) None = ⊥
-EngineOf (Stopped sections) (Some engine) = ⊥
-EngineOf (Stopped sections) None = Unit {0}
+abbrev pub EngineOf : Part → Option NodeEngine → Type 0
+EngineOf (Lives (Running made past)) (Some engine) = EngineStands engine made past
+EngineOf (Lives (Running made past)) None = ⊥
+EngineOf _ (Some engine) = ⊥
+EngineOf _ None = Unit {0}
 
 abbrev pub ShowsEngine : Network → Node → Option NodeEngine → Type 0
 ShowsEngine network node engine =
     (setup : Setup) (before : List Noted) → StandsFor network setup before
-    → EngineOf (if is_node setup node then life_in setup before node else Stopped []) engine
+    → EngineOf (if is_node setup node then part_in setup before node else Lives (Stopped [])) engine
 
--- ---- the same words, where all members are honest
+-- ---- the same words, where forgeries are looked for where they may be
 
--- whatever entries the old network made, the new one made them and this event's
-abbrev pub GrowsPlainly : Network → Network → Event → Type 0
-GrowsPlainly old new event =
-    (setup : Setup) (before : List Noted) (noted : Noted) → Keeps old setup before → plain.entry_of setup before event ≡ Ok noted
+-- whatever the old network keeps, the new one keeps it and this event's
+abbrev pub Adds : Network → Network → Event → Type 0
+Adds old new event =
+    (setup : Setup) (before : List Noted) (noted : Noted) → Keeps old setup before → tested_of setup before event ≡ Ok noted
     → Keeps new setup (noted ∷ before)
 
--- whatever entries the network made, this is the event's
-abbrev pub EntersPlainly : Network → Event → Entry → Type 0
-EntersPlainly network event entry =
-    (setup : Setup) (before : List Noted) → Keeps network setup before → entered (plain.entry_of setup before event) ≡ Ok entry
+-- whatever the network keeps, this is the event's
+abbrev pub Gives : Network → Event → Entry → Type 0
+Gives network event entry =
+    (setup : Setup) (before : List Noted) → Keeps network setup before → entered (tested_of setup before event) ≡ Ok entry
 
--- whatever entries the network made, this is why the event is refused
-abbrev pub RefusesPlainly : Network → Event → RunError → Type 0
-RefusesPlainly network event error =
-    (setup : Setup) (before : List Noted) → Keeps network setup before → plain.entry_of setup before event ≡ Err error
+-- whatever the network keeps, this is why the event is refused
+abbrev pub Denies : Network → Event → RunError → Type 0
+Denies network event error =
+    (setup : Setup) (before : List Noted) → Keeps network setup before → tested_of setup before event ≡ Err error
 
--- whatever entries the old network made, the new one made them
-abbrev pub StaysPlainly : Network → Network → Type 0
-StaysPlainly old new = (setup : Setup) (before : List Noted) → Keeps old setup before → Keeps new setup before
+-- whatever the old network keeps, the new one keeps it
+abbrev pub Rests : Network → Network → Type 0
+Rests old new = (setup : Setup) (before : List Noted) → Keeps old setup before → Keeps new setup before
 
-abbrev pub ShowsPlainly : Network → Node → Option NodeEngine → Type 0
-ShowsPlainly network node engine =
+-- what the node is at, or that it does not exist
+abbrev pub Finds : Network → Node → Result Status RunError → Type 0
+Finds network node result =
+    (setup : Setup) (before : List Noted) → Keeps network setup before → result ≡ found_in setup node (part_in setup before node)
+
+abbrev pub Shows : Network → Node → Option NodeEngine → Type 0
+Shows network node engine =
     (setup : Setup) (before : List Noted) → Keeps network setup before
-    → EngineOf (if plain.is_node setup node then life_in setup before node else Stopped []) engine
+    → EngineOf (if is_node setup node then part_in setup before node else Lives (Stopped [])) engine
 
--- the same words of a start of a member's stopped node
-abbrev pub StartGrows : Network → Network → ℕ → Option Finalization → Stop → Type 0
-StartGrows old new member floor stop =
-    (setup : Setup) (before : List Noted) → Keeps old setup before
-    → Keeps new setup (noted_start setup before member floor stop (lives_in setup before member) ∷ before)
+-- the node exists
+abbrev pub Exists : Network → Node → Type 0
+Exists network node = is_node network.setup node ≡ true
 
-abbrev pub StartEnters : Network → ℕ → Option Finalization → Stop → Entry → Type 0
-StartEnters network member floor stop entry =
-    (setup : Setup) (before : List Noted) → Keeps network setup before
-    → entry ≡ (noted_start setup before member floor stop (lives_in setup before member)).entry
+-- the node's life, where its member runs engines
+abbrev pub LivesAs : Setup → List Noted → Node → Life → Type 0
+LivesAs setup before node life = (runs_engine setup node.member ≡ true) × (life_in setup before node ≡ life)
 
--- and of an input of a member's engine
-abbrev pub PollGrows : Network → Network → ℕ → Input → Stop → Option Took → Type 0
-PollGrows old new member input stop outside =
-    (setup : Setup) (before : List Noted) (event : Event) (noted : Noted) → Keeps old setup before → IsInput event member
-    → on_poll setup before event member input stop outside (lives_in setup before member) ≡ Ok noted → Keeps new setup (noted ∷ before)
+-- the same words of a start of a node
+abbrev pub StartAdds : Network → Network → Node → Option Finalization → Stop → Type 0
+StartAdds old new node floor stop =
+    (setup : Setup) (before : List Noted) (life : Life) → Keeps old setup before → LivesAs setup before node life
+    → Keeps new setup (noted_start setup before node floor stop life ∷ before)
 
-abbrev pub PollEnters : Network → ℕ → Input → Stop → Option Took → Entry → Type 0
-PollEnters network member input stop outside entry =
-    (setup : Setup) (before : List Noted) (event : Event) → Keeps network setup before
-    → entered (on_poll setup before event member input stop outside (lives_in setup before member)) ≡ Ok entry
+abbrev pub StartGives : Network → Node → Option Finalization → Stop → Entry → Type 0
+StartGives network node floor stop entry =
+    (setup : Setup) (before : List Noted) (life : Life) → Keeps network setup before → LivesAs setup before node life
+    → entry ≡ (noted_start setup before node floor stop life).entry
 
-abbrev pub PollRefuses : Network → ℕ → Input → Stop → Option Took → RunError → Type 0
-PollRefuses network member input stop outside error =
-    (setup : Setup) (before : List Noted) (event : Event) → Keeps network setup before
-    → on_poll setup before event member input stop outside (lives_in setup before member) ≡ Err error
+-- and of an input of a node's engine
+abbrev pub PollAdds : Network → Network → Node → Input → Stop → Option Took → Type 0
+PollAdds old new node input stop outside =
+    (setup : Setup) (before : List Noted) (event : Event) (noted : Noted) (life : Life) → Keeps old setup before → LivesAs setup before node life → IsInput event node
+    → on_poll setup before event node input stop outside life ≡ Ok noted → Keeps new setup (noted ∷ before)
 
--- the node runs, or this is the first reason why not
-abbrev pub RunsAs : Network → Node → Result (ℕ × ℕ) RunError → Type 0
-RunsAs network node result =
-    (setup : Setup) (before : List Noted) → Keeps network setup before → result ≡ running_in setup node (life_in setup before node)
+abbrev pub PollGives : Network → Node → Input → Stop → Option Took → Entry → Type 0
+PollGives network node input stop outside entry =
+    (setup : Setup) (before : List Noted) (event : Event) (life : Life) → Keeps network setup before → LivesAs setup before node life
+    → entered (on_poll setup before event node input stop outside life) ≡ Ok entry
+
+abbrev pub PollDenies : Network → Node → Input → Stop → Option Took → RunError → Type 0
+PollDenies network node input stop outside error =
+    (setup : Setup) (before : List Noted) (event : Event) (life : Life) → Keeps network setup before → LivesAs setup before node life
+    → on_poll setup before event node input stop outside life ≡ Err error
+
+-- of a packet that a node of a faulty member without an engine takes
+abbrev pub HearAdds : Network → Network → Node → Ref → Type 0
+HearAdds old new node at =
+    (setup : Setup) (before : List Noted) (noted : Noted) → Keeps old setup before → runs_engine setup node.member ≡ false
+    → tested_of setup before (events.Deliver node at) ≡ Ok noted → Keeps new setup (noted ∷ before)
+
+abbrev pub HearGives : Network → Node → Ref → Entry → Type 0
+HearGives network node at entry =
+    (setup : Setup) (before : List Noted) → Keeps network setup before → runs_engine setup node.member ≡ false
+    → entered (tested_of setup before (events.Deliver node at)) ≡ Ok entry
+
+abbrev pub HearDenies : Network → Node → Ref → RunError → Type 0
+HearDenies network node at error =
+    (setup : Setup) (before : List Noted) → Keeps network setup before → runs_engine setup node.member ≡ false
+    → tested_of setup before (events.Deliver node at) ≡ Err error
+
+abbrev pub HearRests : Network → Network → Node → Type 0
+HearRests old new node =
+    (setup : Setup) (before : List Noted) → Keeps old setup before → runs_engine setup node.member ≡ false → Keeps new setup before
+
+-- of a crash of a running node
+abbrev pub HaltAdds : Network → Network → Node → Type 0
+HaltAdds old new node =
+    (setup : Setup) (before : List Noted) (life : Life) → Keeps old setup before → LivesAs setup before node life
+    → Keeps new setup (noted_blank before (events.Crash node) (Some node) ∷ before)
+
+-- of a step or a crash of a node that has no engine
+abbrev pub IsIdle : Event → Node → Type 0
+IsIdle event node = ((source : StepSource) × (stop : Stop) × (event ≡ events.Step node source stop)) ⊎ (event ≡ events.Crash node)
+
+abbrev pub IdleAdds : Network → Network → Node → Type 0
+IdleAdds old new node =
+    (setup : Setup) (before : List Noted) (event : Event) → Keeps old setup before → runs_engine setup node.member ≡ false → IsIdle event node
+    → Keeps new setup (noted_idle before event node ∷ before)
+
+-- the entry of an event that does nothing
+abbrev pub BlankGives : Network → Option Node → Outcome → Entry → Type 0
+BlankGives network who outcome entry =
+    (setup : Setup) (before : List Noted) → Keeps network setup before → entry ≡ record (blank_entry (length before + 1) who) { outcome = outcome }
+
+-- ---- tests
+
+-- whatever entries the records stand for, nothing in the packets of one more is forged
+abbrev pub IsUnforged : Setup → Records → List Packet → Type 0
+IsUnforged setup records packets =
+    (before : List Noted) (noted : Noted) → RecordsStand records setup before → noted.entry.packets ≡ packets → unless_forged setup before (Ok noted) ≡ Ok noted
+
+-- or this is why one is refused
+abbrev pub IsForgedAs : Setup → Records → List Packet → RunError → Type 0
+IsForgedAs setup records packets error =
+    (before : List Noted) (noted : Noted) → RecordsStand records setup before → noted.entry.packets ≡ packets → unless_forged setup before (Ok noted) ≡ Err error
+
+-- what a node of a faulty member without an engine says is tested where it may be forged
+abbrev pub heard_test : Setup → List Noted → Node → Noted → Result Noted RunError
+heard_test setup before node noted = if is_of_kind is_impersonator setup node.member then unless_forged setup before (Ok noted) else Ok noted
+
+abbrev pub IsPassed : Setup → Records → Node → List Packet → Type 0
+IsPassed setup records node packets =
+    (before : List Noted) (noted : Noted) → RecordsStand records setup before → noted.entry.packets ≡ packets → heard_test setup before node noted ≡ Ok noted
+
+abbrev pub IsStopped : Setup → Records → Node → List Packet → RunError → Type 0
+IsStopped setup records node packets error =
+    (before : List Noted) (noted : Noted) → RecordsStand records setup before → noted.entry.packets ≡ packets → heard_test setup before node noted ≡ Err error

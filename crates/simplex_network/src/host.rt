@@ -1,59 +1,69 @@
-//! A node's place in the network: its engine, or its journal while it is stopped.
-#![tactic(auto, unfolding(crate::specs::Stands::HostStands, crate::specs::Lives::goes_on, crate::specs::Lives::view_in, crate::specs::Lives::refusal_in, crate::specs::Lives::after_poll, crate::specs::Lives::IsPolled, crate::specs::Lives::after_start, crate::specs::Lives::IsStarted))]
+//! A node's place in the network: its engine, or its journal while it is stopped, or a faulty member without an engine.
+#![tactic(auto, unfolding(crate::specs::Stands::HostStands, crate::specs::Parts::goes_on, crate::specs::Parts::status_of, crate::specs::Parts::refusal_in, crate::specs::Parts::after_poll, crate::specs::Parts::IsPolled, crate::specs::Parts::after_start, crate::specs::Parts::IsStarted))]
 
-ghost use Rattle.std.specs.Prelude.{◌≡◌, ◌<◌, ◌≤◌, ◌^◌, List, true, false, IfOk, IfErr, IfSome, OnOk, None, Some};
+ghost use Rattle.std.specs.Prelude.{◌≡◌, ◌<◌, ◌≤◌, ◌^◌, ◌∷◌, ℕ, List, true, false, IfOk, IfErr, IfSome, OnOk, None, Some};
 ghost use Rattle.std.specs.Option.{option_map};
 ghost use Rattle.simplex_messages.specs.Step.{no_out};
 ghost use Rattle.simplex_journal.specs.Journal.{crashed};
 ghost use Rattle.simplex_journal.specs.Order.{no_order};
+ghost use Rattle.simplex_transcript.specs.declared.setup.Setup.{Setup};
 ghost use Rattle.simplex_steps.specs.Engine.{EngineMade, Did, runs, is_whole};
 ghost use Rattle.simplex_run.specs.Life.{Life, Stopped, Running, sections_in, going_on};
+ghost use Rattle.simplex_run.specs.Members.{kind_of};
+ghost use Rattle.simplex_run.specs.Mocks.{Heard, heard_by};
 ghost use Rattle.simplex_engine.specs.Config.{first_bad};
 ghost use Rattle.simplex_engine.specs.Polled.{is_memory};
-ghost use Rattle.simplex_network.specs.NodeEngine.{EngineStands, made_with};
-ghost use Rattle.simplex_network.specs.Lives.{goes_on, view_in, refusal_in, after_poll, IsPolled, IsStarted, after_start};
+ghost use Rattle.simplex_members.specs.NodeEngine.{made_with};
+ghost use Rattle.simplex_network.specs.NodeEngine.{EngineStands};
+ghost use Rattle.simplex_network.specs.Parts.{Part, Lives, Hears, goes_on, status_of, status_in, refusal_in, after_poll, IsPolled, IsStarted, after_start};
+ghost use Rattle.simplex_run.specs.Kinds.{is_of_kind};
+ghost use Rattle.simplex_forging.specs.Forging.{is_impersonator};
 ghost use Rattle.simplex_network.specs.Stands.{HostStands, EngineOf};
 
-use crate::config::NodeConfig;
+use crate::status::Status;
 use simplex_engine::{Engine, Input, NewError, PollError, Polled};
+use simplex_faults::Sent;
 use simplex_journal::{Journal, MemoryJournal};
+use simplex_members::{FaultyMember, NodeConfig, NodeElector, NodeScheme};
 use simplex_messages::{Outcome, StepOut, Stop};
-use simplex_types::{Keyed, RoundRobinElector, View};
-use std::alloc::Global;
+use simplex_types::{Channel, Sequence};
+use std::alloc::{AllocError, Global};
 use std::mem;
 
 /// The engine of a node.
-pub type NodeEngine = Engine<Keyed, RoundRobinElector, MemoryJournal>;
+pub type NodeEngine = Engine<NodeScheme, NodeElector, MemoryJournal>;
 
-/// A stopped node's journal, or a running node's engine.
+/// A stopped node's journal, a running node's engine, or a faulty member that only answers what it hears.
 #[derive(Drop)]
 pub(crate) enum Host {
     Stopped(MemoryJournal),
     Running(NodeEngine),
+    Faulty(FaultyMember),
 }
 
 impl Host {
-    /// The engine, where it runs.
+    /// The engine, where one runs.
     pub(crate) fn engine(&self) -> Option<&NodeEngine>
-        ensures { (life : Life) → HostStands self.now life → EngineOf life (option_map (λ engine. engine.now) result) }
+        ensures { (setup : Setup) (member : ℕ) (part : Part) → HostStands setup member self.now part → EngineOf part (option_map (λ engine. engine.now) result) }
     {
         match self {
-            Host::Stopped(_) => None,
+            Host::Stopped(_) | Host::Faulty(_) => None,
             Host::Running(engine) => Some(engine),
         }
     }
 
-    /// The current view of the engine, where it runs.
-    pub(crate) fn view(&self) -> Option<View>
-        ensures { (life : Life) → HostStands self.now life → goes_on life ≡ true → result ≡ view_in life }
+    /// What the node is at.
+    pub(crate) fn status(&self) -> Status
+        ensures { (setup : Setup) (member : ℕ) (part : Part) → HostStands setup member self.now part → goes_on part ≡ true → result ≡ status_in part }
     {
         match self {
-            Host::Stopped(_) => None,
-            Host::Running(engine) => Some(engine.current_view()),
+            Host::Stopped(_) => Status::Stopped,
+            Host::Running(engine) => Status::Running(engine.current_view()),
+            Host::Faulty(_) => Status::Faulty,
         }
     }
 
-    /// Gives an input to the engine, where it runs. A broken step stops it.
+    /// Gives an input to the engine, where one runs. A broken step stops it.
     pub(crate) fn poll(
         &mut self,
         alloc: Global,
@@ -64,10 +74,10 @@ impl Host {
     ) -> Result<Polled, PollError>
         requires clock { now < 2 ^ 63 }
         requires empty { out.old ≡ no_out }
-        ensures gives { IfOk result (λ polled. (life : Life) → HostStands self.old life → IsPolled life input now stop.now polled.outcome polled.taken out.new) }
-        ensures stands { IfOk result (λ _. (life : Life) → HostStands self.old life → HostStands self.new (after_poll input now stop.now life)) }
-        ensures refused { IfErr result (λ error. is_memory error ≡ false → (life : Life) → HostStands self.old life → refusal_in life input ≡ Some error) }
-        ensures stays { IfErr result (λ error. is_memory error ≡ false → (life : Life) → HostStands self.old life → HostStands self.new life) }
+        ensures gives { IfOk result (λ polled. (setup : Setup) (member : ℕ) (life : Life) → HostStands setup member self.old (Lives life) → IsPolled life input now stop.now polled.outcome polled.taken out.new) }
+        ensures stands { IfOk result (λ _. (setup : Setup) (member : ℕ) (life : Life) → HostStands setup member self.old (Lives life) → HostStands setup member self.new (Lives (after_poll input now stop.now life))) }
+        ensures refused { IfErr result (λ error. is_memory error ≡ false → (setup : Setup) (member : ℕ) (life : Life) → HostStands setup member self.old (Lives life) → refusal_in life input ≡ Some error) }
+        ensures stays { IfErr result (λ error. is_memory error ≡ false → (setup : Setup) (member : ℕ) (part : Part) → HostStands setup member self.old part → HostStands setup member self.new part) }
     {
         let Host::Running(engine) = self else {
             return Err(PollError::Stopped);
@@ -80,6 +90,24 @@ impl Host {
         Ok(polled)
     }
 
+    /// Lets a faulty member without an engine hear the bytes, and gives what it sends. Others send nothing.
+    pub(crate) fn hear(
+        &mut self,
+        alloc: Global,
+        channel: Channel,
+        bytes: &[u8],
+    ) -> Result<Sequence<Sent>, AllocError>
+        ensures sends { IfOk result (λ sent. (setup : Setup) (member : ℕ) (past : List Heard) → HostStands setup member self.old (Hears past) → sent ≡ heard_by setup member (kind_of setup member) past (record { channel = channel; bytes = bytes.now })) }
+        ensures stands { OnOk result ((setup : Setup) (member : ℕ) (past : List Heard) → HostStands setup member self.old (Hears past) → HostStands setup member self.new (Hears (record { channel = channel; bytes = bytes.now } ∷ past))) }
+        ensures unmoved { OnOk result ((setup : Setup) (member : ℕ) (past : List Heard) → is_of_kind is_impersonator setup member ≡ true → HostStands setup member self.old (Hears past) → HostStands setup member self.new (Hears past)) }
+    {
+        let Host::Faulty(faulty) = self else {
+            return Ok(Sequence::new(alloc));
+        };
+        let sent = faulty.hear(alloc, channel, bytes)?;
+        Ok(sent)
+    }
+
     /// Starts an engine over the journal. A broken start stops it.
     pub(crate) fn start(
         &mut self,
@@ -89,14 +117,14 @@ impl Host {
         stop: &Stop,
         out: &mut StepOut,
     ) -> Result<Outcome, PollError>
-        requires built { config.elector.members ≡ config.scheme.participants }
-        requires lookahead { config.elector.terms.lookahead ≤ 2 ^ 32 }
-        requires stall { IfSome config.elector.terms.stall_timeout (λ stall. (config.certification_timeout < stall) × (stall ≤ 2 ^ 62)) }
+        requires built { config.elector.fallback.members ≡ config.scheme.inner.participants }
+        requires lookahead { config.elector.fallback.terms.lookahead ≤ 2 ^ 32 }
+        requires stall { IfSome config.elector.fallback.terms.stall_timeout (λ stall. (config.certification_timeout < stall) × (stall ≤ 2 ^ 62)) }
         requires allowed { first_bad config ≡ None }
         requires clock { now < 2 ^ 63 }
         requires empty { out.old ≡ no_out }
-        ensures gives { IfOk result (λ outcome. (life : Life) → HostStands self.old life → IsStarted (made_with config (sections_in life)) now stop.now outcome out.new) }
-        ensures stands { IfOk result (λ _. (life : Life) → HostStands self.old life → HostStands self.new (after_start (made_with config (sections_in life)) now stop.now)) }
+        ensures gives { IfOk result (λ outcome. (setup : Setup) (member : ℕ) (life : Life) → HostStands setup member self.old (Lives life) → IsStarted (made_with config (sections_in life)) now stop.now outcome out.new) }
+        ensures stands { IfOk result (λ _. (setup : Setup) (member : ℕ) (life : Life) → HostStands setup member self.old (Lives life) → HostStands setup member self.new (Lives (after_start (made_with config (sections_in life)) now stop.now))) }
         ensures memory { IfErr result (λ error. is_memory error ≡ true) }
     {
         let journal = self.take_journal(alloc)?;
@@ -112,7 +140,7 @@ impl Host {
 
     /// Stops the node, which loses what its journal had not synced.
     pub(crate) fn crash(&mut self, alloc: Global) -> Result<(), PollError>
-        ensures stands { OnOk result ((life : Life) → HostStands self.old life → HostStands self.new (Stopped (crashed 0 (sections_in life)))) }
+        ensures stands { OnOk result ((setup : Setup) (member : ℕ) (life : Life) → HostStands setup member self.old (Lives life) → HostStands setup member self.new (Lives (Stopped (crashed 0 (sections_in life))))) }
         ensures memory { IfErr result (λ error. is_memory error ≡ true) }
     {
         let mut journal = self.take_journal(alloc)?;
@@ -123,7 +151,7 @@ impl Host {
 
     // Stops an engine whose step was broken.
     fn settle(&mut self, alloc: Global, outcome: Outcome) -> Result<(), PollError>
-        ensures stands { OnOk result ((made : EngineMade) (past : List Did) → runs past ≡ is_whole outcome → HostStands self.old (Running made past) → HostStands self.new (going_on made past)) }
+        ensures stands { OnOk result ((setup : Setup) (member : ℕ) (made : EngineMade) (past : List Did) → runs past ≡ is_whole outcome → HostStands setup member self.old (Lives (Running made past)) → HostStands setup member self.new (Lives (going_on made past))) }
         ensures memory { IfErr result (λ error. is_memory error ≡ true) }
     {
         match outcome {
@@ -139,23 +167,24 @@ impl Host {
     // The journal, with no call ordered to fail. An empty one is left. Behind want of memory there may be none.
     fn take_journal(&mut self, alloc: Global) -> Result<MemoryJournal, PollError>
         ensures order { IfOk result (λ journal. journal.order ≡ no_order) }
-        ensures sections { IfOk result (λ journal. (life : Life) → HostStands self.old life → journal.sections ≡ sections_in life) }
+        ensures sections { IfOk result (λ journal. (setup : Setup) (member : ℕ) (life : Life) → HostStands setup member self.old (Lives life) → journal.sections ≡ sections_in life) }
         ensures memory { IfErr result (λ error. is_memory error ≡ true) }
     {
         let host = mem::replace(self, Host::Stopped(MemoryJournal::new(alloc)));
-        let mut journal = journal_of(host)?;
+        let mut journal = journal_of(alloc, host)?;
         journal.fail_next(0, 0);
         Ok(journal)
     }
 }
 
-// What a stop leaves.
-fn journal_of(host: Host) -> Result<MemoryJournal, PollError>
-    ensures sections { IfOk result (λ journal. (life : Life) → HostStands host life → journal.sections ≡ sections_in life) }
+// What a stop leaves. A faulty member without an engine has an empty journal.
+fn journal_of(alloc: Global, host: Host) -> Result<MemoryJournal, PollError>
+    ensures sections { IfOk result (λ journal. (setup : Setup) (member : ℕ) (life : Life) → HostStands setup member host (Lives life) → journal.sections ≡ sections_in life) }
     ensures memory { IfErr result (λ error. is_memory error ≡ true) }
 {
     match host {
         Host::Stopped(journal) => Ok(journal),
+        Host::Faulty(_) => Ok(MemoryJournal::new(alloc)),
         Host::Running(engine) => {
             if engine.has_failed() {
                 return Err(PollError::Memory);
@@ -167,7 +196,7 @@ fn journal_of(host: Host) -> Result<MemoryJournal, PollError>
 
 // The engine runs, unless its step was broken.
 fn settled(engine: NodeEngine, outcome: Outcome) -> Result<Host, PollError>
-    ensures stands { IfOk result (λ host. (made : EngineMade) (past : List Did) → runs past ≡ is_whole outcome → EngineStands engine made past → HostStands host (going_on made past)) }
+    ensures stands { IfOk result (λ host. (setup : Setup) (member : ℕ) (made : EngineMade) (past : List Did) → runs past ≡ is_whole outcome → EngineStands engine made past → HostStands setup member host (Lives (going_on made past))) }
     ensures memory { IfErr result (λ error. is_memory error ≡ true) }
 {
     match outcome {

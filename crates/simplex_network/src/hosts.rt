@@ -1,123 +1,186 @@
-//! The hosts, one for each member, and a change of one of them.
-ghost use Rattle.std.specs.Prelude.{◌≡◌, ◌<◌, ◌≤◌, ◌^◌, ℕ, [], length, true, false, IfOk, IfErr, IfSome, OnOk, None};
+//! The hosts, two seats for each member, and a change of one of them.
+ghost use Rattle.std.specs.Prelude.{◌≡◌, ◌<◌, ◌≤◌, ◌*◌, ◌/◌, ◌^◌, ◌∷◌, ℕ, List, [], length, true, false, IfOk, IfErr, IfSome, OnOk, IsNone};
 ghost use Rattle.std.specs.Option.{option_map};
+ghost use Rattle.simplex_transcript.specs.declared.node.Node as nodes;
+ghost use Rattle.simplex_transcript.specs.declared.setup.Setup as setups;
 ghost use Rattle.simplex_messages.specs.Step.{no_out};
 ghost use Rattle.simplex_journal.specs.Journal.{crashed};
 ghost use Rattle.simplex_run.specs.Life.{Life, Stopped, sections_in};
-ghost use Rattle.simplex_run.specs.Entries.{node_of};
+ghost use Rattle.simplex_run.specs.Members.{kind_of};
+ghost use Rattle.simplex_run.specs.Mocks.{Heard, heard_by};
+ghost use Rattle.simplex_run.specs.Setups as rules;
 ghost use Rattle.simplex_engine.specs.Config.{first_bad};
 ghost use Rattle.simplex_engine.specs.Polled.{is_memory};
-ghost use Rattle.simplex_network.specs.NodeEngine.{made_with};
-ghost use Rattle.simplex_network.specs.Lives.{goes_on, view_in, refusal_in, after_poll, IsPolled, IsStarted, after_start, changed};
-ghost use Rattle.simplex_network.specs.Stands.{HostsStand, EngineOf};
+ghost use Rattle.simplex_members.specs.NodeEngine.{made_with};
+ghost use Rattle.simplex_records.specs.Seats.{seat_of, node_at};
+ghost use Rattle.simplex_network.specs.Parts.{Part, Lives, Hears, goes_on, status_in, refusal_in, after_poll, IsPolled, IsStarted, after_start, changed, part_in};
+ghost use Rattle.simplex_run.specs.Kinds.{is_of_kind};
+ghost use Rattle.simplex_forging.specs.Forging.{is_impersonator};
+ghost use Rattle.simplex_network.specs.Stands.{HostsStand, HostStands, HasSeat, EngineOf};
 
-use crate::config::NodeConfig;
 use crate::host::{Host, NodeEngine};
-use crate::members::place_of;
+use crate::status::Status;
 use simplex_engine::{Input, PollError, Polled};
+use simplex_faults::Sent;
 use simplex_journal::MemoryJournal;
+use simplex_members::{FaultyMember, NodeConfig, has_engine};
 use simplex_messages::{Outcome, StepOut, Stop};
-use simplex_types::{Participant, View};
+use simplex_records::seat_of;
+use simplex_transcript::{Node, Setup};
+use simplex_types::{Channel, Participant, Sequence};
 use std::alloc::{AllocError, Global};
 
-/// A host for each member.
+/// A host at each seat: two for each member, one a half.
 #[derive(Drop)]
 pub(crate) struct Hosts {
     pub(crate) list: Vec<Host>,
 }
 
 impl Hosts {
-    /// So many, all stopped with an empty journal.
-    pub(crate) fn new(alloc: Global, count: usize) -> Result<Hosts, AllocError>
-        ensures count { IfOk result (λ hosts. length hosts.list.items ≡ count) }
-        ensures stands { IfOk result (λ hosts. HostsStand hosts.list.items (λ _. Stopped [])) }
+    /// All engines are stopped with an empty journal, and nothing was heard.
+    pub(crate) fn new(alloc: Global, setup: &Setup) -> Result<Hosts, AllocError>
+        requires good { IsNone (rules.first_bad setup.now) }
+        ensures count { IfOk result (λ hosts. length hosts.list.items ≡ 2 * length setup.now.members) }
+        ensures stands { IfOk result (λ hosts. HostsStand setup.now hosts.list.items (part_in setup.now [])) }
     {
         let mut list = Vec::new(alloc);
-        for _ in 0..count {
-            list.push(Host::Stopped(MemoryJournal::new(alloc)))?;
+        for seat in 0..count_of(setup) {
+            list.push(blank_host(alloc, setup, seat)?)?;
         }
         Ok(Hosts { list })
     }
 
-    /// The engine of a member, where it runs.
-    pub(crate) fn engine(&self, member: Participant) -> Option<&NodeEngine>
-        requires { member < length self.now.list.items }
-        ensures { (lives : ℕ → Life) → HostsStand self.now.list.items lives → EngineOf (lives member) (option_map (λ engine. engine.now) result) }
+    /// The engine of a node, where one runs.
+    pub(crate) fn engine(&self, node: Node) -> Option<&NodeEngine>
+        requires { HasSeat self.now.list.items node }
+        ensures { (setup : setups.Setup) (parts : nodes.Node → Part) → HostsStand setup self.now.list.items parts → EngineOf (parts node) (option_map (λ engine. engine.now) result) }
     {
-        let at = place_of(member);
-        self.list[at].engine()
+        self.list[seat_of(node)].engine()
     }
 
-    /// The current view of a member's engine, where it runs.
-    pub(crate) fn view(&self, member: Participant) -> Option<View>
-        requires { member < length self.now.list.items }
-        ensures { (lives : ℕ → Life) → HostsStand self.now.list.items lives → goes_on (lives member) ≡ true → result ≡ view_in (lives member) }
+    /// What a node is at.
+    pub(crate) fn status(&self, node: Node) -> Status
+        requires { HasSeat self.now.list.items node }
+        ensures { (setup : setups.Setup) (parts : nodes.Node → Part) → HostsStand setup self.now.list.items parts → goes_on (parts node) ≡ true → result ≡ status_in (parts node) }
     {
-        let at = place_of(member);
-        self.list[at].view()
+        self.list[seat_of(node)].status()
     }
 
-    /// Gives an input to a member's engine.
+    /// Gives an input to a node's engine.
     pub(crate) fn poll(
         &mut self,
         alloc: Global,
-        member: Participant,
+        node: Node,
         input: Input,
         now: u64,
         stop: &Stop,
         out: &mut StepOut,
     ) -> Result<Polled, PollError>
-        requires below { member < length self.old.list.items }
+        requires seat { HasSeat self.old.list.items node }
         requires clock { now < 2 ^ 63 }
         requires empty { out.old ≡ no_out }
         ensures count { length self.new.list.items ≡ length self.old.list.items }
-        ensures gives { IfOk result (λ polled. (lives : ℕ → Life) → HostsStand self.old.list.items lives → IsPolled (lives member) input now stop.now polled.outcome polled.taken out.new) }
-        ensures stands { IfOk result (λ _. (lives : ℕ → Life) → HostsStand self.old.list.items lives → HostsStand self.new.list.items (changed (node_of member) (after_poll input now stop.now) lives)) }
-        ensures refused { IfErr result (λ error. is_memory error ≡ false → (lives : ℕ → Life) → HostsStand self.old.list.items lives → refusal_in (lives member) input ≡ Some error) }
-        ensures stays { IfErr result (λ error. is_memory error ≡ false → (lives : ℕ → Life) → HostsStand self.old.list.items lives → HostsStand self.new.list.items lives) }
+        ensures gives { IfOk result (λ polled. (setup : setups.Setup) (parts : nodes.Node → Part) (life : Life) → HostsStand setup self.old.list.items parts → parts node ≡ Lives life → IsPolled life input now stop.now polled.outcome polled.taken out.new) }
+        ensures stands { IfOk result (λ _. (setup : setups.Setup) (parts : nodes.Node → Part) (life : Life) → HostsStand setup self.old.list.items parts → parts node ≡ Lives life → HostsStand setup self.new.list.items (changed node (Lives (after_poll input now stop.now life)) parts)) }
+        ensures refused { IfErr result (λ error. is_memory error ≡ false → (setup : setups.Setup) (parts : nodes.Node → Part) (life : Life) → HostsStand setup self.old.list.items parts → parts node ≡ Lives life → refusal_in life input ≡ Some error) }
+        ensures stays { IfErr result (λ error. is_memory error ≡ false → (setup : setups.Setup) (parts : nodes.Node → Part) → HostsStand setup self.old.list.items parts → HostsStand setup self.new.list.items parts) }
     {
-        let at = place_of(member);
+        let at = seat_of(node);
         match self.list[at].poll(alloc, input, now, stop, out) {
             Ok(polled) => Ok(polled),
             Err(error) => Err(error),
         }
     }
 
-    /// Starts a member's engine.
+    /// Lets a faulty member without an engine hear the bytes at a node, and gives what it sends.
+    pub(crate) fn hear(
+        &mut self,
+        alloc: Global,
+        node: Node,
+        channel: Channel,
+        bytes: &[u8],
+    ) -> Result<Sequence<Sent>, AllocError>
+        requires { HasSeat self.old.list.items node }
+        ensures count { length self.new.list.items ≡ length self.old.list.items }
+        ensures sends { IfOk result (λ sent. (setup : setups.Setup) (parts : nodes.Node → Part) (past : List Heard) → HostsStand setup self.old.list.items parts → parts node ≡ Hears past → sent ≡ heard_by setup node.member (kind_of setup node.member) past (record { channel = channel; bytes = bytes.now })) }
+        ensures stands { OnOk result ((setup : setups.Setup) (parts : nodes.Node → Part) (past : List Heard) → HostsStand setup self.old.list.items parts → parts node ≡ Hears past → HostsStand setup self.new.list.items (changed node (Hears (record { channel = channel; bytes = bytes.now } ∷ past)) parts)) }
+        ensures unmoved { OnOk result ((setup : setups.Setup) (parts : nodes.Node → Part) (past : List Heard) → is_of_kind is_impersonator setup node.member ≡ true → HostsStand setup self.old.list.items parts → parts node ≡ Hears past → HostsStand setup self.new.list.items parts) }
+    {
+        let at = seat_of(node);
+        let sent = self.list[at].hear(alloc, channel, bytes)?;
+        Ok(sent)
+    }
+
+    /// Starts a node's engine.
     pub(crate) fn start(
         &mut self,
         alloc: Global,
-        member: Participant,
+        node: Node,
         config: NodeConfig,
         now: u64,
         stop: &Stop,
         out: &mut StepOut,
     ) -> Result<Outcome, PollError>
-        requires below { member < length self.old.list.items }
-        requires built { config.elector.members ≡ config.scheme.participants }
-        requires lookahead { config.elector.terms.lookahead ≤ 2 ^ 32 }
-        requires stall { IfSome config.elector.terms.stall_timeout (λ stall. (config.certification_timeout < stall) × (stall ≤ 2 ^ 62)) }
+        requires seat { HasSeat self.old.list.items node }
+        requires built { config.elector.fallback.members ≡ config.scheme.inner.participants }
+        requires lookahead { config.elector.fallback.terms.lookahead ≤ 2 ^ 32 }
+        requires stall { IfSome config.elector.fallback.terms.stall_timeout (λ stall. (config.certification_timeout < stall) × (stall ≤ 2 ^ 62)) }
         requires allowed { first_bad config ≡ None }
         requires clock { now < 2 ^ 63 }
         requires empty { out.old ≡ no_out }
         ensures count { length self.new.list.items ≡ length self.old.list.items }
-        ensures gives { IfOk result (λ outcome. (lives : ℕ → Life) → HostsStand self.old.list.items lives → IsStarted (made_with config (sections_in (lives member))) now stop.now outcome out.new) }
-        ensures stands { IfOk result (λ _. (lives : ℕ → Life) → HostsStand self.old.list.items lives → HostsStand self.new.list.items (changed (node_of member) (λ life. after_start (made_with config (sections_in life)) now stop.now) lives)) }
+        ensures gives { IfOk result (λ outcome. (setup : setups.Setup) (parts : nodes.Node → Part) (life : Life) → HostsStand setup self.old.list.items parts → parts node ≡ Lives life → IsStarted (made_with config (sections_in life)) now stop.now outcome out.new) }
+        ensures stands { IfOk result (λ _. (setup : setups.Setup) (parts : nodes.Node → Part) (life : Life) → HostsStand setup self.old.list.items parts → parts node ≡ Lives life → HostsStand setup self.new.list.items (changed node (Lives (after_start (made_with config (sections_in life)) now stop.now)) parts)) }
         ensures memory { IfErr result (λ error. is_memory error ≡ true) }
     {
-        let at = place_of(member);
+        let at = seat_of(node);
         let outcome = self.list[at].start(alloc, config, now, stop, out)?;
         Ok(outcome)
     }
 
-    /// Stops a member's node.
-    pub(crate) fn crash(&mut self, alloc: Global, member: Participant) -> Result<(), PollError>
-        requires { member < length self.old.list.items }
+    /// Stops a node.
+    pub(crate) fn crash(&mut self, alloc: Global, node: Node) -> Result<(), PollError>
+        requires { HasSeat self.old.list.items node }
         ensures count { length self.new.list.items ≡ length self.old.list.items }
-        ensures stands { OnOk result ((lives : ℕ → Life) → HostsStand self.old.list.items lives → HostsStand self.new.list.items (changed (node_of member) (λ life. Stopped (crashed 0 (sections_in life))) lives)) }
+        ensures stands { OnOk result ((setup : setups.Setup) (parts : nodes.Node → Part) (life : Life) → HostsStand setup self.old.list.items parts → parts node ≡ Lives life → HostsStand setup self.new.list.items (changed node (Lives (Stopped (crashed 0 (sections_in life)))) parts)) }
     {
-        let at = place_of(member);
+        let at = seat_of(node);
         self.list[at].crash(alloc)?;
         Ok(())
+    }
+}
+
+// How many seats there are.
+#[tactic(auto, using(crate::proofs::Places::seats_few))]
+fn count_of(setup: &Setup) -> usize
+    requires { IsNone (rules.first_bad setup.now) }
+    ensures { result ≡ 2 * length setup.now.members }
+{
+    2 * setup.members.len()
+}
+
+// The member whose seat it is.
+#[tactic(auto, using(crate::proofs::Places::seats))]
+fn member_at(setup: &Setup, seat: usize) -> Participant
+    requires good { IsNone (rules.first_bad setup.now) }
+    requires below { seat < 2 * length setup.now.members }
+    ensures member { result ≡ seat / 2 }
+    ensures below { result < length setup.now.members }
+{
+    let _members = setup.members.len();
+    Participant((seat / 2) as u32)
+}
+
+// What sits there before any event.
+fn blank_host(alloc: Global, setup: &Setup, seat: usize) -> Result<Host, AllocError>
+    requires good { IsNone (rules.first_bad setup.now) }
+    requires below { seat < 2 * length setup.now.members }
+    ensures { IfOk result (λ host. HostStands setup.now (node_at seat).member host (part_in setup.now [] (node_at seat))) }
+{
+    let member = member_at(setup, seat);
+    if has_engine(setup, member) {
+        Ok(Host::Stopped(MemoryJournal::new(alloc)))
+    } else {
+        Ok(Host::Faulty(FaultyMember::new(alloc, setup, member)?))
     }
 }

@@ -1,18 +1,19 @@
-//! A network of engines that is given events and answers a transcript.
+//! A network of members, honest and faulty, that is given events and answers a transcript.
 //!
-//! It holds each member's node, the clock, and what was sent. It may assume nothing of a setup and of events but that
+//! It holds each member's nodes, the clock, and what was sent. It may assume nothing of a setup and of events but that
 //! they are fewer than its numbers. It owes that each entry, or refusal, is the one of the definition of runs, made by
 //! engines that step, and that a whole run is safe.
 #![tactic(auto)]
 
-mod config;
 mod host;
 mod hosts;
 mod inputs;
-mod members;
 mod network;
+mod nodes;
 mod run;
-mod setups;
+mod sending;
+mod status;
+mod testing;
 
 pub use host::NodeEngine;
 pub use network::Network;

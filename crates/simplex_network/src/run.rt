@@ -2,7 +2,7 @@
 ghost use Rattle.std.specs.Prelude.{◌≡◌, ◌++◌, ◌∷◌, [], Ok, Err, OnOk, IfOk, IfErr, true, false};
 ghost use Rattle.simplex_run.specs.Run as runs;
 ghost use Rattle.simplex_run.specs.Setups as setups;
-ghost use Rattle.simplex_run_laws.specs.Complete.{IsOneEach, IsProper};
+ghost use Rattle.simplex_run_laws.specs.Complete.{IsOneEach, IsPossible};
 ghost use Rattle.simplex_safety.specs.Sayings.{Each};
 ghost use Rattle.simplex_backing.specs.Fitting.{IsTyped};
 ghost use Rattle.simplex_backing.specs.Safe.{RunsSafely};
@@ -10,11 +10,9 @@ ghost use Rattle.simplex_network.specs.Answer.{is_memory};
 ghost use Rattle.simplex_network.specs.Stands.{MadeBy};
 
 use crate::network::Network;
-use crate::setups::{are_few, is_taken};
 use simplex_backing::runs_are_safe;
-use simplex_run_laws::{
-    proper_runs_make_transcripts, transcripts_are_of_proper_runs, transcripts_have_one_entry_each,
-};
+use simplex_members::are_few;
+use simplex_run_laws::{possible_events_run, runs_are_possible, runs_have_one_entry_each};
 use simplex_transcript::{Entry, Event, Field, Refusal, RunError, Setup};
 use simplex_typed::entries_are_typed;
 use simplex_types::Sequence;
@@ -39,13 +37,13 @@ pub fn run_network(alloc: Global, setup: &Setup, events: &[Event]) -> Result<Tra
     // One entry for each event: as many, numbered from 1, each of the node that its event names.
     ensures entries { IfOk result (λ transcript. IsOneEach transcript.entries events.now) }
     // A valid setup and events that each meet their conditions make a transcript, or want memory; and nothing else does.
-    ensures complete { IfErr result (λ refusal. IsProper setup.now events.now → is_memory refusal.error ≡ true) }
-    ensures proper { IfOk result (λ transcript. IsProper setup.now events.now) }
+    ensures complete { IfErr result (λ refusal. IsPossible setup.now events.now → is_memory refusal.error ≡ true) }
+    ensures possible { IfOk result (λ transcript. IsPossible setup.now events.now) }
 {
     runs_are_safe();
-    transcripts_have_one_entry_each();
-    proper_runs_make_transcripts();
-    transcripts_are_of_proper_runs();
+    runs_have_one_entry_each();
+    possible_events_run();
+    runs_are_possible();
     run_typed(alloc, setup, events)
 }
 
@@ -56,30 +54,26 @@ fn run_typed(alloc: Global, setup: &Setup, events: &[Event]) -> Result<Transcrip
     ensures refused { IfErr result (λ refusal. is_memory refusal.error ≡ false → runs.Run setup.now events.now ≡ Err refusal) }
     ensures typed { IfOk result (λ transcript. Each IsTyped transcript.entries) }
 {
-    let transcript = run_taken(alloc, setup, events)?;
+    let transcript = run_few(alloc, setup, events)?;
     entries_are_typed(transcript.entries.as_slice());
     Ok(transcript)
 }
 
-// Runs the events where setup and events are taken, and tells the first refusal else.
-#[tactic(auto, unfolding(simplex_run::specs::Run::Run, simplex_run::specs::Run::whole_run))]
-fn run_taken(alloc: Global, setup: &Setup, events: &[Event]) -> Result<Transcript, Refusal>
+// Runs the events where there are no more than may be, and tells the first refusal else.
+#[tactic(auto, unfolding(simplex_run::specs::Run::Run))]
+fn run_few(alloc: Global, setup: &Setup, events: &[Event]) -> Result<Transcript, Refusal>
     ensures done { IfOk result (λ transcript. runs.Run setup.now events.now ≡ Ok transcript.entries) }
     ensures network { IfOk result (λ transcript. MadeBy transcript.network setup.now (runs.run setup.now [] events.now)) }
     ensures refused { IfErr result (λ refusal. is_memory refusal.error ≡ false → runs.Run setup.now events.now ≡ Err refusal) }
 {
-    if !is_taken(setup) {
-        return Err(refused(RunError::NotYet, 0));
-    }
     if !are_few(setup, events) {
         return Err(refused(RunError::BadSetup(Field::Events), 0));
     }
     run_all(alloc, setup, events)
 }
 
-// Runs the events of a setup that is taken.
+// Runs all events.
 fn run_all(alloc: Global, setup: &Setup, events: &[Event]) -> Result<Transcript, Refusal>
-    requires { runs.is_taken setup.now ≡ true }
     ensures done { IfOk result (λ transcript. runs.unless_bad (setups.first_bad setup.now) (runs.transcript_of (runs.run setup.now [] events.now)) ≡ Ok transcript.entries) }
     ensures network { IfOk result (λ transcript. MadeBy transcript.network setup.now (runs.run setup.now [] events.now)) }
     ensures refused { IfErr result (λ refusal. is_memory refusal.error ≡ false → runs.unless_bad (setups.first_bad setup.now) (runs.transcript_of (runs.run setup.now [] events.now)) ≡ Err refusal) }

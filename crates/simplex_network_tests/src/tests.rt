@@ -1,6 +1,7 @@
-//! Runs of one member that finalizes view 1, with what each event does, worked out by hand from the rules.
+//! Runs of one member that finalizes view 1, and of four, with what each event does, worked out by hand from the rules.
 mod engine;
 mod finalizes;
+mod members;
 mod restarts;
 mod view;
 mod words;

@@ -1,8 +1,9 @@
 //! The text and the status of each exit that comes before a run, and reads and writes that fail in turn.
 use simplex_io::{MemorySink, MemorySource};
 use simplex_program::{Exit, LIMIT, program};
-use std::alloc::{AllocError, Global};
-use std::test::Fail;
+use std::alloc::Global;
+use std::fmt::Debug;
+use std::process::Abort;
 
 const USAGE: &str = "usage: run | par WORKERS | gen NUMBER STEPS\n";
 
@@ -10,141 +11,163 @@ const USAGE: &str = "usage: run | par WORKERS | gen NUMBER STEPS\n";
 const REST: &str =
     r#""key_base":1,"members":["honest"],"term":1,"lookahead":0,"leader_timeout":1000,"certification_timeout":2000,"retry":500,"stall":null,"retention":10,"skip":null,"forward":"disabled","mailbox":16,"track":false,"handoff":false,"fetch_timeout":1000,"fetch_retry":100,"scenario":[]"#;
 
-fn words_of(alloc: Global, words: &[&str]) -> Result<Vec<String>, AllocError> {
+fn words_of(rt: &impl Abort, alloc: Global, words: &[&str]) -> Vec<String> {
     let mut owned = Vec::new(alloc);
     for &word in words {
-        owned.push(String::from_str(alloc, word)?)?;
+        let word = String::from_str(alloc, word).expect(rt, "room");
+        owned.push(word).expect(rt, "room");
     }
-    Ok(owned)
+    owned
 }
 
 // So many spaces.
-fn spaces(alloc: Global, n: u32) -> Result<Vec<u8>, AllocError> {
-    Ok(vec![in alloc; 32u8; n as usize]?)
+fn spaces(rt: &impl Abort, alloc: Global, n: u32) -> Vec<u8> {
+    vec![in alloc; 32u8; n as usize].expect(rt, "room")
 }
 
-// What the program writes, and its status, where these reads and these writes fail.
-pub(crate) fn ended(
-    alloc: Global,
-    words: &[&str],
-    input: Vec<u8>,
-    reads: Vec<u64>,
-    writes: Vec<u64>,
-) -> Result<(Vec<u8>, u8), AllocError> {
-    let words = words_of(alloc, words)?;
-    let mut source = MemorySource::new(input, reads);
-    let mut sink = MemorySink::new(alloc, writes);
-    let exit = program(alloc, &words, &mut source, &mut sink);
-    Ok((sink.bytes().to_vec(alloc)?, exit.status()))
+// The bytes of a text.
+pub(crate) fn bytes_of(rt: &impl Abort, alloc: Global, text: &str) -> Vec<u8> {
+    text.as_bytes().to_vec(alloc).expect(rt, "room")
 }
 
-// The same, where no read and no write fails.
-pub(crate) fn told(
+// Which read and which write fails, counted from 1; 0 is none.
+#[derive(Clone, Copy)]
+pub(crate) struct Failing {
+    pub read: u64,
+    pub write: u64,
+}
+
+pub(crate) const NOTHING: Failing = Failing { read: 0, write: 0 };
+
+fn one(rt: &impl Abort, alloc: Global, number: u64) -> Vec<u64> {
+    vec![in alloc; number].expect(rt, "room")
+}
+
+// The test ends here where the two differ, and says in which case.
+fn same<T: PartialEq + Debug>(rt: &impl Abort, case: &str, got: &T, wanted: &T) {
+    assert_eq!(rt; got, wanted, "{case}");
+}
+
+// The status with which the program ends.
+fn status(alloc: Global, words: &[String], source: &mut MemorySource, sink: &mut MemorySink) -> u8 {
+    let exit = program(alloc, words, source, sink);
+    exit.status()
+}
+
+// The program writes this and ends with this status, where such calls fail. The case says which it is.
+pub(crate) fn assert_ends(
+    rt: &impl Abort,
     alloc: Global,
+    case: &str,
     words: &[&str],
     input: Vec<u8>,
-) -> Result<(Vec<u8>, u8), AllocError> {
-    ended(alloc, words, input, Vec::new(alloc), Vec::new(alloc))
+    failing: Failing,
+    (text, wanted): (&str, u8),
+) {
+    let words = words_of(rt, alloc, words);
+    let mut source = MemorySource::new(input, one(rt, alloc, failing.read));
+    let mut sink = MemorySink::new(alloc, one(rt, alloc, failing.write));
+    let status = status(alloc, &words, &mut source, &mut sink);
+    let wanted = (text.as_bytes(), wanted);
+    same(rt, case, &(sink.bytes(), status), &wanted);
 }
 
 #[test]
-fn other_words_are_told_the_usage(rt: HostRuntime) -> Result<(), Fail> {
+fn other_words_are_told_the_usage(rt: HostRuntime) {
     let alloc = rt.alloc();
-    let table: [&[&str]; 9] = [
-        &[],
-        &[""],
-        &["walk"],
-        &["Run"],
-        &["run "],
-        &["run", "run"],
-        &["run", ""],
-        &["par", "4"],
-        &["gen", "1", "10"],
+    let table: [(&str, &[&str]); 9] = [
+        ("no words", &[]),
+        ("an empty word", &[""]),
+        ("another word", &["walk"]),
+        ("upper case", &["Run"]),
+        ("a space", &["run "]),
+        ("twice", &["run", "run"]),
+        ("an empty word behind", &["run", ""]),
+        ("workers", &["par", "4"]),
+        ("a list", &["gen", "1", "10"]),
     ];
-    for words in table {
-        let (text, status) = told(alloc, words, spaces(alloc, 9)?)?;
-        assert_eq!(rt; text.as_slice(), USAGE.as_bytes(), "{words:?}");
-        assert_eq!(rt; status, 2, "{words:?}");
+    for (case, words) in table {
+        let input = spaces(&rt, alloc, 9);
+        assert_ends(&rt, alloc, case, words, input, NOTHING, (USAGE, 2));
     }
-    Ok(())
 }
 
 #[test]
-fn an_input_of_no_form_is_told_its_place(rt: HostRuntime) -> Result<(), Fail> {
+fn an_input_of_no_form_is_told_its_place(rt: HostRuntime) {
     let alloc = rt.alloc();
-    let float = format!(in alloc; "{{\"setup\":{{\"epoch\":0.5,{REST}}},\"events\":[]}}")?;
-    let more = format!(in alloc; "{{\"setup\":{{\"epoch\":0,{REST},\"more\":0}},\"events\":[]}}")?;
-    let table = [
+    let float = format!(in alloc; "{{\"setup\":{{\"epoch\":0.5,{REST}}},\"events\":[]}}").expect(
+        &rt, "room",
+    );
+    let event = format!(in alloc;
+        "{{\"setup\":{{\"epoch\":0,{REST}}},\"events\":[{{\"do\":\"tick\",\"ms\":1.5}}]}}"
+    ).expect(&rt, "room");
+    let more = format!(in alloc;
+        "{{\"setup\":{{\"epoch\":0,{REST},\"more\":0}},\"events\":[]}}"
+    ).expect(&rt, "room");
+    for (input, wanted) in [
         ("", "bad input at 0\n"),
         ("{", "bad input at 0\n"),
         ("[]", "bad input at 1\n"),
         ("{\"events\":[]}", "bad input at 1\n"),
         (float.as_str(), "bad input at 1\n"),
         (more.as_str(), "bad input at 1\n"),
-    ];
-    for (input, wanted) in table {
-        let (text, status) = told(alloc, &["run"], input.as_bytes().to_vec(alloc)?)?;
-        assert_eq!(rt; text.as_slice(), wanted.as_bytes(), "{input}");
-        assert_eq!(rt; status, 3, "{input}");
+        (event.as_str(), "bad input at 2\n"),
+    ] {
+        let bytes = bytes_of(&rt, alloc, input);
+        assert_ends(&rt, alloc, input, &["run"], bytes, NOTHING, (wanted, 3));
     }
-    Ok(())
 }
 
 #[test]
-fn one_byte_more_than_the_limit_is_too_long(rt: HostRuntime) -> Result<(), Fail> {
+fn one_byte_more_than_the_limit_is_too_long(rt: HostRuntime) {
     let alloc = rt.alloc();
-    let (text, status) = told(alloc, &["run"], spaces(alloc, LIMIT + 1)?)?;
-    assert_eq!(rt; text.as_slice(), "input too long\n".as_bytes());
-    assert_eq!(rt; status, 4);
-    Ok(())
+    let input = spaces(&rt, alloc, LIMIT + 1);
+    let wanted = ("input too long\n", 4);
+    assert_ends(&rt, alloc, "spaces", &["run"], input, NOTHING, wanted);
 }
 
 #[test]
 fn want_of_memory_is_told_by_the_status(rt: HostRuntime) {
-    let exit = Exit::Memory;
-    assert_eq!(rt; exit.status(), 7);
+    same(&rt, "memory", &Exit::Memory.status(), &7);
 }
 
 // Ten thousand bytes come in reads of 4,096, 4,096, 1,808 and none; a fifth is not made.
 #[test]
-fn a_read_that_fails_is_told_by_the_status_alone(rt: HostRuntime) -> Result<(), Fail> {
+fn a_read_that_fails_is_told_by_the_status_alone(rt: HostRuntime) {
     let alloc = rt.alloc();
-    let table = [
-        (1, "", 5),
-        (2, "", 5),
-        (3, "", 5),
-        (4, "", 5),
-        (5, "bad input at 0\n", 3),
-    ];
-    for (failing, wanted, ending) in table {
-        let reads = vec![in alloc; failing]?;
-        let (text, status) = ended(
-            alloc,
-            &["run"],
-            spaces(alloc, 10_000)?,
-            reads,
-            Vec::new(alloc),
-        )?;
-        assert_eq!(rt; text.as_slice(), wanted.as_bytes(), "read {failing} fails");
-        assert_eq!(rt; status, ending, "read {failing} fails");
+    for (case, read, text, status) in [
+        ("read 1 fails", 1, "", 5),
+        ("read 2 fails", 2, "", 5),
+        ("read 3 fails", 3, "", 5),
+        ("read 4 fails", 4, "", 5),
+        ("read 5 fails", 5, "bad input at 0\n", 3),
+    ] {
+        let input = spaces(&rt, alloc, 10_000);
+        let failing = Failing { read, write: 0 };
+        assert_ends(&rt, alloc, case, &["run"], input, failing, (text, status));
     }
-    Ok(())
 }
 
 // The usage is 44 bytes, which are written in pieces of 16, 16 and 12; a fourth is not written.
 #[test]
-fn behind_a_write_that_fails_nothing_is_written(rt: HostRuntime) -> Result<(), Fail> {
+fn behind_a_write_that_fails_nothing_is_written(rt: HostRuntime) {
     let alloc = rt.alloc();
-    let table = [(1, 0, 6), (2, 16, 6), (3, 32, 6), (4, 44, 2)];
-    for (failing, written, ending) in table {
-        let writes = vec![in alloc; failing]?;
-        let (text, status) = ended(alloc, &["walk"], Vec::new(alloc), Vec::new(alloc), writes)?;
-        assert_eq!(rt;
-            text.as_slice(),
-            &USAGE.as_bytes()[..written],
-            "write {failing} fails"
+    for (case, write, text, status) in [
+        ("write 1 fails", 1, "", 6),
+        ("write 2 fails", 2, "usage: run | par", 6),
+        ("write 3 fails", 3, "usage: run | par WORKERS | gen N", 6),
+        ("write 4 fails", 4, USAGE, 2),
+    ] {
+        let failing = Failing { read: 0, write };
+        let wanted = (text, status);
+        assert_ends(
+            &rt,
+            alloc,
+            case,
+            &["walk"],
+            Vec::new(alloc),
+            failing,
+            wanted,
         );
-        assert_eq!(rt; status, ending, "write {failing} fails");
     }
-    Ok(())
 }

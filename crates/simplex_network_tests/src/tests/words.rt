@@ -1,7 +1,8 @@
 //! What an event does, in words.
-use simplex_messages::{Call, Outcome};
+use simplex_messages::{Call, Handed, Outcome, voter};
 use simplex_rules::Asked;
-use simplex_types::{Activity, Artifact, Channel};
+use simplex_transcript::{Entry, Packet};
+use simplex_types::{Activity, Artifact, Attestation, Certificate, Channel};
 use std::alloc::{AllocError, Global};
 
 pub(super) fn artifact_name(artifact: &Artifact) -> &'static str {
@@ -34,6 +35,22 @@ fn channel_name(channel: Channel) -> &'static str {
         Channel::Vote => "vote",
         Channel::Certificate => "certificate",
         Channel::Resolver => "resolver",
+    }
+}
+
+fn certificate_name(certificate: &Certificate) -> &'static str {
+    match certificate {
+        Certificate::Notarization(_) => "notarization",
+        Certificate::Nullification(_) => "nullification",
+        Certificate::Finalization(_) => "finalization",
+    }
+}
+
+fn signatures(certificate: &Certificate) -> &[Attestation] {
+    match certificate {
+        Certificate::Notarization(it) => it.certificate.as_slice(),
+        Certificate::Nullification(it) => it.certificate.as_slice(),
+        Certificate::Finalization(it) => it.certificate.as_slice(),
     }
 }
 
@@ -72,6 +89,24 @@ fn asked_name(alloc: Global, asked: &Asked) -> Result<String, AllocError> {
     }
 }
 
+/// What the voter is handed; anything else is not named.
+fn handed_name(alloc: Global, handed: &Handed) -> Result<String, AllocError> {
+    match handed {
+        Handed::Voter(voter::Message::Proposal { proposal }) => {
+            format!(in alloc; "proposal {},", proposal.round.view)
+        }
+        Handed::Voter(voter::Message::Verified { certificate }) => {
+            let mut text = String::from_str(alloc, certificate_name(certificate))?;
+            for attestation in signatures(certificate) {
+                text.push_str(&format!(in alloc; " {}", attestation.signer)?)?;
+            }
+            text.push_str(",")?;
+            Ok(text)
+        }
+        _ => format!(in alloc; "other,"),
+    }
+}
+
 /// The calls, each with a comma behind it.
 fn add_calls(alloc: Global, text: &mut String, calls: &[Call]) -> Result<(), AllocError> {
     for call in calls {
@@ -99,5 +134,50 @@ pub(super) fn told(
     add_calls(alloc, &mut text, calls)?;
     add_requests(alloc, &mut text, requests)?;
     text.push_str(outcome_name(outcome))?;
+    Ok(text)
+}
+
+/// A part of what an event did.
+#[derive(Clone, Copy)]
+pub(super) enum Part {
+    Calls,
+    Asked,
+    Handed,
+    Outcome,
+    /// The nodes that the packets may be delivered to.
+    Packets,
+}
+
+fn add_handed(alloc: Global, text: &mut String, messages: &[Handed]) -> Result<(), AllocError> {
+    for handed in messages {
+        text.push_str(&handed_name(alloc, handed)?)?;
+    }
+    Ok(())
+}
+
+fn add_nodes(alloc: Global, text: &mut String, packet: &Packet) -> Result<(), AllocError> {
+    for node in packet.to.as_slice() {
+        text.push_str(&format!(in alloc; "{}.{},", node.member, node.half)?)?;
+    }
+    Ok(())
+}
+
+fn add_packets(alloc: Global, text: &mut String, packets: &[Packet]) -> Result<(), AllocError> {
+    for packet in packets {
+        add_nodes(alloc, text, packet)?;
+    }
+    Ok(())
+}
+
+/// A part of the entry, each item with a comma behind it.
+pub(super) fn part_told(alloc: Global, entry: &Entry, part: Part) -> Result<String, AllocError> {
+    let mut text = String::new(alloc);
+    match part {
+        Part::Calls => add_calls(alloc, &mut text, entry.calls.as_slice())?,
+        Part::Asked => add_requests(alloc, &mut text, entry.asked.as_slice())?,
+        Part::Handed => add_handed(alloc, &mut text, entry.handed.as_slice())?,
+        Part::Outcome => text.push_str(outcome_name(entry.outcome))?,
+        Part::Packets => add_packets(alloc, &mut text, entry.packets.as_slice())?,
+    }
     Ok(text)
 }

@@ -11,11 +11,11 @@ loop-event-preserved c =
 
 pub returns-in-Err-apply-clause-refused : goal.returns-in-Err-apply-clause-refused
 returns-in-Err-apply-clause-refused c =
-    λ whole. ran-ends _ _ _ _ _ _ _ _ _ c.requires c.in-Ok.ensures.allowed (omega arith) c.event-item.is c.loop-event.invariant
+    λ whole. ran-ends _ _ _ _ _ _ _ _ _ c.in-Ok.ensures.allowed (omega arith) c.event-item.is c.loop-event.invariant
     c.refused-in-Err-apply.ensures whole c.in-Err-apply.ensures.reason
 
 pub returns-clause-done : goal.returns-clause-done
-returns-clause-done c = ran-done _ _ _ _ _ _ c.requires c.in-Ok.ensures.allowed (omega arith) c.loop-event.invariant
+returns-clause-done c = ran-done _ _ _ _ _ _ c.in-Ok.ensures.allowed (omega arith) c.loop-event.invariant
 
 pub returns-clause-network : goal.returns-clause-network
 returns-clause-network c = ran-network _ _ _ _ _ _ (omega arith) c.loop-event.invariant

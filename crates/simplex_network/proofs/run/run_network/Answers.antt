@@ -5,7 +5,7 @@ use Rattle.simplex_transcript.specs.declared.event.Event.{Event}
 use Rattle.simplex_transcript.specs.declared.refusal.Refusal.{Refusal}
 use Rattle.simplex_transcript.specs.declared.setup.Setup.{Setup}
 use Rattle.simplex_run.specs.Run.{Run}
-use Rattle.simplex_run_laws.specs.Complete.{MakesTranscript}
+use Rattle.simplex_run_laws.specs.Complete.{HasRun}
 use Rattle.simplex_network.specs.Answer.{is_memory}
 use Rattle.simplex_network.proofs.run.run_network.Goals as goal
 
@@ -14,8 +14,8 @@ both : {A E : Type 0} (r : Result A E) (P Q R : A → Type 0) → ((a : A) → P
 both (Ok a) P Q R f p q = f a p q
 both (Err e) P Q R f p q = p
 
--- what makes a transcript is refused for want of memory alone
-memory_alone : (setup : Setup) (events : List Event) (refusal : Refusal) → MakesTranscript setup events
+-- what has a run is refused for want of memory alone
+memory_alone : (setup : Setup) (events : List Event) (refusal : Refusal) → HasRun setup events
     → (is_memory refusal.error ≡ false → Run setup events ≡ Err refusal) → is_memory refusal.error ≡ true
 memory_alone setup events refusal made why = by (is_memory refusal.error) why
   where
@@ -25,21 +25,21 @@ memory_alone setup events refusal made why = by (is_memory refusal.error) why
 
 pub returns-clause-safe : goal.returns-clause-safe
 returns-clause-safe c =
-    both c.run_typed.result _ _ _ (λ transcript made typed. c.runs_are_safe.ensures.taken c.args.setup.now c.args.events.now transcript.entries made typed)
+    both c.run_typed.result _ _ _ (λ transcript made typed. c.runs_are_safe.ensures c.args.setup.now c.args.events.now transcript.entries made typed)
     c.run_typed.ensures.done c.run_typed.ensures.typed
 
 pub returns-clause-entries : goal.returns-clause-entries
 returns-clause-entries c =
     IfOk-weaker c.run_typed.result _ _
-    (λ transcript made. c.transcripts_have_one_entry_each.ensures c.args.setup.now c.args.events.now transcript.entries made) c.run_typed.ensures.done
+    (λ transcript made. c.runs_have_one_entry_each.ensures c.args.setup.now c.args.events.now transcript.entries made) c.run_typed.ensures.done
 
-pub returns-clause-proper : goal.returns-clause-proper
-returns-clause-proper c =
+pub returns-clause-possible : goal.returns-clause-possible
+returns-clause-possible c =
     IfOk-weaker c.run_typed.result _ _
-    (λ transcript made. c.transcripts_are_of_proper_runs.ensures c.args.setup.now c.args.events.now transcript.entries made) c.run_typed.ensures.done
+    (λ transcript made. c.runs_are_possible.ensures c.args.setup.now c.args.events.now transcript.entries made) c.run_typed.ensures.done
 
 pub returns-clause-complete : goal.returns-clause-complete
 returns-clause-complete c =
     IfErr-weaker c.run_typed.result _ _
-    (λ refusal why proper. memory_alone c.args.setup.now c.args.events.now refusal (c.proper_runs_make_transcripts.ensures c.args.setup.now c.args.events.now proper) why)
+    (λ refusal why proper. memory_alone c.args.setup.now c.args.events.now refusal (c.possible_events_run.ensures c.args.setup.now c.args.events.now proper) why)
     c.run_typed.ensures.refused

@@ -1,29 +1,51 @@
-use Rattle.std.proofs.Common.{sym, ap, ◌∙◌}
+use Rattle.std.proofs.Common.{refl, sym, ap, ◌∙◌, inl, inr}
+use Rattle.std.specs.Prelude.{Ok}
+use Rattle.std.proofs.lemmas.Result.{IfOk-weaker, IfErr-weaker}
+use Rattle.simplex_transcript.specs.declared.event.Event.TheVariants as events
+use Rattle.simplex_run.specs.Life.{Running, life_in}
 use Rattle.simplex_network.specs.Stands.{entered}
-use Rattle.simplex_network.proofs.Polled.{answer-entry, answer-input}
-use Rattle.simplex_network.proofs.Refusals.{answer-refused, answer-lacks}
+use Rattle.simplex_network.proofs.Polled.{answer-input}
+use Rattle.simplex_network.proofs.Found.{found-none, found-stopped, found-running, found-faulty}
+use Rattle.simplex_network.proofs.Events.{answer-missing, answer-stopped, answer-none, answer-is, answer-faulty}
 use Rattle.simplex_network.proofs.network.Network.answer.Goals as goal
 
 pub returns-in-Err-clause-reason : goal.returns-in-Err-clause-reason
 returns-in-Err-clause-reason c =
-    λ whole setup before s. answer-refused setup before _ _ _ _ (c.in-Err.ensures.stands setup before s)
+    λ whole setup before s.
+    let n = found-none setup before c.args.node _ (c.in-Err.ensures.found setup before s) in
+    rw n.1 (answer-missing setup before c.args.node _ _ n.0)
+
+pub returns-in-Stopped-clause-reason : goal.returns-in-Stopped-clause-reason
+returns-in-Stopped-clause-reason c =
+    λ whole setup before s. answer-stopped setup before c.args.node _ _ (found-stopped setup before c.args.node (rw c.in-Stopped.is at (c.in-Ok.ensures.found setup before s)))
+
+pub returns-in-Faulty-clause-reason : goal.returns-in-Faulty-clause-reason
+returns-in-Faulty-clause-reason c = λ whole setup before s. answer-faulty setup before c.args.node _ _ (found-faulty setup before c.args.node (rw c.in-Faulty.is at (c.in-Ok.ensures.found setup before s)))
 
 pub returns-in_default-clause-reason : goal.returns-in_default-clause-reason
 returns-in_default-clause-reason c =
-    λ whole setup before s. answer-lacks setup before _ _ _ _ _ (c.in-Ok.ensures.stands setup before s)
-    (rw c.in-Ok.ensures.node (c.in_default.ensures before s.book))
+    λ whole setup before s. answer-none setup before c.args.node _ _ _ (found-running setup before c.args.node _ (rw c.in-Running.is at (c.in-Ok.ensures.found setup before s))) (c.in_default.ensures setup before s.records)
 
-pub returns-in-Ok-poll-clause-stands : goal.returns-in-Ok-poll-clause-stands
-returns-in-Ok-poll-clause-stands c =
-    λ setup before noted s is. c.in-Ok-poll.ensures.stands setup before _ noted s (answer-input _ _ _)
-    (sym (answer-entry setup before _ _ _ _ _ _ c.in-Ok.ensures.node (c.in-Ok.ensures.stands setup before s) (c.in-Some.ensures before s.book)) ∙ is)
+pub returns-in-Some-clause-stands : goal.returns-in-Some-clause-stands
+returns-in-Some-clause-stands c =
+    IfOk-weaker c.poll.result _ _
+    (λ _ adds setup before noted s is.
+    let r = (found-running setup before c.args.node _ (rw c.in-Running.is at (c.in-Ok.ensures.found setup before s))) in
+    adds setup before (events.Answer c.args.node c.args.at c.args.answer) noted (Running r.made r.past) s (r.engine, r.life) (answer-input _ _ _) (sym (answer-is setup before c.args.node c.args.at c.args.answer _ _ r (c.in-Some.ensures setup before s.records)) ∙ is))
+    c.poll.ensures.stands
 
-pub returns-in-Ok-poll-clause-entry : goal.returns-in-Ok-poll-clause-entry
-returns-in-Ok-poll-clause-entry c =
-    λ setup before s. ap (λ r. entered r) (answer-entry setup before _ _ _ _ _ _ c.in-Ok.ensures.node (c.in-Ok.ensures.stands setup before s) (c.in-Some.ensures before s.book))
-    ∙ c.in-Ok-poll.ensures.entry setup before _ s
+pub returns-in-Some-clause-entry : goal.returns-in-Some-clause-entry
+returns-in-Some-clause-entry c =
+    IfOk-weaker c.poll.result _ _
+    (λ entry gives setup before s.
+    let r = (found-running setup before c.args.node _ (rw c.in-Running.is at (c.in-Ok.ensures.found setup before s))) in
+    ap (λ x. entered x) (answer-is setup before c.args.node c.args.at c.args.answer _ _ r (c.in-Some.ensures setup before s.records)) ∙ gives setup before (events.Answer c.args.node c.args.at c.args.answer) (Running r.made r.past) s (r.engine, r.life))
+    c.poll.ensures.entry
 
-pub returns-in-Err-poll-clause-reason : goal.returns-in-Err-poll-clause-reason
-returns-in-Err-poll-clause-reason c =
-    λ whole setup before s. answer-entry setup before _ _ _ _ _ _ c.in-Ok.ensures.node (c.in-Ok.ensures.stands setup before s) (c.in-Some.ensures before s.book)
-    ∙ c.in-Err-poll.ensures.reason whole setup before _ s
+pub returns-in-Some-clause-reason : goal.returns-in-Some-clause-reason
+returns-in-Some-clause-reason c =
+    IfErr-weaker c.poll.result _ _
+    (λ error denies whole setup before s.
+    let r = (found-running setup before c.args.node _ (rw c.in-Running.is at (c.in-Ok.ensures.found setup before s))) in
+    (answer-is setup before c.args.node c.args.at c.args.answer _ _ r (c.in-Some.ensures setup before s.records)) ∙ denies whole setup before (events.Answer c.args.node c.args.at c.args.answer) (Running r.made r.past) s (r.engine, r.life))
+    c.poll.ensures.reason

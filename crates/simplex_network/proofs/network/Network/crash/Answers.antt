@@ -1,19 +1,50 @@
-use Rattle.std.proofs.Common.{refl, ap, ◌∙◌}
+use Rattle.std.proofs.Common.{refl, sym, ap, ◌∙◌, inl, inr}
+use Rattle.std.specs.Prelude.{Ok}
+use Rattle.std.proofs.lemmas.Result.{IfOk-weaker, IfErr-weaker}
+use Rattle.simplex_transcript.specs.declared.event.Event.TheVariants as events
+use Rattle.simplex_run.specs.Life.{Running, life_in}
 use Rattle.simplex_network.specs.Stands.{entered}
 use Rattle.simplex_network.proofs.Polled.{same-ok}
-use Rattle.simplex_network.proofs.Refusals.{crash-refused, crash-entry}
-use Rattle.simplex_network.proofs.Networks.{network-crashed}
+use Rattle.simplex_network.proofs.Found.{found-none, found-stopped, found-running, found-faulty}
+use Rattle.simplex_network.proofs.Events.{crash-missing, crash-stopped, crash-running, crash-faulty}
 use Rattle.simplex_network.proofs.network.Network.crash.Goals as goal
 
 pub returns-in-Err-clause-reason : goal.returns-in-Err-clause-reason
-returns-in-Err-clause-reason c = λ whole setup before s. crash-refused setup before _ _ (c.in-Err.ensures.stands setup before s)
+returns-in-Err-clause-reason c =
+    λ whole setup before s.
+    let n = found-none setup before c.args.node _ (c.in-Err.ensures.found setup before s) in
+    rw n.1 (crash-missing setup before c.args.node n.0)
 
-pub returns-in-Ok-crash-clause-stands : goal.returns-in-Ok-crash-clause-stands
-returns-in-Ok-crash-clause-stands c =
-    λ setup before noted s is. network-crashed _ _ setup before noted _ _ refl refl refl s
-    (rw c.in-Ok.ensures.node at (same-ok noted _ _ is (crash-entry setup before _ _ _ (c.in-Ok.ensures.stands setup before s))))
-    c.in-Ok-crash.ensures.stands (rw c.in-Ok.ensures.node at (c.in-Ok-pass.ensures.entry before s.book)) c.in-Ok-pass.ensures.stands
+pub returns-in-Stopped-clause-reason : goal.returns-in-Stopped-clause-reason
+returns-in-Stopped-clause-reason c =
+    λ whole setup before s. crash-stopped setup before c.args.node (found-stopped setup before c.args.node (rw c.in-Stopped.is at (c.in-Ok.ensures.found setup before s)))
 
-pub returns-in-Ok-crash-clause-entry : goal.returns-in-Ok-crash-clause-entry
-returns-in-Ok-crash-clause-entry c =
-    λ setup before s. ap (λ r. entered r) (crash-entry setup before _ _ _ (c.in-Ok.ensures.stands setup before s)) ∙ rw (c.in-Ok-pass.ensures.entry before s.book) refl
+pub returns-in-Faulty-clause-stands : goal.returns-in-Faulty-clause-stands
+returns-in-Faulty-clause-stands c =
+    IfOk-weaker c.idle.result _ _
+    (λ _ adds setup before noted s is.
+    let f = (found-faulty setup before c.args.node (rw c.in-Faulty.is at (c.in-Ok.ensures.found setup before s))) in
+    rw (same-ok noted _ _ is (crash-faulty setup before c.args.node f)) (adds setup before (events.Crash c.args.node) s f.engine (inr refl)))
+    c.idle.ensures.stands
+
+pub returns-in-Faulty-clause-entry : goal.returns-in-Faulty-clause-entry
+returns-in-Faulty-clause-entry c =
+    IfOk-weaker c.idle.result _ _
+    (λ entry gives setup before s.
+    ap (λ r. entered r) (crash-faulty setup before c.args.node (found-faulty setup before c.args.node (rw c.in-Faulty.is at (c.in-Ok.ensures.found setup before s)))) ∙ ap (λ e. Ok e) (sym (gives setup before s)))
+    c.idle.ensures.entry
+
+pub returns-in-Running-clause-stands : goal.returns-in-Running-clause-stands
+returns-in-Running-clause-stands c =
+    IfOk-weaker c.halt.result _ _
+    (λ _ adds setup before noted s is.
+    let r = (found-running setup before c.args.node _ (rw c.in-Running.is at (c.in-Ok.ensures.found setup before s))) in
+    rw (same-ok noted _ _ is (crash-running setup before c.args.node _ r)) (adds setup before (Running r.made r.past) s (r.engine, r.life)))
+    c.halt.ensures.stands
+
+pub returns-in-Running-clause-entry : goal.returns-in-Running-clause-entry
+returns-in-Running-clause-entry c =
+    IfOk-weaker c.halt.result _ _
+    (λ entry gives setup before s.
+    ap (λ r. entered r) (crash-running setup before c.args.node _ (found-running setup before c.args.node _ (rw c.in-Running.is at (c.in-Ok.ensures.found setup before s)))) ∙ ap (λ e. Ok e) (sym (gives setup before s)))
+    c.halt.ensures.entry

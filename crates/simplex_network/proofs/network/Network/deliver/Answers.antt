@@ -1,39 +1,89 @@
-use Rattle.std.proofs.Common.{refl, sym, ap, ◌∙◌}
+use Rattle.std.proofs.Common.{refl, sym, ap, ◌∙◌, inl, inr}
+use Rattle.std.specs.Prelude.{Ok}
+use Rattle.std.proofs.lemmas.Result.{IfOk-weaker, IfErr-weaker}
+use Rattle.simplex_transcript.specs.declared.event.Event.TheVariants as events
+use Rattle.simplex_run.specs.Life.{Running, life_in}
 use Rattle.simplex_network.specs.Stands.{entered}
-use Rattle.simplex_network.proofs.Polled.{deliver-entry, deliver-input}
-use Rattle.simplex_network.proofs.Refusals.{deliver-refused, deliver-lacks, deliver-ends}
+use Rattle.simplex_network.proofs.Polled.{same-ok, deliver-input}
+use Rattle.simplex_network.proofs.Found.{found-none, found-stopped, found-running, found-faulty}
+use Rattle.simplex_network.proofs.Events.{deliver-missing, deliver-stopped, deliver-lacks, deliver-near, deliver-is}
+use Rattle.simplex_network.proofs.Senders.{sender-small}
 use Rattle.simplex_network.proofs.Networks.{network-same}
 use Rattle.simplex_network.proofs.network.Network.deliver.Goals as goal
 
 pub returns-in-Err-clause-reason : goal.returns-in-Err-clause-reason
 returns-in-Err-clause-reason c =
-    λ whole setup before s. deliver-refused setup before _ _ _ (c.in-Err.ensures.stands setup before s)
+    λ whole setup before s.
+    let n = found-none setup before c.args.node _ (c.in-Err.ensures.found setup before s) in
+    rw n.1 (deliver-missing setup before c.args.node _ n.0)
+
+pub returns-in-Stopped-clause-reason : goal.returns-in-Stopped-clause-reason
+returns-in-Stopped-clause-reason c =
+    λ whole setup before s. deliver-stopped setup before c.args.node _ (found-stopped setup before c.args.node (rw c.in-Stopped.is at (c.in-Ok.ensures.found setup before s)))
+
+pub returns-in-Faulty-clause-stands : goal.returns-in-Faulty-clause-stands
+returns-in-Faulty-clause-stands c =
+    IfOk-weaker c.hear.result _ _
+    (λ _ adds setup before noted s is.
+    let f = found-faulty setup before c.args.node (rw c.in-Faulty.is at (c.in-Ok.ensures.found setup before s)) in
+    adds setup before noted s f.engine is)
+    c.hear.ensures.stands
+
+pub returns-in-Faulty-clause-entry : goal.returns-in-Faulty-clause-entry
+returns-in-Faulty-clause-entry c =
+    IfOk-weaker c.hear.result _ _
+    (λ entry gives setup before s.
+    let f = found-faulty setup before c.args.node (rw c.in-Faulty.is at (c.in-Ok.ensures.found setup before s)) in
+    gives setup before s f.engine)
+    c.hear.ensures.entry
+
+pub returns-in-Faulty-clause-reason : goal.returns-in-Faulty-clause-reason
+returns-in-Faulty-clause-reason c =
+    IfErr-weaker c.hear.result _ _
+    (λ error denies whole setup before s.
+    let f = found-faulty setup before c.args.node (rw c.in-Faulty.is at (c.in-Ok.ensures.found setup before s)) in
+    denies whole setup before s f.engine)
+    c.hear.ensures.reason
+
+pub returns-in-Faulty-clause-stays : goal.returns-in-Faulty-clause-stays
+returns-in-Faulty-clause-stays c =
+    IfErr-weaker c.hear.result _ _
+    (λ error rests whole setup before s.
+    let f = found-faulty setup before c.args.node (rw c.in-Faulty.is at (c.in-Ok.ensures.found setup before s)) in
+    rests whole setup before s f.engine)
+    c.hear.ensures.stays
 
 pub returns-in_default-clause-reason : goal.returns-in_default-clause-reason
 returns-in_default-clause-reason c =
-    λ whole setup before s. deliver-lacks setup before _ _ _ _ (c.in-Ok.ensures.stands setup before s)
-    (rw c.in-Ok.ensures.node (sym (c.in_default.ensures before s.book)))
+    λ whole setup before s. deliver-lacks setup before c.args.node c.args.at _ (found-running setup before c.args.node _ (rw c.in-Running.is at (c.in-Ok.ensures.found setup before s))) (sym (c.in_default.ensures setup before s.records))
 
 pub returns-then-is_at_end-clause-reason : goal.returns-then-is_at_end-clause-reason
 returns-then-is_at_end-clause-reason c =
-    λ whole setup before s. deliver-ends setup before _ _ _ _ c.in-Some.packet.now (c.in-Ok.ensures.stands setup before s)
-    (rw c.in-Ok.ensures.node (sym (c.in-Some.ensures before s.book))) (sym (rw s.given at c.is_at_end.ensures) ∙ c.if-is_at_end.true)
+    λ whole setup before s. deliver-near setup before c.args.node c.args.at _ c.in-Some.packet.now (found-running setup before c.args.node _ (rw c.in-Running.is at (c.in-Ok.ensures.found setup before s))) (sym (c.in-Some.ensures setup before s.records)) (rw s.given at (sym c.is_at_end.ensures ∙ c.if-is_at_end.true))
 
-pub returns-in-Ok-poll-clause-stands : goal.returns-in-Ok-poll-clause-stands
-returns-in-Ok-poll-clause-stands c =
-    λ setup before noted s is. rw c.in-Ok-heard.ensures at c.in-Ok-poll.ensures.stands setup before _ noted (network-same c.args.self.now _ setup before refl refl refl refl refl s)
-    (deliver-input _ _)
-    (sym (deliver-entry setup before _ _ _ _ c.in-Some.packet.now c.in-Ok.ensures.node (c.in-Ok.ensures.stands setup before s) (sym (c.in-Some.ensures before s.book))
-    (sym (rw s.given at c.is_at_end.ensures) ∙ c.if-is_at_end.false)) ∙ is)
+pub returns-in-Ok-heard-clause-stands : goal.returns-in-Ok-heard-clause-stands
+returns-in-Ok-heard-clause-stands c =
+    IfOk-weaker c.poll.result _ _
+    (λ _ adds setup before noted s is.
+    let r = (found-running setup before c.args.node _ (rw c.in-Running.is at (c.in-Ok.ensures.found setup before s))) in
+    (rw (c.in-Ok-heard.ensures (sender-small setup before c.args.node c.args.at c.in-Some.packet.now (rw s.given at c.args.self.now.good) s.senders (sym (c.in-Some.ensures setup before s.records)))) at adds) setup before (events.Deliver c.args.node c.args.at) noted (Running r.made r.past) (network-same c.args.self.now _ setup before refl refl refl refl refl s) (r.engine, r.life) (deliver-input _ _)
+    (sym (deliver-is setup before c.args.node c.args.at _ c.in-Some.packet.now r (sym (c.in-Some.ensures setup before s.records)) (rw s.given at (sym c.is_at_end.ensures ∙ c.if-is_at_end.false))) ∙ is))
+    c.poll.ensures.stands
 
-pub returns-in-Ok-poll-clause-entry : goal.returns-in-Ok-poll-clause-entry
-returns-in-Ok-poll-clause-entry c =
-    λ setup before s. ap (λ r. entered r) (deliver-entry setup before _ _ _ _ c.in-Some.packet.now c.in-Ok.ensures.node (c.in-Ok.ensures.stands setup before s)
-    (sym (c.in-Some.ensures before s.book)) (sym (rw s.given at c.is_at_end.ensures) ∙ c.if-is_at_end.false))
-    ∙ (rw c.in-Ok-heard.ensures at c.in-Ok-poll.ensures.entry) setup before _ (network-same c.args.self.now _ setup before refl refl refl refl refl s)
+pub returns-in-Ok-heard-clause-entry : goal.returns-in-Ok-heard-clause-entry
+returns-in-Ok-heard-clause-entry c =
+    IfOk-weaker c.poll.result _ _
+    (λ entry gives setup before s.
+    let r = (found-running setup before c.args.node _ (rw c.in-Running.is at (c.in-Ok.ensures.found setup before s))) in
+    ap (λ x. entered x) (deliver-is setup before c.args.node c.args.at _ c.in-Some.packet.now r (sym (c.in-Some.ensures setup before s.records)) (rw s.given at (sym c.is_at_end.ensures ∙ c.if-is_at_end.false)))
+    ∙ (rw (c.in-Ok-heard.ensures (sender-small setup before c.args.node c.args.at c.in-Some.packet.now (rw s.given at c.args.self.now.good) s.senders (sym (c.in-Some.ensures setup before s.records)))) at gives) setup before (events.Deliver c.args.node c.args.at) (Running r.made r.past) (network-same c.args.self.now _ setup before refl refl refl refl refl s) (r.engine, r.life))
+    c.poll.ensures.entry
 
-pub returns-in-Err-poll-clause-reason : goal.returns-in-Err-poll-clause-reason
-returns-in-Err-poll-clause-reason c =
-    λ whole setup before s. deliver-entry setup before _ _ _ _ c.in-Some.packet.now c.in-Ok.ensures.node (c.in-Ok.ensures.stands setup before s)
-    (sym (c.in-Some.ensures before s.book)) (sym (rw s.given at c.is_at_end.ensures) ∙ c.if-is_at_end.false)
-    ∙ (rw c.in-Ok-heard.ensures at c.in-Err-poll.ensures.reason) whole setup before _ (network-same c.args.self.now _ setup before refl refl refl refl refl s)
+pub returns-in-Ok-heard-clause-reason : goal.returns-in-Ok-heard-clause-reason
+returns-in-Ok-heard-clause-reason c =
+    IfErr-weaker c.poll.result _ _
+    (λ error denies whole setup before s.
+    let r = (found-running setup before c.args.node _ (rw c.in-Running.is at (c.in-Ok.ensures.found setup before s))) in
+    (deliver-is setup before c.args.node c.args.at _ c.in-Some.packet.now r (sym (c.in-Some.ensures setup before s.records)) (rw s.given at (sym c.is_at_end.ensures ∙ c.if-is_at_end.false)))
+    ∙ (rw (c.in-Ok-heard.ensures (sender-small setup before c.args.node c.args.at c.in-Some.packet.now (rw s.given at c.args.self.now.good) s.senders (sym (c.in-Some.ensures setup before s.records)))) at (denies whole)) setup before (events.Deliver c.args.node c.args.at) (Running r.made r.past) (network-same c.args.self.now _ setup before refl refl refl refl refl s) (r.engine, r.life))
+    c.poll.ensures.reason

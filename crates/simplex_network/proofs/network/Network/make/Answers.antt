@@ -1,5 +1,3 @@
-use Rattle.std.proofs.Common.{refl}
-use Rattle.simplex_book.specs.Plain.{entry_of}
 use Rattle.simplex_network.proofs.network.Network.make.Goals as goal
 
 pub returns-in-Start-clause-stands : goal.returns-in-Start-clause-stands
@@ -20,6 +18,5 @@ returns-in-Answer-clause-stands c = rw c.in-Answer.is c.answer.ensures.stands
 pub returns-in-Crash-clause-stands : goal.returns-in-Crash-clause-stands
 returns-in-Crash-clause-stands c = rw c.in-Crash.is c.crash.ensures.stands
 
-pub returns-in-Later-clause-reason : goal.returns-in-Later-clause-reason
-unfolding entry_of
-returns-in-Later-clause-reason c = λ whole setup before s. rw c.in-Later.is refl
+pub returns-in-Inject-clause-stands : goal.returns-in-Inject-clause-stands
+returns-in-Inject-clause-stands c = rw c.in-Inject.is c.inject.ensures.stands

@@ -1,32 +1,43 @@
-use Rattle.std.proofs.Common.{sym, ap, ◌∙◌}
+use Rattle.std.proofs.Common.{refl, sym, ap, ◌∙◌, inl, inr}
 use Rattle.std.specs.Prelude.{Ok}
+use Rattle.std.proofs.lemmas.Result.{IfOk-weaker, IfErr-weaker}
+use Rattle.simplex_transcript.specs.declared.event.Event.TheVariants as events
+use Rattle.simplex_run.specs.Life.{Running, life_in}
 use Rattle.simplex_network.specs.Stands.{entered}
 use Rattle.simplex_network.proofs.Polled.{same-ok}
-use Rattle.simplex_network.proofs.Refusals.{start-out, start-runs, start-entry, start-elsewhere}
-use Rattle.simplex_network.proofs.Networks.{network-finds}
+use Rattle.simplex_network.proofs.Found.{found-none, found-stopped, found-running, found-faulty}
+use Rattle.simplex_network.proofs.Events.{start-missing, start-stopped, start-foreign, start-running, start-faulty}
 use Rattle.simplex_network.proofs.network.Network.start.Goals as goal
 
-pub returns-in_default-clause-reason : goal.returns-in_default-clause-reason
-returns-in_default-clause-reason c = λ whole setup before s. start-out setup before _ _ _ (rw s.given at c.in_default.ensures.member)
-
-pub returns-then-is_some-clause-reason : goal.returns-then-is_some-clause-reason
-returns-then-is_some-clause-reason c =
-    λ whole setup before s. start-runs setup before _ _ _ _ c.view.result (rw s.given at c.in-Some.ensures.member) (sym c.is_some.ensures ∙ c.if-is_some.true)
-    (network-finds c.args.self.now setup before _ _ _ s c.in-Some.ensures.node c.view.ensures)
+pub returns-in-Err-clause-reason : goal.returns-in-Err-clause-reason
+returns-in-Err-clause-reason c =
+    λ whole setup before s.
+    let n = found-none setup before c.args.node _ (c.in-Err.ensures.found setup before s) in
+    rw n.1 (start-missing setup before c.args.node _ _ n.0)
 
 pub returns-then-not-is_own_floor-clause-reason : goal.returns-then-not-is_own_floor-clause-reason
 returns-then-not-is_own_floor-clause-reason c =
-    λ whole setup before s. start-elsewhere setup before _ _ _ _ c.view.result (rw s.given at c.in-Some.ensures.member) (sym c.is_some.ensures ∙ c.if-is_some.false)
-    (network-finds c.args.self.now setup before _ _ _ s c.in-Some.ensures.node c.view.ensures) (sym c.if-not-is_own_floor.true ∙ c.is_own_floor.ensures before s.book)
+    λ whole setup before s. start-foreign setup before c.args.node _ _ (found-stopped setup before c.args.node (rw c.in-Stopped.is at (c.in-Ok.ensures.found setup before s)))
+    (sym (c.is_own_floor.ensures setup before s.records) ∙ c.if-not-is_own_floor.true)
 
-pub returns-in-Ok-clause-stands : goal.returns-in-Ok-clause-stands
-returns-in-Ok-clause-stands c =
-    λ setup before noted s is. rw (same-ok noted _ _ is (start-entry setup before _ _ _ _ c.view.result c.in-Some.ensures.node (rw s.given at c.in-Some.ensures.member)
-    (sym c.is_some.ensures ∙ c.if-is_some.false) (network-finds c.args.self.now setup before _ _ _ s c.in-Some.ensures.node c.view.ensures)
-    (sym c.if-not-is_own_floor.false ∙ c.is_own_floor.ensures before s.book))) (c.in-Ok.ensures.stands setup before s)
+pub returns-in_ok-entry-in-Stopped-clause-stands : goal.returns-in_ok-entry-in-Stopped-clause-stands
+returns-in_ok-entry-in-Stopped-clause-stands c =
+    λ setup before noted s is.
+    let st = found-stopped setup before c.args.node (rw c.in-Stopped.is at (c.in-Ok.ensures.found setup before s)) in
+    rw (same-ok noted _ _ is (start-stopped setup before c.args.node _ _ st (sym (c.is_own_floor.ensures setup before s.records) ∙ c.if-not-is_own_floor.false)))
+    (c.in_ok-entry-in-Stopped.ensures.stands setup before (life_in setup before c.args.node) s (st.engine, refl))
 
-pub returns-in-Ok-clause-entry : goal.returns-in-Ok-clause-entry
-returns-in-Ok-clause-entry c =
-    λ setup before s. ap (λ r. entered r) (start-entry setup before _ _ _ _ c.view.result c.in-Some.ensures.node (rw s.given at c.in-Some.ensures.member)
-    (sym c.is_some.ensures ∙ c.if-is_some.false) (network-finds c.args.self.now setup before _ _ _ s c.in-Some.ensures.node c.view.ensures)
-    (sym c.if-not-is_own_floor.false ∙ c.is_own_floor.ensures before s.book)) ∙ ap (λ e. Ok e) (sym (c.in-Ok.ensures.entry setup before s))
+pub returns-in_ok-entry-in-Stopped-clause-entry : goal.returns-in_ok-entry-in-Stopped-clause-entry
+returns-in_ok-entry-in-Stopped-clause-entry c =
+    λ setup before s.
+    let st = found-stopped setup before c.args.node (rw c.in-Stopped.is at (c.in-Ok.ensures.found setup before s)) in
+    ap (λ r. entered r) (start-stopped setup before c.args.node _ _ st (sym (c.is_own_floor.ensures setup before s.records) ∙ c.if-not-is_own_floor.false))
+    ∙ ap (λ e. Ok e) (sym (c.in_ok-entry-in-Stopped.ensures.entry setup before (life_in setup before c.args.node) s (st.engine, refl)))
+
+pub returns-in-Running-clause-reason : goal.returns-in-Running-clause-reason
+returns-in-Running-clause-reason c =
+    λ whole setup before s. start-running setup before c.args.node _ _ _ (found-running setup before c.args.node _ (rw c.in-Running.is at (c.in-Ok.ensures.found setup before s)))
+
+pub returns-in-Faulty-clause-reason : goal.returns-in-Faulty-clause-reason
+returns-in-Faulty-clause-reason c =
+    λ whole setup before s. start-faulty setup before c.args.node _ _ (found-faulty setup before c.args.node (rw c.in-Faulty.is at (c.in-Ok.ensures.found setup before s)))

@@ -1,30 +1,62 @@
-use Rattle.std.proofs.Common.{sym, ap, ◌∙◌}
+use Rattle.std.proofs.Common.{refl, sym, ap, ◌∙◌, inl, inr}
+use Rattle.std.specs.Prelude.{Ok}
+use Rattle.std.proofs.lemmas.Result.{IfOk-weaker, IfErr-weaker}
+use Rattle.simplex_transcript.specs.declared.event.Event.TheVariants as events
+use Rattle.simplex_run.specs.Life.{Running, life_in}
 use Rattle.simplex_network.specs.Stands.{entered}
-use Rattle.simplex_network.proofs.Polled.{step-entry, step-input}
-use Rattle.simplex_network.proofs.Refusals.{step-refused, step-ends}
+use Rattle.simplex_network.proofs.Polled.{same-ok, step-input}
+use Rattle.simplex_network.proofs.Found.{found-none, found-stopped, found-running, found-faulty}
+use Rattle.simplex_network.proofs.Events.{step-missing, step-stopped, step-near, step-is, step-faulty}
 use Rattle.simplex_network.proofs.network.Network.step.Goals as goal
 
 pub returns-in-Err-clause-reason : goal.returns-in-Err-clause-reason
 returns-in-Err-clause-reason c =
-    λ whole setup before s. step-refused setup before _ _ _ _ (c.in-Err.ensures.stands setup before s)
+    λ whole setup before s.
+    let n = found-none setup before c.args.node _ (c.in-Err.ensures.found setup before s) in
+    rw n.1 (step-missing setup before c.args.node _ _ n.0)
+
+pub returns-in-Stopped-clause-reason : goal.returns-in-Stopped-clause-reason
+returns-in-Stopped-clause-reason c =
+    λ whole setup before s. step-stopped setup before c.args.node _ _ (found-stopped setup before c.args.node (rw c.in-Stopped.is at (c.in-Ok.ensures.found setup before s)))
+
+pub returns-in-Faulty-clause-stands : goal.returns-in-Faulty-clause-stands
+returns-in-Faulty-clause-stands c =
+    IfOk-weaker c.idle.result _ _
+    (λ _ adds setup before noted s is.
+    let f = (found-faulty setup before c.args.node (rw c.in-Faulty.is at (c.in-Ok.ensures.found setup before s))) in
+    rw (same-ok noted _ _ is (step-faulty setup before c.args.node _ _ f)) (adds setup before (events.Step c.args.node c.args.source c.args.stop.now) s f.engine (inl (_, _, refl))))
+    c.idle.ensures.stands
+
+pub returns-in-Faulty-clause-entry : goal.returns-in-Faulty-clause-entry
+returns-in-Faulty-clause-entry c =
+    IfOk-weaker c.idle.result _ _
+    (λ entry gives setup before s.
+    ap (λ r. entered r) (step-faulty setup before c.args.node c.args.source c.args.stop.now (found-faulty setup before c.args.node (rw c.in-Faulty.is at (c.in-Ok.ensures.found setup before s)))) ∙ ap (λ e. Ok e) (sym (gives setup before s)))
+    c.idle.ensures.entry
 
 pub returns-then-is_at_end-clause-reason : goal.returns-then-is_at_end-clause-reason
-returns-then-is_at_end-clause-reason c =
-    λ whole setup before s. step-ends setup before _ _ _ _ _ (c.in-Ok.ensures.stands setup before s)
-    (sym (rw s.given at c.is_at_end.ensures) ∙ c.if-is_at_end.true)
+returns-then-is_at_end-clause-reason c = λ whole setup before s. step-near setup before c.args.node _ _ _ (found-running setup before c.args.node _ (rw c.in-Running.is at (c.in-Ok.ensures.found setup before s))) (rw s.given at (sym c.is_at_end.ensures ∙ c.if-is_at_end.true))
 
-pub returns-in-Ok-poll-clause-stands : goal.returns-in-Ok-poll-clause-stands
-returns-in-Ok-poll-clause-stands c =
-    λ setup before noted s is. c.in-Ok-poll.ensures.stands setup before _ noted s (step-input _ _ _)
-    (sym (step-entry setup before _ _ _ _ _ c.in-Ok.ensures.node (c.in-Ok.ensures.stands setup before s)
-    (sym (rw s.given at c.is_at_end.ensures) ∙ c.if-is_at_end.false)) ∙ is)
+pub returns-else-is_at_end-clause-stands : goal.returns-else-is_at_end-clause-stands
+returns-else-is_at_end-clause-stands c =
+    IfOk-weaker c.poll.result _ _
+    (λ _ adds setup before noted s is.
+    let r = (found-running setup before c.args.node _ (rw c.in-Running.is at (c.in-Ok.ensures.found setup before s))) in
+    adds setup before (events.Step c.args.node c.args.source c.args.stop.now) noted (Running r.made r.past) s (r.engine, r.life) (step-input _ _ _) (sym (step-is setup before c.args.node c.args.source c.args.stop.now _ r (rw s.given at (sym c.is_at_end.ensures ∙ c.if-is_at_end.false))) ∙ is))
+    c.poll.ensures.stands
 
-pub returns-in-Ok-poll-clause-entry : goal.returns-in-Ok-poll-clause-entry
-returns-in-Ok-poll-clause-entry c =
-    λ setup before s. ap (λ r. entered r) (step-entry setup before _ _ _ _ _ c.in-Ok.ensures.node (c.in-Ok.ensures.stands setup before s)
-    (sym (rw s.given at c.is_at_end.ensures) ∙ c.if-is_at_end.false)) ∙ c.in-Ok-poll.ensures.entry setup before _ s
+pub returns-else-is_at_end-clause-entry : goal.returns-else-is_at_end-clause-entry
+returns-else-is_at_end-clause-entry c =
+    IfOk-weaker c.poll.result _ _
+    (λ entry gives setup before s.
+    let r = (found-running setup before c.args.node _ (rw c.in-Running.is at (c.in-Ok.ensures.found setup before s))) in
+    ap (λ x. entered x) (step-is setup before c.args.node c.args.source c.args.stop.now _ r (rw s.given at (sym c.is_at_end.ensures ∙ c.if-is_at_end.false))) ∙ gives setup before (events.Step c.args.node c.args.source c.args.stop.now) (Running r.made r.past) s (r.engine, r.life))
+    c.poll.ensures.entry
 
-pub returns-in-Err-poll-clause-reason : goal.returns-in-Err-poll-clause-reason
-returns-in-Err-poll-clause-reason c =
-    λ whole setup before s. step-entry setup before _ _ _ _ _ c.in-Ok.ensures.node (c.in-Ok.ensures.stands setup before s)
-    (sym (rw s.given at c.is_at_end.ensures) ∙ c.if-is_at_end.false) ∙ c.in-Err-poll.ensures.reason whole setup before _ s
+pub returns-else-is_at_end-clause-reason : goal.returns-else-is_at_end-clause-reason
+returns-else-is_at_end-clause-reason c =
+    IfErr-weaker c.poll.result _ _
+    (λ error denies whole setup before s.
+    let r = (found-running setup before c.args.node _ (rw c.in-Running.is at (c.in-Ok.ensures.found setup before s))) in
+    (step-is setup before c.args.node c.args.source c.args.stop.now _ r (rw s.given at (sym c.is_at_end.ensures ∙ c.if-is_at_end.false))) ∙ denies whole setup before (events.Step c.args.node c.args.source c.args.stop.now) (Running r.made r.past) s (r.engine, r.life))
+    c.poll.ensures.reason

@@ -1,7 +1,8 @@
 use Rattle.std.proofs.Common.{refl, ap, ◌∙◌}
 use Rattle.simplex_network.specs.Stands.{entered}
 use Rattle.simplex_network.proofs.Polled.{same-ok}
-use Rattle.simplex_network.proofs.Networks.{network-ticked, tick-is, tick-late}
+use Rattle.simplex_network.proofs.Events.{tick-is, tick-late}
+use Rattle.simplex_network.proofs.Networks.{network-ticked}
 use Rattle.simplex_network.proofs.network.Network.tick.Goals as goal
 
 pub returns-then-ms-self-clause-reason : goal.returns-then-ms-self-clause-reason
@@ -9,9 +10,10 @@ returns-then-ms-self-clause-reason c = λ whole setup before s. tick-late setup 
 
 pub returns-clause-stands : goal.returns-clause-stands
 returns-clause-stands c =
-    λ setup before noted s is. network-ticked _ _ setup before noted c.args.ms _ refl refl refl refl s
-    (same-ok noted _ _ is (tick-is setup before _ _ s.clock c.args.self.now.early c.if-ms-self.false)) (c.in-Ok.ensures.entry before s.book) c.in-Ok.ensures.stands
+    λ setup before noted s is. rw (same-ok noted _ _ is (tick-is setup before _ _ s.clock c.args.self.now.early c.if-ms-self.false))
+    (network-ticked c.args.self.now _ setup before c.args.ms _ refl refl refl refl s (c.in-Ok.ensures.entry setup before s.records) c.in-Ok.ensures.stands)
 
 pub returns-clause-entry : goal.returns-clause-entry
 returns-clause-entry c =
-    λ setup before s. ap (λ r. entered r) (tick-is setup before _ _ s.clock c.args.self.now.early c.if-ms-self.false) ∙ rw (c.in-Ok.ensures.entry before s.book) refl
+    λ setup before s. ap (λ r. entered r) (tick-is setup before _ _ s.clock c.args.self.now.early c.if-ms-self.false)
+    ∙ rw (c.in-Ok.ensures.entry setup before s.records) refl

@@ -1,6 +1,0 @@
-use Rattle.std.proofs.Common.{sym}
-use Rattle.simplex_book.proofs.Told.{told-had}
-use Rattle.simplex_book.proofs.reported.Reported.add_finalization.Goals as goal
-
-pub returns-then-contains : goal.returns-then-contains
-returns-then-contains c = λ f. told-had c.args.self.now f c.args.finalization.now (sym c.if-contains.ensures)

@@ -1,0 +1,154 @@
+-- What is found of a node.
+use Rattle.std.proofs.Common.{◌≡◌, ℕ, List, [], ◌∷◌, Bool, true, false, refl, sym, ap, ◌∙◌, if◌then◌else◌}
+use Rattle.std.specs.Prelude.{Option, Some, None, Result, Ok, Err}
+use Rattle.simplex_rules.specs.Views.{current_of}
+use Rattle.simplex_journal.specs.Journal.{Section}
+use Rattle.simplex_transcript.specs.declared.event.Event.{Event}
+use Rattle.simplex_transcript.specs.declared.event.Event.TheVariants as events
+use Rattle.simplex_transcript.specs.declared.node.Node.{Node}
+use Rattle.simplex_transcript.specs.declared.setup.Setup.{Setup}
+use Rattle.simplex_transcript.specs.declared.refusal.RunError.{RunError}
+use Rattle.simplex_transcript.specs.declared.refusal.RunError.TheVariants as refusals
+use Rattle.simplex_steps.specs.VoterLife.{place_of}
+use Rattle.simplex_steps.specs.Engine.{EngineMade, Did, runs, sections_of, voter_in, voter_past}
+use Rattle.simplex_run.specs.Kinds.{is_node, runs_engine}
+use Rattle.simplex_run.specs.Life.{Noted, Life, Stopped, Running, is_of, after, going_on, went_on, life_in}
+use Rattle.simplex_run.specs.Hearing.{heard_in}
+use Rattle.simplex_network.specs.declared.status.Status.{Status}
+use Rattle.simplex_network.specs.declared.status.Status.TheVariants as statuses
+use Rattle.simplex_network.specs.Parts.{Part, Lives, Hears, part_in, goes_on, status_of, status_in, found_in}
+
+-- ---- an engine that runs goes on
+
+going_at : (made : EngineMade) (past : List Did) (b : Bool) → runs past ≡ b → goes_on (Lives (if b then Running made past else Stopped (sections_of made past))) ≡ true
+unfolding goes_on
+going_at made past true e = e
+going_at made past false e = refl
+
+going-goes : (made : EngineMade) (past : List Did) → goes_on (Lives (going_on made past)) ≡ true
+going-goes made past = going_at made past (runs past) refl
+
+went-goes : (did : Did) (life : Life) → goes_on (Lives (went_on did life)) ≡ true
+unfolding goes_on
+went-goes did (Stopped sections) = refl
+went-goes did (Running made past) = going-goes made (did ∷ past)
+
+after-goes : (setup : Setup) (event : Event) (did : Option Did) (life : Life) → goes_on (Lives life) ≡ true → goes_on (Lives (after setup event did life)) ≡ true
+unfolding after goes_on
+after-goes setup (events.Start node floor stop) (Some did) life goes = going-goes _ (did ∷ [])
+after-goes setup (events.Start node floor stop) None life goes = goes
+after-goes setup (events.Tick ms) (Some did) life goes = went-goes did life
+after-goes setup (events.Tick ms) None life goes = goes
+after-goes setup (events.Deliver node at) (Some did) life goes = went-goes did life
+after-goes setup (events.Deliver node at) None life goes = goes
+after-goes setup (events.Step node source stop) (Some did) life goes = went-goes did life
+after-goes setup (events.Step node source stop) None life goes = goes
+after-goes setup (events.Answer node at answer) (Some did) life goes = went-goes did life
+after-goes setup (events.Answer node at answer) None life goes = goes
+after-goes setup (events.Crash node) (Some did) life goes = refl
+after-goes setup (events.Crash node) None life goes = refl
+after-goes setup (events.Inject member channel to bytes) (Some did) life goes = went-goes did life
+after-goes setup (events.Inject member channel to bytes) None life goes = goes
+
+goes_if : (b : Bool) (changed life : Life) → goes_on (Lives changed) ≡ true → goes_on (Lives life) ≡ true → goes_on (Lives (if b then changed else life)) ≡ true
+goes_if true changed life c l = c
+goes_if false changed life c l = l
+
+life-goes : (setup : Setup) (before : List Noted) (node : Node) → goes_on (Lives (life_in setup before node)) ≡ true
+unfolding life_in goes_on
+life-goes setup [] node = refl
+life-goes setup (noted ∷ before) node =
+    goes_if (is_of node noted.event) (after setup noted.event noted.did (life_in setup before node)) (life_in setup before node)
+    (after-goes setup noted.event noted.did (life_in setup before node) (life-goes setup before node)) (life-goes setup before node)
+
+pub part-goes : (setup : Setup) (before : List Noted) (node : Node) → goes_on (part_in setup before node) ≡ true
+unfolding part_in goes_on
+part-goes setup before node = by (runs_engine setup node.member)
+  where
+    by : (b : Bool) → goes_on (if b then Lives (life_in setup before node) else Hears (heard_in before node)) ≡ true
+    by true = life-goes setup before node
+    by false = refl
+
+-- ---- what a node is at
+
+pub record AtStopped (setup : Setup) (before : List Noted) (node : Node) : Type 0 where
+  pub exists : is_node setup node ≡ true
+  pub engine : runs_engine setup node.member ≡ true
+  pub sections : List Section
+  pub life : life_in setup before node ≡ Stopped sections
+
+pub record AtRunning (setup : Setup) (before : List Noted) (node : Node) (view : ℕ) : Type 0 where
+  pub exists : is_node setup node ≡ true
+  pub engine : runs_engine setup node.member ≡ true
+  pub made : EngineMade
+  pub past : List Did
+  pub life : life_in setup before node ≡ Running made past
+  pub goes : runs past ≡ true
+  pub current : view ≡ current_of (voter_in made past).rules (place_of (voter_in made past) (voter_past past)).standing.desk.known
+
+pub record AtFaulty (setup : Setup) (node : Node) : Type 0 where
+  pub exists : is_node setup node ≡ true
+  pub engine : runs_engine setup node.member ≡ false
+
+stopped_by : (setup : Setup) (before : List Noted) (node : Node) (b : Bool) → is_node setup node ≡ b → (c : Bool) → runs_engine setup node.member ≡ c
+    → (life : Life) → life_in setup before node ≡ life
+    → Ok statuses.Stopped ≡ (if b then Ok (status_in (if c then Lives life else Hears (heard_in before node))) else Err refusals.NoMember) → AtStopped setup before node
+unfolding status_in status_of
+stopped_by setup before node true e true f (Stopped sections) g is = record { exists = e; engine = f; sections = sections; life = g }
+stopped_by setup before node true e true f (Running made past) g is = absurd (cc)
+stopped_by setup before node true e false f life g is = absurd (cc)
+stopped_by setup before node false e c f life g is = absurd (cc)
+
+pub found-stopped : (setup : Setup) (before : List Noted) (node : Node) → Ok statuses.Stopped ≡ found_in setup node (part_in setup before node) → AtStopped setup before node
+unfolding found_in part_in
+found-stopped setup before node is =
+    stopped_by setup before node (is_node setup node) refl (runs_engine setup node.member) refl (life_in setup before node) refl is
+
+running_is : (view other : ℕ) → ◌≡◌ {A = Result Status RunError} (Ok (statuses.Running view)) (Ok (statuses.Running other)) → view ≡ other
+running_is view other e = cc
+
+running_by : (setup : Setup) (before : List Noted) (node : Node) (view : ℕ) (b : Bool) → is_node setup node ≡ b → (c : Bool) → runs_engine setup node.member ≡ c
+    → (life : Life) → life_in setup before node ≡ life → goes_on (Lives life) ≡ true
+    → Ok (statuses.Running view) ≡ (if b then Ok (status_in (if c then Lives life else Hears (heard_in before node))) else Err refusals.NoMember) → AtRunning setup before node view
+unfolding status_in status_of goes_on
+running_by setup before node view true e true f (Stopped sections) g goes is = absurd (cc)
+running_by setup before node view true e true f (Running made past) g goes is =
+    record { exists = e; engine = f; made = made; past = past; life = g; goes = goes; current = running_is view _ is }
+running_by setup before node view true e false f life g goes is = absurd (cc)
+running_by setup before node view false e c f life g goes is = absurd (cc)
+
+pub found-running : (setup : Setup) (before : List Noted) (node : Node) (view : ℕ) → Ok (statuses.Running view) ≡ found_in setup node (part_in setup before node)
+    → AtRunning setup before node view
+unfolding found_in part_in
+found-running setup before node view is =
+    running_by setup before node view (is_node setup node) refl (runs_engine setup node.member) refl (life_in setup before node) refl (life-goes setup before node) is
+
+faulty_by : (setup : Setup) (before : List Noted) (node : Node) (b : Bool) → is_node setup node ≡ b → (c : Bool) → runs_engine setup node.member ≡ c → (life : Life)
+    → Ok statuses.Faulty ≡ (if b then Ok (status_in (if c then Lives life else Hears (heard_in before node))) else Err refusals.NoMember) → AtFaulty setup node
+unfolding status_in status_of
+faulty_by setup before node true e true f (Stopped sections) is = absurd (cc)
+faulty_by setup before node true e true f (Running made past) is = absurd (cc)
+faulty_by setup before node true e false f life is = record { exists = e; engine = f }
+faulty_by setup before node false e c f life is = absurd (cc)
+
+pub found-faulty : (setup : Setup) (before : List Noted) (node : Node) → Ok statuses.Faulty ≡ found_in setup node (part_in setup before node) → AtFaulty setup node
+unfolding found_in part_in
+found-faulty setup before node is = faulty_by setup before node (is_node setup node) refl (runs_engine setup node.member) refl (life_in setup before node) is
+
+missing_by : (b : Bool) (status : Status) (error : RunError) → Err error ≡ (if b then Ok status else Err refusals.NoMember) → (b ≡ false) × (error ≡ refusals.NoMember)
+missing_by true status error is = absurd (cc)
+missing_by false status error is = (refl, cc)
+
+-- where none is found, there is no such node
+pub found-none : (setup : Setup) (before : List Noted) (node : Node) (error : RunError) → Err error ≡ found_in setup node (part_in setup before node)
+    → (is_node setup node ≡ false) × (error ≡ refusals.NoMember)
+unfolding found_in
+found-none setup before node error is = missing_by (is_node setup node) (status_in (part_in setup before node)) error is
+
+pub found-is : (setup : Setup) (node : Node) (part : Part) (status : Status) → is_node setup node ≡ true → status ≡ status_in part → Ok status ≡ found_in setup node part
+unfolding found_in
+found-is setup node part status e is = rw e (ap (λ x. Ok x) is)
+
+pub found-not : (setup : Setup) (node : Node) (part : Part) → is_node setup node ≡ false → Err refusals.NoMember ≡ found_in setup node part
+unfolding found_in
+found-not setup node part e = rw e refl
