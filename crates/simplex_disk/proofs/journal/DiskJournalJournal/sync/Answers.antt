@@ -1,0 +1,50 @@
+use Rattle.std.proofs.Common.{◌≡◌, ◌∙◌, ℕ, List, Option, Some, Result, refl, sym, ap, subst}
+use Rattle.std.specs.Result.{OnOk}
+use Rattle.simplex_journal.specs.Faults.{Counts}
+use Rattle.simplex_journal.specs.Order.{Order, Obeys}
+use Rattle.simplex_journal.specs.Journal.{synced_at}
+use Rattle.simplex_disk.specs.Calls.{Call}
+use Rattle.simplex_disk.specs.Contents.{sections_kept, IsOf, Any}
+use Rattle.simplex_disk.specs.Goes.{Changes}
+use Rattle.simplex_disk.specs.Index.{LeavesJournal, IsIndexed}
+use Rattle.simplex_disk.specs.Moments.{Always, Then}
+use Rattle.simplex_disk.specs.Orders.{order_told}
+use Rattle.simplex_disk.proofs.Segments.{on_weaker, err_with}
+use Rattle.simplex_disk.proofs.Called.{still, moments, becomes, answer_ok, answer_err}
+use Rattle.simplex_disk.proofs.Obeying.{obeys_in, counts_in}
+use Rattle.simplex_disk.proofs.journal.DiskJournalJournal.sync.Goals as goal
+
+pub invariant_of-self : goal.invariant_of-self
+invariant_of-self g c = still c.begin_call.ensures.stands c.end_call.ensures.stands c.self.inside.index.entries c.sync_at-synced.new.index.entries c.self.inside.leaving c.self.inside.leaving (λ s. LeavesJournal s c.self.inside.leaving) (Changes c.sync_at-synced.result (synced_at c.args.section)) (c.sync_at-synced.ensures.goes c.self.inside.leaving) c.self.invariant
+
+pub returns-clause-ok : goal.returns-clause-ok
+returns-clause-ok g c =
+    let K = g.D.Disk.contents in
+    let all = becomes c.begin_call.ensures.stands c.end_call.ensures.stands c.self.inside.index.entries c.sync_at-synced.new.index.entries c.self.inside.leaving c.self.inside.leaving (λ s. LeavesJournal s c.self.inside.leaving) (Changes c.sync_at-synced.result (synced_at c.args.section)) (c.sync_at-synced.ensures.goes c.self.inside.leaving)
+    (K c.self.inside.disk) (g.met.D.Disk.reads c.self.inside.disk) (K c.end_call.new.disk) (g.met.D.Disk.reads c.end_call.new.disk) c.self.invariant in
+    on_weaker c.end_call.result (λ e. e ∙ ap (λ j. synced_at c.args.section (sections_kept K j)) c.self.view_is) (answer_ok _ _ c.sync_at-synced.result c.end_call.result c.end_call.ensures.answer all)
+
+pub returns-clause-err : goal.returns-clause-err
+returns-clause-err g c =
+    let K = g.D.Disk.contents in
+    let all = becomes c.begin_call.ensures.stands c.end_call.ensures.stands c.self.inside.index.entries c.sync_at-synced.new.index.entries c.self.inside.leaving c.self.inside.leaving (λ s. LeavesJournal s c.self.inside.leaving) (Changes c.sync_at-synced.result (synced_at c.args.section)) (c.sync_at-synced.ensures.goes c.self.inside.leaving)
+    (K c.self.inside.disk) (g.met.D.Disk.reads c.self.inside.disk) (K c.end_call.new.disk) (g.met.D.Disk.reads c.end_call.new.disk) c.self.invariant in
+    err_with c.end_call.result (λ e. e ∙ ap (λ j. sections_kept K j) c.self.view_is) (answer_err _ _ c.sync_at-synced.result c.end_call.result c.end_call.ensures.answer all)
+
+pub returns-clause-ordered : goal.returns-clause-ordered
+returns-clause-ordered g c =
+    subst (λ j. Obeys (order_told (g.D.Disk.order j.disk) j.order) c.end_call.result (order_told (g.D.Disk.order c.end_call.new.disk) (record { call = c.end_call.new.failing_call; sections = c.self.inside.failing_sections }))) c.self.view_is
+    (obeys_in c.sync_at-synced.result c.end_call.result c.self.inside.failing_call c.self.inside.failing_sections 1 _ _ (g.D.Disk.order c.self.inside.disk) (g.D.Disk.order c.begin_call.new.disk) (g.D.Disk.order c.sync_at-synced.new.disk)
+    (g.D.Disk.order c.end_call.new.disk) c.end_call.ensures.answer c.sync_at-synced.ensures.ends c.sync_at-synced.ensures.named c.begin_call.ensures.order c.end_call.ensures.order c.end_call.new.failing_call c.end_call.ensures.counted)
+
+pub returns-clause-faults : goal.returns-clause-faults
+returns-clause-faults g c =
+    subst (λ j. Counts (g.D.Disk.fault_count j.disk) c.end_call.result (g.D.Disk.fault_count c.end_call.new.disk)) c.self.view_is
+    (counts_in c.sync_at-synced.result c.end_call.result _ _ _ _ c.end_call.ensures.answer c.begin_call.ensures.faults c.sync_at-synced.ensures.ends.counts c.end_call.ensures.faults)
+
+pub returns-clause-moments : goal.returns-clause-moments
+returns-clause-moments g c =
+    let K = g.D.Disk.contents in
+    let St = g.D.Disk.StandsFor in
+    subst (λ j. (calls : List Call) → IsOf St j calls → Then (λ now. St c.end_call.new.disk now × IsIndexed c.sync_at-synced.new.index.entries c.self.inside.leaving now) (Always (LeavesJournal (sections_kept K j) j.leaving) calls) Any) c.self.view_is
+    (moments c.begin_call.ensures.stands c.end_call.ensures.stands c.self.inside.index.entries c.sync_at-synced.new.index.entries c.self.inside.leaving c.self.inside.leaving (λ s. LeavesJournal s c.self.inside.leaving) (Changes c.sync_at-synced.result (synced_at c.args.section)) (c.sync_at-synced.ensures.goes c.self.inside.leaving) (K c.self.inside.disk) (g.met.D.Disk.reads c.self.inside.disk))

@@ -1,0 +1,27 @@
+-- What a journal on a disk is to its callers.
+use Rattle.std.specs.Prelude.{ℕ, List, Option}
+use Rattle.simplex_journal.specs.Journal.{Section}
+use Rattle.simplex_journal.specs.Order.{Order}
+use Rattle.simplex_disk.specs.declared.segment.Segment.{Segment}
+use Rattle.simplex_disk.specs.Calls.{Call}
+use Rattle.simplex_disk.specs.Index.{sections_in, IsIndexed}
+
+-- Its disk, what is kept of the files that are sections, the file of a section that was dropped and whose removal failed, and
+-- the order that a call fails.
+pub record OnDisk (D : Type 0) : Type 0 where
+  pub disk : D
+  pub entries : List (ℕ × Segment)
+  pub leaving : Option ℕ
+  pub order : Order
+
+-- Its sections, as the files read.
+abbrev pub sections_kept : {D : Type 0} → (D → ℕ → Option (List ℕ)) → OnDisk D → List Section
+sections_kept contents journal = sections_in (contents journal.disk) journal.entries
+
+-- These calls, the newest first, may be all that were made of its disk, and what is kept of the files is so.
+abbrev pub IsOf : {D : Type 0} → (D → List Call → Type 0) → OnDisk D → List Call → Type 0
+IsOf StandsFor journal calls = StandsFor journal.disk calls × IsIndexed journal.entries journal.leaving calls
+
+-- nothing more
+abbrev pub Any : List Call → Type 0
+Any calls = Unit {0}

@@ -1,0 +1,158 @@
+//! Sections that are dropped.
+ghost use Rattle.std.specs.Prelude.{◌≡◌, ◌<◌, ◌≤◌, ◌*◌, ℕ, suc, min, List, None, Some, OnOk, IfSome, MatchOption, IsErrOf};
+ghost use Rattle.std.specs.List.Sorted.{IsStrictlySortedBy};
+ghost use Rattle.std.specs.Map.{keys_of};
+ghost use Rattle.std.specs.Ordering.{nat_cmp};
+ghost use Rattle.std.specs.Result.{MatchResult};
+ghost use Rattle.simplex_journal.specs.Journal.{pruned, pruned_first};
+ghost use Rattle.simplex_wire.specs.declared.artifact.Artifact.{Artifact};
+ghost use Rattle.simplex_disk.specs.Calls.{Call};
+ghost use Rattle.simplex_disk.specs.Ends.{Ends};
+ghost use Rattle.simplex_disk.specs.Index.{IsIndexed, sections_at, sections_in};
+ghost use Rattle.simplex_disk.specs.Left.{IsShut, LeavesFront};
+ghost use Rattle.simplex_disk.specs.Moments.{Always, AlwaysOf, Then};
+ghost use Rattle.simplex_disk.specs.Pruning.{LeavesPruned, LeavesGone, HasNoneBelow, BeginsAt, IsPaced, count_below, failing_disk_call};
+
+use crate::disk::Disk;
+use crate::error::DiskError;
+use crate::index::{Index, finish_removal};
+use std::alloc::Global;
+
+/// The first section, if its number is below the least one.
+fn first_below(index: &Index, least: u64) -> Option<u64>
+    ensures first { MatchOption result (HasNoneBelow least index.now.entries) (λ n. (n < least) × BeginsAt n index.now.entries) }
+    ensures ordered { IsStrictlySortedBy nat_cmp (keys_of index.now.entries) }
+{
+    let _ordered = index.len();
+    match index.first_key_value() {
+        Some((number, _)) if *number < least => Some(*number),
+        _ => None,
+    }
+}
+
+/// Removes the file.
+fn drop_file<D: Disk>(disk: &mut D, file: u64) -> Result<(), DiskError>
+    ensures stands { (calls : List Call) → D.StandsFor disk.old calls → (synced pending : List Artifact) → LeavesFront file synced pending calls
+        → Then (D.StandsFor disk.new) (AlwaysOf file (LeavesGone file synced pending) calls) (λ now. OnOk result (IsShut file now)) }
+    ensures room { ¬ IsErrOf result DiskError.Memory }
+    ensures paced { IsPaced (D.order disk.old) result (D.order disk.new) }
+    ensures ends { Ends (D.fault_count disk.old) (D.order disk.old) result (D.fault_count disk.new) (D.order disk.new) }
+{
+    disk.remove(file)?;
+    disk.sync(file)
+}
+
+/// Drops the first section.
+fn drop_section<D: Disk>(
+    disk: &mut D,
+    index: &mut Index,
+    leaving: &mut Option<u64>,
+    number: u64,
+) -> Result<(), DiskError>
+    requires { BeginsAt number index.old.entries }
+    ensures stands { (calls : List Call) → D.StandsFor disk.old calls → IsIndexed index.old.entries None calls → leaving.old ≡ None → (least : ℕ) → number < least
+        → Then (D.StandsFor disk.new) (Always (LeavesPruned least (sections_at calls index.old.entries) None) calls)
+        (λ now. IsIndexed index.new.entries leaving.new now × (sections_at now index.new.entries ≡ pruned_first 1 least (sections_at calls index.old.entries))) }
+    ensures gone { OnOk result (leaving.new ≡ None) }
+    ensures fewer { (least : ℕ) → number < least → count_below least index.old.entries ≡ suc (count_below least index.new.entries) }
+    ensures room { ¬ IsErrOf result DiskError.Memory }
+    ensures paced { IsPaced (D.order disk.old) result (D.order disk.new) }
+    ensures ends { Ends (D.fault_count disk.old) (D.order disk.old) result (D.fault_count disk.new) (D.order disk.new) }
+{
+    index.remove(&number);
+    *leaving = Some(number);
+    drop_file(disk, number)?;
+    *leaving = None;
+    Ok(())
+}
+
+/// Drops the first sections below the least number, at most so many.
+pub(crate) fn drop_sections<D: Disk>(
+    disk: &mut D,
+    index: &mut Index,
+    leaving: &mut Option<u64>,
+    count: u64,
+    least: u64,
+) -> Result<(), DiskError>
+    ensures stands { (calls : List Call) → D.StandsFor disk.old calls → IsIndexed index.old.entries None calls → leaving.old ≡ None
+        → Then (D.StandsFor disk.new) (Always (LeavesPruned least (sections_at calls index.old.entries) None) calls)
+        (λ now. IsIndexed index.new.entries leaving.new now
+        × MatchResult result (λ _. (leaving.new ≡ None) × (sections_at now index.new.entries ≡ pruned_first count least (sections_at calls index.old.entries)))
+        (λ _. (dropped : ℕ) × (sections_at now index.new.entries ≡ pruned_first dropped least (sections_at calls index.old.entries))
+        × ((named : ℕ) → 0 < named → D.order disk.old ≡ Some (2 * named) → dropped ≡ named))) }
+    ensures named { (named : ℕ) → 0 < named → named ≤ count → named ≤ count_below least index.old.entries → D.order disk.old ≡ Some (2 * named) → OnOk result ⊥ }
+    ensures room { ¬ IsErrOf result DiskError.Memory }
+    ensures ends { Ends (D.fault_count disk.old) (D.order disk.old) result (D.fault_count disk.new) (D.order disk.new) }
+{
+    let mut left = count;
+    while left > 0 {
+        let Some(number) = first_below(index, least) else {
+            return Ok(());
+        };
+        drop_section(disk, index, leaving, number)?;
+        left -= 1;
+    }
+    Ok(())
+}
+
+/// Drops the sections below the least number.
+pub(crate) fn prune_files<D: Disk>(
+    disk: &mut D,
+    index: &mut Index,
+    leaving: &mut Option<u64>,
+    alloc: Global,
+    least: u64,
+) -> Result<(), DiskError>
+    requires { (calls : List Call) × D.StandsFor disk.old calls × IsIndexed index.old.entries leaving.old calls }
+    ensures stands { (calls : List Call) → D.StandsFor disk.old calls → IsIndexed index.old.entries leaving.old calls
+        → Then (D.StandsFor disk.new) (Always (LeavesPruned least (sections_at calls index.old.entries) leaving.old) calls)
+        (λ now. IsIndexed index.new.entries leaving.new now
+        × MatchResult result (λ _. sections_at now index.new.entries ≡ pruned least (sections_at calls index.old.entries))
+        (λ e. (dropped : ℕ) × (sections_at now index.new.entries ≡ pruned_first dropped least (sections_at calls index.old.entries))
+        × (e ≡ DiskError.Failed → (named : ℕ) → D.order disk.old ≡ Some (failing_disk_call leaving.old named) → dropped ≡ named))) }
+    ensures memory { IsErrOf result DiskError.Memory → sections_in (D.contents disk.new) index.new.entries ≡ sections_in (D.contents disk.old) index.old.entries }
+    ensures ends { Ends (D.fault_count disk.old) (D.order disk.old) result (D.fault_count disk.new) (D.order disk.new) }
+    ensures named { (named : ℕ) → named ≤ count_below least index.old.entries → D.order disk.old ≡ Some (failing_disk_call leaving.old named) → OnOk result ⊥ }
+{
+    // Every call of a journal makes a call of its disk.
+    disk.files(alloc)?;
+    finish_removal(disk, leaving)?;
+    let all = index.len() as u64;
+    drop_sections(disk, index, leaving, all, least)
+}
+
+/// How many sections are below the least number.
+fn sections_below(index: &Index, least: u64) -> u64
+    ensures { result ≡ count_below least index.now.entries }
+{
+    let _all = index.len();
+    let mut count = 0;
+    for (number, _) in index {
+        if *number >= least {
+            return count;
+        }
+        count += 1;
+    }
+    count
+}
+
+/// Which disk call of a prune fails so that it drops so many sections, or all below the least number where there are fewer.
+/// None where its number has a place in no u64.
+pub(crate) fn call_to_fail(
+    index: &Index,
+    leaving: &Option<u64>,
+    sections: u64,
+    least: u64,
+) -> Option<u64>
+    ensures number { IfSome result (λ number. number ≡ failing_disk_call leaving.now (min sections (count_below least index.now.entries))) }
+    ensures ordered { IsStrictlySortedBy nat_cmp (keys_of index.now.entries) }
+{
+    let _ordered = index.len();
+    let dropped = sections.min(sections_below(index, least));
+    if dropped == 0 {
+        return Some(1);
+    }
+    let before: u64 = if leaving.is_some() { 3 } else { 1 };
+    let calls = dropped.checked_mul(2)?;
+    calls.checked_add(before)
+}
