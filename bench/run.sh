@@ -1,13 +1,15 @@
 #!/bin/bash
 # Times the works of bench_base (wire, mailbox) and bench_parts (fetch, round, state, repair), by the proved program and by plain
-# Rust, and those of bench_actors (batcher by batcher.py, voter, resolver), which has no plain program. Run it from anywhere, after
-# `rt run` in the program's crate: bench/run.sh wire|mailbox|fetch|round|state|repair|batcher|voter|resolver [TIMES].
+# Rust, that of bench_shared (shared) by both too, and those of bench_actors (batcher by batcher.py, voter, resolver), which has no
+# plain program. Run it from anywhere, after `rt run` in the program's crate:
+# bench/run.sh wire|mailbox|shared|fetch|round|state|repair|batcher|voter|resolver [TIMES].
 set -euo pipefail
 cd "$(dirname "$0")"
-what=${1:?wire, mailbox, fetch, round, state, repair, batcher, voter or resolver}
+what=${1:?wire, mailbox, shared, fetch, round, state, repair, batcher, voter or resolver}
 case $what in
 wire | mailbox) program=bench_base ;;
 fetch | round | state | repair) program=bench_parts ;;
+shared) program=bench_shared ;;
 *) program=bench_actors ;;
 esac
 proved=../crates/$program/out/$program
@@ -108,6 +110,31 @@ fi
 export CARGO_TARGET_DIR=${CARGO_TARGET_DIR:-/tmp/bench_target}
 built=$CARGO_TARGET_DIR/release/bench_$what
 (cd rust && cargo build --release --offline --quiet && cp "$built" "$CARGO_TARGET_DIR/plain")
+
+# Calls a second of threads that share a mailbox, by the clock on the wall: the least of five runs, less that of no calls.
+calls() {
+    python3 - "$@" <<'P'
+import subprocess, sys, time
+program, threads, times = sys.argv[1:]
+def run(n):
+    start = time.monotonic()
+    subprocess.run([program, threads, str(n)], stdout=subprocess.DEVNULL, check=True)
+    return time.monotonic() - start
+best = min(run(times) for _ in range(5)) - min(run(0) for _ in range(5))
+print(f"{2 * int(threads) * int(times) / best:.0f}")
+P
+}
+
+if [ "$what" = shared ]; then
+    times=${2:-500000}
+    printf '%-14s %12s %12s\n' 'calls a second' 'proved' 'plain Rust'
+    for threads in 1 2 4; do
+        printf '%-14s %12s %12s\n' "$threads threads" "$(calls "$proved" $threads $((times / threads)))" \
+            "$(calls "$CARGO_TARGET_DIR/plain" $threads $((times / threads)))"
+    done
+    exit
+fi
+
 (cd rust && cargo build --release --offline --quiet --features soft && cp "$built" "$CARGO_TARGET_DIR/soft")
 
 # A line of the table: the work's words, and its rate by each program.

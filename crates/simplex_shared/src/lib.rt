@@ -5,6 +5,7 @@
 //! thread answers likewise. A pass tells how far it has seen that history.
 #![tactic(auto)]
 
+mod bells;
 mod desk;
 mod error;
 mod finish;
@@ -18,6 +19,7 @@ mod making;
 mod op;
 mod pass;
 mod samples;
+mod sharing;
 mod steps;
 mod terms;
 mod view;
@@ -29,3 +31,4 @@ pub use mailbox::RecordedMailbox;
 pub use op::Op;
 pub use pass::Pass;
 pub use samples::small_histories;
+pub use sharing::{lend_to_threads, send_history};

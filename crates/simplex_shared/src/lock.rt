@@ -3,6 +3,7 @@ ghost use Rattle.std.specs.Prelude.{◌≡◌, ◌≤◌, ◌<◌, ◌+◌, ◌�
 ghost use Rattle.simplex_shared.specs.declared.view.Stage.TheVariants.{Idle, Holding};
 ghost use Rattle.simplex_shared.specs.Lock.{MayDraw, Belongs, GoesOn, Hears, at_stage, holding, added};
 
+use crate::bells::Bells;
 use crate::logged::Logged;
 use crate::steps::{Add, Draw, Hear, InTurn, Leave, Look, See, Tell};
 use crate::terms::Terms;
@@ -12,14 +13,15 @@ use std::alloc::Global;
 use std::hint;
 use std::sync::Wait;
 
-/// So often one who waits looks again before it sleeps.
-const LOOKS: u32 = 2000;
+/// So often one who is next looks again before it sleeps.
+const LOOKS: u32 = 500;
 
 /// A value that threads use in turns: word 0 of the table is the length of its history, word 1 counts the tickets
 /// drawn, word 2 those served, and the slot has the value.
 #[derive(Drop)]
 pub struct Lock<D: Logged<E>, E> {
     pub table: Table<Option<D>, View<E>, Terms, InTurn, Global>,
+    pub bells: Bells,
     ghost shape: { (table.shared.table_id.words ≡ 3) × (table.shared.table_id.slots ≡ 1) },
 }
 
@@ -42,26 +44,25 @@ impl<D: Logged<E>, E> Lock<D, E> {
                 };
                 return value;
             }
-            self.rest(rt, serving);
+            self.rest(rt, ticket, serving);
         }
         unreachable!()
     }
 
-    /// Looks a while whether the turn passed on from this ticket, and then sleeps until it does.
-    fn rest<R: Wait>(&self, rt: &R, serving: u64) {
-        for _ in 0..LOOKS {
-            if self.table.shared.peek(2) != serving {
-                return;
+    /// Waits for the turn of the ticket, or for no reason a shorter while. One who is next looks often, and others sleep at
+    /// once, so that of all who wait one alone takes processor time.
+    fn rest<R: Wait>(&self, rt: &R, ticket: u64, serving: u64) {
+        if ticket == serving.wrapping_add(1) {
+            for _ in 0..LOOKS {
+                if self.table.shared.peek(2) == ticket {
+                    return;
+                }
+                hint::spin_loop();
             }
-            hint::spin_loop();
         }
-        self.table.shared.park(rt, 2, (serving % (1 << 32)) as u32);
-    }
-
-    /// Wakes those who wait for their turn, if there are any. This ticket was served last.
-    fn wake(&self, served: u64) {
-        if self.table.shared.peek(1) != served.wrapping_add(1) {
-            self.table.shared.wake_all(2);
+        self.bells.announce(ticket);
+        if self.table.shared.peek(2) != ticket {
+            self.bells.sleep(rt, ticket);
         }
     }
 
@@ -81,7 +82,7 @@ impl<D: Logged<E>, E> Lock<D, E> {
         self.table.shared.exchange(seat, 0, Some(value));
         self.table.shared.fetch_add::<Add>(seat, 0, 1);
         let served = self.table.shared.fetch_add::<Leave>(seat, 2, 1);
-        self.wake(served);
+        self.bells.ring(served.wrapping_add(1));
     }
 
     /// Gives the value back with nothing added, and passes the turn.
@@ -97,7 +98,7 @@ impl<D: Logged<E>, E> Lock<D, E> {
     {
         self.table.shared.exchange(seat, 0, Some(value));
         let served = self.table.shared.fetch_add::<Leave>(seat, 2, 1);
-        self.wake(served);
+        self.bells.ring(served.wrapping_add(1));
     }
 
     /// While the value is out with the seat: the length of the history, which the seat has seen.

@@ -4,6 +4,7 @@ ghost use Rattle.std.specs.List.{All};
 ghost use Rattle.simplex_shared.specs.Lock.{maker_at};
 ghost use Rattle.simplex_shared.specs.Passes.{unused, unused_passes};
 
+use crate::bells::Bells;
 use crate::desk::Desk;
 use crate::lock::Lock;
 use crate::mailbox::RecordedMailbox;
@@ -50,7 +51,10 @@ fn open<M: Policy + Keep>(
     let mut slots = Vec::new(alloc);
     slots.push(Some(Desk::new(alloc, terms.capacity)?))?;
     match Table::new(alloc, &[0, 0, 0], slots, terms) {
-        Ok((table, maker)) => Ok((Lock { table }, maker)),
+        Ok((table, maker)) => {
+            let bells = Bells::new();
+            Ok((Lock { table, bells }, maker))
+        }
         Err(_) => Err(AllocError),
     }
 }

@@ -3,7 +3,7 @@ use Rattle.std.proofs.lemmas.List.Elements.{All-pop, All-push}
 use Rattle.std.specs.List.{All}
 use Rattle.simplex_shared.specs.declared.op.Op.{Op}
 use Rattle.simplex_shared.specs.Desk.{Recorded}
-use Rattle.simplex_shared.specs.History.{caller_of}
+use Rattle.simplex_shared.specs.History.{caller_of, IsLegal}
 use Rattle.simplex_shared.specs.Lock.{Sat}
 use Rattle.simplex_shared.specs.Passes.{SharedMailbox, Viewer, GoesOn}
 use Rattle.simplex_shared.proofs.Called.{goes_on}
@@ -22,6 +22,16 @@ returns-clause-whole g c =
     let others = subst (λ l. All (λ (pass : Viewer g.row.M.Denot). GoesOn pass l) c.pop.new.self.items) same c.check_all.ensures.checked in
     let mine = subst (GoesOn c.in-Some.last) (sym c.into_log.ensures) (subst (λ (b : Viewer g.row.M.Denot). GoesOn b c.take_turn-desk.result.log) c.last.view_is (goes_on p.seat.table_id p.seat.me.0 p.number c.take_turn-desk.result.log ready.1 turn.goes_on.0 (turn.goes_on.2 ready.0))) in
     subst (All is_in) (sym items) (All-push is_in c.pop.new.self.items c.in-Some.last others mine)
+
+pub returns-clause-legal : goal.returns-clause-legal
+returns-clause-legal g c =
+    let p = c.last.inside in
+    let items : c.args.passes.items ≡ c.pop.new.self.items ++ c.in-Some.last ∷ [] = c.in-Some.ensures.items in
+    let legal = (c.take_turn-desk.ensures.goes_on.3 (inr c.last.invariant.0.0)).0 in
+    let own = (All-pop (λ (pass : Viewer g.row.M.Denot). pass.mailbox ≡ c.args.self) c.args.passes.items c.pop.new.self.items (Some c.in-Some.last) items c.requires.own).1 in
+    let capacity = ap (λ (v : Viewer g.row.M.Denot). v.mailbox.terms.capacity) c.last.view_is ∙ ap (λ (m : SharedMailbox). m.terms.capacity) own in
+    subst (λ n. IsLegal g.M.Policy.handle g.M.Requested.is_skipped n c.into_log.result.items) capacity
+    (subst (IsLegal g.M.Policy.handle g.M.Requested.is_skipped p.seat.me.0.terms.capacity) (sym c.into_log.ensures) legal)
 
 pub returns-clause-callers : goal.returns-clause-callers
 returns-clause-callers g c =
