@@ -1,12 +1,12 @@
 #!/usr/bin/env bash
-# Runs the program on each example that examples.txt names, and compares what it writes and its status; then sees what it
-# says of a standard input that cannot be read, and of a standard output that cannot be written.
-# Usage: examples.sh [FOLDER..]. A folder has NAME.json, NAME.out and NAME.status of each example; where none is given, it is
-# examples/. The program is the one that rt ci or make build built; where there is none, rt run builds it.
+# Runs the program on each example of examples/ that examples.txt names, and compares what it writes and its status; then sees
+# what it says of a standard input that cannot be read, and of a standard output that cannot be written; then runs it on all
+# that stands in further folders.
+# Usage: examples.sh [FOLDER..]. A folder has NAME.json, NAME.out and NAME.status of each example. The program is the one that
+# rt ci or make build built; where there is none, rt run builds it.
 set -uo pipefail
 here=$(cd "$(dirname "$0")" && pwd)
 program=$here/crates/simplex_net/out/simplex_net
-folders=("${@:-$here/examples}")
 if [[ ! -x $program ]]; then
     (cd "$here/crates/simplex_net" && rt run) >/dev/null || true
 fi
@@ -56,14 +56,17 @@ stream() {
     fi
 }
 
-for folder in "${folders[@]}"; do
-    while read -r name || [[ -n $name ]]; do
-        [[ -n $name ]] || continue
-        count "$name" "$(fault "$folder/$name")"
-    done <"$here/examples.txt"
-done
+while read -r name || [[ -n $name ]]; do
+    [[ -n $name ]] || continue
+    count "$name" "$(fault "$here/examples/$name")"
+done <"$here/examples.txt"
 # A folder opens as standard input, and cannot be read.
 count unread "$(stream 5 'simplex_net: standard input could not be read' / "$written")"
 count unwritten "$(stream 6 'simplex_net: standard output could not be written' "$here/examples/one-member-finalizes.json" /dev/full)"
+for folder in "$@"; do
+    for input in "$folder"/*.json; do
+        count "$(basename "$folder")/$(basename "$input" .json)" "$(fault "${input%.json}")"
+    done
+done
 echo "examples: $passed passed, $failed failed"
 ((failed == 0 && passed > 0))
