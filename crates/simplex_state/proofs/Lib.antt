@@ -16,5 +16,6 @@ pub mod Replays
 pub mod Unsent
 pub mod Gates
 pub mod Walking
+pub mod Following
 pub mod Checking
 pub mod Forgetting

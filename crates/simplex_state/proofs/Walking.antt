@@ -187,6 +187,17 @@ before_alone made known before view e none q l =
       | inr h ↦ grind (arith, common_steps, e, none, same_view q before (omega (arith, h, l, e)))
     ]
 
+-- the view before is not certified, covered or met: then no parent will do
+pub parent_unmet : (made : Made) (known : List Fact) (before view : ℕ) → view ≡ before + 1 → is_certified known before ≡ false → is_covered made known before ≡ false
+    → is_met known before view ≡ false → greatest_parent made known view ≡ None
+unfolding greatest_parent
+parent_unmet made known before view e certified bare met =
+    greatest_none (λ p. has_ancestry made known p view) view
+    (λ q h. elim (split_at before q) [
+      | inl l ↦ no_ancestor made known q view (grind (arith, common_steps, certified, same_view q before (omega (arith, l, h, e)))) (before_alone made known before view e met q h)
+      | inr l ↦ gapped made known q view (still_gapped made known q view before l (omega (arith, e)) bare _ refl)
+    ])
+
 true_false : false ≡ true → ⊥
 true_false e = cc
 

@@ -13,7 +13,7 @@ ghost use Rattle.simplex_rules.specs.Calls.{Call, TryPropose, ReleaseProposalReq
 ghost use Rattle.simplex_state.specs.Progress.{progress_of};
 ghost use Rattle.simplex_state.specs.Stands.{StandsFor, Takes, Answers, Keeps};
 
-use crate::rounds::{free_proposal, put_round, round_at};
+use crate::rounds::{first_round, free_proposal, put_round, round_at};
 use crate::state::State;
 use simplex_rules::ProposalRequest;
 use simplex_types::elector::Elector;
@@ -91,21 +91,25 @@ impl<S: Scheme + Drop, L: Elector + Drop> State<S, L> {
         None
     }
 
-    /// The first admitted view in which the member may propose.
-    #[tactic(auto, using(crate::proofs::Walking::find_next, crate::proofs::Walking::find_last), unfolding(crate::specs::Stands::StandsFor, crate::specs::Progress::progress_of, simplex_rules::specs::Views::least_active, simplex_rules::specs::Requests::admitted_views))]
+    /// The first admitted view in which the member may propose. Ahead of the current view only a view whose
+    /// parent has the member's vote can be it, so the walk goes over the views of which something is known.
+    #[tactic(auto, unfolding(crate::specs::Stands::StandsFor, crate::specs::Progress::progress_of, simplex_rules::specs::Views::least_active, simplex_rules::specs::Requests::admitted_views))]
     fn first_admitted(&self) -> Option<View>
         ensures { Answers S.attests L.elects self.now (λ made known. find (may_propose made known) (admitted_views made known)) result }
     {
         let limit = self.lookahead().admission_limit(self.progress.current);
         let mut view = self.progress.current;
-        while view < limit {
-            if self.may_propose(view) {
+        if self.may_propose(view) {
+            return Some(view);
+        }
+        while let Some(parent) = first_round(&self.rounds, view, limit) {
+            if parent == limit {
+                return None;
+            }
+            view = parent.next();
+            if self.is_met(parent, view) && self.may_propose(view) {
                 return Some(view);
             }
-            view = view.next();
-        }
-        if view == limit && self.may_propose(view) {
-            return Some(view);
         }
         None
     }
