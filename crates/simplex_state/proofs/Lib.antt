@@ -19,3 +19,4 @@ pub mod Walking
 pub mod Following
 pub mod Checking
 pub mod Forgetting
+pub mod Forgotten

@@ -176,7 +176,11 @@ impl<S: Scheme + Drop, L: Elector + Drop> State<S, L> {
 }
 
 /// Covers the rest of the view's term from the view on.
-fn cover(covered: &mut BTreeMap<u64, u64>, length: TermLength, view: View) -> Result<(), AllocError>
+pub(crate) fn cover(
+    covered: &mut BTreeMap<u64, u64>,
+    length: TermLength,
+    view: View,
+) -> Result<(), AllocError>
     ensures { OnOk result ((q : ℕ) → covered_in length covered.new q ≡ (covers length view q || covered_in length covered.old q)) }
 {
     let term = view.term_index(length);

@@ -8,10 +8,9 @@ ghost use Rattle.simplex_rules.specs.Known.{Made, Fact, FloorAt, Added, Broadcas
 ghost use Rattle.simplex_rules.specs.Views.{least_active};
 ghost use Rattle.simplex_rules.specs.Calls.{Call, SetFloor, Prune, known_of, set_floor_answer, prune_answer};
 ghost use Rattle.simplex_state.specs.Progress.{progress_of};
-ghost use Rattle.simplex_state.specs.Floor.{keeps_floor};
 ghost use Rattle.simplex_state.specs.Stands.{StandsFor, Takes, Answers, Keeps};
 
-use crate::held::{forget_opened, forget_sent, mark_sent};
+use crate::held::{forget_opened, forget_sent};
 use crate::rounds::{drop_rounds, put_round, round_at};
 use crate::state::State;
 use simplex_types::Floor;
@@ -22,12 +21,10 @@ use simplex_wire::{Finalization, Scheme};
 use std::alloc::AllocError;
 
 impl<S: Scheme + Drop, L: Elector + Drop> State<S, L> {
-    /// Takes the floor for final, and answers its finalization. The new state stands for each history
-    /// in which nothing from the floor's view on was forgotten.
+    /// Takes the floor for final, and answers its finalization.
     pub fn set_floor(&mut self, floor: Floor, now: u64) -> Result<Option<Finalization>, AllocError>
         requires clock { now < 2 ^ 63 }
-        ensures stands { OnOk result ((made : Made) (calls : List Call) → StandsFor S.attests L.elects self.old made calls
-            → keeps_floor (known_of made calls) floor ≡ true → StandsFor S.attests L.elects self.new made (SetFloor floor now ∷ calls)) }
+        ensures stands { OnOk result (Takes S.attests L.elects self.old self.new (SetFloor floor now)) }
         ensures answer { IfOk result (λ it. it ≡ set_floor_answer floor) }
     {
         match floor {
@@ -61,14 +58,12 @@ impl<S: Scheme + Drop, L: Elector + Drop> State<S, L> {
     fn start_from(&mut self, finalization: Finalization, now: u64) -> Result<(), AllocError>
         requires clock { now < 2 ^ 63 }
         ensures { OnOk result ((made : Made) (known : List Fact) → Keeps S.attests L.elects self.old made known
-            → (progress_of made known).pruned ≤ view_of finalization.proposal
             → Keeps S.attests L.elects self.new made (Broadcast kinds.Finalization (view_of finalization.proposal) ∷ Added (certificates.Finalization finalization) now
             ∷ FloorAt (view_of finalization.proposal) finalization.proposal.payload ∷ known)) }
     {
         let view = finalization.view();
         self.know_floor(view, &finalization.proposal.payload)?;
-        self.know_finalization(finalization, now)?;
-        mark_sent(&mut self.finalizations, view.0);
+        self.keep_finalization(finalization, now)?;
         Ok(())
     }
 

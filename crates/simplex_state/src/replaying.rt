@@ -1,41 +1,47 @@
 //! Records of a journal, which tell what the member knew before it started.
 #![tactic(auto, unfolding(crate::specs::Stands::StandsFor, crate::specs::Progress::progress_of, simplex_rules::specs::Calls::known_of, simplex_rules::specs::Calls::facts_of, simplex_rules::specs::Calls::judged))]
 
-ghost use Rattle.std.specs.Prelude.{◌≡◌, ◌≤◌, ◌<◌, ◌^◌, ◌∷◌, ◌++◌, true, List, None, OnOk, IfOk};
+ghost use Rattle.std.specs.Prelude.{◌≡◌, ◌<◌, ◌^◌, ◌++◌, ℕ, List, None, if◌then◌else◌, OnOk, IfOk};
 ghost use Rattle.simplex_rules.specs.Known.{Made, Fact, view_of};
-ghost use Rattle.simplex_rules.specs.Calls.{Call, Replay, known_of, replay_answer, contradicted_leader, judged, kept_notarization, kept_nullification, kept_finalization};
+ghost use Rattle.simplex_rules.specs.Calls.{Call, Replay, known_of, contradicted_leader, judged, kept_notarization, kept_nullification, kept_finalization};
 ghost use Rattle.simplex_state.specs.Progress.{progress_of};
-ghost use Rattle.simplex_state.specs.Floor.{keeps_record};
-ghost use Rattle.simplex_state.specs.Stands.{StandsFor, Keeps};
+ghost use Rattle.simplex_state.specs.Floor.{keeps_view, blamed};
+ghost use Rattle.simplex_state.specs.Stands.{StandsFor, Takes, Answers, Keeps};
 
-use crate::held::mark_sent;
+use crate::certificates::cover;
+use crate::held::{hold, mark_sent};
 use crate::state::State;
 use simplex_types::elector::Elector;
-use simplex_values::{Participant, View};
+use simplex_values::{Participant, Proposal, View};
 use simplex_wire::{Artifact, Finalization, Notarization, Nullification, Scheme};
 use std::alloc::AllocError;
 
 impl<S: Scheme + Drop, L: Elector + Drop> State<S, L> {
     /// Takes a record of the journal for known: own votes as own, certificates as sent, and a verdict with the
     /// failure that a false one is. The answer is the leader to block: where the slot named another proposal
-    /// than the certificate. The new state stands for each history in which nothing from the record's view on
-    /// was forgotten.
+    /// than the certificate, and its view was not forgotten.
     pub fn replay(
         &mut self,
         artifact: Artifact,
         now: u64,
     ) -> Result<Option<Participant>, AllocError>
         requires clock { now < 2 ^ 63 }
-        ensures stands { OnOk result ((made : Made) (calls : List Call) → StandsFor S.attests L.elects self.old made calls
-            → keeps_record (known_of made calls) artifact ≡ true → StandsFor S.attests L.elects self.new made (Replay artifact now ∷ calls)) }
-        ensures answer { IfOk result (λ leader. (made : Made) (calls : List Call) → StandsFor S.attests L.elects self.old made calls
-            → keeps_record (known_of made calls) artifact ≡ true → leader ≡ replay_answer made (known_of made calls) artifact) }
+        ensures stands { OnOk result (Takes S.attests L.elects self.old self.new (Replay artifact now)) }
+        ensures answer { IfOk result (Answers S.attests L.elects self.old (λ made known. blamed made known artifact)) }
     {
         match artifact {
-            Artifact::Notarization(notarization) => self.replay_notarization(notarization, now),
-            Artifact::Finalization(finalization) => self.replay_finalization(finalization, now),
+            Artifact::Notarization(notarization) => {
+                let leader = self.blamed_leader(&notarization.proposal);
+                self.keep_notarization(notarization, now)?;
+                Ok(leader)
+            }
+            Artifact::Finalization(finalization) => {
+                let leader = self.blamed_leader(&finalization.proposal);
+                self.keep_finalization(finalization, now)?;
+                Ok(leader)
+            }
             Artifact::Nullification(nullification) => {
-                self.replay_nullification(nullification, now)?;
+                self.keep_nullification(nullification, now)?;
                 Ok(None)
             }
             Artifact::Certification(round, good) => {
@@ -57,63 +63,91 @@ impl<S: Scheme + Drop, L: Elector + Drop> State<S, L> {
         }
     }
 
-    /// Takes a notarization for known and sent, and answers the leader that it contradicts.
-    fn replay_notarization(
-        &mut self,
-        notarization: Notarization,
-        now: u64,
-    ) -> Result<Option<Participant>, AllocError>
-        requires clock { now < 2 ^ 63 }
-        ensures stands { OnOk result ((made : Made) (known : List Fact) → Keeps S.attests L.elects self.old made known
-            → (progress_of made known).pruned ≤ view_of notarization.proposal
-            → Keeps S.attests L.elects self.new made (kept_notarization notarization now ++ known)) }
-        ensures answer { IfOk result (λ leader. (made : Made) (calls : List Call) → StandsFor S.attests L.elects self.old made calls
-            → (progress_of made (known_of made calls)).pruned ≤ view_of notarization.proposal
-            → leader ≡ contradicted_leader made (known_of made calls) notarization.proposal) }
+    /// The leader that a certificate of the proposal contradicts, or nobody where its view was forgotten.
+    fn blamed_leader(&self, proposal: &Proposal) -> Option<Participant>
+        ensures { (made : Made) (calls : List Call) → StandsFor S.attests L.elects self.now made calls
+            → result ≡ (if keeps_view (known_of made calls) (view_of proposal.now) then contradicted_leader made (known_of made calls) proposal.now else None) }
     {
-        let view = notarization.view();
-        let leader = self.contradicted_leader(&notarization.proposal);
-        self.know_notarization(notarization, now)?;
-        mark_sent(&mut self.notarizations, view.0);
-        Ok(leader)
+        if proposal.view() < self.progress.pruned {
+            return None;
+        }
+        self.contradicted_leader(proposal)
     }
 
-    /// Takes a nullification for known and sent.
-    fn replay_nullification(
+    /// A notarization of a view that was forgotten is known again: where it is held it counts as sent.
+    fn pass_notarization(&mut self, notarization: &Notarization)
+        ensures { (made : Made) (known : List Fact) (now : ℕ) → now < 2 ^ 63 → Keeps S.attests L.elects self.old made known
+            → view_of notarization.now.proposal < (progress_of made known).pruned
+            → Keeps S.attests L.elects self.new made (kept_notarization notarization.now now ++ known) }
+    {
+        let view = notarization.view();
+        mark_sent(&mut self.notarizations, view.0);
+    }
+
+    /// Takes a notarization for known and sent.
+    fn keep_notarization(&mut self, notarization: Notarization, now: u64) -> Result<(), AllocError>
+        requires clock { now < 2 ^ 63 }
+        ensures { OnOk result ((made : Made) (known : List Fact) → Keeps S.attests L.elects self.old made known
+            → Keeps S.attests L.elects self.new made (kept_notarization notarization now ++ known)) }
+    {
+        let view = notarization.view();
+        if view < self.progress.pruned {
+            self.pass_notarization(&notarization);
+            return Ok(());
+        }
+        self.know_notarization(notarization, now)?;
+        mark_sent(&mut self.notarizations, view.0);
+        Ok(())
+    }
+
+    /// Takes a nullification for known and sent. One of a view that was forgotten may still cover later ones.
+    fn keep_nullification(
         &mut self,
         nullification: Nullification,
         now: u64,
     ) -> Result<(), AllocError>
         requires clock { now < 2 ^ 63 }
         ensures { OnOk result ((made : Made) (known : List Fact) → Keeps S.attests L.elects self.old made known
-            → (progress_of made known).pruned ≤ nullification.round.view
             → Keeps S.attests L.elects self.new made (kept_nullification nullification now ++ known)) }
     {
         let view = nullification.view();
-        self.know_nullification(nullification, now)?;
+        let length = self.settings.terms.length;
+        cover(&mut self.covered, length, view)?;
+        self.progress
+            .open(view.next_term_start(length), length, now);
+        hold(&mut self.nullifications, view.0, nullification)?;
         mark_sent(&mut self.nullifications, view.0);
         Ok(())
     }
 
-    /// Takes a finalization for known and sent, and answers the leader that it contradicts.
-    fn replay_finalization(
+    /// A finalization of a view that was forgotten is known again: where it is held it counts as sent.
+    fn pass_finalization(&mut self, finalization: &Finalization)
+        ensures { (made : Made) (known : List Fact) (now : ℕ) → now < 2 ^ 63 → Keeps S.attests L.elects self.old made known
+            → view_of finalization.now.proposal < (progress_of made known).pruned
+            → Keeps S.attests L.elects self.new made (kept_finalization finalization.now now ++ known) }
+    {
+        let view = finalization.view();
+        mark_sent(&mut self.finalizations, view.0);
+    }
+
+    /// Takes a finalization for known and sent.
+    pub(crate) fn keep_finalization(
         &mut self,
         finalization: Finalization,
         now: u64,
-    ) -> Result<Option<Participant>, AllocError>
+    ) -> Result<(), AllocError>
         requires clock { now < 2 ^ 63 }
-        ensures stands { OnOk result ((made : Made) (known : List Fact) → Keeps S.attests L.elects self.old made known
-            → (progress_of made known).pruned ≤ view_of finalization.proposal
+        ensures { OnOk result ((made : Made) (known : List Fact) → Keeps S.attests L.elects self.old made known
             → Keeps S.attests L.elects self.new made (kept_finalization finalization now ++ known)) }
-        ensures answer { IfOk result (λ leader. (made : Made) (calls : List Call) → StandsFor S.attests L.elects self.old made calls
-            → (progress_of made (known_of made calls)).pruned ≤ view_of finalization.proposal
-            → leader ≡ contradicted_leader made (known_of made calls) finalization.proposal) }
     {
         let view = finalization.view();
-        let leader = self.contradicted_leader(&finalization.proposal);
+        if view < self.progress.pruned {
+            self.pass_finalization(&finalization);
+            return Ok(());
+        }
         self.know_finalization(finalization, now)?;
         mark_sent(&mut self.finalizations, view.0);
-        Ok(leader)
+        Ok(())
     }
 
     /// Takes a verdict, where one on its view is taken.

@@ -1,0 +1,11 @@
+use Rattle.std.proofs.Common.{arith}
+use Rattle.std.proofs.lemmas.Grind.{common_steps}
+use Rattle.simplex_state.proofs.Forgotten.{keeps_kept_nullification}
+use Rattle.simplex_state.proofs.state.State.keep_nullification.Goals as goal
+
+pub returns : goal.returns
+returns g c = λ made known k.
+    keeps_kept_nullification _ _ _ made known _ _ _ _ _ k (omega arith)
+    (grind (arith, common_steps, k.settings.term_length))
+    (λ q. grind (arith, common_steps, c.in_ok-cover.ensures q, k.settings.term_length))
+    (λ q. grind (arith, common_steps, c.in_ok-hold.ensures q, c.mark_sent.ensures q, c.view-view.ensures))
