@@ -23,4 +23,5 @@ mod verification;
 mod votes;
 
 pub use config::StateConfig;
+pub use simplex_rules::{CertificateFetch, ProposalRequest, Verify};
 pub use state::State;
