@@ -10,3 +10,4 @@ pub mod Sums
 pub mod Taken
 pub mod Visits
 pub mod Untouched
+pub mod Rounds

@@ -1,0 +1,25 @@
+//! What follows from a fetcher's definition alone.
+ghost use Rattle.std.specs.Prelude.{◌≡◌, ℕ, ◌<◌, false, List};
+ghost use Rattle.std.specs.Map.{keys_of};
+ghost use Rattle.std.specs.Ordering.{nat_cmp};
+ghost use Rattle.std.specs.List.Sorted.{IsStrictlySortedBy};
+ghost use Rattle.simplex_resolving.specs.declared.config.FetchConfig.{FetchConfig};
+ghost use Rattle.simplex_resolving.specs.declared.entry.Entry.{Entry};
+ghost use Rattle.simplex_resolving.specs.Asks.{is_targeted};
+ghost use Rattle.simplex_resolving.specs.Fetcher.{Machine};
+ghost use Rattle.simplex_fetch.specs.Laws.{AsksAll, DeliversOpen, ServesOnce};
+
+/// Where an ask of a view names nobody, the attempts go round all peers.
+pub fn untargeted_asks_go_round()
+    ensures { (config : FetchConfig) (view : ℕ) (entry : Entry) → config.me < config.n → is_targeted entry.arrivals ≡ false → AsksAll config view entry }
+{}
+
+/// An answer is delivered only for the open request that it names, from the peer that was asked.
+pub fn answers_are_of_open_requests()
+    ensures { (fetcher : Machine) (sender : ℕ) (bytes : List ℕ) (now : ℕ) → DeliversOpen fetcher sender bytes now }
+{}
+
+/// A request is served once, since the numbers of requests differ.
+pub fn requests_are_served_once()
+    ensures { (fetcher : Machine) (id : ℕ) → IsStrictlySortedBy nat_cmp (keys_of fetcher.serving) → ServesOnce fetcher id }
+{}
