@@ -1,12 +1,12 @@
 //! Records of a journal, which tell what the member knew before it started.
 #![tactic(auto, unfolding(crate::specs::Stands::StandsFor, crate::specs::Progress::progress_of, simplex_rules::specs::Calls::known_of, simplex_rules::specs::Calls::facts_of, simplex_rules::specs::Calls::judged))]
 
-ghost use Rattle.std.specs.Prelude.{◌≡◌, ◌<◌, ◌^◌, ◌++◌, ℕ, List, None, if◌then◌else◌, OnOk, IfOk};
+ghost use Rattle.std.specs.Prelude.{◌≡◌, ◌<◌, ◌^◌, ◌++◌, ℕ, true, false, List, None, if◌then◌else◌, OnOk, IfOk};
 ghost use Rattle.simplex_rules.specs.Known.{Made, Fact, view_of};
-ghost use Rattle.simplex_rules.specs.Calls.{Call, Replay, known_of, contradicted_leader, judged, kept_notarization, kept_nullification, kept_finalization};
+ghost use Rattle.simplex_rules.specs.Calls.{Call, Replay, known_of, replay_answer, contradicted_leader, judged, kept_notarization, kept_nullification, kept_finalization};
 ghost use Rattle.simplex_state.specs.Progress.{progress_of};
-ghost use Rattle.simplex_state.specs.Floor.{keeps_view, blamed};
-ghost use Rattle.simplex_state.specs.Stands.{StandsFor, Takes, Answers, Keeps};
+ghost use Rattle.simplex_state.specs.Floor.{keeps_view, keeps_record};
+ghost use Rattle.simplex_state.specs.Stands.{StandsFor, Takes, Keeps};
 
 use crate::certificates::cover;
 use crate::held::{hold, mark_sent};
@@ -27,7 +27,10 @@ impl<S: Scheme + Drop, L: Elector + Drop> State<S, L> {
     ) -> Result<Option<Participant>, AllocError>
         requires clock { now < 2 ^ 63 }
         ensures stands { OnOk result (Takes S.attests L.elects self.old self.new (Replay artifact now)) }
-        ensures answer { IfOk result (Answers S.attests L.elects self.old (λ made known. blamed made known artifact)) }
+        ensures answer { IfOk result (λ leader. (made : Made) (calls : List Call) → StandsFor S.attests L.elects self.old made calls
+            → keeps_record (known_of made calls) artifact ≡ true → leader ≡ replay_answer made (known_of made calls) artifact) }
+        ensures forgotten { IfOk result (λ leader. (made : Made) (calls : List Call) → StandsFor S.attests L.elects self.old made calls
+            → keeps_record (known_of made calls) artifact ≡ false → leader ≡ None) }
     {
         match artifact {
             Artifact::Notarization(notarization) => {
