@@ -1,0 +1,60 @@
+-- What was recorded, the newest first, by what is kept of it.
+use Rattle.std.specs.Prelude.{◌≡◌, ℕ, Bool, List, Option, option_map}
+use Rattle.std.specs.List.{list_any}
+use Rattle.simplex_values.specs.declared.proposal.Subject.{Subject}
+use Rattle.simplex_values.specs.declared.round.Round.{Round}
+use Rattle.simplex_values.specs.declared.terms.Terms.{Terms}
+use Rattle.simplex_values.specs.Maps.{found, has}
+use Rattle.simplex_wire.specs.declared.attestation.Attestation.{Attestation}
+use Rattle.simplex_types.specs.declared.activity.Activity.{Activity}
+use Rattle.simplex_recording.specs.declared.certificates.Certificates.{Certificates}
+use Rattle.simplex_recording.specs.declared.faults.Faults.{Faults}
+use Rattle.simplex_recording.specs.declared.finalized.Finalized.{Finalized}
+use Rattle.simplex_recording.specs.declared.record.Record.{Record}
+use Rattle.simplex_recording.specs.declared.reporter.Reporter.{Reporter}
+use Rattle.simplex_recording.specs.declared.seen.Seen.{Seen}
+use Rattle.simplex_recording.specs.declared.unlocked.Unlocked.{Unlocked}
+use Rattle.simplex_recording.specs.declared.votes.Votes.{Votes}
+use Rattle.simplex_recording.specs.Kept.{has_cast, has_pair, count_in, evidence_in}
+use Rattle.simplex_recording.specs.Recording.{Made, is_notarize_at, is_nullify_at, is_finalize_at, notarization_at, certification_at, nullification_at, finalization_at, finalizations_at, has_certificate, leader_at, views_seen, latest_seen, faults_of, has_faults, recorded, invalid_votes_of, invalid_certificates_of}
+
+pub record VotesOf (votes : Votes) (all : List Activity) : Type 0 where
+  pub notarizes_are : (view : ℕ) (payload : List ℕ) (signer : ℕ) → has_cast votes.notarizes view payload signer ≡ list_any (is_notarize_at view payload signer) all
+  pub nullifies_are : (view signer : ℕ) → has_pair votes.nullifies view signer ≡ list_any (is_nullify_at view signer) all
+  pub finalizes_are : (view : ℕ) (payload : List ℕ) (signer : ℕ) → has_cast votes.finalizes view payload signer ≡ list_any (is_finalize_at view payload signer) all
+
+pub record CertificatesOf (kept : Certificates) (all : List Activity) : Type 0 where
+  pub notarization_is : (view : ℕ) → found kept.notarizations view ≡ notarization_at all view
+  pub certification_is : (view : ℕ) → found kept.certifications view ≡ certification_at all view
+  pub nullification_is : (view : ℕ) → found kept.nullifications view ≡ nullification_at all view
+  pub finalization_is : (view : ℕ) → option_map (λ (f : Finalized). f.first) (found kept.finalizations view) ≡ finalization_at all view
+  pub count_is : (view : ℕ) → count_in (found kept.finalizations view) ≡ finalizations_at all view
+
+pub record UnlockedOf (unlocked : Unlocked) (made : Made) (all : List Activity) : Type 0 where
+  pub certified_is : (view : ℕ) → has unlocked.certified view ≡ has_certificate all view
+  pub leader_is : (view : ℕ) → found unlocked.leaders view ≡ leader_at made all view
+
+pub record SeenOf (kept : Seen) (all : List Activity) : Type 0 where
+  pub views_are : kept.views.items ≡ views_seen all
+  pub latest_is : kept.latest ≡ latest_seen all
+
+pub record FaultsOf (kept : Faults) (all : List Activity) : Type 0 where
+  pub lists_are : (member view : ℕ) → evidence_in kept.lists view member ≡ faults_of all member view
+  pub any_is : kept.any ≡ has_faults all
+
+pub record RecordOf (kept : Record) (made : Made) (all : List Activity) : Type 0 where
+  pub votes_are : VotesOf kept.votes all
+  pub certificates_are : CertificatesOf kept.certificates all
+  pub unlocked_are : UnlockedOf kept.unlocked made all
+  pub seen_are : SeenOf kept.seen all
+  pub faults_are : FaultsOf kept.faults all
+
+module _ {S L : Type 0} where
+  -- the reporter is made so, and was told this, the newest first
+  unfoldable pub StandsFor : (S → Subject → Attestation → Bool) → (S → ℕ) → (L → Round → ℕ) → (L → Terms) → Reporter S L → Made → List Activity → Type 0
+  StandsFor verifies members elects cuts reporter made told =
+      (made ≡ record { verifies = verifies reporter.scheme; members = members reporter.scheme; leader = elects reporter.elector; term = (cuts reporter.elector).length })
+      × (reporter.participants ≡ made.members)
+      × RecordOf reporter.kept made (recorded made told)
+      × (reporter.invalid_votes ≡ invalid_votes_of made told)
+      × (reporter.invalid_certificates ≡ invalid_certificates_of made told)

@@ -1,0 +1,15 @@
+//! A reporter that records what it is told.
+#![tactic(auto)]
+
+mod casts;
+mod certificates;
+mod evidence;
+mod faults;
+mod finalized;
+mod record;
+mod reporter;
+mod seen;
+mod unlocked;
+mod votes;
+
+pub use reporter::{Config, Reporter};

@@ -1,0 +1,56 @@
+//! What was recorded.
+ghost use Rattle.std.specs.Prelude.{◌≡◌, ◌∷◌, [], List, OnOk};
+ghost use Rattle.simplex_types.specs.declared.activity.Activity.{Activity};
+ghost use Rattle.simplex_recording.specs.Recording.{Made};
+ghost use Rattle.simplex_recording.specs.Stands.{RecordOf};
+
+use crate::certificates::Certificates;
+use crate::faults::Faults;
+use crate::seen::Seen;
+use crate::unlocked::Unlocked;
+use crate::votes::Votes;
+use simplex_types::Activity;
+use simplex_types::elector::Elector;
+use std::alloc::{AllocError, Global};
+
+/// Activities that verified.
+#[derive(Debug, Drop)]
+pub(crate) struct Record {
+    pub votes: Votes,
+    pub certificates: Certificates,
+    pub unlocked: Unlocked,
+    pub seen: Seen,
+    pub faults: Faults,
+}
+
+impl Record {
+    /// Nothing was recorded.
+    pub(crate) fn new(alloc: Global) -> Record
+        ensures { (made : Made) → RecordOf result made [] }
+    {
+        Record {
+            votes: Votes::new(alloc),
+            certificates: Certificates::new(alloc),
+            unlocked: Unlocked::new(alloc),
+            seen: Seen::new(alloc),
+            faults: Faults::new(alloc),
+        }
+    }
+
+    /// Records the activity.
+    pub(crate) fn enter<L: Elector>(
+        &mut self,
+        alloc: Global,
+        elector: &L,
+        activity: Activity,
+    ) -> Result<(), AllocError>
+        ensures { OnOk result ((made : Made) (all : List Activity) → made.leader ≡ L.elects elector.now → made.term ≡ (L.cuts elector.now).length
+            → RecordOf self.old made all → RecordOf self.new made (activity ∷ all)) }
+    {
+        self.votes.enter(&activity)?;
+        self.unlocked.enter(elector, &activity)?;
+        self.seen.enter(&activity)?;
+        self.faults.enter(alloc, &activity)?;
+        self.certificates.enter(alloc, activity)
+    }
+}
