@@ -1,9 +1,13 @@
 //! Answers combined, what passes an attributable reporter, whom two reporters tell, and how long a payload may be.
 ghost use Rattle.std.specs.Prelude.{◌≡◌, Ok};
 
-use simplex_report::{AttributableReporter, Pair, Reporters, combine, max_payload_size};
+use simplex_messages::{Call, Outcome};
+use simplex_report::{
+    AttributableReporter, Pair, Reporters, combine, hand_reports, max_payload_size,
+};
+use simplex_transcript::Entry;
 use simplex_types::{Activity, Hidden, Keyed, Reporter};
-use simplex_values::{Digest, Epoch, Feedback, Participant, Proposal, Round, View};
+use simplex_values::{Digest, Epoch, Feedback, Participant, Proposal, Round, Sequence, View};
 use simplex_wire::{Notarization, Notarize, Scheme, Signatures};
 use std::alloc::{AllocError, Global};
 use std::fmt::Debug;
@@ -198,6 +202,74 @@ fn two_reporters(rt: HostRuntime) {
     check_pair(&rt, alloc, "the second", second, (Feedback::Backoff, 0, 1));
     let none = Pair::from((None, None));
     check_pair(&rt, alloc, "none", none, (Feedback::Ok, 0, 0));
+}
+
+/// Keeps what it is told, and asks for a pause at the first alone.
+#[derive(Drop)]
+struct Listing {
+    told: Vec<Activity>,
+}
+
+impl Reporter for Listing {
+    type Activity = Activity;
+
+    ghost reports = { λ before activity answer after. after ≡ after };
+
+    fn report(&mut self, activity: Activity) -> Result<Feedback, AllocError> {
+        let first = self.told.is_empty();
+        self.told.push(activity)?;
+        Ok(if first {
+            Feedback::Backoff
+        } else {
+            Feedback::Ok
+        })
+    }
+}
+
+/// An entry of these calls, which did nothing else.
+fn entry_of(alloc: Global, calls: Vec<Call>) -> Entry {
+    Entry {
+        event: 1,
+        who: None,
+        took: None,
+        added: Sequence::new(alloc),
+        asked: Sequence::new(alloc),
+        dropped: Sequence::new(alloc),
+        handed: Sequence::new(alloc),
+        calls: Sequence::from_vec(calls),
+        packets: Sequence::new(alloc),
+        outcome: Outcome::Done,
+    }
+}
+
+#[test]
+fn reports_are_handed_in_order(rt: HostRuntime) {
+    let alloc = rt.alloc();
+    let mut reporter = Listing {
+        told: Vec::new(alloc),
+    };
+    let calls = vec![in alloc;
+        Call::Sync(1),
+        Call::Report(notarize(&rt, alloc, BASE)),
+        Call::Prune(1),
+        Call::Report(Activity::Notarization(unsigned(alloc))),
+    ];
+    let entry = entry_of(alloc, calls.expect(&rt, "room for calls"));
+    let answer = hand_reports(alloc, &entry, &mut reporter).expect(&rt, "room for copies");
+    same(&rt, "the worst answer", &answer, &Feedback::Backoff);
+    let wanted = vec![in alloc;
+        notarize(&rt, alloc, BASE),
+        Activity::Notarization(unsigned(alloc)),
+    ];
+    same(
+        &rt,
+        "what was told",
+        &reporter.told,
+        &wanted.expect(&rt, "room for activities"),
+    );
+    let nothing = entry_of(alloc, Vec::new(alloc));
+    let answer = hand_reports(alloc, &nothing, &mut reporter).expect(&rt, "no memory is taken");
+    same(&rt, "nothing to tell", &answer, &Feedback::Ok);
 }
 
 #[test]
