@@ -1,0 +1,4 @@
+pub mod Setup
+pub mod Undelivered
+pub mod Unanswered
+pub mod Summary

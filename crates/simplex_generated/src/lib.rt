@@ -1,0 +1,21 @@
+//! What a run is that a number makes: its setup, what a generator of its events draws from, and the line that sums it up.
+//!
+//! The [`Undelivered`] packets and the open [`Requests`] of a run are kept up to date by the entry of its last event alone, so
+//! that no event looks at all events before it.
+#![tactic(auto)]
+
+mod nodes;
+mod samples;
+mod setup;
+mod sums;
+mod unanswered;
+mod undelivered;
+mod words;
+
+pub use nodes::{ENGINE_NODES, NODES};
+pub use samples::sums_come_out;
+pub use setup::setup_of;
+pub use sums::summary;
+pub use unanswered::{Requests, Unanswered};
+pub use undelivered::{Parcel, Undelivered};
+pub use words::{draw, random_of};
