@@ -16,9 +16,9 @@ mod writer_sink;
 
 pub use memory_sink::MemorySink;
 pub use memory_source::MemorySource;
-pub use read::{InputError, read_to_end};
+pub use read::{InputEnd, LIMIT, read_bytes, read_to_end};
 pub use reader_source::{ReaderSource, StdinSource};
 pub use sink::{Sink, SinkError};
 pub use source::{Source, SourceError};
-pub use write::write_all;
+pub use write::write_text;
 pub use writer_sink::{StdoutSink, WriterSink};

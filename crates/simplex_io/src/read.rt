@@ -6,26 +6,29 @@ use crate::source::{Source, SourceError};
 use std::alloc::Global;
 use thiserror::Error;
 
+/// How many bytes an input may have.
+pub const LIMIT: u32 = 67_108_864;
+
 /// Why the input was not read to its end.
 #[derive(Clone, Copy, Debug, PartialEq, Eq, Error)]
-pub enum InputError {
+pub enum InputEnd {
     #[error("the input is longer than its limit")]
     TooLong,
     #[error("the input could not be read")]
-    Failed,
+    ReadFault,
     #[error("there is no memory left for the input")]
     Memory,
 }
 
-impl From<SourceError> for InputError {
-    ghost use Rattle.simplex_io.specs.Errors.{input_error_of};
+impl From<SourceError> for InputEnd {
+    ghost use Rattle.simplex_io.specs.Errors.{input_end_of};
 
-    ghost from_gives = { λ error result. result ≡ input_error_of error };
+    ghost from_gives = { λ error result. result ≡ input_end_of error };
 
-    fn from(error: SourceError) -> InputError {
+    fn from(error: SourceError) -> InputEnd {
         match error {
-            SourceError::Memory => InputError::Memory,
-            SourceError::Failed => InputError::Failed,
+            SourceError::Memory => InputEnd::Memory,
+            SourceError::Failed => InputEnd::ReadFault,
         }
     }
 }
@@ -49,21 +52,21 @@ pub fn read_to_end<S: Source>(
     alloc: Global,
     source: &mut S,
     limit: u32,
-) -> Result<Vec<u8>, InputError>
+) -> Result<Vec<u8>, InputEnd>
     ensures ok { IfOk result (λ bytes.
         TakesAll (S.left source.old) bytes.items (S.left source.new)) }
     ensures within { IfOk result (λ bytes. vec_len bytes ≤ limit) }
 
     // It is too long exactly where more than the limit was taken, which is never more than one byte more.
-    ensures too_long { IsErrOf result InputError.TooLong
+    ensures too_long { IsErrOf result InputEnd.TooLong
         → TakesOver limit (S.left source.old) (S.left source.new) }
-    ensures not_too_long { ¬ IsErrOf result InputError.TooLong
+    ensures not_too_long { ¬ IsErrOf result InputEnd.TooLong
         → TakesWithin limit (S.left source.old) (S.left source.new) }
     ensures one_past { TakesWithin (limit + 1) (S.left source.old) (S.left source.new) }
 
-    ensures failed { IsErrOf result InputError.Failed
+    ensures failed { IsErrOf result InputEnd.ReadFault
         → Rose (S.fault_count source.old) (S.fault_count source.new) }
-    ensures quiet { ¬ IsErrOf result InputError.Failed → S.fault_count source.new ≡ S.fault_count source.old }
+    ensures quiet { ¬ IsErrOf result InputEnd.ReadFault → S.fault_count source.new ≡ S.fault_count source.old }
     ensures later { S.fault_count source.old ≤ S.fault_count source.new }
 {
     let mut input = Vec::new(alloc);
@@ -73,10 +76,29 @@ pub fn read_to_end<S: Source>(
             return Ok(input);
         }
         if input.len() + bytes.len() > limit as usize {
-            return Err(InputError::TooLong);
+            return Err(InputEnd::TooLong);
         }
         input
             .extend_from_slice(&bytes)
-            .map_err(|_| InputError::Memory)?;
+            .map_err(|_| InputEnd::Memory)?;
     }
+}
+
+/// Reads a source to its end, which comes after at most [`LIMIT`] bytes.
+pub fn read_bytes<S: Source>(alloc: Global, source: &mut S) -> Result<Vec<u8>, InputEnd>
+    ensures ok { IfOk result (λ bytes.
+        TakesAll (S.left source.old) bytes.items (S.left source.new)) }
+    ensures within { IfOk result (λ bytes. vec_len bytes ≤ LIMIT) }
+    ensures too_long { IsErrOf result InputEnd.TooLong
+        → TakesOver LIMIT (S.left source.old) (S.left source.new) }
+    ensures not_too_long { ¬ IsErrOf result InputEnd.TooLong
+        → TakesWithin LIMIT (S.left source.old) (S.left source.new) }
+    ensures one_past { TakesWithin (LIMIT + 1) (S.left source.old) (S.left source.new) }
+
+    ensures failed { IsErrOf result InputEnd.ReadFault
+        → Rose (S.fault_count source.old) (S.fault_count source.new) }
+    ensures quiet { ¬ IsErrOf result InputEnd.ReadFault → S.fault_count source.new ≡ S.fault_count source.old }
+    ensures later { S.fault_count source.old ≤ S.fault_count source.new }
+{
+    read_to_end(alloc, source, LIMIT)
 }

@@ -13,7 +13,7 @@ fn after(bytes: &[u8], n: usize) -> &[u8]
 }
 
 /// Writes all the bytes, or answers why only the first of them were written.
-pub fn write_all<K: Sink>(sink: &mut K, bytes: &[u8]) -> Result<(), SinkError>
+pub fn write_text<K: Sink>(sink: &mut K, bytes: &[u8]) -> Result<(), SinkError>
     ensures ok { OnOk result (Adds (K.written sink.old) bytes.now (K.written sink.new)) }
     ensures err { OnErr result (AddsPart (K.written sink.old) bytes.now (K.written sink.new)) }
 

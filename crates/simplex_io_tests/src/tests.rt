@@ -2,8 +2,8 @@
 ghost use Rattle.std.specs.Prelude.{◌≤◌};
 
 use simplex_io::{
-    InputError, MemorySink, MemorySource, ReaderSource, Sink, SinkError, Source, SourceError,
-    StdinSource, StdoutSink, WriterSink, read_to_end, write_all,
+    InputEnd, MemorySink, MemorySource, ReaderSource, Sink, SinkError, Source, SourceError,
+    StdinSource, StdoutSink, WriterSink, read_bytes, read_to_end, write_text,
 };
 use std::alloc::{AllocError, Global};
 use std::fmt::Debug;
@@ -19,7 +19,7 @@ fn same<T: PartialEq + Debug>(rt: &impl Abort, case: &str, got: &T, wanted: &T) 
 /// What came of reading ten thousand bytes to their end.
 #[derive(Debug, PartialEq, Eq, Drop)]
 struct Reading {
-    given: Result<Vec<u8>, InputError>,
+    given: Result<Vec<u8>, InputEnd>,
     faults: u64,
     /// How many bytes a second reading gave.
     left: Option<usize>,
@@ -50,7 +50,7 @@ fn failing_at(alloc: Global, failing: u64, limit: u32) -> Result<Reading, AllocE
 /// One read failed, and so much was left.
 fn failed(left: usize) -> Reading {
     Reading {
-        given: Err(InputError::Failed),
+        given: Err(InputEnd::ReadFault),
         faults: 1,
         left: Some(left),
     }
@@ -66,8 +66,11 @@ fn an_input_is_read_to_its_end(rt: HostRuntime) -> Result<(), Fail> {
         left: Some(0),
     };
     same(&rt, "no read fails", &failing_at(alloc, 0, 10_000)?, &whole);
+    let mut source = MemorySource::new(vec![in alloc; 7u8; 10_000]?, Vec::new(alloc));
+    let given = read_bytes(alloc, &mut source);
+    same(&rt, "within the program's limit", &given, &whole.given);
     let too_long = Reading {
-        given: Err(InputError::TooLong),
+        given: Err(InputEnd::TooLong),
         faults: 0,
         left: Some(0),
     };
@@ -97,7 +100,7 @@ const TEXT: &str = "forty bytes that take up several writes.";
 /// What comes of it where the write with this number fails; the first has number 1.
 fn failing_write(alloc: Global, failing: u64) -> Result<Writing, AllocError> {
     let mut sink = MemorySink::new(alloc, vec![in alloc; failing]?);
-    let answer = write_all(&mut sink, TEXT.as_bytes());
+    let answer = write_text(&mut sink, TEXT.as_bytes());
     Ok(Writing {
         answer,
         written: sink.bytes().to_vec(alloc)?,
@@ -208,6 +211,6 @@ fn standard_streams_are_a_source_and_a_sink(rt: HostRuntime) {
     let input = StdinSource::new(rt.alloc(), rt.stdin());
     same(&rt, "faults of the input", &input.faults(), &0);
     let mut output = StdoutSink::new(rt.stdout());
-    let answer = write_all(&mut output, "written\n".as_bytes());
+    let answer = write_text(&mut output, "written\n".as_bytes());
     same(&rt, "written", &answer, &Ok(()));
 }

@@ -18,7 +18,7 @@ use Rattle.simplex_network.specs.declared.run.Transcript.{Transcript}
 use Rattle.simplex_network.specs.Stands.{MadeBy}
 use Rattle.simplex_program.specs.declared.exit.Exit.{Exit}
 use Rattle.simplex_program.specs.declared.exit.Exit.TheVariants.{Done}
-use Rattle.simplex_program.specs.declared.front.TheConstants.{LIMIT}
+use Rattle.simplex_io.specs.declared.read.TheConstants.{LIMIT}
 use Rattle.simplex_program.specs.Exit.{Ending, Ran, Refused, BadWords, BadInput, TooLong, ReadFault, WriteFault, Memory, told, text_of}
 use Rattle.simplex_io.specs.Io.{Takes, TakesAll, TakesWithin, Adds}
 use Rattle.simplex_program.specs.Whole.{WholeRun}

@@ -8,7 +8,7 @@ use Rattle.simplex_form.specs.declared.input.Input.{Input}
 use Rattle.simplex_form.specs.Input.{input_of}
 use Rattle.simplex_io.specs.Io.{TakesAll, TakesOver, TakesWithin, Rose}
 use Rattle.simplex_run.specs.Run.{Run}
-use Rattle.simplex_program.specs.declared.front.TheConstants.{LIMIT}
+use Rattle.simplex_io.specs.declared.read.TheConstants.{LIMIT}
 use Rattle.simplex_program.specs.Exit.{Ending, Ran, Refused, BadWords, BadInput, TooLong, ReadFault, WriteFault, Memory}
 
 -- the one word `run`

@@ -17,14 +17,11 @@ ghost use Rattle.simplex_program.specs.Cause.{IsRun, ending_of, ending_for, even
 use crate::exit::Exit;
 use crate::text::text;
 use simplex_form::read_input;
-use simplex_io::{InputError, Sink, SinkError, Source, read_to_end, write_all};
+use simplex_io::{InputEnd, LIMIT, Sink, SinkError, Source, read_bytes, write_text};
 use simplex_network::run_network;
 use simplex_transcript::{Event, RunError};
 use simplex_types::Sequence;
 use std::alloc::{AllocError, Global};
-
-/// How many bytes an input may have.
-pub const LIMIT: u32 = 67_108_864;
 
 /// An exit before its text is written, and the events that it tells of.
 #[derive(Drop)]
@@ -94,10 +91,10 @@ fn decide<S: Source>(alloc: Global, words: &[String], source: &mut S) -> Decisio
     if !is_run(words) {
         return at_once(alloc, Exit::BadWords);
     }
-    match read_to_end(alloc, source, LIMIT) {
-        Err(InputError::TooLong) => at_once(alloc, Exit::TooLong),
-        Err(InputError::Failed) => at_once(alloc, Exit::ReadFault),
-        Err(InputError::Memory) => at_once(alloc, Exit::Memory),
+    match read_bytes(alloc, source) {
+        Err(InputEnd::TooLong) => at_once(alloc, Exit::TooLong),
+        Err(InputEnd::ReadFault) => at_once(alloc, Exit::ReadFault),
+        Err(InputEnd::Memory) => at_once(alloc, Exit::Memory),
         Ok(bytes) => match answer(alloc, &bytes) {
             Ok(decision) => decision,
             Err(AllocError) => at_once(alloc, Exit::Memory),
@@ -117,7 +114,7 @@ fn tell<K: Sink>(alloc: Global, decision: Decision, sink: &mut K) -> Exit
     let Ok(text) = text(alloc, &decision.exit, decision.events.as_slice()) else {
         return Exit::Memory;
     };
-    match write_all(sink, text.as_bytes()) {
+    match write_text(sink, text.as_bytes()) {
         Ok(()) => decision.exit,
         Err(SinkError::Memory) => Exit::Memory,
         Err(SinkError::Failed) => Exit::WriteFault,

@@ -12,4 +12,5 @@ mod front;
 mod text;
 
 pub use exit::Exit;
-pub use front::{LIMIT, program};
+pub use front::program;
+pub use simplex_io::LIMIT;

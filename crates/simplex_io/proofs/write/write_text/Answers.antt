@@ -1,7 +1,7 @@
 -- One more write keeps the written part and the rest in step.
 use Rattle.std.proofs.Common.{◌∙◌}
 use Rattle.simplex_io.proofs.Taken.{part_more}
-use Rattle.simplex_io.proofs.write.write_all.Goals as goal
+use Rattle.simplex_io.proofs.write.write_text.Goals as goal
 
 pub loop-rest-preserved : goal.loop-rest-preserved
 loop-rest-preserved g c = record {

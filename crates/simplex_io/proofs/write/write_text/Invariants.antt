@@ -1,7 +1,7 @@
 -- What the writing loop keeps: what was written so far and the rest make up the whole.
 use Rattle.std.proofs.Common.{◌≡◌, ◌++◌, List, ℕ, length}
 use Rattle.simplex_io.specs.Io.{Adds}
-use Rattle.simplex_io.proofs.write.write_all.Given as goal
+use Rattle.simplex_io.proofs.write.write_text.Given as goal
 
 abbrev pub invariant-loop-rest : goal.invariant-loop-rest
 invariant-loop-rest g l = record {
