@@ -1,0 +1,4 @@
+pub mod Beside
+pub mod Quiet
+pub mod Apart
+pub mod Whole
