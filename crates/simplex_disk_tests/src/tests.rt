@@ -1,0 +1,194 @@
+//! The bytes of a file, each disk call failing in turn, each image that a crash may leave, and orders.
+use crate::images::{Found, images_at};
+use crate::runs::{forty, may_be, new_journal, opened, record};
+use simplex_disk::{Disk, DiskJournal, MemoryDisk};
+use simplex_journal::{Journal, JournalError, MemoryJournal};
+use simplex_wire::Artifact;
+use std::alloc::Global;
+use std::fmt::Debug;
+use std::process::Abort;
+use std::test::Fail;
+
+/// The test ends here where the two differ, and says in which case.
+fn same<T: PartialEq + Debug>(rt: &impl Abort, case: &str, got: &T, wanted: &T) {
+    assert_eq!(rt; got, wanted, "{case}");
+}
+
+/// The bytes of a file.
+fn bytes_of(
+    journal: DiskJournal<MemoryDisk>,
+    alloc: Global,
+    file: u64,
+) -> Result<Vec<u8>, JournalError> {
+    let mut disk = journal.into_disk();
+    let bytes = disk.read(alloc, file)?;
+    Ok(bytes)
+}
+
+/// One record of section 1, as the bytes of file 1.
+fn one_record(alloc: Global, synced: bool) -> Result<Vec<u8>, JournalError> {
+    let mut journal = new_journal(alloc, 0)?;
+    journal.append(alloc, 1, &record(1))?;
+    if synced {
+        journal.sync(1)?;
+    }
+    bytes_of(journal, alloc, 1)
+}
+
+/// The same after a stop that keeps so many pending records, and once more opened.
+fn one_record_again(alloc: Global, keep: u64) -> Result<Vec<u8>, JournalError> {
+    let mut journal = new_journal(alloc, 0)?;
+    journal.append(alloc, 1, &record(1))?;
+    journal.crash(keep);
+    let journal = opened(journal.into_disk(), alloc)?;
+    bytes_of(journal, alloc, 1)
+}
+
+#[test]
+fn a_file_byte_by_byte(rt: HostRuntime) {
+    let alloc = rt.alloc();
+    let pending = one_record(alloc, false).expect(&rt, "room");
+    same(
+        &rt,
+        "pending",
+        &pending.as_slice(),
+        &[0, 4, 2, 0, 1, 1, 0].as_slice(),
+    );
+    let synced = one_record(alloc, true).expect(&rt, "room");
+    same(
+        &rt,
+        "synced",
+        &synced.as_slice(),
+        &[1, 4, 2, 0, 1, 1, 0].as_slice(),
+    );
+    let lost = one_record_again(alloc, 0).expect(&rt, "room");
+    same(
+        &rt,
+        "a stop that keeps none",
+        &lost.as_slice(),
+        &[0].as_slice(),
+    );
+    let kept = one_record_again(alloc, 1).expect(&rt, "room");
+    same(
+        &rt,
+        "a stop that keeps one",
+        &kept.as_slice(),
+        &[1, 4, 2, 0, 1, 1, 0].as_slice(),
+    );
+}
+
+/// What is left of a run.
+#[derive(Debug, PartialEq, Eq, Drop)]
+struct Left {
+    /// How many calls ended well.
+    number: u64,
+    /// What is replayed after a stop.
+    records: Vec<Artifact>,
+    faults: u64,
+}
+
+/// The run on a disk whose call of this number fails, a stop that keeps nothing, and the journal opened once more. Where the run
+/// makes no such call only the faults are told.
+fn after_fault(alloc: Global, failing: u64) -> Result<Left, JournalError> {
+    let mut journal = new_journal(alloc, failing)?;
+    let number = forty(&mut journal, alloc);
+    if number == 40 {
+        return Ok(Left {
+            number,
+            records: Vec::new(alloc),
+            faults: journal.faults(),
+        });
+    }
+    journal.crash(0);
+    let mut again = opened(journal.into_disk(), alloc)?;
+    let records = again.replay(alloc)?;
+    Ok(Left {
+        number,
+        records,
+        faults: again.faults(),
+    })
+}
+
+#[test]
+fn each_disk_call_fails_in_turn(rt: HostRuntime) {
+    let alloc = rt.alloc();
+    let mut made = 0u64;
+    // The first call lists the files when the journal is opened.
+    for failing in 2..1000u64 {
+        let left = after_fault(alloc, failing).expect(&rt, "room");
+        if left.number == 40 {
+            assert_eq!(rt; left.faults, 0, "no call failed");
+            break;
+        }
+        assert!(rt; may_be(&left.records, left.number), "disk call {failing}");
+        assert_eq!(rt; left.faults, 1, "one call failed");
+        made = failing;
+    }
+    assert!(rt; made > 100 && made < 999, "the run made {made} disk calls");
+}
+
+#[test]
+fn each_image_is_read(rt: HostRuntime) {
+    let alloc = rt.alloc();
+    let mut images = 0u64;
+    for failing in 2..1000u64 {
+        let found = images_at(alloc, failing).expect(&rt, "room");
+        let Found { number, wrong, .. } = found;
+        assert_eq!(rt; wrong, 0, "before disk call {failing}");
+        images = images.saturating_add(found.images);
+        if number == 40 {
+            break;
+        }
+    }
+    assert!(rt; images > 1000, "{images} images were read");
+}
+
+/// The run under an order, and a stop that keeps one pending record of each section.
+fn under_order<J: Journal>(
+    journal: &mut J,
+    alloc: Global,
+    call: u64,
+    dropped: u64,
+) -> Result<Left, JournalError> {
+    journal.fail_next(call, dropped);
+    let number = forty(journal, alloc);
+    journal.fail_next(0, 0);
+    journal.crash(1);
+    let records = journal.replay(alloc)?;
+    Ok(Left {
+        number,
+        records,
+        faults: journal.faults(),
+    })
+}
+
+#[test]
+fn orders_as_in_memory(rt: HostRuntime) {
+    let alloc = rt.alloc();
+    for call in 0..=41u64 {
+        for dropped in [0, 1, 5u64] {
+            let mut journal = new_journal(alloc, 0).expect(&rt, "room");
+            let left = under_order(&mut journal, alloc, call, dropped).expect(&rt, "room");
+            let mut other = MemoryJournal::new(alloc);
+            let wanted = under_order(&mut other, alloc, call, dropped).expect(&rt, "room");
+            same(&rt, "an order", &left, &wanted);
+        }
+    }
+}
+
+/// Appends so many records to one section, syncs them, and replays them.
+fn many(alloc: Global, size: u64) -> Result<u64, JournalError> {
+    let mut journal = new_journal(alloc, 0)?;
+    for view in 0..size {
+        journal.append(alloc, 1, &record(view))?;
+    }
+    journal.sync(1)?;
+    let records = journal.replay(alloc)?;
+    Ok(records.len() as u64)
+}
+
+#[test]
+fn many_records(rt: HostRuntime) {
+    let replayed = many(rt.alloc(), 10_000).expect(&rt, "room");
+    assert_eq!(rt; replayed, 10_000);
+}
