@@ -1,7 +1,9 @@
 -- A call of the journal, with what its disk is ordered before it and after it.
-use Rattle.std.proofs.Common.{◌≡◌, ℕ, List, Option, Result, Ok, Err, refl, sym, ap, subst, ◌∙◌}
+use Rattle.std.proofs.Common.{◌≡◌, ℕ, List, [], ◌∷◌, Option, Result, Ok, Err, refl, sym, ap, subst, ◌∙◌}
+use Rattle.std.specs.Map.{keys_of}
 use Rattle.std.specs.Result.{MatchResult, OnOk, OnErr, IfOk, IsErrOf}
 use Rattle.simplex_journal.specs.declared.error.JournalError.{JournalError}
+use Rattle.simplex_journal.specs.Contents.{numbers}
 use Rattle.simplex_journal.specs.Journal.{Section}
 use Rattle.simplex_journal.specs.Memory.{sections_of}
 use Rattle.simplex_journal.specs.declared.error.JournalError.TheVariants as journal
@@ -10,7 +12,7 @@ use Rattle.simplex_disk.specs.declared.error.DiskError.TheVariants as disk
 use Rattle.simplex_disk.specs.declared.segment.Segment.{Segment}
 use Rattle.simplex_disk.specs.Calls.{Call, content}
 use Rattle.simplex_disk.specs.Contents.{Any}
-use Rattle.simplex_disk.specs.Index.{sections_in, sections_at, IsIndexed}
+use Rattle.simplex_disk.specs.Index.{sections_in, sections_at, read_entries, IsIndexed}
 use Rattle.simplex_disk.specs.Moments.{Always, Then}
 use Rattle.simplex_disk.specs.Orders.{journal_answer}
 use Rattle.simplex_disk.proofs.Entries.{read-same}
@@ -86,3 +88,10 @@ answer_memory {T} r s is h = by r (subst (λ (q : Result T JournalError). IsErrO
 pub if_weaker : {T E : Type 0} (P Q : T → Type 0) (r : Result T E) → ((x : T) → P x → Q x) → IfOk r P → IfOk r Q
 if_weaker P Q (Ok x) f h = f x h
 if_weaker P Q (Err e) f h = tt
+
+-- ---- the numbers of the sections
+
+pub numbers_kept : (files : ℕ → Option (List ℕ)) (es : List (ℕ × Segment)) → numbers (sections_in files es) ≡ keys_of es
+unfolding numbers sections_of read_entries
+numbers_kept files [] = refl
+numbers_kept files (e ∷ es) = ap (λ (ns : List ℕ). e.0 ∷ ns) (numbers_kept files es)

@@ -6,6 +6,9 @@ use Rattle.simplex_journal.specs.Order.{Order, names_next, counted, Obeys, Stand
 use Rattle.simplex_journal.specs.Journal.{Section, pruned_first}
 use Rattle.simplex_journal.specs.Faults as journal
 use Rattle.simplex_journal.specs.declared.error.JournalError.{JournalError}
+use Rattle.simplex_journal.specs.declared.error.JournalError.TheVariants as errors
+use Rattle.simplex_disk.specs.Errors.{journal_error}
+use Rattle.simplex_disk.specs.Opening.{not_opened}
 use Rattle.simplex_disk.specs.declared.error.DiskError.{DiskError}
 use Rattle.simplex_disk.specs.declared.error.DiskError.TheVariants.{Failed, Memory}
 use Rattle.simplex_disk.specs.Answers as disk
@@ -18,6 +21,24 @@ pub counts_of : {T : Type 0} (r : Result T DiskError) (before now : ℕ) → dis
 counts_of (Ok x) before now h = h
 counts_of (Err Failed) before now h = h
 counts_of (Err Memory) before now h = h
+
+-- where it was an error
+pub counts_error : {T : Type 0} (r : Result T DiskError) (e : DiskError) (error : JournalError) (before now : ℕ) → r ≡ Err e → error ≡ journal_error e → disk.Counts r before now
+    → journal.Counts before (not_opened error) now
+counts_error {T} r e error before now is said h =
+    subst (λ (j : JournalError). journal.Counts before (not_opened j) now) (sym said) (by e (subst (λ (q : Result T DiskError). disk.Counts q before now) is h))
+  where
+    by : (e : DiskError) → disk.Counts {R = T} (Err e) before now → journal.Counts before (not_opened (journal_error e)) now
+    by Failed h = h
+    by Memory h = h
+
+-- an error that is no fault
+pub no_fault_error : {T : Type 0} (r : Result T DiskError) (e : DiskError) (error : JournalError) → r ≡ Err e → error ≡ journal_error e → IsNoFault r → error ≡ errors.Memory
+no_fault_error {T} r e error is said quiet = said ∙ by e (subst (λ (q : Result T DiskError). IsNoFault q) is quiet)
+  where
+    by : (e : DiskError) → IsNoFault {R = T} (Err e) → journal_error e ≡ errors.Memory
+    by Failed quiet = absurd quiet
+    by Memory quiet = refl
 
 -- ---- the order
 

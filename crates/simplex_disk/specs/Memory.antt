@@ -4,6 +4,7 @@ use Rattle.std.specs.List.{list_any}
 use Rattle.std.specs.Ordering.{nat_cmp}
 use Rattle.std.specs.Map.{lookup}
 use Rattle.std.specs.BTreeMap.{is_at}
+use Rattle.simplex_journal.specs.Faults.{raised}
 use Rattle.simplex_disk.specs.declared.error.DiskError.{DiskError}
 use Rattle.simplex_disk.specs.declared.error.DiskError.TheVariants.{Failed}
 use Rattle.simplex_disk.specs.Calls.{Call, content}
@@ -32,6 +33,10 @@ fails disk = (disk.ordered == 1) || list_any (λ number. number == next disk.mad
 -- the disk after a call that was counted, with so many faults
 abbrev pub counted : Held → ℕ → Held
 counted disk faults = record { kept = disk.kept; made = next disk.made; failing = disk.failing; ordered = disk.ordered - 1; faults = faults }
+
+-- The disk after a call that was answered, with these files: the call is counted, and is one more fault where it was to fail.
+abbrev pub after_call : Held → List (ℕ × List ℕ) → Held
+after_call disk kept = record { kept = kept; made = next disk.made; failing = disk.failing; ordered = disk.ordered - 1; faults = if fails disk then raised disk.faults else disk.faults }
 
 -- the answer of a call that takes no memory
 abbrev pub answer_of : Bool → Result (Unit {0}) DiskError

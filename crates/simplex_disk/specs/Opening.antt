@@ -1,8 +1,9 @@
 -- What the opening of a journal reads, and what a crash leaves inside it.
-use Rattle.std.specs.Prelude.{◌≡◌, ℕ, List, [], ◌∷◌, ◌++◌, Option, None, Some}
+use Rattle.std.specs.Prelude.{◌≡◌, ℕ, List, [], ◌∷◌, ◌++◌, Option, None, Some, Result, Err}
 use Rattle.std.specs.List.{AllByRecursion}
 use Rattle.simplex_wire.specs.declared.artifact.Artifact.{Artifact}
 use Rattle.simplex_journal.specs.Journal.{Section}
+use Rattle.simplex_journal.specs.declared.error.JournalError.{JournalError}
 use Rattle.simplex_disk.specs.Calls.{Call, MayLeave, content}
 use Rattle.simplex_disk.specs.Chain.{Reads, record_bytes, chain, open_blocks, opened, opened_by}
 use Rattle.simplex_disk.specs.Index.{section_numbered}
@@ -44,6 +45,10 @@ pub record LeavesSame (first now : List Call) : Type 0 where
 abbrev pub section_read : ℕ → Option (List ℕ) → Option Section
 section_read n None = None
 section_read n (Some bytes) = Some (record { number = n; synced = opened bytes; pending = [] })
+
+-- the answer where no journal was opened
+abbrev pub not_opened : JournalError → Result (Unit {0}) JournalError
+not_opened error = Err error
 
 -- These sections are those of the files.
 pub record AreRead (files : ℕ → Option (List ℕ)) (sections : List Section) : Type 0 where

@@ -19,6 +19,10 @@ pub record LeavesPruned (least : ℕ) (sections : List Section) (leaving : Optio
   pub each : (image : ℕ → Option (List ℕ)) → IsImage calls image
       → (count : ℕ) × ((n : ℕ) → ¬ IsLeaving leaving n → IsLeft (section_numbered n (pruned_first count least sections)) (image n))
 
+-- What is leaving now was leaving before, or is below the least number.
+abbrev pub LeavesNoneAbove : ℕ → Option ℕ → Option ℕ → Type 0
+LeavesNoneAbove least leaving now = (n : ℕ) → IsLeaving now n → IsLeaving leaving n ⊎ (n < least)
+
 -- Whatever a crash leaves of the file, it is not there, or it has the synced records and a first part of the pending ones.
 abbrev pub LeavesGone : ℕ → List Artifact → List Artifact → List Call → Type 0
 LeavesGone n synced pending calls = (x : Option (List ℕ)) → MayLeave n calls x → (x ≡ None) ⊎ ((bytes : List ℕ) × (x ≡ Some bytes) × IsFront synced pending bytes)

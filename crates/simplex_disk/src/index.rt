@@ -128,6 +128,7 @@ pub(crate) fn append_to<D: Disk>(
 ) -> Result<(), DiskError>
     requires { (calls : List Call) × D.StandsFor disk.old calls × IsIndexed index.old.entries leaving.old calls }
     ensures goes { Goes (D.StandsFor disk.old) (D.StandsFor disk.new) index.old.entries index.new.entries leaving.old leaving.new (Changes result (appended number artifact.now)) }
+    ensures less { LeavesNoMore leaving.old leaving.new }
     ensures ends { Ends (D.fault_count disk.old) (D.order disk.old) result (D.fault_count disk.new) (D.order disk.new) }
     ensures named { IsNamed (D.order disk.old) result }
 {

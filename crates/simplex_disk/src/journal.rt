@@ -1,6 +1,8 @@
 //! The journal.
 ghost use Rattle.std.specs.Prelude.{◌≡◌, List, None, Some, OnOk, OnErr, IfOk, IfErr, IfSome, IsErrOf};
-ghost use Rattle.simplex_journal.specs.Faults.{Rose, Counts};
+ghost use Rattle.std.specs.Result.{MatchResult};
+ghost use Rattle.simplex_journal.specs.Contents.{IsRising};
+ghost use Rattle.simplex_journal.specs.Faults.{Counts};
 ghost use Rattle.simplex_journal.specs.Journal.{appended, synced_at, all_synced, pruned, crashed, replayed};
 ghost use Rattle.simplex_journal.specs.Order.{no_order, Obeys, Stands, PrunesInPart};
 ghost use Rattle.simplex_disk.specs.Calls.{Call};
@@ -8,8 +10,9 @@ ghost use Rattle.simplex_disk.specs.Contents.{OnDisk, sections_kept, IsOf, Any};
 ghost use Rattle.simplex_disk.specs.Index.{LeavesJournal};
 ghost use Rattle.simplex_disk.specs.Moments.{Always, Then};
 ghost use Rattle.simplex_disk.specs.Orders.{order_told};
-ghost use Rattle.simplex_disk.specs.Pruning.{LeavesPruned};
-ghost use Rattle.simplex_disk.specs.Opening.{IsSettled, LeavesSame, AreRead};
+ghost use Rattle.simplex_disk.specs.Goes.{LeavesNoMore};
+ghost use Rattle.simplex_disk.specs.Pruning.{LeavesPruned, LeavesNoneAbove};
+ghost use Rattle.simplex_disk.specs.Opening.{IsSettled, LeavesSame, AreRead, not_opened};
 
 use crate::disk::{Disk, StopDisk};
 use crate::error::InitError;
@@ -59,11 +62,14 @@ impl<D: Disk> DiskJournal<D> {
     pub fn init(disk: D, alloc: Global) -> Result<DiskJournal<D>, InitError<D>>
         requires { (calls : List Call) × D.StandsFor disk calls × IsSettled calls }
         ensures ok { IfOk result (λ journal. (journal.leaving ≡ None) × (journal.order ≡ no_order) × AreRead (D.contents disk) (sections_kept D.contents journal)) }
+        ensures rising { IfOk result (λ journal. IsRising (sections_kept D.contents journal)) }
         // A crash at any moment of the call leaves files in which the same records are read.
         ensures moments { IfOk result (λ journal. (calls : List Call) → D.StandsFor disk calls → IsSettled calls → Then (IsOf D.StandsFor journal) (Always (LeavesSame calls) calls) Any) }
         ensures moments_of_err { IfErr result (λ e. (calls : List Call) → D.StandsFor disk calls → IsSettled calls → Then (D.StandsFor e.disk) (Always (LeavesSame calls) calls) Any) }
         ensures faults { IfOk result (λ journal. D.fault_count journal.disk ≡ D.fault_count disk) }
-        ensures failed { IfErr result (λ e. e.error ≡ JournalError.Failed → Rose (D.fault_count disk) (D.fault_count e.disk)) }
+        ensures failed { IfErr result (λ e. Counts (D.fault_count disk) (not_opened e.error) (D.fault_count e.disk)) }
+        // Of a disk that fails no call the journal is opened, unless memory runs out, and it fails none then either.
+        ensures quiet { D.order disk ≡ Some 0 → MatchResult result (λ journal. D.order journal.disk ≡ Some 0) (λ e. (D.order e.disk ≡ Some 0) × (e.error ≡ JournalError.Memory)) }
     {
         let mut disk = disk;
         match open_files(&mut disk, alloc) {
@@ -81,6 +87,12 @@ impl<D: Disk> DiskJournal<D> {
             }),
         }
     }
+
+    /// A crash right now leaves a journal with all synced records, and a first part of the pending ones: that is said, and nothing
+    /// done.
+    pub fn outlasts_a_crash(&self)
+        ensures { (calls : List Call) → IsOf D.StandsFor self.now calls → LeavesJournal (sections_kept D.contents self.now) self.now.leaving calls }
+    {}
 
     /// The disk, as it is.
     pub fn into_disk(self) -> D
@@ -111,6 +123,7 @@ impl<D: StopDisk> Journal for DiskJournal<D> {
         ensures err { OnErr result (sections_kept D.contents self.new ≡ sections_kept D.contents self.old) }
         ensures ordered { Obeys (order_told (D.order self.old.disk) self.old.order) result (order_told (D.order self.new.disk) self.new.order) }
         ensures faults { Counts (D.fault_count self.old.disk) result (D.fault_count self.new.disk) }
+        ensures leaving { LeavesNoMore self.old.leaving self.new.leaving }
         // A crash at any moment of the call leaves a journal with all synced records, and a first part of the pending ones.
         ensures moments { (calls : List Call) → IsOf D.StandsFor self.old calls → Then (IsOf D.StandsFor self.new) (Always (LeavesJournal (sections_kept D.contents self.old) self.old.leaving) calls) Any }
     {
@@ -131,6 +144,7 @@ impl<D: StopDisk> Journal for DiskJournal<D> {
         ensures err { OnErr result (sections_kept D.contents self.new ≡ sections_kept D.contents self.old) }
         ensures ordered { Obeys (order_told (D.order self.old.disk) self.old.order) result (order_told (D.order self.new.disk) self.new.order) }
         ensures faults { Counts (D.fault_count self.old.disk) result (D.fault_count self.new.disk) }
+        ensures leaving { self.new.leaving ≡ self.old.leaving }
         // A crash at any moment of the call leaves a journal with all synced records, and a first part of the pending ones.
         ensures moments { (calls : List Call) → IsOf D.StandsFor self.old calls → Then (IsOf D.StandsFor self.new) (Always (LeavesJournal (sections_kept D.contents self.old) self.old.leaving) calls) Any }
     {
@@ -144,6 +158,7 @@ impl<D: StopDisk> Journal for DiskJournal<D> {
         ensures err { OnErr result (sections_kept D.contents self.new ≡ sections_kept D.contents self.old) }
         ensures ordered { Obeys (order_told (D.order self.old.disk) self.old.order) result (order_told (D.order self.new.disk) self.new.order) }
         ensures faults { Counts (D.fault_count self.old.disk) result (D.fault_count self.new.disk) }
+        ensures leaving { self.new.leaving ≡ self.old.leaving }
         // A crash at any moment of the call leaves a journal with all synced records, and a first part of the pending ones.
         ensures moments { (calls : List Call) → IsOf D.StandsFor self.old calls → Then (IsOf D.StandsFor self.new) (Always (LeavesJournal (sections_kept D.contents self.old) self.old.leaving) calls) Any }
     {
@@ -158,6 +173,8 @@ impl<D: StopDisk> Journal for DiskJournal<D> {
         ensures memory { IsErrOf result JournalError.Memory → sections_kept D.contents self.new ≡ sections_kept D.contents self.old }
         ensures ordered { Obeys (order_told (D.order self.old.disk) self.old.order) result (order_told (D.order self.new.disk) self.new.order) }
         ensures faults { Counts (D.fault_count self.old.disk) result (D.fault_count self.new.disk) }
+        ensures gone { OnOk result (self.new.leaving ≡ None) }
+        ensures leaving { LeavesNoneAbove min self.old.leaving self.new.leaving }
         // A crash at any moment of the call leaves a journal from which the first sections below the least number are gone.
         ensures moments { (calls : List Call) → IsOf D.StandsFor self.old calls → Then (IsOf D.StandsFor self.new) (Always (LeavesPruned min (sections_kept D.contents self.old) self.old.leaving) calls) Any }
     {
@@ -181,6 +198,7 @@ impl<D: StopDisk> Journal for DiskJournal<D> {
         ensures stays { sections_kept D.contents self.new ≡ sections_kept D.contents self.old }
         ensures ordered { Obeys (order_told (D.order self.old.disk) self.old.order) result (order_told (D.order self.new.disk) self.new.order) }
         ensures faults { Counts (D.fault_count self.old.disk) result (D.fault_count self.new.disk) }
+        ensures leaving { self.new.leaving ≡ self.old.leaving }
         ensures moments { (calls : List Call) → IsOf D.StandsFor self.old calls → IsOf D.StandsFor self.new calls }
     {
         begin_call(&mut self.disk, self.failing_call, 1);
@@ -196,7 +214,9 @@ impl<D: StopDisk> Journal for DiskJournal<D> {
         ensures left { sections_kept D.contents self.new ≡ crashed keep (sections_kept D.contents self.old) }
         ensures order { Stands (order_told (D.order self.old.disk) self.old.order) (order_told (D.order self.new.disk) self.new.order) }
         ensures faults { D.fault_count self.new.disk ≡ D.fault_count self.old.disk }
-        ensures moments { (calls : List Call) → IsOf D.StandsFor self.old calls → Then (IsOf D.StandsFor self.new) Any Any }
+        // A crash right after it leaves each file as it reads, so that the disk may be opened again.
+        ensures moments { (calls : List Call) → IsOf D.StandsFor self.old calls → Then (IsOf D.StandsFor self.new) Any IsSettled }
+        ensures leaving { self.new.leaving ≡ self.old.leaving }
     {
         crash(&mut self.disk, &mut self.index, keep);
     }
@@ -205,6 +225,7 @@ impl<D: StopDisk> Journal for DiskJournal<D> {
         ensures order { IfSome (order_told (D.order self.old.disk) self.old.order) (λ _. order_told (D.order self.new.disk) self.new.order ≡ Some (record { call = call; sections = dropped })) }
         ensures stays { sections_kept D.contents self.new ≡ sections_kept D.contents self.old }
         ensures faults { D.fault_count self.new.disk ≡ D.fault_count self.old.disk }
+        ensures leaving { self.new.leaving ≡ self.old.leaving }
         ensures moments { (calls : List Call) → IsOf D.StandsFor self.old calls → IsOf D.StandsFor self.new calls }
     {
         self.failing_call = call;

@@ -1,9 +1,10 @@
 //! A disk in memory.
-ghost use Rattle.simplex_disk.specs.Calls.{Call};
-ghost use Rattle.simplex_disk.specs.Opening.{IsSettled};
-ghost use Rattle.std.specs.Prelude.{List, ◌≡◌, [], OnOk, if◌then◌else◌};
+ghost use Rattle.std.specs.Prelude.{List, ◌≡◌, ◌↔◌, ◌≤◌, ◌<◌, ◌∷◌, [], length, IfOk, OnOk, OnErr, IfSome, IsErrOf, IsTrue, Some, true, false, if◌then◌else◌};
 ghost use Rattle.simplex_journal.specs.Faults.{raised};
-ghost use Rattle.simplex_disk.specs.Memory.{fails, counted, answer_of, IsLeftBy};
+ghost use Rattle.simplex_disk.specs.Answers.{Counts, Heeds, OrderStands, IsListing};
+ghost use Rattle.simplex_disk.specs.Calls.{Call, Write, Cut, Remove, Sync, Settle, Leave, bytes_of, WritesInPart, CutsInPart, RemovesInPart};
+ghost use Rattle.simplex_disk.specs.Memory.{fails, counted, answer_of, after_call, file_in, order_told, IsLeftBy};
+ghost use Rattle.simplex_disk.specs.Opening.{IsSettled};
 
 use crate::disk::{Disk, StopDisk};
 use crate::error::DiskError;
@@ -68,6 +69,8 @@ impl MemoryDisk {
         ensures answer { result ≡ answer_of (fails self.old) }
         ensures after { self.new ≡ (if fails self.old then counted self.old (raised self.old.faults) else self.old) }
         ensures ok { OnOk result (self.new ≡ self.old) }
+        ensures passes { OnOk result (fails self.old ≡ false) }
+        ensures err { OnErr result (fails self.old ≡ true) }
     {
         let number = self.made.saturating_add(1);
         if self.ordered != 1 && !self.failing.contains(&number) {
@@ -92,35 +95,86 @@ impl Disk for MemoryDisk {
 
     ghost reads = { λ disk calls left. left.each };
 
-    fn read(&mut self, alloc: Global, file: u64) -> Result<Vec<u8>, DiskError> {
+    fn read(&mut self, alloc: Global, file: u64) -> Result<Vec<u8>, DiskError>
+        ensures bytes { IfOk result (λ bytes. bytes.items ≡ bytes_of (file_in self.old.kept file)) }
+        ensures stays { (calls : List Call) → IsLeftBy self.old.kept calls → IsLeftBy self.new.kept calls }
+        ensures counts { Counts result self.old.faults self.new.faults }
+        ensures heeds { Heeds (order_told self.old.failing self.old.ordered) result (order_told self.new.failing self.new.ordered) }
+        // The calls of the numbers to fail do fail, and no other. Each that is answered is counted, and one that failed does nothing.
+        ensures named { IsErrOf result DiskError.Failed ↔ IsTrue (fails self.old) }
+        ensures answered { ¬ IsErrOf result DiskError.Memory → self.new ≡ after_call self.old self.old.kept }
+        ensures unanswered { IsErrOf result DiskError.Memory → self.new ≡ self.old }
+    {
         self.obey()?;
         let bytes = read_file(&self.files, alloc, file)?;
         self.count_call();
         Ok(bytes)
     }
 
-    fn files(&mut self, alloc: Global) -> Result<Vec<u64>, DiskError> {
+    fn files(&mut self, alloc: Global) -> Result<Vec<u64>, DiskError>
+        ensures listed { IfOk result (λ numbers. IsListing (file_in self.old.kept) numbers.items) }
+        ensures stays { (calls : List Call) → IsLeftBy self.old.kept calls → IsLeftBy self.new.kept calls }
+        ensures counts { Counts result self.old.faults self.new.faults }
+        ensures heeds { Heeds (order_told self.old.failing self.old.ordered) result (order_told self.new.failing self.new.ordered) }
+        // The calls of the numbers to fail do fail, and no other. Each that is answered is counted, and one that failed does nothing.
+        ensures named { IsErrOf result DiskError.Failed ↔ IsTrue (fails self.old) }
+        ensures answered { ¬ IsErrOf result DiskError.Memory → self.new ≡ after_call self.old self.old.kept }
+        ensures unanswered { IsErrOf result DiskError.Memory → self.new ≡ self.old }
+    {
         self.obey()?;
         let numbers = numbers_of(&self.files, alloc)?;
         self.count_call();
         Ok(numbers)
     }
 
-    fn write_at(&mut self, file: u64, place: u64, bytes: &[u8]) -> Result<(), DiskError> {
+    fn write_at(&mut self, file: u64, place: u64, bytes: &[u8]) -> Result<(), DiskError>
+        requires { place ≤ length (bytes_of (file_in self.old.kept file)) }
+        ensures ok { OnOk result ((calls : List Call) → IsLeftBy self.old.kept calls → IsLeftBy self.new.kept (Write file place (length bytes.now) bytes.now ∷ calls)) }
+        ensures in_part { OnErr result ((calls : List Call) → IsLeftBy self.old.kept calls → WritesInPart file place (length bytes.now) calls (IsLeftBy self.new.kept)) }
+        ensures memory { IsErrOf result DiskError.Memory → (calls : List Call) → IsLeftBy self.old.kept calls → IsLeftBy self.new.kept calls }
+        ensures counts { Counts result self.old.faults self.new.faults }
+        ensures heeds { Heeds (order_told self.old.failing self.old.ordered) result (order_told self.new.failing self.new.ordered) }
+        // The calls of the numbers to fail do fail, and no other. Each that is answered is counted, and one that failed does nothing.
+        ensures named { IsErrOf result DiskError.Failed ↔ IsTrue (fails self.old) }
+        ensures answered { ¬ IsErrOf result DiskError.Memory → self.new ≡ after_call self.old self.new.kept }
+        ensures unanswered { IsErrOf result DiskError.Memory → self.new ≡ self.old }
+        ensures nothing { OnErr result (self.new.kept ≡ self.old.kept) }
+    {
         self.obey()?;
         write_file(&mut self.files, self.alloc, file, place, bytes)?;
         self.count_call();
         Ok(())
     }
 
-    fn cut(&mut self, file: u64, len: u64) -> Result<(), DiskError> {
+    fn cut(&mut self, file: u64, len: u64) -> Result<(), DiskError>
+        ensures ok { OnOk result ((calls : List Call) → IsLeftBy self.old.kept calls → IsLeftBy self.new.kept (Cut file len true ∷ calls)) }
+        ensures in_part { OnErr result ((calls : List Call) → IsLeftBy self.old.kept calls → CutsInPart file len calls (IsLeftBy self.new.kept)) }
+        ensures memory { IsErrOf result DiskError.Memory → (calls : List Call) → IsLeftBy self.old.kept calls → IsLeftBy self.new.kept calls }
+        ensures counts { Counts result self.old.faults self.new.faults }
+        ensures heeds { Heeds (order_told self.old.failing self.old.ordered) result (order_told self.new.failing self.new.ordered) }
+        // The calls of the numbers to fail do fail, and no other. Each that is answered is counted, and one that failed does nothing.
+        ensures named { IsErrOf result DiskError.Failed ↔ IsTrue (fails self.old) }
+        ensures answered { ¬ IsErrOf result DiskError.Memory → self.new ≡ after_call self.old self.new.kept }
+        ensures unanswered { IsErrOf result DiskError.Memory → self.new ≡ self.old }
+        ensures nothing { OnErr result (self.new.kept ≡ self.old.kept) }
+    {
         self.obey()?;
         cut_file(&mut self.files, file, len);
         self.count_call();
         Ok(())
     }
 
-    fn sync(&mut self, file: u64) -> Result<(), DiskError> {
+    fn sync(&mut self, file: u64) -> Result<(), DiskError>
+        ensures ok { OnOk result ((calls : List Call) → IsLeftBy self.old.kept calls → IsLeftBy self.new.kept (Sync file ∷ calls)) }
+        ensures err { OnErr result ((calls : List Call) → IsLeftBy self.old.kept calls → IsLeftBy self.new.kept calls) }
+        ensures room { IsErrOf result DiskError.Memory → ⊥ }
+        ensures counts { Counts result self.old.faults self.new.faults }
+        ensures heeds { Heeds (order_told self.old.failing self.old.ordered) result (order_told self.new.failing self.new.ordered) }
+        // The calls of the numbers to fail do fail, and no other. Each that is answered is counted, and one that failed does nothing.
+        ensures named { IsErrOf result DiskError.Failed ↔ IsTrue (fails self.old) }
+        ensures answered { ¬ IsErrOf result DiskError.Memory → self.new ≡ after_call self.old self.old.kept }
+        ensures unanswered { IsErrOf result DiskError.Memory → self.new ≡ self.old }
+    {
         // A file counts as synced as it reads, at each moment.
         let _ = file;
         self.obey()?;
@@ -128,7 +182,18 @@ impl Disk for MemoryDisk {
         Ok(())
     }
 
-    fn remove(&mut self, file: u64) -> Result<(), DiskError> {
+    fn remove(&mut self, file: u64) -> Result<(), DiskError>
+        ensures ok { OnOk result ((calls : List Call) → IsLeftBy self.old.kept calls → IsLeftBy self.new.kept (Remove file true ∷ calls)) }
+        ensures in_part { OnErr result ((calls : List Call) → IsLeftBy self.old.kept calls → RemovesInPart file calls (IsLeftBy self.new.kept)) }
+        ensures room { IsErrOf result DiskError.Memory → ⊥ }
+        ensures counts { Counts result self.old.faults self.new.faults }
+        ensures heeds { Heeds (order_told self.old.failing self.old.ordered) result (order_told self.new.failing self.new.ordered) }
+        // The calls of the numbers to fail do fail, and no other. Each that is answered is counted, and one that failed does nothing.
+        ensures named { IsErrOf result DiskError.Failed ↔ IsTrue (fails self.old) }
+        ensures answered { ¬ IsErrOf result DiskError.Memory → self.new ≡ after_call self.old self.new.kept }
+        ensures unanswered { IsErrOf result DiskError.Memory → self.new ≡ self.old }
+        ensures nothing { OnErr result (self.new.kept ≡ self.old.kept) }
+    {
         self.obey()?;
         remove_file(&mut self.files, file);
         self.count_call();
@@ -141,13 +206,29 @@ impl Disk for MemoryDisk {
 }
 
 impl StopDisk for MemoryDisk {
-    fn settle(&mut self) {}
+    fn settle(&mut self)
+        ensures stands { (calls : List Call) → IsLeftBy self.old.kept calls → IsLeftBy self.new.kept (Settle ∷ calls) }
+        ensures faults { self.new.faults ≡ self.old.faults }
+        ensures order { OrderStands (order_told self.old.failing self.old.ordered) (order_told self.new.failing self.new.ordered) }
+        ensures same { self.new ≡ self.old }
+    {}
 
-    fn leave(&mut self, file: u64, place: u64, byte: u8) {
+    fn leave(&mut self, file: u64, place: u64, byte: u8)
+        requires { place < length (bytes_of (file_in self.old.kept file)) }
+        ensures stands { (calls : List Call) → IsLeftBy self.old.kept calls → IsLeftBy self.new.kept (Leave file place byte ∷ calls) }
+        ensures faults { self.new.faults ≡ self.old.faults }
+        ensures order { OrderStands (order_told self.old.failing self.old.ordered) (order_told self.new.failing self.new.ordered) }
+        ensures rest { self.new ≡ record self.old { kept = self.new.kept } }
+    {
         put_byte(&mut self.files, file, place, byte);
     }
 
-    fn fail_next(&mut self, call: u64) {
+    fn fail_next(&mut self, call: u64)
+        ensures stands { (calls : List Call) → IsLeftBy self.old.kept calls → IsLeftBy self.new.kept calls }
+        ensures order { IfSome (order_told self.old.failing self.old.ordered) (λ _. order_told self.new.failing self.new.ordered ≡ Some call) }
+        ensures faults { self.new.faults ≡ self.old.faults }
+        ensures given { self.new ≡ record self.old { ordered = call } }
+    {
         self.ordered = call;
     }
 }

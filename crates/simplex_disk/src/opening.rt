@@ -1,5 +1,8 @@
 //! A journal from the files that are there.
 ghost use Rattle.std.specs.Prelude.{◌≡◌, ℕ, [], List, None, Some, IfOk};
+ghost use Rattle.std.specs.List.Sorted.{IsStrictlySortedBy};
+ghost use Rattle.std.specs.Map.{keys_of};
+ghost use Rattle.std.specs.Ordering.{nat_cmp};
 ghost use Rattle.simplex_disk.specs.Calls.{Call, content};
 ghost use Rattle.simplex_disk.specs.Chain.{opened};
 ghost use Rattle.simplex_disk.specs.Ends.{Ends, IsNamed};
@@ -42,6 +45,7 @@ pub(crate) fn open_files<D: Disk>(disk: &mut D, alloc: Global) -> Result<Index, 
     ensures stands { (calls : List Call) → D.StandsFor disk.old calls → IsSettled calls
         → Then (D.StandsFor disk.new) (Always (LeavesSame calls) calls) (λ now. IfOk result (λ index. IsIndexed index.entries None now × AreRead (λ n. content n calls) (sections_at now index.entries))) }
     ensures ends { Ends (D.fault_count disk.old) (D.order disk.old) result (D.fault_count disk.new) (D.order disk.new) }
+    ensures rising { IfOk result (λ index. IsStrictlySortedBy nat_cmp (keys_of index.entries)) }
     ensures named { IsNamed (D.order disk.old) result }
 {
     let numbers = disk.files(alloc)?;
@@ -50,5 +54,6 @@ pub(crate) fn open_files<D: Disk>(disk: &mut D, alloc: Global) -> Result<Index, 
         let segment = open_file(disk, alloc, *number)?;
         put(&mut index, *number, segment)?;
     }
+    let _ordered = index.len();
     Ok(index)
 }

@@ -8,10 +8,11 @@ ghost use Rattle.simplex_journal.specs.Journal.{pruned, pruned_first};
 ghost use Rattle.simplex_wire.specs.declared.artifact.Artifact.{Artifact};
 ghost use Rattle.simplex_disk.specs.Calls.{Call};
 ghost use Rattle.simplex_disk.specs.Ends.{Ends};
+ghost use Rattle.simplex_disk.specs.Goes.{LeavesNoMore};
 ghost use Rattle.simplex_disk.specs.Index.{IsIndexed, sections_at, sections_in};
 ghost use Rattle.simplex_disk.specs.Left.{IsShut, LeavesFront};
 ghost use Rattle.simplex_disk.specs.Moments.{Always, AlwaysOf, Then};
-ghost use Rattle.simplex_disk.specs.Pruning.{LeavesPruned, LeavesGone, HasNoneBelow, BeginsAt, IsPaced, count_below, failing_disk_call};
+ghost use Rattle.simplex_disk.specs.Pruning.{LeavesPruned, LeavesNoneAbove, LeavesGone, HasNoneBelow, BeginsAt, IsPaced, count_below, failing_disk_call};
 
 use crate::disk::Disk;
 use crate::error::DiskError;
@@ -54,6 +55,7 @@ fn drop_section<D: Disk>(
         → Then (D.StandsFor disk.new) (Always (LeavesPruned least (sections_at calls index.old.entries) None) calls)
         (λ now. IsIndexed index.new.entries leaving.new now × (sections_at now index.new.entries ≡ pruned_first 1 least (sections_at calls index.old.entries))) }
     ensures gone { OnOk result (leaving.new ≡ None) }
+    ensures leaves { LeavesNoMore (Some number) leaving.new }
     ensures fewer { (least : ℕ) → number < least → count_below least index.old.entries ≡ suc (count_below least index.new.entries) }
     ensures room { ¬ IsErrOf result DiskError.Memory }
     ensures paced { IsPaced (D.order disk.old) result (D.order disk.new) }
@@ -80,6 +82,8 @@ pub(crate) fn drop_sections<D: Disk>(
         × MatchResult result (λ _. (leaving.new ≡ None) × (sections_at now index.new.entries ≡ pruned_first count least (sections_at calls index.old.entries)))
         (λ _. (dropped : ℕ) × (sections_at now index.new.entries ≡ pruned_first dropped least (sections_at calls index.old.entries))
         × ((named : ℕ) → 0 < named → D.order disk.old ≡ Some (2 * named) → dropped ≡ named))) }
+    ensures gone { leaving.old ≡ None → OnOk result (leaving.new ≡ None) }
+    ensures leaves { leaving.old ≡ None → LeavesNoneAbove least None leaving.new }
     ensures named { (named : ℕ) → 0 < named → named ≤ count → named ≤ count_below least index.old.entries → D.order disk.old ≡ Some (2 * named) → OnOk result ⊥ }
     ensures room { ¬ IsErrOf result DiskError.Memory }
     ensures ends { Ends (D.fault_count disk.old) (D.order disk.old) result (D.fault_count disk.new) (D.order disk.new) }
@@ -110,6 +114,8 @@ pub(crate) fn prune_files<D: Disk>(
         × MatchResult result (λ _. sections_at now index.new.entries ≡ pruned least (sections_at calls index.old.entries))
         (λ e. (dropped : ℕ) × (sections_at now index.new.entries ≡ pruned_first dropped least (sections_at calls index.old.entries))
         × (e ≡ DiskError.Failed → (named : ℕ) → D.order disk.old ≡ Some (failing_disk_call leaving.old named) → dropped ≡ named))) }
+    ensures gone { OnOk result (leaving.new ≡ None) }
+    ensures leaves { LeavesNoneAbove least leaving.old leaving.new }
     ensures memory { IsErrOf result DiskError.Memory → sections_in (D.contents disk.new) index.new.entries ≡ sections_in (D.contents disk.old) index.old.entries }
     ensures ends { Ends (D.fault_count disk.old) (D.order disk.old) result (D.fault_count disk.new) (D.order disk.new) }
     ensures named { (named : ℕ) → named ≤ count_below least index.old.entries → D.order disk.old ≡ Some (failing_disk_call leaving.old named) → OnOk result ⊥ }

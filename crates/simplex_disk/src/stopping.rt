@@ -80,7 +80,7 @@ fn crash_at<D: StopDisk>(disk: &mut D, index: &mut Index, number: u64, keep: u64
 pub(crate) fn crash<D: StopDisk>(disk: &mut D, index: &mut Index, keep: u64)
     requires { (calls : List Call) × D.StandsFor disk.old calls × ((leaving : Option ℕ) × IsIndexed index.old.entries leaving calls) }
     ensures stands { (calls : List Call) → D.StandsFor disk.old calls → (leaving : Option ℕ) → IsIndexed index.old.entries leaving calls
-        → Then (D.StandsFor disk.new) Any (λ now. IsIndexed index.new.entries leaving now × (sections_at now index.new.entries ≡ crashed keep (sections_at calls index.old.entries))) }
+        → Then (D.StandsFor disk.new) Any (λ now. IsIndexed index.new.entries leaving now × IsSettled now × (sections_at now index.new.entries ≡ crashed keep (sections_at calls index.old.entries))) }
     ensures faults { D.fault_count disk.new ≡ D.fault_count disk.old }
     ensures order { OrderStands (D.order disk.old) (D.order disk.new) }
 {

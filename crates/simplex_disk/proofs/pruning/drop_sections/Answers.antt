@@ -1,8 +1,8 @@
-use Rattle.std.proofs.Common.{◌≡◌, ◌∙◌, ◌+◌, ◌-◌, ◌*◌, ◌<◌, ◌≤◌, ℕ, List, Option, None, Some, sym, ap, subst, arith, rules}
+use Rattle.std.proofs.Common.{◌≡◌, ◌∙◌, ◌+◌, ◌-◌, ◌*◌, ◌<◌, ◌≤◌, ℕ, List, Option, None, Some, sym, ap, subst, arith, rules, inl, inr}
 use Rattle.simplex_journal.specs.Journal.{Section, pruned_first}
 use Rattle.simplex_journal.proofs.Entries.{pruned_first-zero}
 use Rattle.simplex_disk.specs.Calls.{Call}
-use Rattle.simplex_disk.specs.Index.{IsIndexed, sections_at}
+use Rattle.simplex_disk.specs.Index.{IsIndexed, IsLeaving, sections_at}
 use Rattle.simplex_disk.specs.Moments.{Always}
 use Rattle.simplex_disk.specs.Pruning.{LeavesPruned}
 use Rattle.simplex_disk.proofs.Moments.{always_join, always_weaker}
@@ -16,6 +16,7 @@ loop-left-init g c = record {
   so_far = λ H st indexed none.
       let es = c.args.index.now.entries in
       record { now = H; stands = st; held = pruned_start c.args.least es H indexed; holds = (indexed, none, (0, omega arith, sym (pruned_first-zero c.args.least (sections_at H es)))) };
+  none = λ is. is;
   some = omega arith;
   fewer = omega arith;
   paced = λ named pos told. (omega (arith, pos), told ∙ ap (λ (k : ℕ). Some (2 * k)) (let e : named ≡ named - (c.args.count - c.args.count) = omega arith in e));
@@ -92,6 +93,7 @@ loop-left-preserved g c = record {
         held = on least k s0 (sections_at t.now c.loop-left.index.entries) H t.now u.now t.holds.2.2 t.held u.held;
         holds = (subst (λ (l : Option ℕ). IsIndexed c.drop_section.new.index.entries l u.now) gone u.holds.0, gone, (k + 1, omega (arith, t.holds.2.1, c.loop-left-test.true), dropped));
       };
+  none = λ was. ok_of c.drop_section.result _ c.in_ok-drop_section.was c.drop_section.ensures.gone;
   some = omega (arith, c.loop-left.invariant.some);
   fewer =
       let below = (rw c.in-Some.is at c.first_below.ensures.first).0 in
@@ -130,3 +132,14 @@ returns-clause-stands g c = λ H st indexed none.
       held = t.held;
       holds = (subst (λ (l : Option ℕ). IsIndexed c.loop-left.index.entries l t.now) (sym t.holds.1) t.holds.0, (t.holds.1, t.holds.2.2 ∙ ap (λ (j : ℕ). pruned_first j c.args.least s0) all));
     }
+
+pub returns-in_err-drop_section-clause-leaves : goal.returns-in_err-drop_section-clause-leaves
+returns-in_err-drop_section-clause-leaves g c = λ was n leaves.
+    let below = (rw c.in-Some.is at c.first_below.ensures.first).0 in
+    inr (subst (λ (k : ℕ). k < c.args.least) (c.drop_section.ensures.leaves n leaves) below)
+
+pub returns-in_default-clause-leaves : goal.returns-in_default-clause-leaves
+returns-in_default-clause-leaves g c = λ was n leaves. inl (subst (λ (l : Option ℕ). IsLeaving l n) (c.loop-left.invariant.none was) leaves)
+
+pub returns-clause-leaves : goal.returns-clause-leaves
+returns-clause-leaves g c = λ was n leaves. inl (subst (λ (l : Option ℕ). IsLeaving l n) (c.loop-left.invariant.none was) leaves)

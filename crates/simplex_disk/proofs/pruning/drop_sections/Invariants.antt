@@ -12,6 +12,7 @@ invariant-loop-left g l = record {
   so_far : (calls : List Call) → g.D.Disk.StandsFor l.fn.disk calls → IsIndexed l.fn.index.entries None calls → l.fn.leaving ≡ None
       → Then (g.D.Disk.StandsFor l.disk) (Always (LeavesPruned l.least (sections_at calls l.fn.index.entries) None) calls)
       (λ now. IsIndexed l.index.entries None now × (l.leaving ≡ None) × ((k : ℕ) × (k + l.left ≡ l.count) × (sections_at now l.index.entries ≡ pruned_first k l.least (sections_at calls l.fn.index.entries))));
+  none : l.fn.leaving ≡ None → l.leaving ≡ None;
   some : l.left ≤ l.count;
   fewer : count_below l.least l.fn.index.entries ≡ l.count - l.left + count_below l.least l.index.entries;
   paced : (named : ℕ) → 0 < named → g.D.Disk.order l.fn.disk ≡ Some (2 * named)

@@ -1,4 +1,4 @@
-use Rattle.std.proofs.Common.{◌≡◌, ◌∙◌, ◌≤◌, ◌<◌, ◌+◌, ◌*◌, ℕ, List, Option, None, Some, Result, Ok, length, sym, ap, subst, rules, arith}
+use Rattle.std.proofs.Common.{◌≡◌, ◌∙◌, ◌≤◌, ◌<◌, ◌+◌, ◌*◌, ℕ, List, Option, None, Some, Result, Ok, length, sym, ap, subst, rules, arith, inl, inr}
 use Rattle.simplex_journal.specs.Journal.{Section, pruned_first}
 use Rattle.simplex_journal.proofs.Entries.{pruned_first-zero}
 use Rattle.simplex_disk.specs.Calls.{Call}
@@ -112,3 +112,14 @@ returns-clause-named g c = λ named few told.
     let on = listed c.files.result _ _ _ l0 named c.in_ok-files.was c.files.ensures.heeds told in
     let now = match_ok _ _ c.finish_removal.result _ c.in_ok-finish_removal.was (c.finish_removal.ensures.spared (2 * named) (omega (arith, on.0)) on.1) in
     c.drop_sections.ensures.named named on.0 (omega (arith, few, below_few es c.args.least, c.len-all.ensures.len)) few now
+
+pub returns-in_err-finish_removal-clause-leaves : goal.returns-in_err-finish_removal-clause-leaves
+returns-in_err-finish_removal-clause-leaves g c = λ n leaves. inl (c.finish_removal.ensures.less n leaves)
+
+pub returns-clause-gone : goal.returns-clause-gone
+returns-clause-gone g c = c.drop_sections.ensures.gone (ok_of c.finish_removal.result _ c.in_ok-finish_removal.was c.finish_removal.ensures.gone)
+
+pub returns-clause-leaves : goal.returns-clause-leaves
+returns-clause-leaves g c = λ n leaves.
+    let gone = ok_of c.finish_removal.result _ c.in_ok-finish_removal.was c.finish_removal.ensures.gone in
+    elim (c.drop_sections.ensures.leaves gone n leaves) [ inl never ↦ absurd never | inr below ↦ inr below ]

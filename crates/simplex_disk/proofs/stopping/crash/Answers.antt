@@ -75,5 +75,5 @@ returns-clause-stands g c = λ H st leaving indexed.
       now = t.now;
       stands = t.stands;
       held = tt;
-      holds = (t.holds.0, crashed_all c.args.keep t.holds.2.0 H t.now c.args.index.now.entries es t.holds.2.1 none c.len-ordered.ensures.ordered);
+      holds = (t.holds.0, t.holds.1, crashed_all c.args.keep t.holds.2.0 H t.now c.args.index.now.entries es t.holds.2.1 none c.len-ordered.ensures.ordered);
     }

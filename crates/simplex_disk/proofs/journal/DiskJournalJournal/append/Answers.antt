@@ -5,7 +5,7 @@ use Rattle.simplex_journal.specs.Order.{Order, Obeys}
 use Rattle.simplex_journal.specs.Journal.{appended}
 use Rattle.simplex_disk.specs.Calls.{Call}
 use Rattle.simplex_disk.specs.Contents.{sections_kept, IsOf, Any}
-use Rattle.simplex_disk.specs.Goes.{Changes}
+use Rattle.simplex_disk.specs.Goes.{Changes, LeavesNoMore}
 use Rattle.simplex_disk.specs.Index.{LeavesJournal, IsIndexed}
 use Rattle.simplex_disk.specs.Moments.{Always, Then}
 use Rattle.simplex_disk.specs.Orders.{order_told}
@@ -48,3 +48,6 @@ returns-clause-moments g c =
     let St = g.D.Disk.StandsFor in
     subst (λ j. (calls : List Call) → IsOf St j calls → Then (λ now. St c.end_call.new.disk now × IsIndexed c.append_to-appended.new.index.entries c.append_to-appended.new.leaving now) (Always (LeavesJournal (sections_kept K j) j.leaving) calls) Any) c.self.view_is
     (moments c.begin_call.ensures.stands c.end_call.ensures.stands c.self.inside.index.entries c.append_to-appended.new.index.entries c.self.inside.leaving c.append_to-appended.new.leaving (λ s. LeavesJournal s c.self.inside.leaving) (Changes c.append_to-appended.result (appended c.args.section c.args.artifact.now)) c.append_to-appended.ensures.goes (K c.self.inside.disk) (g.met.D.Disk.reads c.self.inside.disk))
+
+pub returns-clause-leaving : goal.returns-clause-leaving
+returns-clause-leaving g c = subst (λ j. LeavesNoMore j.leaving c.append_to-appended.new.leaving) c.self.view_is c.append_to-appended.ensures.less

@@ -1,4 +1,4 @@
-use Rattle.std.proofs.Common.{◌≡◌, ◌∙◌, ◌≤◌, min, eqb, ℕ, List, Option, Some, Result, refl, sym, ap, subst, arith}
+use Rattle.std.proofs.Common.{◌≡◌, ◌∙◌, ◌≤◌, min, eqb, ℕ, List, Option, None, Some, Result, refl, sym, ap, subst, arith}
 use Rattle.std.specs.Result.{MatchResult}
 use Rattle.simplex_journal.specs.Faults.{Counts}
 use Rattle.simplex_journal.specs.Journal.{Section, pruned}
@@ -11,12 +11,12 @@ use Rattle.simplex_disk.specs.Contents.{sections_kept, IsOf, Any}
 use Rattle.simplex_disk.specs.Index.{IsIndexed, LeavesJournal, sections_at, sections_in}
 use Rattle.simplex_disk.specs.Moments.{Always, Then}
 use Rattle.simplex_disk.specs.Orders.{order_told, IsOrdered}
-use Rattle.simplex_disk.specs.Pruning.{LeavesPruned, count_below, failing_disk_call}
+use Rattle.simplex_disk.specs.Pruning.{LeavesPruned, LeavesNoneAbove, count_below, failing_disk_call}
 use Rattle.simplex_disk.proofs.Moments.{always_weaker}
 use Rattle.simplex_disk.proofs.Prunes.{pruned_none}
 use Rattle.simplex_disk.proofs.Whole.{moments_no}
 use Rattle.simplex_disk.proofs.Segments.{on_weaker}
-use Rattle.simplex_disk.proofs.Called.{sections_same, still, moments, becomes, answer_ok, answer_failed, answer_memory}
+use Rattle.simplex_disk.proofs.Called.{sections_same, still, moments, becomes, answer_ok, answer_if_ok, answer_failed, answer_memory}
 use Rattle.simplex_disk.proofs.Obeying.{obeys_in, counts_in, IsExact, prunes_in_part}
 use Rattle.simplex_disk.proofs.Paces.{match_err, enough_first}
 use Rattle.simplex_disk.proofs.journal.DiskJournalJournal.prune.Goals as goal
@@ -114,3 +114,9 @@ returns-clause-moments g c =
     subst (λ j. (calls : List Call) → IsOf St j calls → Then (λ now. St c.end_call.new.disk now × IsIndexed c.prune_files-pruned.new.index.entries c.prune_files-pruned.new.leaving now) (Always (LeavesPruned c.args.min (sections_kept K j) j.leaving) calls) Any) c.self.view_is
     (moments c.begin_call.ensures.stands c.end_call.ensures.stands c.self.inside.index.entries c.prune_files-pruned.new.index.entries c.self.inside.leaving c.prune_files-pruned.new.leaving
     (λ s. LeavesPruned c.args.min s c.self.inside.leaving) (Prunes c.prune_files-pruned.result c.args.min c.self.inside.leaving (g.D.Disk.order c.begin_call.new.disk)) c.prune_files-pruned.ensures.stands (K c.self.inside.disk) (g.met.D.Disk.reads c.self.inside.disk))
+
+pub returns-clause-gone : goal.returns-clause-gone
+returns-clause-gone g c = answer_if_ok (λ _. c.prune_files-pruned.new.leaving ≡ None) c.prune_files-pruned.result c.end_call.result c.end_call.ensures.answer c.prune_files-pruned.ensures.gone
+
+pub returns-clause-leaving : goal.returns-clause-leaving
+returns-clause-leaving g c = subst (λ j. LeavesNoneAbove c.args.min j.leaving c.prune_files-pruned.new.leaving) c.self.view_is c.prune_files-pruned.ensures.leaves

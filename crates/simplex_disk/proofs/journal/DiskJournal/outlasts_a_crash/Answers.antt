@@ -1,0 +1,11 @@
+use Rattle.std.proofs.Common.{List, subst}
+use Rattle.simplex_journal.specs.Journal.{Section}
+use Rattle.simplex_disk.specs.Index.{LeavesJournal}
+use Rattle.simplex_disk.proofs.Called.{sections_same}
+use Rattle.simplex_disk.proofs.Entries.{LeavesJournal-now}
+use Rattle.simplex_disk.proofs.journal.DiskJournal.outlasts_a_crash.Goals as goal
+
+pub returns : goal.returns
+returns g c = λ H is.
+    let j = c.args.self.now in
+    subst (λ (s : List Section). LeavesJournal s j.leaving H) (sections_same (g.D.Disk.contents j.disk) H j.entries (g.met.D.Disk.reads j.disk H is.0)) (LeavesJournal-now j.entries j.leaving H is.1)
