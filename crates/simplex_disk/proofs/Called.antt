@@ -1,5 +1,5 @@
 -- A call of the journal, with what its disk is ordered before it and after it.
-use Rattle.std.proofs.Common.{◌≡◌, ℕ, List, [], ◌∷◌, Option, Result, Ok, Err, refl, sym, ap, subst, ◌∙◌}
+use Rattle.std.proofs.Common.{◌≡◌, ℕ, List, [], ◌∷◌, Option, Result, Ok, Err, refl, sym, ap, subst}
 use Rattle.std.specs.Map.{keys_of}
 use Rattle.std.specs.Result.{MatchResult, OnOk, OnErr, IfOk, IsErrOf}
 use Rattle.simplex_journal.specs.declared.error.JournalError.{JournalError}

@@ -1,8 +1,8 @@
 -- The order of the journal, by that of its disk.
-use Rattle.std.proofs.Common.{◌≡◌, ◌+◌, ◌-◌, ◌≤◌, ◌*◌, min, ℕ, zero, suc, Bool, true, false, eqb, List, Option, None, Some, Result, Ok, Err, refl, sym, ap, subst, ◌∙◌, arith}
+use Rattle.std.proofs.Common.{◌≡◌, ℕ, zero, suc, Bool, true, false, eqb, List, Option, None, Some, Result, Ok, Err, refl, sym, ap, subst, ◌∙◌}
 use Rattle.std.specs.Prelude.{IsSome, IfSome}
-use Rattle.std.specs.Result.{OnOk, OnErr}
-use Rattle.simplex_journal.specs.Order.{Order, names_next, counted, Obeys, Stands, PrunesInPart}
+use Rattle.std.specs.Result.{OnOk}
+use Rattle.simplex_journal.specs.Order.{Order, Obeys, Stands, PrunesInPart}
 use Rattle.simplex_journal.specs.Journal.{Section, pruned_first}
 use Rattle.simplex_journal.specs.Faults as journal
 use Rattle.simplex_journal.specs.declared.error.JournalError.{JournalError}

@@ -1,6 +1,6 @@
 -- A disk that fails a call that is still to come.
-use Rattle.std.proofs.Common.{◌≡◌, ◌≢◌, ◌<◌, ◌≤◌, ◌+◌, ◌-◌, ◌*◌, min, ℕ, zero, suc, nat_lt, List, [], ◌∷◌, length, Option, None, Some, Result, Ok, Err, refl, sym, ap, subst, ◌∙◌, arith, inl, inr}
-use Rattle.std.specs.Result.{MatchResult, OnOk, IsErrOf}
+use Rattle.std.proofs.Common.{◌≡◌, ◌≢◌, ◌<◌, ◌≤◌, ◌+◌, ◌-◌, ◌*◌, min, ℕ, zero, suc, List, [], ◌∷◌, length, Option, Some, Result, Ok, Err, refl, sym, ap, subst, ◌∙◌, arith, inl, inr}
+use Rattle.std.specs.Result.{MatchResult, IsErrOf}
 use Rattle.std.specs.Ordering.{nat_cmp}
 use Rattle.std.specs.Map.{keys_of}
 use Rattle.std.specs.List.Sorted.{IsStrictlySortedBy}
@@ -15,7 +15,6 @@ use Rattle.simplex_disk.specs.declared.segment.Segment.{Segment}
 use Rattle.simplex_disk.specs.declared.error.DiskError.{DiskError}
 use Rattle.simplex_disk.specs.declared.error.DiskError.TheVariants.{Failed, Memory}
 use Rattle.simplex_disk.specs.Answers.{Heeds}
-use Rattle.simplex_disk.specs.Calls.{Call}
 use Rattle.simplex_disk.specs.Index.{read_entries, sections_in}
 use Rattle.simplex_disk.specs.Pruning.{HasNoneBelow, BeginsAt, behind_first, count_below, failing_disk_call, removal_calls}
 use Rattle.simplex_disk.proofs.Prunes.{none_below_in}

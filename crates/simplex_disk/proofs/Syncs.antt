@@ -1,5 +1,5 @@
 -- All sections are synced.
-use Rattle.std.proofs.Common.{◌≡◌, ◌≢◌, ◌⊎◌, ℕ, Bool, true, cond, List, [], ◌∷◌, ◌++◌, length, map, Option, None, Some, refl, sym, ap, subst, ◌∙◌, arith, inl, inr}
+use Rattle.std.proofs.Common.{◌≡◌, ◌≢◌, ◌⊎◌, ℕ, Bool, true, cond, List, [], ◌∷◌, ◌++◌, Option, None, Some, refl, sym, ap, subst, ◌∙◌, inl, inr}
 use Rattle.std.specs.Option.{option_map}
 use Rattle.std.specs.List.Sorted.{IsStrictlySortedBy}
 use Rattle.std.specs.Ordering.{nat_cmp}
@@ -17,15 +17,15 @@ use Rattle.simplex_disk.specs.declared.segment.Segment.{Segment}
 use Rattle.simplex_disk.specs.Calls.{Call, content}
 use Rattle.simplex_disk.specs.Left.{Stands, LeavesFront}
 use Rattle.simplex_disk.specs.Moments.{Always, AlwaysOf}
-use Rattle.simplex_disk.specs.Segments.{IsSegment, lists_in}
+use Rattle.simplex_disk.specs.Segments.{IsSegment}
 use Rattle.simplex_disk.specs.Index.{read_entries, sections_in, sections_at, StandsAt, IsIndexed, IsLeaving, LeavesJournal}
 use Rattle.simplex_disk.specs.Syncing.{IsOpened, AreOpened, CountsSynced, AreCounted}
-use Rattle.simplex_disk.proofs.Moments.{Untouched, untouched}
+use Rattle.simplex_disk.proofs.Moments.{Untouched}
 use Rattle.simplex_disk.proofs.Entries.{keys-read, lookup-read, lookup-read_none, none_behind, segment_lists}
 use Rattle.simplex_disk.proofs.Each.{same_entries}
 use Rattle.simplex_disk.proofs.Crashes.{some_same}
 use Rattle.simplex_disk.proofs.Prunes.{first_found, other_found}
-use Rattle.simplex_disk.proofs.Whole.{not_none, segment_of, moments_there, indexed_there, same_there, goes_join}
+use Rattle.simplex_disk.proofs.Whole.{not_none, moments_there, indexed_there, same_there, goes_join}
 
 -- ---- the gates, file by file
 

@@ -1,4 +1,4 @@
-use Rattle.std.proofs.Common.{◌≡◌, ◌∙◌, ◌+◌, ◌-◌, ◌∷◌, ℕ, Option, Some, refl, ap, arith, true, rules}
+use Rattle.std.proofs.Common.{◌≡◌, ◌∙◌, ◌+◌, ◌-◌, ◌∷◌, ℕ, Option, Some, refl, ap, arith, true}
 use Rattle.simplex_disk.specs.Pruning.{removal_calls}
 use Rattle.simplex_disk.specs.Calls.{Remove, Sync}
 use Rattle.simplex_disk.proofs.Leaving.{still_leaving, removed_in_part, removed, removed_synced, moments_leaving, same_leaving, indexed_left, IsShut-removed}

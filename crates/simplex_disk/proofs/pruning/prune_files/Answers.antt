@@ -1,5 +1,5 @@
 use Rattle.std.proofs.Common.{◌≡◌, ◌∙◌, ◌≤◌, ◌<◌, ◌+◌, ◌*◌, ℕ, List, Option, None, Some, Result, Ok, length, sym, ap, subst, rules, arith, inl, inr}
-use Rattle.simplex_journal.specs.Journal.{Section, pruned_first}
+use Rattle.simplex_journal.specs.Journal.{Section}
 use Rattle.simplex_journal.proofs.Entries.{pruned_first-zero}
 use Rattle.simplex_disk.specs.Calls.{Call}
 use Rattle.simplex_disk.specs.Index.{IsIndexed, LeavesJournal, sections_at}

@@ -1,4 +1,4 @@
-use Rattle.std.proofs.Common.{◌≡◌, ◌∙◌, [], ◌∷◌, ◌++◌, ℕ, List, length, refl, sym, ap, arith, rules}
+use Rattle.std.proofs.Common.{◌≡◌, [], ◌∷◌, ◌++◌, ℕ, length, refl, ap, arith, rules}
 use Rattle.simplex_disk.specs.declared.segment.Segment.{Segment}
 use Rattle.simplex_disk.specs.Left.{Stands, LeavesFront}
 use Rattle.simplex_disk.proofs.Moments.{untouched}

@@ -1,8 +1,8 @@
-use Rattle.std.proofs.Common.{◌≡◌, ◌∙◌, ◌≤◌, min, eqb, ℕ, List, Option, None, Some, Result, refl, sym, ap, subst, arith}
+use Rattle.std.proofs.Common.{◌≡◌, ◌∙◌, ◌≤◌, min, eqb, ℕ, List, Option, None, Some, Result, sym, ap, subst, arith}
 use Rattle.std.specs.Result.{MatchResult}
 use Rattle.simplex_journal.specs.Faults.{Counts}
 use Rattle.simplex_journal.specs.Journal.{Section, pruned}
-use Rattle.simplex_journal.specs.Order.{Order, Obeys, PrunesInPart}
+use Rattle.simplex_journal.specs.Order.{Obeys, PrunesInPart}
 use Rattle.simplex_disk.specs.declared.error.DiskError.{DiskError}
 use Rattle.simplex_disk.specs.declared.error.DiskError.TheVariants.{Failed}
 use Rattle.simplex_disk.specs.declared.segment.Segment.{Segment}

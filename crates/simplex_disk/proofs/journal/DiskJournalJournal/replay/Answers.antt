@@ -1,6 +1,6 @@
-use Rattle.std.proofs.Common.{◌≡◌, ◌∙◌, ℕ, List, Option, Some, Result, refl, sym, ap, subst}
+use Rattle.std.proofs.Common.{◌∙◌, List, sym, ap, subst}
 use Rattle.simplex_journal.specs.Faults.{Counts}
-use Rattle.simplex_journal.specs.Order.{Order, Obeys}
+use Rattle.simplex_journal.specs.Order.{Obeys}
 use Rattle.simplex_journal.specs.Journal.{replayed}
 use Rattle.simplex_disk.specs.Calls.{Call}
 use Rattle.simplex_disk.specs.Contents.{sections_kept, IsOf}

@@ -1,4 +1,4 @@
-use Rattle.std.proofs.Common.{◌≡◌, ◌+◌, ℕ, length, refl, arith, rules}
+use Rattle.std.proofs.Common.{◌≡◌, ◌+◌, length, refl, arith}
 use Rattle.simplex_disk.proofs.Segments.{IsKept-few, IsKept-synced}
 use Rattle.simplex_disk.proofs.segment.Segment.count_synced.Goals as goal
 
