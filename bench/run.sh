@@ -1,13 +1,13 @@
 #!/bin/bash
-# Times the works of bench_base (wire, mailbox) and bench_parts (fetch, round, state, repair), by the proved program and by plain
+# Times the works of bench_base (wire, mailbox, journal) and bench_parts (fetch, round, state, repair), by the proved program and by plain
 # Rust, that of bench_shared (shared) by both too, and those of bench_actors (batcher by batcher.py, voter, resolver), which has no
 # plain program. Run it from anywhere, after `rt run` in the program's crate:
-# bench/run.sh wire|mailbox|shared|fetch|round|state|repair|batcher|voter|resolver [TIMES].
+# bench/run.sh wire|mailbox|journal|shared|fetch|round|state|repair|batcher|voter|resolver [TIMES].
 set -euo pipefail
 cd "$(dirname "$0")"
-what=${1:?wire, mailbox, shared, fetch, round, state, repair, batcher, voter or resolver}
+what=${1:?wire, mailbox, journal, shared, fetch, round, state, repair, batcher, voter or resolver}
 case $what in
-wire | mailbox) program=bench_base ;;
+wire | mailbox | journal) program=bench_base ;;
 fetch | round | state | repair) program=bench_parts ;;
 shared) program=bench_shared ;;
 *) program=bench_actors ;;
@@ -157,6 +157,11 @@ mailbox)
     times=${2:-100000}
     line $((times * 100)) pass 1
     line "$times" pass 1016
+    ;;
+journal)
+    times=${2:-20000}
+    line "$times" sections 100
+    line "$times" replays 100
     ;;
 fetch)
     times=${2:-1000000}

@@ -3,10 +3,13 @@
 //!
 //! - `wire encode`, `wire decode`, `wire verify`: a notarization that SIZE members signed, 127 at most.
 //! - `mailbox pass`: a message comes into a voter's mailbox of capacity 16 that holds SIZE others, and one goes.
+//! - `journal sections`: a section of SIZE records is appended and synced, and those before the last two are pruned, in segment
+//!   files over a disk in memory. `journal replays`: one such section is read.
 //!
 //! It may assume nothing of its words, and owes nothing but that it is safe and ends.
 #![tactic(auto)]
 
+mod journal;
 mod mailbox;
 mod wire;
 
@@ -21,14 +24,18 @@ enum Work {
     Decode,
     Verify,
     Pass,
+    Sections,
+    Replays,
 }
 
 /// Each part's works.
-const WORKS: [(&str, &str, Work); 4] = [
+const WORKS: [(&str, &str, Work); 6] = [
     ("wire", "encode", Work::Encode),
     ("wire", "decode", Work::Decode),
     ("wire", "verify", Work::Verify),
     ("mailbox", "pass", Work::Pass),
+    ("journal", "sections", Work::Sections),
+    ("journal", "replays", Work::Replays),
 ];
 
 /// How much comes out of so many turns of the work.
@@ -38,6 +45,8 @@ fn done(alloc: Global, work: Work, size: u32, times: u32) -> Result<u64, AllocEr
         Work::Decode => wire::decode(alloc, size, times),
         Work::Verify => wire::verify(alloc, size, times),
         Work::Pass => mailbox::pass(alloc, size, times),
+        Work::Sections => journal::sections(alloc, size, times),
+        Work::Replays => journal::replays(alloc, size, times),
     }
 }
 
