@@ -1,0 +1,482 @@
+//! A picture as SVG.
+use crate::arrow::{Arrow, Fate};
+use crate::cut::Cut;
+use crate::lane::Lane;
+use crate::legend::{HEIGHT, SHAPES, push_legend};
+use crate::mark::{Deed, Mark};
+use crate::message::Message;
+use crate::picture::Picture;
+use crate::sheet::{Row, SIGN, STEP, Sheet};
+use crate::sign::Sign;
+use crate::tell::{arrow_told, event_told, kind_word};
+use crate::text::push_title;
+use simplex_messages::Outcome;
+use simplex_transcript::{Entry, Event, MemberKind, Packet, Ref};
+use simplex_types::{CertificateKind, View};
+use std::alloc::{AllocError, Global};
+
+// How many events stand between two that are numbered above the lanes.
+const NUMBERED: u64 = 5;
+// How wide a digit or a letter is in a band, at most.
+const LETTER: u64 = 7;
+// How far the stubs of an event reach to the right, mostly.
+const STUBS: u64 = 22;
+// How far a text stands from the edge of its band, at least.
+const EDGE: u64 = 3;
+
+// The entry of an event, and the event.
+fn entry_at<'a>(
+    events: &'a [Event],
+    entries: &'a [Entry],
+    number: u64,
+) -> Option<(&'a Event, &'a Entry)> {
+    let before = number.checked_sub(1)?;
+    let event = events.get(before as usize)?;
+    let entry = entries.get(before as usize)?;
+    Some((event, entry))
+}
+
+fn packet_at(entries: &[Entry], at: Ref) -> Option<&Packet> {
+    let before = at.event.checked_sub(1)?;
+    let entry = entries.get(before as usize)?;
+    entry.packets.as_slice().get(at.place as usize)
+}
+
+// What stands above all: how many events there are, and which of them are drawn.
+fn push_head(
+    alloc: Global,
+    out: &mut String,
+    cut: &Cut,
+    sheet: &Sheet,
+    picture: &Picture,
+    events: &[Event],
+) -> Result<(), AllocError> {
+    let width = sheet.width();
+    let height = sheet.foot.saturating_add(HEIGHT);
+    write!(
+        out,
+        "<svg xmlns=\"http://www.w3.org/2000/svg\" width=\"{width}\" height=\"{height}\" viewBox=\"0 0 {width} {height}\">\n"
+    )?;
+    out.push_str(SHAPES)?;
+    write!(
+        out,
+        "<rect width=\"{width}\" height=\"{height}\" fill=\"#fff\"/>\n"
+    )?;
+    let drawn = picture.marks.len();
+    let all = events.len();
+    let lanes = picture.lanes.len();
+    let rest = all.saturating_sub(drawn);
+    let first = cut.first;
+    let last = cut.last;
+    let mut line = format!(in alloc;
+        "Drawn: {drawn} of the {all} events of a run, on the lanes of {lanes} nodes."
+    )?;
+    if rest > 0 {
+        write!(
+            line,
+            " The other {rest} are not drawn: asked for were the events from {first} to {last}."
+        )?;
+    }
+    let line = line.as_str();
+    write!(out, "<text class=\"h\" x=\"20\" y=\"24\">{line}</text>\n")?;
+    out.push_str(
+        "<text class=\"s\" x=\"20\" y=\"42\">Events go to the right, each with a mark on the lane of its node. An arrow is a packet, from the event that sent it to the one that took it. Where the pointer rests, more is told.</text>\n",
+    )
+}
+
+// The numbers of events above the lanes, and a fine line below each.
+fn push_numbers(out: &mut String, sheet: &Sheet, marks: &[Mark]) -> Result<(), AllocError> {
+    let foot = sheet.foot;
+    let head = sheet.head;
+    for mark in marks {
+        let number = mark.event;
+        if number % NUMBERED == 0 || number == sheet.first {
+            let x = sheet.x_of(number);
+            write!(
+                out,
+                "<path class=\"g\" d=\"M{x} {head}V{foot}\"/><text class=\"e\" x=\"{x}\" y=\"{head}\">{number}</text>\n"
+            )?;
+        }
+    }
+    Ok(())
+}
+
+// A part of a lane on which its node is in a view, or is stopped.
+#[derive(Clone, Copy)]
+struct Span {
+    y: u64,
+    from: u64,
+    to: u64,
+    view: Option<View>,
+}
+
+// Adds the parts of a lane, which end where the view changes or the node stops.
+fn push_spans(
+    spans: &mut Vec<Span>,
+    sheet: &Sheet,
+    row: Row,
+    lane: &Lane,
+    marks: &[Mark],
+) -> Result<(), AllocError> {
+    let y = row.y;
+    let mut view = lane.view;
+    let mut from = sheet.start();
+    for mark in marks {
+        if mark.node != Some(lane.node) {
+            continue;
+        }
+        let next = if mark.deed.stops(mark.outcome) {
+            None
+        } else {
+            mark.entered.or(view)
+        };
+        if next != view {
+            let to = sheet.x_of(mark.event);
+            spans.push(Span { y, from, to, view })?;
+            view = next;
+            from = to;
+        }
+    }
+    let to = sheet.end();
+    spans.push(Span { y, from, to, view })?;
+    Ok(())
+}
+
+// The line of a part of a lane, dotted where the node is stopped, and the band of its view.
+fn push_span(out: &mut String, span: Span) -> Result<(), AllocError> {
+    let y = span.y;
+    let from = span.from;
+    let to = span.to;
+    let Some(View(number)) = span.view else {
+        return write!(out, "<path class=\"o\" d=\"M{from} {y}H{to}\"/>\n");
+    };
+    let shade = number % 2;
+    let top = y.saturating_add(12);
+    let width = to.saturating_sub(from);
+    write!(
+        out,
+        "<g><title>in view {number}</title><rect class=\"b{shade}\" x=\"{from}\" y=\"{top}\" width=\"{width}\" height=\"14\"/><path class=\"r\" d=\"M{from} {y}H{to}\"/></g>\n"
+    )
+}
+
+// The name of a view in its band, and how far right of the band's beginning it stands.
+#[derive(Drop)]
+struct Name {
+    text: String,
+    right: u64,
+}
+
+fn has_room(text: &str, right: u64, width: u64) -> bool {
+    (text.len() as u64)
+        .saturating_mul(LETTER)
+        .saturating_add(right)
+        <= width
+}
+
+// The name that has room in a band of this width, right of the stubs if it has room there.
+fn view_name(alloc: Global, view: u64, width: u64) -> Result<Option<Name>, AllocError> {
+    let text = format!(in alloc; "view {view}")?;
+    if has_room(text.as_str(), STUBS, width) {
+        return Ok(Some(Name { text, right: STUBS }));
+    }
+    if has_room(text.as_str(), EDGE, width) {
+        return Ok(Some(Name { text, right: EDGE }));
+    }
+    let text = format!(in alloc; "{view}")?;
+    if has_room(text.as_str(), EDGE, width) {
+        return Ok(Some(Name { text, right: EDGE }));
+    }
+    Ok(None)
+}
+
+// The view in its band.
+fn push_view_name(alloc: Global, out: &mut String, span: Span) -> Result<(), AllocError> {
+    let Some(View(number)) = span.view else {
+        return Ok(());
+    };
+    let width = span.to.saturating_sub(span.from);
+    let Some(name) = view_name(alloc, number, width)? else {
+        return Ok(());
+    };
+    let base = span.y.saturating_add(23);
+    let x = span.from.saturating_add(name.right);
+    let text = name.text.as_str();
+    write!(
+        out,
+        "<text class=\"v\" x=\"{x}\" y=\"{base}\">{text}</text>\n"
+    )
+}
+
+// Whether a member of this kind runs an engine, which can be stopped, and is in a view.
+fn has_engine(kind: MemberKind) -> bool {
+    matches!(
+        kind,
+        MemberKind::Honest | MemberKind::Corrupt | MemberKind::Unrecovering | MemberKind::Twin
+    )
+}
+
+// The name of a lane's node, and its kind; of a member without an engine the line too.
+fn push_lane(out: &mut String, sheet: &Sheet, row: Row, lane: &Lane) -> Result<(), AllocError> {
+    let y = row.y;
+    let node = lane.node;
+    let kind = kind_word(lane.kind);
+    let name = y.saturating_add(4);
+    let below = y.saturating_add(17);
+    write!(
+        out,
+        "<text class=\"h\" x=\"20\" y=\"{name}\">{node}</text><text class=\"s\" x=\"20\" y=\"{below}\">{kind}</text>\n"
+    )?;
+    if !has_engine(lane.kind) {
+        let from = sheet.start();
+        let to = sheet.end();
+        write!(out, "<path class=\"r\" d=\"M{from} {y}H{to}\"/>\n")?;
+    }
+    Ok(())
+}
+
+// The parts of all lanes with an engine.
+fn spans_of(
+    alloc: Global,
+    sheet: &Sheet,
+    lanes: &[Lane],
+    marks: &[Mark],
+) -> Result<Vec<Span>, AllocError> {
+    let mut spans = Vec::new(alloc);
+    for (lane, row) in lanes.iter().zip(sheet.rows.as_slice()) {
+        if has_engine(lane.kind) {
+            push_spans(&mut spans, sheet, *row, lane, marks)?;
+        }
+    }
+    Ok(spans)
+}
+
+// The class of an arrow, and its head.
+fn style_of(message: Message) -> (&'static str, &'static str) {
+    match message {
+        Message::Vote(CertificateKind::Notarization, _) => ("n", "mn"),
+        Message::Vote(CertificateKind::Nullification, _) => ("x", "mx"),
+        Message::Vote(CertificateKind::Finalization, _) => ("f", "mf"),
+        Message::Certificate(CertificateKind::Notarization, _) => ("n c", "mn"),
+        Message::Certificate(CertificateKind::Nullification, _) => ("x c", "mx"),
+        Message::Certificate(CertificateKind::Finalization, _) => ("f c", "mf"),
+        Message::Request(_) => ("q", "mq"),
+        Message::Response => ("p", "mq"),
+        Message::Nothing => ("z", "mq"),
+        Message::Unread => ("u", "mu"),
+    }
+}
+
+// The end of a stub that begins here, to a lane that is so many lanes away, above or below. Ends of stubs stand in
+// columns of four.
+fn stub_end(from: (u64, u64), row: u64, to_row: u64) -> (u64, u64) {
+    let (x, y) = from;
+    let lanes = row.abs_diff(to_row).saturating_sub(1);
+    let right = lanes.min(15) / 4 * 9 + 14;
+    let down = lanes % 4 * 9 + 10;
+    let x = x.saturating_add(right);
+    if to_row < row {
+        (x, y.saturating_sub(down))
+    } else {
+        (x, y.saturating_add(down))
+    }
+}
+
+// The way of an arrow on the sheet, and its head.
+#[derive(Clone, Copy)]
+struct Way {
+    from: (u64, u64),
+    to: (u64, u64),
+    head: &'static str,
+}
+
+fn way_of(sheet: &Sheet, arrow: &Arrow, head: &'static str) -> Option<Way> {
+    let sent = sheet.x_of(arrow.packet.event);
+    let (to_y, to_row) = sheet.row_of(arrow.to)?;
+    let from = sheet.row_of(arrow.from);
+    match arrow.fate {
+        Fate::Taken(event) => {
+            let x = sheet.x_of(event);
+            let from = match from {
+                Some((y, _)) if sheet.first <= arrow.packet.event => (sent, y),
+                _ => (x.saturating_sub(18), to_y.saturating_sub(12)),
+            };
+            Some(Way {
+                from,
+                to: (x, to_y),
+                head,
+            })
+        }
+        Fate::Outside | Fate::Lost => {
+            let (y, row) = from?;
+            let head = if arrow.fate == Fate::Lost { "ml" } else { "mo" };
+            let from = (sent, y);
+            Some(Way {
+                from,
+                to: stub_end(from, row, to_row),
+                head,
+            })
+        }
+    }
+}
+
+fn push_arrow(
+    alloc: Global,
+    out: &mut String,
+    sheet: &Sheet,
+    arrow: &Arrow,
+    entries: &[Entry],
+) -> Result<(), AllocError> {
+    let (class, head) = style_of(arrow.message);
+    let Some(way) = way_of(sheet, arrow, head) else {
+        return Ok(());
+    };
+    let (from_x, from_y) = way.from;
+    let (to_x, to_y) = way.to;
+    let head = way.head;
+    write!(
+        out,
+        "<path class=\"a {class}\" d=\"M{from_x} {from_y}L{to_x} {to_y}\" marker-end=\"url(#{head})\">"
+    )?;
+    if let Some(packet) = packet_at(entries, arrow.packet) {
+        let title = arrow_told(alloc, arrow, packet)?;
+        push_title(out, title.as_str())?;
+    }
+    out.push_str("</path>\n")
+}
+
+fn shape_of(mark: &Mark) -> &'static str {
+    if mark.outcome == Outcome::Idle {
+        return "idle";
+    }
+    match mark.deed {
+        Deed::Start => "start",
+        Deed::Deliver => "take",
+        Deed::Step(_) => "step",
+        Deed::Answer => "answer",
+        Deed::Crash => "stop",
+        Deed::Inject => "inject",
+        Deed::Tick(_) => "tick",
+    }
+}
+
+fn shape_of_sign(sign: &Sign) -> &'static str {
+    match sign {
+        Sign::Vote(CertificateKind::Notarization, _) => "vn",
+        Sign::Vote(CertificateKind::Nullification, _) => "vx",
+        Sign::Vote(CertificateKind::Finalization, _) => "vf",
+        Sign::Certificate(CertificateKind::Notarization, _) => "cn",
+        Sign::Certificate(CertificateKind::Nullification, _) => "cx",
+        Sign::Certificate(CertificateKind::Finalization, _) => "cf",
+        Sign::Verdict(_, true) => "yes",
+        Sign::Verdict(_, false) => "no",
+        Sign::Final(_) => "final",
+        Sign::Evidence(_, _) => "blame",
+        Sign::Block(_) => "block",
+    }
+}
+
+// The number of a view, in the width of a sign.
+fn push_view(out: &mut String, view: View, y: u64) -> Result<(), AllocError> {
+    let number = view.0;
+    let squeeze = if number < 100 {
+        ""
+    } else {
+        " textLength=\"14\" lengthAdjust=\"spacingAndGlyphs\""
+    };
+    write!(out, "<text class=\"w\" y=\"-{y}\"{squeeze}>{number}</text>")
+}
+
+// The signs above a mark, the first one lowest.
+fn push_signs(out: &mut String, signs: &[Sign]) -> Result<(), AllocError> {
+    let mut y = SIGN + 2;
+    for sign in signs {
+        let shape = shape_of_sign(sign);
+        write!(out, "<use href=\"#{shape}\" y=\"-{y}\"/>")?;
+        if let Sign::Final(view) = sign {
+            push_view(out, *view, y.saturating_sub(3))?;
+        }
+        y = y.saturating_add(SIGN);
+    }
+    Ok(())
+}
+
+// A tick: a line over all lanes.
+fn push_tick(out: &mut String, sheet: &Sheet, mark: &Mark, ms: u64) -> Result<(), AllocError> {
+    let x = sheet.x_of(mark.event);
+    let foot = sheet.foot;
+    let top = sheet.head.saturating_sub(12);
+    let line = sheet.head.saturating_add(5);
+    let text = x.saturating_add(4);
+    let number = mark.event;
+    write!(
+        out,
+        "<g><title>event {number}: the clock goes on by {ms} ms</title><path class=\"t\" d=\"M{x} {line}V{foot}\"/><text class=\"s\" transform=\"translate({text},{top})rotate(-90)\">+{ms} ms</text></g>\n"
+    )
+}
+
+fn push_mark(
+    alloc: Global,
+    out: &mut String,
+    sheet: &Sheet,
+    mark: &Mark,
+    events: &[Event],
+    entries: &[Entry],
+) -> Result<(), AllocError> {
+    if let Deed::Tick(ms) = mark.deed {
+        return push_tick(out, sheet, mark, ms);
+    }
+    let Some(node) = mark.node else {
+        return Ok(());
+    };
+    let Some((y, _)) = sheet.row_of(node) else {
+        return Ok(());
+    };
+    let x = sheet.x_of(mark.event);
+    write!(out, "<g transform=\"translate({x},{y})\">")?;
+    if let Some((event, entry)) = entry_at(events, entries, mark.event) {
+        let title = event_told(alloc, event, entry)?;
+        push_title(out, title.as_str())?;
+    }
+    let shape = shape_of(mark);
+    write!(out, "<use href=\"#{shape}\"/>")?;
+    if mark.deed != Deed::Crash && mark.deed.stops(mark.outcome) {
+        out.push_str("<use href=\"#stop\"/>")?;
+    }
+    push_signs(out, mark.signs.as_slice())?;
+    out.push_str("</g>\n")
+}
+
+/// The picture as an SVG file. `events` and `entries` are those of the run, from which the titles are told.
+pub fn svg(
+    alloc: Global,
+    cut: &Cut,
+    picture: &Picture,
+    events: &[Event],
+    entries: &[Entry],
+) -> Result<String, AllocError> {
+    let sheet = Sheet::new(alloc, picture)?;
+    let marks = picture.marks.as_slice();
+    let mut out = String::new(alloc);
+    push_head(alloc, &mut out, cut, &sheet, picture, events)?;
+    push_numbers(&mut out, &sheet, marks)?;
+    let lanes = picture.lanes.as_slice();
+    for (lane, row) in lanes.iter().zip(sheet.rows.as_slice()) {
+        push_lane(&mut out, &sheet, *row, lane)?;
+    }
+    let spans = spans_of(alloc, &sheet, lanes, marks)?;
+    for span in &spans {
+        push_span(&mut out, *span)?;
+    }
+    for arrow in picture.arrows.as_slice() {
+        push_arrow(alloc, &mut out, &sheet, arrow, entries)?;
+    }
+    for span in &spans {
+        push_view_name(alloc, &mut out, *span)?;
+    }
+    for mark in marks {
+        push_mark(alloc, &mut out, &sheet, mark, events, entries)?;
+    }
+    push_legend(&mut out, sheet.foot)?;
+    out.push_str("</svg>\n")?;
+    Ok(out)
+}

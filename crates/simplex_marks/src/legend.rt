@@ -1,0 +1,227 @@
+//! The shapes of a picture, and what they mean.
+use std::alloc::AllocError;
+
+/// Colours, lines, and the shapes that are drawn again and again. The colours are those of Okabe and Ito, which readers
+/// who do not see all colours tell apart; each kind has a dash or a letter too.
+pub(crate) const SHAPES: &str = r##"<style>
+text{font:11px sans-serif;fill:#000}
+.h{font:bold 14px sans-serif}.s{font-size:10px;fill:#444}.e{font-size:9px;fill:#666;text-anchor:middle}
+.v{font-size:10px;fill:#333;paint-order:stroke;stroke:#fff;stroke-width:2.5px}
+.w{font:bold 9px sans-serif;fill:#fff;text-anchor:middle}.k{font:bold 9px sans-serif;text-anchor:middle}
+.r{stroke:#000;stroke-width:1.2}.o{stroke:#bbb;stroke-width:1;stroke-dasharray:1 4}
+.t{stroke:#888;stroke-dasharray:4 3}.g{stroke:#eee}
+.b0{fill:#d6eaf6;stroke:#8ab}.b1{fill:#fff;stroke:#8ab}
+.a{fill:none;stroke-width:1.3}.a:hover{stroke-width:4}.c{stroke-width:2.6}
+.n{stroke:#0072b2}.x{stroke:#d55e00;stroke-dasharray:6 3}.f{stroke:#009e73;stroke-dasharray:12 3}
+.q{stroke:#cc79a7;stroke-dasharray:2 3}.p{stroke:#cc79a7;stroke-dasharray:8 3 2 3}.z{stroke:#888;stroke-dasharray:2 3}
+.u{stroke:#000;stroke-dasharray:1 3}
+</style><defs>
+<marker id="mn" viewBox="0 0 10 10" refX="15" refY="5" markerWidth="8" markerHeight="8" orient="auto" markerUnits="userSpaceOnUse"><path d="M0 0L10 5L0 10z" fill="#0072b2"/></marker>
+<marker id="mx" viewBox="0 0 10 10" refX="15" refY="5" markerWidth="8" markerHeight="8" orient="auto" markerUnits="userSpaceOnUse"><path d="M0 0L10 5L0 10z" fill="#d55e00"/></marker>
+<marker id="mf" viewBox="0 0 10 10" refX="15" refY="5" markerWidth="8" markerHeight="8" orient="auto" markerUnits="userSpaceOnUse"><path d="M0 0L10 5L0 10z" fill="#009e73"/></marker>
+<marker id="mq" viewBox="0 0 10 10" refX="15" refY="5" markerWidth="8" markerHeight="8" orient="auto" markerUnits="userSpaceOnUse"><path d="M0 0L10 5L0 10" fill="none" stroke="#cc79a7" stroke-width="1.5"/></marker>
+<marker id="mu" viewBox="0 0 10 10" refX="15" refY="5" markerWidth="8" markerHeight="8" orient="auto" markerUnits="userSpaceOnUse"><path d="M0 0L10 5L0 10" fill="none" stroke="#000" stroke-width="1.5"/></marker>
+<marker id="ml" viewBox="0 0 10 10" refX="5" refY="5" markerWidth="8" markerHeight="8" markerUnits="userSpaceOnUse"><path d="M1 1L9 9M9 1L1 9" stroke="#000" stroke-width="1.6"/></marker>
+<marker id="mo" viewBox="0 0 10 10" refX="5" refY="5" markerWidth="7" markerHeight="7" markerUnits="userSpaceOnUse"><circle cx="5" cy="5" r="4" fill="#fff" stroke="#000" stroke-width="1.4"/></marker>
+<path id="start" d="M-5-6L7 0L-5 6z"/>
+<circle id="take" r="4"/>
+<rect id="step" x="-4.5" y="-4.5" width="9" height="9" fill="#fff" stroke="#000" stroke-width="1.4"/>
+<rect id="idle" x="-4" y="-4" width="8" height="8" fill="#fff" stroke="#888" stroke-dasharray="2 1.5"/>
+<path id="answer" d="M0-6L6 0L0 6L-6 0z" fill="#fff" stroke="#000" stroke-width="1.4"/>
+<path id="stop" d="M-6-6L6 6M6-6L-6 6" stroke="#000" stroke-width="3" fill="none"/>
+<path id="inject" d="M-3-6H3L6 0L3 6H-3L-6 0z" fill="#f0e442" stroke="#000" stroke-width="1.4"/>
+<g id="vn"><circle r="7" fill="#0072b2"/><text class="w" y="3">n</text></g>
+<g id="vx"><circle r="7" fill="#d55e00"/><text class="w" y="3">x</text></g>
+<g id="vf"><circle r="7" fill="#009e73"/><text class="w" y="3">f</text></g>
+<g id="cn"><rect x="-8" y="-7" width="16" height="14" fill="#fff" stroke="#0072b2" stroke-width="2"/><text class="k" y="3">N</text></g>
+<g id="cx"><rect x="-8" y="-7" width="16" height="14" fill="#fff" stroke="#d55e00" stroke-width="2"/><text class="k" y="3">X</text></g>
+<g id="cf"><rect x="-8" y="-7" width="16" height="14" fill="#fff" stroke="#009e73" stroke-width="2"/><text class="k" y="3">F</text></g>
+<path id="yes" d="M-5 0L-1 4L6-5" fill="none" stroke="#009e73" stroke-width="2.4"/>
+<path id="no" d="M-4-4L4 4M4-4L-4 4" fill="none" stroke="#d55e00" stroke-width="2.4"/>
+<path id="final" d="M-9-7H8L11 0L8 7H-9z" fill="#009e73"/>
+<g id="blame"><path d="M0-8L8 6H-8z" fill="#f0e442" stroke="#000"/><text class="k" y="4">!</text></g>
+<path id="tick" class="t" d="M0-7V7"/>
+<rect id="band" class="b0" x="-15" y="-6" width="30" height="12"/>
+<path id="block" d="M-5-5L5 5M0-7A7 7 0 1 0 .1-7" fill="none" stroke="#000" stroke-width="2"/>
+</defs>
+"##;
+
+// A shape, and what it says.
+#[derive(Clone, Copy)]
+struct Item {
+    shape: &'static str,
+    text: &'static str,
+}
+
+// A line, how it ends, and what it says.
+#[derive(Clone, Copy)]
+struct Line {
+    class: &'static str,
+    end: &'static str,
+    text: &'static str,
+}
+
+const ITEMS: [Item; 20] = [
+    Item {
+        shape: "start",
+        text: "the node starts",
+    },
+    Item {
+        shape: "take",
+        text: "takes a packet",
+    },
+    Item {
+        shape: "step",
+        text: "makes a step",
+    },
+    Item {
+        shape: "idle",
+        text: "finds nothing to take",
+    },
+    Item {
+        shape: "answer",
+        text: "its application answers",
+    },
+    Item {
+        shape: "stop",
+        text: "stops: crash, cut, failed journal",
+    },
+    Item {
+        shape: "inject",
+        text: "is made to send bytes",
+    },
+    Item {
+        shape: "tick",
+        text: "the clock goes on",
+    },
+    Item {
+        shape: "band",
+        text: "the view that the node is in",
+    },
+    Item {
+        shape: "vn",
+        text: "stores its notarize",
+    },
+    Item {
+        shape: "vx",
+        text: "stores its nullify",
+    },
+    Item {
+        shape: "vf",
+        text: "stores its finalize",
+    },
+    Item {
+        shape: "cn",
+        text: "stores a notarization",
+    },
+    Item {
+        shape: "cx",
+        text: "stores a nullification",
+    },
+    Item {
+        shape: "cf",
+        text: "stores a finalization",
+    },
+    Item {
+        shape: "yes",
+        text: "stores a true verdict",
+    },
+    Item {
+        shape: "no",
+        text: "stores a false verdict",
+    },
+    Item {
+        shape: "final",
+        text: "reports a final view",
+    },
+    Item {
+        shape: "blame",
+        text: "reports evidence on a member",
+    },
+    Item {
+        shape: "block",
+        text: "blocks a member",
+    },
+];
+
+const LINES: [Line; 8] = [
+    Line {
+        class: "n",
+        end: "mn",
+        text: "notarize; thick: notarization",
+    },
+    Line {
+        class: "x",
+        end: "mx",
+        text: "nullify; thick: nullification",
+    },
+    Line {
+        class: "f",
+        end: "mf",
+        text: "finalize; thick: finalization",
+    },
+    Line {
+        class: "q",
+        end: "mq",
+        text: "asks for a certificate",
+    },
+    Line {
+        class: "p",
+        end: "mq",
+        text: "answers with a certificate",
+    },
+    Line {
+        class: "z",
+        end: "mq",
+        text: "answers that it has none",
+    },
+    Line {
+        class: "u",
+        end: "mu",
+        text: "bytes that are no message",
+    },
+    Line {
+        class: "n",
+        end: "ml",
+        text: "never taken; circle: not here",
+    },
+];
+
+/// How many texts stand below each other.
+const DEEP: u64 = 7;
+
+/// The height of the legend.
+pub(crate) const HEIGHT: u64 = 20 + DEEP * 21;
+
+// Adds the beginning of a text's group.
+fn push_place(out: &mut String, top: u64, place: u64) -> Result<(), AllocError> {
+    let x = (place / DEEP).saturating_mul(245).saturating_add(20);
+    let y = top.saturating_add(20 + place % DEEP * 21);
+    write!(out, "<g transform=\"translate({x},{y})\">")
+}
+
+// Adds the text, and ends the group.
+fn push_words(out: &mut String, text: &str) -> Result<(), AllocError> {
+    write!(out, "<text x=\"44\" y=\"4\">{text}</text></g>\n")
+}
+
+/// Adds the legend below this height.
+pub(crate) fn push_legend(out: &mut String, top: u64) -> Result<(), AllocError> {
+    for (place, item) in ITEMS.iter().enumerate() {
+        push_place(out, top, place as u64)?;
+        let shape = item.shape;
+        write!(out, "<use href=\"#{shape}\" x=\"17\"/>")?;
+        push_words(out, item.text)?;
+    }
+    for (place, line) in LINES.iter().enumerate() {
+        push_place(out, top, (place as u64).saturating_add(ITEMS.len() as u64))?;
+        let class = line.class;
+        let end = line.end;
+        write!(
+            out,
+            "<path class=\"a {class}\" d=\"M0 0H34\" marker-end=\"url(#{end})\"/>"
+        )?;
+        push_words(out, line.text)?;
+    }
+    Ok(())
+}
