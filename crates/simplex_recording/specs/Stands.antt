@@ -1,5 +1,5 @@
 -- What was recorded, the newest first, by what is kept of it.
-use Rattle.std.specs.Prelude.{◌≡◌, ℕ, Bool, List, Option, option_map}
+use Rattle.std.specs.Prelude.{◌≡◌, ℕ, Bool, List, option_map}
 use Rattle.std.specs.List.{list_any}
 use Rattle.simplex_values.specs.declared.proposal.Subject.{Subject}
 use Rattle.simplex_values.specs.declared.round.Round.{Round}

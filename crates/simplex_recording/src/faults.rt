@@ -3,7 +3,6 @@
 
 ghost use Rattle.std.specs.Prelude.{◌≡◌, ◌∷◌, [], ℕ, ◌==◌, ◌&&◌, List, Some, OnOk, not, if◌then◌else◌};
 ghost use Rattle.simplex_types.specs.declared.activity.Activity.{Activity};
-ghost use Rattle.simplex_types.specs.Evidence.{activity_round};
 ghost use Rattle.simplex_recording.specs.Kept.{evidence_in};
 ghost use Rattle.simplex_recording.specs.Recording.{against, faults_of, has_faults, with_evidence};
 ghost use Rattle.simplex_recording.specs.Stands.{FaultsOf};
