@@ -8,7 +8,7 @@ use std::process::Abort;
 use std::test::Fail;
 
 /// The run of the events, with these members, mailboxes of this size and this script.
-fn run(
+pub(super) fn run(
     alloc: Global,
     members: &str,
     mailbox: u64,
@@ -74,30 +74,30 @@ fn assert_same_at_last(rt: &impl Abort, one: &[Entry], other: &[Entry]) -> Resul
 }
 
 /// Starts of the four members.
-const START_0: &str = r#"{"do":"start","node":[0,0],"floor":null,"stop":null}"#;
+pub(super) const START_0: &str = r#"{"do":"start","node":[0,0],"floor":null,"stop":null}"#;
 
-const START_1: &str = r#"{"do":"start","node":[1,0],"floor":null,"stop":null}"#;
+pub(super) const START_1: &str = r#"{"do":"start","node":[1,0],"floor":null,"stop":null}"#;
 
-const START_2: &str = r#"{"do":"start","node":[2,0],"floor":null,"stop":null}"#;
+pub(super) const START_2: &str = r#"{"do":"start","node":[2,0],"floor":null,"stop":null}"#;
 
 const START_3: &str = r#"{"do":"start","node":[3,0],"floor":null,"stop":null}"#;
 
 /// Steps of them.
-const BATCHER_0: &str = r#"{"do":"step","node":[0,0],"source":"batcher","stop":null}"#;
+pub(super) const BATCHER_0: &str = r#"{"do":"step","node":[0,0],"source":"batcher","stop":null}"#;
 
-const VOTER_0: &str = r#"{"do":"step","node":[0,0],"source":"voter","stop":null}"#;
+pub(super) const VOTER_0: &str = r#"{"do":"step","node":[0,0],"source":"voter","stop":null}"#;
 
-const VERIFY_0: &str = r#"{"do":"step","node":[0,0],"source":"verify","stop":null}"#;
+pub(super) const VERIFY_0: &str = r#"{"do":"step","node":[0,0],"source":"verify","stop":null}"#;
 
-const BATCHER_2: &str = r#"{"do":"step","node":[2,0],"source":"batcher","stop":null}"#;
+pub(super) const BATCHER_2: &str = r#"{"do":"step","node":[2,0],"source":"batcher","stop":null}"#;
 
-const VOTER_2: &str = r#"{"do":"step","node":[2,0],"source":"voter","stop":null}"#;
+pub(super) const VOTER_2: &str = r#"{"do":"step","node":[2,0],"source":"voter","stop":null}"#;
 
-const VERIFY_2: &str = r#"{"do":"step","node":[2,0],"source":"verify","stop":null}"#;
+pub(super) const VERIFY_2: &str = r#"{"do":"step","node":[2,0],"source":"verify","stop":null}"#;
 
 const BATCHER_3: &str = r#"{"do":"step","node":[3,0],"source":"batcher","stop":null}"#;
 
-const PROPOSE_1: &str = r#"{"do":"step","node":[1,0],"source":"propose","stop":null}"#;
+pub(super) const PROPOSE_1: &str = r#"{"do":"step","node":[1,0],"source":"propose","stop":null}"#;
 
 /// The leader of view 1 proposes, and members 0 and 2 notarize what it proposes.
 const PAYLOAD_BEHIND_ALL_STARTS: &str =
@@ -383,7 +383,7 @@ const PROPOSED_APART: [(usize, Part, &str); 4] = [
 
 const ALONE: &str = r#""honest""#;
 
-const WITH_SILENT: &str = r#""honest","honest","honest","silent""#;
+pub(super) const WITH_SILENT: &str = r#""honest","honest","honest","silent""#;
 
 const WITH_CONFLICTER: &str = r#""honest","honest","honest","conflicter""#;
 
