@@ -1,0 +1,182 @@
+#!/usr/bin/env python3
+"""Long lists of events of honest members, for what measures the program.
+
+    bench/lists.py rounds MEMBERS EVENTS      members finalize view after view, and nothing is lost
+    bench/lists.py behind VIEWS               three members give up so many views and one more, and a fourth catches up
+    bench/lists.py given_up VIEWS             the same without the fourth
+"""
+import json
+import sys
+
+SETUP = {
+    "epoch": 0, "key_base": 1, "members": [], "term": 1, "lookahead": 0,
+    "leader_timeout": 1000, "certification_timeout": 2000, "retry": 500, "stall": None, "retention": 10,
+    "skip": None, "forward": "disabled", "mailbox": 16, "track": False, "handoff": False,
+    "fetch_timeout": 1000, "fetch_retry": 100, "scenario": [],
+}
+
+
+class Events:
+    """The events so far. A member's steps follow one upon the other, so that each mailbox is emptied before others are heard."""
+
+    def __init__(self, members, **others):
+        self.setup = SETUP | {"members": ["honest"] * members} | others
+        self.members = range(members)
+        self.events = []
+
+    def add(self, do, member, **others):
+        """Adds an event of the member's node, and names what stands first in its entry, be it a packet or a request."""
+        self.events.append({"do": do, "node": [member, 0], **others})
+        return [len(self.events), 0]
+
+    def start(self, member):
+        self.add("start", member, floor=None, stop=None)
+        self.steps(member, "resolver", "batcher")
+
+    def step(self, member, source):
+        return self.add("step", member, source=source, stop=None)
+
+    def steps(self, member, *sources):
+        for source in sources:
+            self.step(member, source)
+
+    def answer(self, member, request, answer):
+        self.add("answer", member, request=request, answer=answer)
+
+    def deliver(self, member, packet):
+        self.add("deliver", member, packet=packet)
+
+    def deliver_all(self, packets, members=None):
+        """Delivers what each member sent to all others, or to these."""
+        for sender, packet in packets:
+            for member in self.members if members is None else members:
+                if member != sender:
+                    self.deliver(member, packet)
+
+    def input(self):
+        return {"setup": self.setup, "events": self.events}
+
+
+class Rounds(Events):
+    """Members finalize view after view. Nothing is lost: each packet reaches each member once."""
+
+    def __init__(self, members):
+        super().__init__(members)
+        for member in self.members:
+            self.add("start", member, floor=None, stop=None)
+        for member in self.members:
+            self.steps(member, "resolver", "batcher")
+        # The leader of view 1 was asked for a proposal as it started.
+        self.view, self.leader = 1, 1 % members
+        self.asked = [self.leader + 1, 0]
+
+    def notarize(self, member, request):
+        """The member finds the proposal valid, and votes for it: its vote."""
+        self.answer(member, request, {"verdict": True})
+        vote = self.step(member, "verify")
+        self.step(member, "batcher")
+        return vote
+
+    def finalize(self, member, request):
+        """The member certifies the view, and votes to finalize it: its vote."""
+        self.answer(member, request, {"verdict": True})
+        vote = self.step(member, "certify")
+        self.steps(member, "resolver", "batcher", "batcher")
+        return vote
+
+    def take_certificate(self, member):
+        """The member's voter takes the certificate that its batcher made of the votes, and sends it."""
+        sent = self.step(member, "voter")
+        self.step(member, "resolver")
+        return sent
+
+    def add_view(self):
+        """One view, from the proposal to its finalization."""
+        self.answer(self.leader, self.asked, {"payload": f"{self.view:064x}"})
+        proposal = self.step(self.leader, "propose")
+        self.step(self.leader, "batcher")
+        self.deliver_all([(self.leader, proposal)])
+        requests = [(it, self.step(it, "voter")) for it in self.members if it != self.leader]
+        self.deliver_all([(it, self.notarize(it, request)) for it, request in requests])
+        notarizations = [(it, self.take_certificate(it)) for it in self.members]
+        self.deliver_all(notarizations)
+        # A request to certify stands first in the entry in which the notarization was sent; and in the entry in which a
+        # member votes to finalize stands the next leader's request for a proposal.
+        votes = [(it, self.finalize(it, request)) for it, request in notarizations]
+        self.view, self.leader = self.view + 1, (self.view + 1) % len(self.members)
+        self.asked = votes[self.leader][1]
+        self.deliver_all(votes)
+        self.deliver_all([(it, self.take_certificate(it)) for it in self.members])
+
+
+def rounds(members, count):
+    """The first `count` events of members that finalize view after view."""
+    made = Rounds(members)
+    while len(made.events) < count:
+        made.add_view()
+    del made.events[count:]
+    return made.input()
+
+
+class Behind(Events):
+    """Four members, of which three give up view after view, while the fourth does not run."""
+
+    LATE = 3
+
+    def __init__(self):
+        super().__init__(4, fetch_timeout=100_000)
+        self.awake = range(self.LATE)
+        for member in self.awake:
+            self.start(member)
+
+    def give_up_view(self):
+        """Each member's time runs out, and each hears the others: a nullification."""
+        self.events.append({"do": "tick", "ms": 1000})
+        votes = [(it, self.step(it, "timer")) for it in self.awake]
+        self.deliver_all(votes, self.awake)
+        for member in self.awake:
+            self.step(member, "batcher")
+            sent = self.step(member, "voter")
+            self.steps(member, "resolver", "batcher")
+        return sent
+
+    def catch_up(self, nullification, views):
+        """The fourth member starts, is shown the nullification behind these views, and fetches those of all of them."""
+        self.start(self.LATE)
+        self.deliver(self.LATE, nullification)
+        self.step(self.LATE, "voter")
+        request, _ = self.step(self.LATE, "resolver")
+        self.step(self.LATE, "batcher")
+        for view in range(1, views + 1):
+            # Requests go round the peers.
+            peer = view % self.LATE
+            self.deliver(peer, [request, view - 1])
+            self.deliver(self.LATE, self.step(peer, "handler"))
+            self.steps(self.LATE, "handler", "voter", "resolver")
+
+
+def behind(views, catches_up):
+    """Members give up these views and one more; the fourth catches up, or does not run."""
+    made = Behind()
+    for _ in range(views + 1):
+        nullification = made.give_up_view()
+    if catches_up:
+        made.catch_up(nullification, views)
+    return made.input()
+
+
+def main():
+    match sys.argv[1:]:
+        case ["rounds", members, events]:
+            made = rounds(int(members), int(events))
+        case ["behind", views]:
+            made = behind(int(views), True)
+        case ["given_up", views]:
+            made = behind(int(views), False)
+        case _:
+            sys.exit(__doc__)
+    json.dump(made, sys.stdout)
+
+
+if __name__ == "__main__":
+    main()
