@@ -12,7 +12,8 @@
 //!   that they make;
 //! - [`form`] (`read_run`, `read_setup`, `read_event`, `read_value`, ..), [`text`] and [`program`]: such a run as JSON, its
 //!   lines, and both behind one call;
-//! - [`mocks`], [`twins`]: members that break the rules, what an engine is tried with, and scripts for twins;
+//! - [`mocks`], [`twins`]: members that break the rules, an application and a relay to try engines with, a reporter that
+//!   records, and scripts for twins;
 //! - [`report`]: two reporters in one, and reports of schemes whose signatures prove nothing;
 //! - [`state`], [`round`], [`repair`], [`fetch`]: the parts of which the actors are made.
 //!
@@ -21,6 +22,8 @@
 #![tactic(auto)]
 
 pub mod actors;
+pub mod journal;
+pub mod mocks;
 
 pub use simplex_engine::{
     Engine, EngineConfig, EngineField, Input, NewError, PollError, Polled, TakenInside,
@@ -28,9 +31,7 @@ pub use simplex_engine::{
 pub use simplex_fetch as fetch;
 pub use simplex_form as form;
 pub use simplex_io as io;
-pub use simplex_journal as journal;
 pub use simplex_mailbox as mailbox;
-pub use simplex_mocks as mocks;
 pub use simplex_network::{Network, NodeEngine, Transcript, run_network};
 pub use simplex_program::{Exit, LIMIT, program};
 pub use simplex_repair as repair;
