@@ -1,3 +1,5 @@
+pub mod Choosing
 pub mod Counts
 pub mod Dropped
 pub mod First
+pub mod TakenIn
