@@ -1,15 +1,16 @@
 //! Votes, deadlines, requests and certificates of a member, from call to call. Terms have five views.
 ghost use Rattle.std.specs.Prelude.{◌<◌, ◌≤◌, ◌^◌};
 
-use simplex_rules::{ProposalRequest, Verify};
 use simplex_state::*;
 use simplex_types::elector::Config;
-use simplex_types::{Keyed, RoundRobin, RoundRobinElector};
+use simplex_types::{Floor, Keyed, RoundRobin, RoundRobinElector};
 use simplex_values::{
     Context, Digest, Epoch, Kind, Parent, Participant, Proposal, Round, TermLength, Terms,
     TimeoutReason, View, ViewDelta,
 };
-use simplex_wire::{CertificateKind, Finalization, Notarization, Nullification, Signatures};
+use simplex_wire::{
+    Artifact, CertificateKind, Finalization, Notarization, Nullification, Signatures,
+};
 use std::alloc::{AllocError, Global};
 use std::test::Fail;
 
@@ -324,5 +325,122 @@ fn what_is_missing_is_asked_for_once(rt: HostRuntime) -> Result<(), Fail> {
     };
     assert_eq!(rt; member.try_verify()?, Verify::Ready(context, block(2, 1)));
     assert_eq!(rt; member.try_verify()?, Verify::Wait);
+    Ok(())
+}
+
+/// When the current view expires after a failure that it is told of at 200: at once, or later, or not at all.
+#[test]
+fn failures_expire_views(rt: HostRuntime) -> Result<(), Fail> {
+    let alloc = rt.alloc();
+    let timely = (1100, TimeoutReason::LeaderTimeout);
+    for (view, reason, deadline) in [
+        (
+            1,
+            TimeoutReason::InvalidProposal,
+            (200, TimeoutReason::InvalidProposal),
+        ),
+        (
+            1,
+            TimeoutReason::Inactivity,
+            (200, TimeoutReason::Inactivity),
+        ),
+        (2, TimeoutReason::InvalidProposal, timely),
+        (2, TimeoutReason::Inactivity, timely),
+        (0, TimeoutReason::InvalidProposal, timely),
+    ] {
+        let mut told = start(alloc, 4, 2)?;
+        told.trigger_timeout(View(view), reason, 200)?;
+        assert_eq!(rt; told.next_timeout(), deadline, "told of {view}");
+        let mut failed = start(alloc, 4, 2)?;
+        failed.verification_failed(View(view), reason, 200)?;
+        assert_eq!(rt; failed.next_timeout(), deadline, "failed at {view}");
+    }
+    let mut later = start(alloc, 4, 2)?;
+    later.trigger_timeout(View(2), TimeoutReason::MissingProposal, 200)?;
+    certify(alloc, &mut later, 1, 0, 300)?;
+    assert_eq!(rt; later.next_timeout(), (300, TimeoutReason::MissingProposal));
+    Ok(())
+}
+
+#[test]
+fn a_proposal_is_voted_for_once_it_is_verified(rt: HostRuntime) -> Result<(), Fail> {
+    let alloc = rt.alloc();
+    let mut member = start(alloc, 4, 2)?;
+    assert!(rt; member.set_proposal(View(1), &block(1, 0))?);
+    member.verified(View(1))?;
+    let early = member.construct_notarize(View(1))?;
+    assert!(rt; early.is_none(), "it was not asked yet");
+    let _asked = member.try_verify()?;
+    member.verified(View(1))?;
+    let vote = member.construct_notarize(View(1))?;
+    assert!(rt; vote.is_some());
+    Ok(())
+}
+
+/// The views that can be certified, and those whose parents are asked for.
+fn candidates(alloc: Global, member: &mut Member) -> Result<(Vec<View>, Vec<View>), AllocError> {
+    let (proposals, fetches) = member.certify_candidates()?;
+    let certified = proposals.iter().map(|p| p.view()).collect(alloc)?;
+    let lacking = fetches.iter().map(|f| f.proposal).collect(alloc)?;
+    Ok((certified, lacking))
+}
+
+#[test]
+fn notarizations_are_certified_behind_their_parents(rt: HostRuntime) -> Result<(), Fail> {
+    let alloc = rt.alloc();
+    let mut member = start(alloc, 4, 2)?;
+    let _added = member.add_notarization(notarization(alloc, 2, 1), 110)?;
+    let (certified, lacking) = candidates(alloc, &mut member)?;
+    assert!(rt; certified.is_empty());
+    assert!(rt; *lacking.as_slice() == *[View(2)].as_slice());
+    certify(alloc, &mut member, 1, 0, 120)?;
+    let (certified, lacking) = candidates(alloc, &mut member)?;
+    assert!(rt; *certified.as_slice() == *[View(2)].as_slice());
+    assert!(rt; lacking.is_empty());
+    let (certified, lacking) = candidates(alloc, &mut member)?;
+    assert!(rt; certified.is_empty() && lacking.is_empty());
+    Ok(())
+}
+
+#[test]
+fn certificates_are_sent_once(rt: HostRuntime) -> Result<(), Fail> {
+    let alloc = rt.alloc();
+    let mut member = start(alloc, 4, 2)?;
+    let _notarized = member.add_notarization(notarization(alloc, 1, 0), 110)?;
+    let _nullified = member.add_nullification(nullification(alloc, 1), 110)?;
+    let _finalized = member.add_finalization(finalization(alloc, 1, 0), 110)?;
+    let _known = member.replay(Artifact::Notarization(notarization(alloc, 2, 1)), 110)?;
+    for (view, first) in [(1, true), (1, false), (2, false), (3, false)] {
+        let view = View(view);
+        let notarization = member.broadcast_notarization(view)?;
+        assert_eq!(rt; notarization.is_some(), first);
+        let nullification = member.broadcast_nullification(view)?;
+        assert_eq!(rt; nullification.is_some(), first);
+        let finalization = member.broadcast_finalization(view)?;
+        assert_eq!(rt; finalization.is_some(), first);
+    }
+    Ok(())
+}
+
+/// View 20 is final, and what lies below view 10 was forgotten. Member 1 leads the term of view 22.
+#[test]
+fn records_of_forgotten_views_blame_nobody(rt: HostRuntime) -> Result<(), Fail> {
+    let alloc = rt.alloc();
+    let mut member = start(alloc, 4, 2)?;
+    let _added = member.add_finalization(finalization(alloc, 20, 0), 110)?;
+    assert_eq!(rt; member.prune(), Some(View(10)));
+    assert!(rt; member.set_proposal(View(22), &block(22, 20))?);
+    for (view, leader) in [(5, None), (22, Some(Participant(1)))] {
+        let record = Artifact::Notarization(notarization(alloc, view, 4));
+        let blamed = member.replay(record, 120)?;
+        assert_eq!(rt; blamed, leader, "at {view}");
+        let unsent = member.broadcast_notarization(View(view))?;
+        assert!(rt; unsent.is_none(), "at {view}");
+    }
+    let floor = member.set_floor(Floor::Finalized(finalization(alloc, 5, 4)), 130)?;
+    assert!(rt; floor.is_some());
+    assert_eq!(rt; member.last_finalized(), View(20));
+    let _known = member.replay(Artifact::Nullification(nullification(alloc, 3)), 140)?;
+    assert_eq!(rt; member.current_view(), View(21));
     Ok(())
 }
