@@ -1,2 +1,5 @@
 pub mod Objects
 pub mod Texts
+pub mod Numbers
+pub mod Reading
+pub mod Usual

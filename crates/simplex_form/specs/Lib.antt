@@ -2,3 +2,4 @@ pub mod Form
 pub mod Setup
 pub mod Events
 pub mod Input
+pub mod Stream

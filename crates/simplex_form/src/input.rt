@@ -7,6 +7,7 @@ ghost use Rattle.simplex_form.specs.Input.{form_of, json_of, input_of, Says};
 use crate::fault::InputFault;
 use crate::pieces::{has_members, read_items};
 use crate::setup::read_setup;
+use crate::stream::read_usual;
 use serde_json::Value;
 use simplex_transcript::{Event, Setup};
 use simplex_types::Sequence;
@@ -65,6 +66,9 @@ fn read_form(alloc: Global, value: &Value) -> Result<Result<Input, u64>, AllocEr
 pub fn read_input(alloc: Global, bytes: &[u8]) -> Result<Result<Input, u64>, AllocError>
     ensures { IfOk result (λ r. r ≡ input_of bytes.now) }
 {
+    if let Some(input) = read_usual(alloc, bytes)? {
+        return Ok(Ok(input));
+    }
     match parse(alloc, bytes)? {
         Some(value) => read_form(alloc, &value),
         None => Ok(Err(0)),

@@ -15,6 +15,8 @@ mod pieces;
 mod references;
 mod setup;
 mod stops;
+mod stream;
+mod values;
 
 pub use events::read_event;
 pub use fault::InputFault;

@@ -2,6 +2,7 @@
 mod events;
 mod misses;
 mod parts;
+mod spellings;
 
 use simplex_form::{Input, read_input};
 use simplex_messages::Stop;

@@ -1,0 +1,31 @@
+-- What a text of tokens begins with, and the usual spelling of an input.
+use Rattle.std.specs.Prelude.{◌≡◌, ℕ, List, [], ◌∷◌, codes, Some, Ok}
+use Rattle.json.specs.Token.{Token}
+use Rattle.json.specs.Json as json
+use Rattle.serde_json.specs.Data.{Data, Items, Members, array}
+use Rattle.serde_json.specs.Read.{of_json, of_items, of_members}
+use Rattle.simplex_form.specs.declared.input.Input.{Input}
+use Rattle.simplex_form.specs.Form.{list_from}
+use Rattle.simplex_form.specs.Setup.{setup_of}
+use Rattle.simplex_form.specs.Events.{event_of}
+
+-- the text begins with a value that nests no deeper and is this data, and goes on with the rest
+abbrev pub Reads : ℕ → List Token → Data → List Token → Type 0
+Reads depth text d rest = (j : json.Json) × (json.value depth text ≡ Some (j, rest)) × (of_json j ≡ Some d)
+
+-- the same of at most so many items, and the bracket that closes their list
+abbrev pub ReadsItems : ℕ → ℕ → List Token → Items → List Token → Type 0
+ReadsItems depth most text ds rest = (js : json.Items) × (json.items (json.value depth) most text ≡ Some (js, rest)) × (of_items js ≡ Some ds)
+
+-- the same of members, which are put into an object
+abbrev pub ReadsMembers : ℕ → ℕ → List Token → Members → Members → List Token → Type 0
+ReadsMembers depth most text old ms rest = (js : json.Members) × (json.members (json.value depth) most text ≡ Some (js, rest)) × (of_members js old ≡ Some ms)
+
+-- an object of the setup and then the events, and nothing behind it
+abbrev pub IsUsual : List Token → Input → Type 0
+IsUsual text input =
+    (d : Data) × (ds : Items) × (first second : List Token)
+    × (text ≡ Token.begin_object ∷ Token.key (codes "setup") ∷ first)
+    × Reads 126 first d (Token.key (codes "events") ∷ second)
+    × Reads 126 second (array ds) (Token.end_object ∷ [])
+    × (setup_of d ≡ Some input.setup) × (list_from event_of 2 ds ≡ Ok input.events)
