@@ -8,7 +8,8 @@ use simplex_transcript::{Entry, Node, Packet, Took};
 use simplex_types::Sequence;
 use std::alloc::Global;
 
-/// The entry of what an engine of the node did, whose packets these are.
+/// The entry of what an engine of the node did, whose packets these are. Its lists keep no more room than they take, since
+/// entries are kept to the end of the run.
 pub(crate) fn entry_of(
     event: u64,
     node: Node,
@@ -20,12 +21,17 @@ pub(crate) fn entry_of(
     ensures { result ≡ events.entry_of event node took out packets outcome }
 {
     let StepOut {
-        added,
-        asked,
-        dropped,
-        handed,
-        calls,
+        mut added,
+        mut asked,
+        mut dropped,
+        mut handed,
+        mut calls,
     } = out;
+    added.shrink_to_fit();
+    asked.shrink_to_fit();
+    dropped.shrink_to_fit();
+    handed.shrink_to_fit();
+    calls.shrink_to_fit();
     Entry {
         event,
         who: Some(node),
