@@ -175,7 +175,7 @@ fn give_up(alloc: Global, member: &mut Member, now: u64) -> Result<u64, AllocErr
     requires clock { now < 2 ^ 63 }
 {
     let view = member.current_view();
-    let vote = member.construct_nullify(view, TimeoutReason::LeaderTimeout, now)?;
+    let vote = member.construct_nullify(view, TimeoutReason::LeaderTimeout, now);
     let sent = nullified(alloc, member, view, now)?;
     Ok(sent.saturating_add(u64::from(vote.is_some())))
 }

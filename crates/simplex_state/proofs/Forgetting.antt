@@ -29,6 +29,7 @@ use Rattle.simplex_state.specs.Progress.{progress_of, learn_progress, opens, end
 use Rattle.simplex_state.specs.Certificates.{unsent_in, held_notarization, held_nullification, held_finalization}
 use Rattle.simplex_state.specs.Stands.{Keeps, covered_in}
 use Rattle.simplex_state.proofs.Facts.{round_step, progress_step, option_or-none}
+use Rattle.simplex_state.proofs.Publishing.{published_same, unpublished_later}
 use Rattle.simplex_state.proofs.Gates.{term_rises}
 use Rattle.simplex_state.proofs.Sound.{sound_other, timely_step}
 
@@ -71,10 +72,13 @@ module _ {S L : Type 0} (attests : S → Subject → Option Attestation) (elects
         };
         timely = timely_step made f known (omega arith) k.timely;
         rounds = λ view. grind (arith, common_steps, k.rounds view, w, round_step f known view, rounds_are view, rises);
-        nullified = λ view. grind (arith, common_steps, k.nullified view);
+        published = published_same made f known _ refl (grind (arith, common_steps, w)) k.published;
+        unpublished = unpublished_later made f known refl (grind (arith, common_steps, w)) k.unpublished;
+        nullified = λ view. grind (arith, common_steps, k.nullified view, w);
         failed = λ view. grind (arith, common_steps, k.failed view, option_or-none);
         certified = λ view. grind (arith, common_steps, k.certified view, option_or-none, w, certified_are view, rises);
         covered = λ view. grind (arith, common_steps, k.covered view, w, covered_are view, rises);
+        whole = λ view lies. grind (arith, common_steps, k.whole view lies);
         waiting = λ view. grind (arith, common_steps, k.waiting view, option_or-none, waiting_are view, active_is);
         missing = λ p u kind. grind (arith, common_steps, k.missing p u kind, w, missing_are p u kind, rises);
         notarizations = λ view. grind (arith, common_steps, k.notarizations view, option_or-none, w, notarized view, rises);

@@ -4,6 +4,10 @@ pub mod Wanting
 pub mod Opening
 pub mod Quiet
 pub mod Sound
+pub mod Publishing
+pub mod Greatest
+pub mod Runs
+pub mod GivingUp
 pub mod Moves
 pub mod Ahead
 pub mod Proposing

@@ -1,5 +1,5 @@
 -- What a state keeps behind one more fact that moves it or changes a set.
-use Rattle.std.proofs.Common.{◌≡◌, ℕ, ◌<◌, ◌≤◌, ◌^◌, ◌==◌, ◌&&◌, ◌||◌, true, false, List, ◌∷◌, Option, Some, None, refl, arith, if◌then◌else◌}
+use Rattle.std.proofs.Common.{◌≡◌, ℕ, ◌<◌, ◌≤◌, ◌^◌, ◌==◌, ◌&&◌, ◌||◌, nat_lt, true, false, List, ◌∷◌, Option, Some, None, refl, arith, if◌then◌else◌}
 use Rattle.std.proofs.lemmas.Grind.{common_steps}
 use Rattle.std.specs.Prelude.{unwrap_or}
 use Rattle.std.specs.BTreeMap.{BTreeMap}
@@ -26,23 +26,26 @@ use Rattle.simplex_state.specs.declared.rounds.RoundRecord.{RoundRecord}
 use Rattle.simplex_state.specs.declared.held.Held.{Held}
 use Rattle.simplex_state.specs.declared.missing.Missing.{Missing}
 use Rattle.simplex_state.specs.declared.progress.Progress.{Progress}
+use Rattle.simplex_state.specs.declared.ranges.Ranges.{Ranges}
 use Rattle.simplex_state.specs.declared.state.State.{State}
-use Rattle.simplex_values.specs.Terms.{next_of, next_term_start}
+use Rattle.simplex_values.specs.Terms.{next_of, term_index, next_term_start}
 use Rattle.simplex_values.specs.Covers.{covers}
 use Rattle.simplex_values.specs.Maps.{found, has}
 use Rattle.simplex_state.specs.Missing.{is_asked}
+use Rattle.simplex_state.specs.Ranges.{holds}
 use Rattle.simplex_state.specs.Rounds.{round_in, learn_round}
 use Rattle.simplex_state.specs.Progress.{progress_of, learn_progress, opens, ends}
 use Rattle.simplex_state.specs.Certificates.{held, held_notarization, held_nullification, held_finalization}
 use Rattle.simplex_state.specs.Stands.{Keeps, covered_in}
 use Rattle.simplex_state.proofs.Facts.{round_step, progress_step, option_or-none}
+use Rattle.simplex_state.proofs.Publishing.{published_same, published_moved, unpublished_later}
 use Rattle.simplex_state.proofs.Sound.{sound_other, timely_step}
 
 module _ {S L : Type 0} (attests : S → Subject → Option Attestation) (elects : L → Round → ℕ) where
   -- the member gave a view up
-  pub keeps_nullify : (state : State S L) (made : Made) (known : List Fact) (n : Nullify) (nullified' : BTreeSet ℕ)
+  pub keeps_nullify : (state : State S L) (made : Made) (known : List Fact) (n : Nullify) (nullified' : Ranges)
       → Keeps attests elects state made known
-      → ((q : ℕ) → has nullified' q ≡ (n.round.view == q || has state.nullified q))
+      → ((q : ℕ) → holds nullified' q ≡ (n.round.view == q || holds state.nullified q))
       → Keeps attests elects (record state { nullified = nullified' }) made (Voted (votes.Nullify n) ∷ known)
   unfolding learn_progress learn_round opens ends least_active last_finalized has_nullified has_false_verdict has_true_verdict is_covered is_unjudged verdict_of notarization_of nullification_of finalization_of was_broadcast held_notarization held_nullification held_finalization unsent_notarization unsent_nullification unsent_finalization first_of greatest_of
   keeps_nullify state made known n nullified' k nullified_are =
@@ -63,10 +66,13 @@ module _ {S L : Type 0} (attests : S → Subject → Option Attestation) (elects
         };
         timely = timely_step made f known (omega arith) k.timely;
         rounds = λ view. grind (arith, common_steps, k.rounds view, w, round_step f known view);
-        nullified = λ view. grind (arith, common_steps, k.nullified view, nullified_are view);
+        published = published_same made f known _ refl (grind (arith, common_steps, w)) k.published;
+        unpublished = unpublished_later made f known refl (grind (arith, common_steps, w)) k.unpublished;
+        nullified = λ view. grind (arith, common_steps, k.nullified view, nullified_are view, w);
         failed = λ view. grind (arith, common_steps, k.failed view, option_or-none);
         certified = λ view. grind (arith, common_steps, k.certified view, option_or-none, w);
         covered = λ view. grind (arith, common_steps, k.covered view, w);
+        whole = λ view lies. grind (arith, common_steps, k.whole view lies);
         waiting = λ view. grind (arith, common_steps, k.waiting view, option_or-none);
         missing = λ p v kind. grind (arith, common_steps, k.missing p v kind, w);
         notarizations = λ view. grind (arith, common_steps, k.notarizations view, option_or-none, w);
@@ -78,16 +84,18 @@ module _ {S L : Type 0} (attests : S → Subject → Option Attestation) (elects
       }
 
   -- a verdict is taken
-  pub keeps_good : (state : State S L) (made : Made) (known : List Fact) (v : ℕ) (now : ℕ) (progress' : Progress) (rounds' : BTreeMap ℕ RoundRecord) (certified' : BTreeSet ℕ)
+  pub keeps_good : (state : State S L) (made : Made) (known : List Fact) (v : ℕ) (now : ℕ) (progress' : Progress) (published' : Option ℕ) (rounds' : BTreeMap ℕ RoundRecord) (certified' : BTreeSet ℕ)
       → Keeps attests elects state made known
+      → state.gave_up ≡ false
       → now < 2 ^ 63
       → verdict_of known v ≡ None
       → progress' ≡ opens made.term_length (next_of v) now state.progress
+      → published' ≡ (if nat_lt state.progress.current (next_of v) then None else state.published)
       → ((q : ℕ) → (progress_of made known).pruned ≤ q → round_in rounds' q ≡ learn_round (Judged v true now) q (round_in state.rounds q))
       → ((q : ℕ) → has certified' q ≡ (v == q || has state.certified q))
-      → Keeps attests elects (record state { progress = progress'; rounds = rounds'; certified = certified' }) made (Judged v true now ∷ known)
+      → Keeps attests elects (record state { progress = progress'; published = published'; rounds = rounds'; certified = certified' }) made (Judged v true now ∷ known)
   unfolding learn_progress learn_round opens ends least_active last_finalized has_nullified has_false_verdict has_true_verdict is_covered is_unjudged verdict_of notarization_of nullification_of finalization_of was_broadcast held_notarization held_nullification held_finalization unsent_notarization unsent_nullification unsent_finalization first_of greatest_of
-  keeps_good state made known v now progress' rounds' certified' k stamp none progress_is rounds_are certified_are =
+  keeps_good state made known v now progress' published' rounds' certified' k given_up stamp none progress_is published_is rounds_are certified_are =
       let f = Judged v true now in
       let w = progress_step made f known in
       record {
@@ -105,10 +113,13 @@ module _ {S L : Type 0} (attests : S → Subject → Option Attestation) (elects
         };
         timely = timely_step made f known (stamp) k.timely;
         rounds = λ view. grind (arith, common_steps, k.rounds view, w, round_step f known view, rounds_are view);
-        nullified = λ view. grind (arith, common_steps, k.nullified view);
+        published = published_moved made f known (next_of v) _ _ refl (grind (arith, common_steps, w)) k.published k.unpublished (grind (arith, common_steps, k.progress, published_is));
+        unpublished = unpublished_later made f known refl (grind (arith, common_steps, w)) k.unpublished;
+        nullified = λ view. grind (arith, common_steps, k.nullified view, given_up);
         failed = λ view. grind (arith, common_steps, k.failed view, option_or-none, none);
         certified = λ view. grind (arith, common_steps, k.certified view, option_or-none, w, certified_are view, none);
         covered = λ view. grind (arith, common_steps, k.covered view, w);
+        whole = λ view lies. grind (arith, common_steps, k.whole view lies);
         waiting = λ view. grind (arith, common_steps, k.waiting view, option_or-none);
         missing = λ p v kind. grind (arith, common_steps, k.missing p v kind, w);
         notarizations = λ view. grind (arith, common_steps, k.notarizations view, option_or-none, w);
@@ -119,12 +130,12 @@ module _ {S L : Type 0} (attests : S → Subject → Option Attestation) (elects
         unsent_finalizations = λ view. grind (arith, common_steps, k.unsent_finalizations view, option_or-none);
       }
 
-  pub keeps_bad : (state : State S L) (made : Made) (known : List Fact) (v : ℕ) (now : ℕ) (rounds' : BTreeMap ℕ RoundRecord) (failed' : BTreeSet ℕ)
+  pub keeps_bad : (state : State S L) (made : Made) (known : List Fact) (v : ℕ) (now : ℕ) (rounds' : BTreeMap ℕ RoundRecord) (failed' : Ranges)
       → Keeps attests elects state made known
       → now < 2 ^ 63
       → verdict_of known v ≡ None
       → ((q : ℕ) → (progress_of made known).pruned ≤ q → round_in rounds' q ≡ learn_round (Judged v false now) q (round_in state.rounds q))
-      → ((q : ℕ) → has failed' q ≡ (v == q || has state.failed q))
+      → ((q : ℕ) → holds failed' q ≡ (v == q || holds state.failed q))
       → Keeps attests elects (record state { rounds = rounds'; failed = failed' }) made (Judged v false now ∷ known)
   unfolding learn_progress learn_round opens ends least_active last_finalized has_nullified has_false_verdict has_true_verdict is_covered is_unjudged verdict_of notarization_of nullification_of finalization_of was_broadcast held_notarization held_nullification held_finalization unsent_notarization unsent_nullification unsent_finalization first_of greatest_of
   keeps_bad state made known v now rounds' failed' k stamp none rounds_are failed_are =
@@ -145,10 +156,13 @@ module _ {S L : Type 0} (attests : S → Subject → Option Attestation) (elects
         };
         timely = timely_step made f known (stamp) k.timely;
         rounds = λ view. grind (arith, common_steps, k.rounds view, w, round_step f known view, rounds_are view);
-        nullified = λ view. grind (arith, common_steps, k.nullified view);
+        published = published_same made f known _ refl (grind (arith, common_steps, w)) k.published;
+        unpublished = unpublished_later made f known refl (grind (arith, common_steps, w)) k.unpublished;
+        nullified = λ view. grind (arith, common_steps, k.nullified view, w);
         failed = λ view. grind (arith, common_steps, k.failed view, option_or-none, failed_are view, none);
         certified = λ view. grind (arith, common_steps, k.certified view, option_or-none, w, none);
         covered = λ view. grind (arith, common_steps, k.covered view, w);
+        whole = λ view lies. grind (arith, common_steps, k.whole view lies);
         waiting = λ view. grind (arith, common_steps, k.waiting view, option_or-none);
         missing = λ p v kind. grind (arith, common_steps, k.missing p v kind, w);
         notarizations = λ view. grind (arith, common_steps, k.notarizations view, option_or-none, w);
@@ -187,10 +201,13 @@ module _ {S L : Type 0} (attests : S → Subject → Option Attestation) (elects
         };
         timely = timely_step made f known (stamp) k.timely;
         rounds = λ view. grind (arith, common_steps, k.rounds view, w, round_step f known view, rounds_are view);
-        nullified = λ view. grind (arith, common_steps, k.nullified view);
+        published = published_same made f known _ refl (grind (arith, common_steps, w)) k.published;
+        unpublished = unpublished_later made f known refl (grind (arith, common_steps, w)) k.unpublished;
+        nullified = λ view. grind (arith, common_steps, k.nullified view, w);
         failed = λ view. grind (arith, common_steps, k.failed view, option_or-none);
         certified = λ view. grind (arith, common_steps, k.certified view, option_or-none, w);
         covered = λ view. grind (arith, common_steps, k.covered view, w);
+        whole = λ view lies. grind (arith, common_steps, k.whole view lies);
         waiting = λ view. grind (arith, common_steps, k.waiting view, option_or-none, waiting_are view);
         missing = λ p v kind. grind (arith, common_steps, k.missing p v kind, w);
         notarizations = λ view. grind (arith, common_steps, k.notarizations view, option_or-none, w, held_are view, k.held.notarizations view);
@@ -201,16 +218,19 @@ module _ {S L : Type 0} (attests : S → Subject → Option Attestation) (elects
         unsent_finalizations = λ view. grind (arith, common_steps, k.unsent_finalizations view, option_or-none);
       }
 
-  pub keeps_nullification : (state : State S L) (made : Made) (known : List Fact) (n : Nullification) (now : ℕ) (progress' : Progress) (covered' : BTreeMap ℕ ℕ) (nullifications' : BTreeMap ℕ (Held Nullification))
+  pub keeps_nullification : (state : State S L) (made : Made) (known : List Fact) (n : Nullification) (now : ℕ) (progress' : Progress) (published' : Option ℕ) (covered' : BTreeMap ℕ ℕ) (whole' : Ranges) (nullifications' : BTreeMap ℕ (Held Nullification))
       → Keeps attests elects state made known
+      → state.gave_up ≡ false
       → now < 2 ^ 63
       → (progress_of made known).pruned ≤ n.round.view
       → progress' ≡ opens made.term_length (next_term_start made.term_length n.round.view) now state.progress
+      → published' ≡ (if nat_lt state.progress.current (next_term_start made.term_length n.round.view) then None else state.published)
       → ((q : ℕ) → covered_in made.term_length covered' q ≡ (covers made.term_length n.round.view q || covered_in made.term_length state.covered q))
+      → ((q : ℕ) → holds whole' (term_index made.term_length q) ≡ true → (covers made.term_length n.round.view q || holds state.whole (term_index made.term_length q)) ≡ true)
       → ((q : ℕ) → found nullifications' q ≡ (if n.round.view == q then Some (unwrap_or (found state.nullifications q) (held false n)) else found state.nullifications q))
-      → Keeps attests elects (record state { progress = progress'; covered = covered'; nullifications = nullifications' }) made (Added (certificates.Nullification n) now ∷ known)
+      → Keeps attests elects (record state { progress = progress'; published = published'; covered = covered'; whole = whole'; nullifications = nullifications' }) made (Added (certificates.Nullification n) now ∷ known)
   unfolding learn_progress learn_round opens ends least_active last_finalized has_nullified has_false_verdict has_true_verdict is_covered is_unjudged verdict_of notarization_of nullification_of finalization_of was_broadcast held_notarization held_nullification held_finalization unsent_notarization unsent_nullification unsent_finalization first_of greatest_of
-  keeps_nullification state made known n now progress' covered' nullifications' k stamp active progress_is covered_are held_are =
+  keeps_nullification state made known n now progress' published' covered' whole' nullifications' k given_up stamp active progress_is published_is covered_are whole_are held_are =
       let f = Added (certificates.Nullification n) now in
       let w = progress_step made f known in
       record {
@@ -228,10 +248,13 @@ module _ {S L : Type 0} (attests : S → Subject → Option Attestation) (elects
         };
         timely = timely_step made f known (stamp) k.timely;
         rounds = λ view. grind (arith, common_steps, k.rounds view, w, round_step f known view);
-        nullified = λ view. grind (arith, common_steps, k.nullified view);
+        published = published_moved made f known (next_term_start made.term_length n.round.view) _ _ refl (grind (arith, common_steps, w)) k.published k.unpublished (grind (arith, common_steps, k.progress, published_is));
+        unpublished = unpublished_later made f known refl (grind (arith, common_steps, w)) k.unpublished;
+        nullified = λ view. grind (arith, common_steps, k.nullified view, given_up);
         failed = λ view. grind (arith, common_steps, k.failed view, option_or-none);
         certified = λ view. grind (arith, common_steps, k.certified view, option_or-none, w);
         covered = λ view. grind (arith, common_steps, k.covered view, w, covered_are view);
+        whole = λ view lies. grind (arith, common_steps, k.whole view, whole_are view lies);
         waiting = λ view. grind (arith, common_steps, k.waiting view, option_or-none);
         missing = λ p v kind. grind (arith, common_steps, k.missing p v kind, w);
         notarizations = λ view. grind (arith, common_steps, k.notarizations view, option_or-none, w);
@@ -242,16 +265,18 @@ module _ {S L : Type 0} (attests : S → Subject → Option Attestation) (elects
         unsent_finalizations = λ view. grind (arith, common_steps, k.unsent_finalizations view, option_or-none);
       }
 
-  pub keeps_finalization : (state : State S L) (made : Made) (known : List Fact) (n : Finalization) (now : ℕ) (progress' : Progress) (rounds' : BTreeMap ℕ RoundRecord) (finalizations' : BTreeMap ℕ (Held Finalization))
+  pub keeps_finalization : (state : State S L) (made : Made) (known : List Fact) (n : Finalization) (now : ℕ) (progress' : Progress) (published' : Option ℕ) (rounds' : BTreeMap ℕ RoundRecord) (finalizations' : BTreeMap ℕ (Held Finalization))
       → Keeps attests elects state made known
+      → state.gave_up ≡ false
       → now < 2 ^ 63
       → (progress_of made known).pruned ≤ view_of n.proposal
       → progress' ≡ ends made.term_length (view_of n.proposal) now state.progress
+      → published' ≡ (if nat_lt state.progress.current (next_of (view_of n.proposal)) then None else state.published)
       → ((q : ℕ) → (progress_of made known).pruned ≤ q → round_in rounds' q ≡ learn_round (Added (certificates.Finalization n) now) q (round_in state.rounds q))
       → ((q : ℕ) → found finalizations' q ≡ (if view_of n.proposal == q then Some (unwrap_or (found state.finalizations q) (held false n)) else found state.finalizations q))
-      → Keeps attests elects (record state { progress = progress'; rounds = rounds'; finalizations = finalizations' }) made (Added (certificates.Finalization n) now ∷ known)
+      → Keeps attests elects (record state { progress = progress'; published = published'; rounds = rounds'; finalizations = finalizations' }) made (Added (certificates.Finalization n) now ∷ known)
   unfolding learn_progress learn_round opens ends least_active last_finalized has_nullified has_false_verdict has_true_verdict is_covered is_unjudged verdict_of notarization_of nullification_of finalization_of was_broadcast held_notarization held_nullification held_finalization unsent_notarization unsent_nullification unsent_finalization first_of greatest_of
-  keeps_finalization state made known n now progress' rounds' finalizations' k stamp active progress_is rounds_are held_are =
+  keeps_finalization state made known n now progress' published' rounds' finalizations' k given_up stamp active progress_is published_is rounds_are held_are =
       let f = Added (certificates.Finalization n) now in
       let w = progress_step made f known in
       record {
@@ -269,10 +294,13 @@ module _ {S L : Type 0} (attests : S → Subject → Option Attestation) (elects
         };
         timely = timely_step made f known (stamp) k.timely;
         rounds = λ view. grind (arith, common_steps, k.rounds view, w, round_step f known view, rounds_are view);
-        nullified = λ view. grind (arith, common_steps, k.nullified view);
+        published = published_moved made f known (next_of (view_of n.proposal)) _ _ refl (grind (arith, common_steps, w)) k.published k.unpublished (grind (arith, common_steps, k.progress, published_is));
+        unpublished = unpublished_later made f known refl (grind (arith, common_steps, w)) k.unpublished;
+        nullified = λ view. grind (arith, common_steps, k.nullified view, given_up);
         failed = λ view. grind (arith, common_steps, k.failed view, option_or-none);
         certified = λ view. grind (arith, common_steps, k.certified view, option_or-none, w);
         covered = λ view. grind (arith, common_steps, k.covered view, w);
+        whole = λ view lies. grind (arith, common_steps, k.whole view lies);
         waiting = λ view. grind (arith, common_steps, k.waiting view, option_or-none);
         missing = λ p v kind. grind (arith, common_steps, k.missing p v kind, w);
         notarizations = λ view. grind (arith, common_steps, k.notarizations view, option_or-none, w);
@@ -308,10 +336,13 @@ module _ {S L : Type 0} (attests : S → Subject → Option Attestation) (elects
         };
         timely = timely_step made f known (omega arith) k.timely;
         rounds = λ view. grind (arith, common_steps, k.rounds view, w, round_step f known view);
-        nullified = λ view. grind (arith, common_steps, k.nullified view);
+        published = published_same made f known _ refl (grind (arith, common_steps, w)) k.published;
+        unpublished = unpublished_later made f known refl (grind (arith, common_steps, w)) k.unpublished;
+        nullified = λ view. grind (arith, common_steps, k.nullified view, w);
         failed = λ view. grind (arith, common_steps, k.failed view, option_or-none);
         certified = λ view. grind (arith, common_steps, k.certified view, option_or-none, w);
         covered = λ view. grind (arith, common_steps, k.covered view, w);
+        whole = λ view lies. grind (arith, common_steps, k.whole view lies);
         waiting = λ view. grind (arith, common_steps, k.waiting view, option_or-none);
         missing = λ p v kind. grind (arith, common_steps, k.missing p v kind, w);
         notarizations = λ view. grind (arith, common_steps, k.notarizations view, option_or-none, w, held_are view);
@@ -347,10 +378,13 @@ module _ {S L : Type 0} (attests : S → Subject → Option Attestation) (elects
         };
         timely = timely_step made f known (omega arith) k.timely;
         rounds = λ view. grind (arith, common_steps, k.rounds view, w, round_step f known view);
-        nullified = λ view. grind (arith, common_steps, k.nullified view);
+        published = published_same made f known _ refl (grind (arith, common_steps, w)) k.published;
+        unpublished = unpublished_later made f known refl (grind (arith, common_steps, w)) k.unpublished;
+        nullified = λ view. grind (arith, common_steps, k.nullified view, w);
         failed = λ view. grind (arith, common_steps, k.failed view, option_or-none);
         certified = λ view. grind (arith, common_steps, k.certified view, option_or-none, w);
         covered = λ view. grind (arith, common_steps, k.covered view, w);
+        whole = λ view lies. grind (arith, common_steps, k.whole view lies);
         waiting = λ view. grind (arith, common_steps, k.waiting view, option_or-none);
         missing = λ p v kind. grind (arith, common_steps, k.missing p v kind, w);
         notarizations = λ view. grind (arith, common_steps, k.notarizations view, option_or-none, w);
@@ -386,10 +420,13 @@ module _ {S L : Type 0} (attests : S → Subject → Option Attestation) (elects
         };
         timely = timely_step made f known (omega arith) k.timely;
         rounds = λ view. grind (arith, common_steps, k.rounds view, w, round_step f known view);
-        nullified = λ view. grind (arith, common_steps, k.nullified view);
+        published = published_same made f known _ refl (grind (arith, common_steps, w)) k.published;
+        unpublished = unpublished_later made f known refl (grind (arith, common_steps, w)) k.unpublished;
+        nullified = λ view. grind (arith, common_steps, k.nullified view, w);
         failed = λ view. grind (arith, common_steps, k.failed view, option_or-none);
         certified = λ view. grind (arith, common_steps, k.certified view, option_or-none, w);
         covered = λ view. grind (arith, common_steps, k.covered view, w);
+        whole = λ view lies. grind (arith, common_steps, k.whole view lies);
         waiting = λ view. grind (arith, common_steps, k.waiting view, option_or-none);
         missing = λ p v kind. grind (arith, common_steps, k.missing p v kind, w);
         notarizations = λ view. grind (arith, common_steps, k.notarizations view, option_or-none, w);
@@ -424,10 +461,13 @@ module _ {S L : Type 0} (attests : S → Subject → Option Attestation) (elects
         };
         timely = timely_step made f known (omega arith) k.timely;
         rounds = λ view. grind (arith, common_steps, k.rounds view, w, round_step f known view);
-        nullified = λ view. grind (arith, common_steps, k.nullified view);
+        published = published_same made f known _ refl (grind (arith, common_steps, w)) k.published;
+        unpublished = unpublished_later made f known refl (grind (arith, common_steps, w)) k.unpublished;
+        nullified = λ view. grind (arith, common_steps, k.nullified view, w);
         failed = λ view. grind (arith, common_steps, k.failed view, option_or-none);
         certified = λ view. grind (arith, common_steps, k.certified view, option_or-none, w);
         covered = λ view. grind (arith, common_steps, k.covered view, w);
+        whole = λ view lies. grind (arith, common_steps, k.whole view lies);
         waiting = λ view. grind (arith, common_steps, k.waiting view, option_or-none);
         missing = λ q u other. grind (arith, common_steps, k.missing q u other, w, missing_are q u other);
         notarizations = λ view. grind (arith, common_steps, k.notarizations view, option_or-none, w);

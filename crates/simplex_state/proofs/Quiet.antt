@@ -26,11 +26,13 @@ use Rattle.simplex_state.specs.Progress.{progress_of, learn_progress}
 use Rattle.simplex_state.specs.Certificates.{held_notarization, held_nullification, held_finalization}
 use Rattle.simplex_state.specs.Stands.{Keeps, IsSound, IsTimely}
 use Rattle.simplex_state.proofs.Facts.{round_step, progress_step, option_or-none}
+use Rattle.simplex_state.proofs.Publishing.{is_published, published_same, unpublished_later}
 
 abbrev pub is_round_fact : Fact → Bool
 is_round_fact (Added c now) = false
 is_round_fact (Judged v good now) = false
 is_round_fact (Voted (votes.Nullify n)) = false
+is_round_fact (Published v now) = false
 is_round_fact (Broadcast k v) = false
 is_round_fact (MissingAsked p v k) = false
 is_round_fact (Pruned v) = false
@@ -41,6 +43,7 @@ pub record Quiet (made : Made) (f : Fact) (known : List Fact) : Type 0 where
   pub pruned : (progress_of made (f ∷ known)).pruned ≡ (progress_of made known).pruned
   pub current : (progress_of made (f ∷ known)).current ≡ (progress_of made known).current
   pub last : last_finalized (f ∷ known) ≡ last_finalized known
+  pub publishes : is_published f ≡ false
   pub nullified : (v : ℕ) → has_nullified (f ∷ known) v ≡ has_nullified known v
   pub verdict : (v : ℕ) → verdict_of (f ∷ known) v ≡ verdict_of known v
   pub covered : (v : ℕ) → is_covered made (f ∷ known) v ≡ is_covered made known v
@@ -73,6 +76,7 @@ unfolding last_finalized has_nullified is_covered is_unjudged verdict_of notariz
 quiet made (Added c now) known e = none_true e
 quiet made (Judged v good now) known e = none_true e
 quiet made (Voted (votes.Nullify n)) known e = none_true e
+quiet made (Published v now) known e = none_true e
 quiet made (Broadcast k v) known e = none_true e
 quiet made (MissingAsked p v k) known e = none_true e
 quiet made (Pruned v) known e = none_true e
@@ -80,6 +84,7 @@ quiet made (Voted (votes.Notarize n)) known e = let p = progress_step made (Vote
   pruned = grind (arith, p);
   current = grind (arith, p);
   last = grind arith;
+  publishes = refl;
   nullified = λ v. refl;
   verdict = λ v. option_or-none _;
   covered = λ v. refl;
@@ -94,6 +99,7 @@ quiet made (Voted (votes.Finalize n)) known e = let p = progress_step made (Vote
   pruned = grind (arith, p);
   current = grind (arith, p);
   last = grind arith;
+  publishes = refl;
   nullified = λ v. refl;
   verdict = λ v. option_or-none _;
   covered = λ v. refl;
@@ -108,6 +114,7 @@ quiet made (FloorAt a b) known e = let p = progress_step made (FloorAt a b) know
   pruned = grind (arith, p);
   current = grind (arith, p);
   last = grind arith;
+  publishes = refl;
   nullified = λ v. refl;
   verdict = λ v. option_or-none _;
   covered = λ v. refl;
@@ -122,6 +129,7 @@ quiet made (Taken a) known e = let p = progress_step made (Taken a) known in rec
   pruned = grind (arith, p);
   current = grind (arith, p);
   last = grind arith;
+  publishes = refl;
   nullified = λ v. refl;
   verdict = λ v. option_or-none _;
   covered = λ v. refl;
@@ -136,6 +144,7 @@ quiet made (Answered a) known e = let p = progress_step made (Answered a) known 
   pruned = grind (arith, p);
   current = grind (arith, p);
   last = grind arith;
+  publishes = refl;
   nullified = λ v. refl;
   verdict = λ v. option_or-none _;
   covered = λ v. refl;
@@ -150,20 +159,7 @@ quiet made (Approved a) known e = let p = progress_step made (Approved a) known 
   pruned = grind (arith, p);
   current = grind (arith, p);
   last = grind arith;
-  nullified = λ v. refl;
-  verdict = λ v. option_or-none _;
-  covered = λ v. refl;
-  notarization = λ v. option_or-none _;
-  nullification = λ v. option_or-none _;
-  finalization = λ v. option_or-none _;
-  sent = λ k v. refl;
-  asked = λ p v k. refl;
-  unjudged = λ v. grind (arith, common_steps, option_or-none);
-}
-quiet made (Published a b) known e = let p = progress_step made (Published a b) known in record {
-  pruned = grind (arith, p);
-  current = grind (arith, p);
-  last = grind arith;
+  publishes = refl;
   nullified = λ v. refl;
   verdict = λ v. option_or-none _;
   covered = λ v. refl;
@@ -178,6 +174,7 @@ quiet made (Expired a b c) known e = let p = progress_step made (Expired a b c) 
   pruned = grind (arith, common_steps, p, expired_pruned made a b c (progress_of made known));
   current = grind (arith, common_steps, p, expired_current made a b c (progress_of made known));
   last = grind arith;
+  publishes = refl;
   nullified = λ v. refl;
   verdict = λ v. option_or-none _;
   covered = λ v. refl;
@@ -192,6 +189,7 @@ quiet made (Failed a b) known e = let p = progress_step made (Failed a b) known 
   pruned = grind (arith, p);
   current = grind (arith, p);
   last = grind arith;
+  publishes = refl;
   nullified = λ v. refl;
   verdict = λ v. option_or-none _;
   covered = λ v. refl;
@@ -206,6 +204,7 @@ quiet made (ProposalAsked a) known e = let p = progress_step made (ProposalAsked
   pruned = grind (arith, p);
   current = grind (arith, p);
   last = grind arith;
+  publishes = refl;
   nullified = λ v. refl;
   verdict = λ v. option_or-none _;
   covered = λ v. refl;
@@ -220,6 +219,7 @@ quiet made (ProposalFreed a) known e = let p = progress_step made (ProposalFreed
   pruned = grind (arith, p);
   current = grind (arith, p);
   last = grind arith;
+  publishes = refl;
   nullified = λ v. refl;
   verdict = λ v. option_or-none _;
   covered = λ v. refl;
@@ -234,6 +234,7 @@ quiet made (VerifyAsked a) known e = let p = progress_step made (VerifyAsked a) 
   pruned = grind (arith, p);
   current = grind (arith, p);
   last = grind arith;
+  publishes = refl;
   nullified = λ v. refl;
   verdict = λ v. option_or-none _;
   covered = λ v. refl;
@@ -248,6 +249,7 @@ quiet made (CertifyAsked a) known e = let p = progress_step made (CertifyAsked a
   pruned = grind (arith, p);
   current = grind (arith, p);
   last = grind arith;
+  publishes = refl;
   nullified = λ v. refl;
   verdict = λ v. option_or-none _;
   covered = λ v. refl;
@@ -262,6 +264,7 @@ quiet made (ParentAsked a) known e = let p = progress_step made (ParentAsked a) 
   pruned = grind (arith, p);
   current = grind (arith, p);
   last = grind arith;
+  publishes = refl;
   nullified = λ v. refl;
   verdict = λ v. option_or-none _;
   covered = λ v. refl;
@@ -301,10 +304,13 @@ module _ {S L : Type 0} (attests : S → Subject → Option Attestation) (elects
         };
         timely = timely;
         rounds = λ view. grind (arith, k.rounds view, rounds_are view, w.pruned, round_step f known view);
-        nullified = λ view. k.nullified view ∙ sym (w.nullified view);
+        published = published_same made f known _ w.publishes w.current k.published;
+        unpublished = unpublished_later made f known w.publishes (grind (arith, w.current)) k.unpublished;
+        nullified = λ view. grind (arith, k.nullified view, w.nullified view, w.current);
         failed = λ view. grind (arith, k.failed view, w.verdict view);
         certified = λ view. grind (arith, k.certified view, w.verdict view, w.pruned);
         covered = λ view. grind (arith, k.covered view, w.covered view, w.pruned);
+        whole = λ view lies. grind (arith, k.whole view lies, w.covered view);
         waiting = λ view. grind (arith, k.waiting view, w.unjudged view, w.notarization view);
         missing = λ p v kind. grind (arith, k.missing p v kind, w.asked p v kind, w.pruned);
         notarizations = λ view. grind (arith, k.notarizations view, w.notarization view, w.sent kinds.Notarization view, w.pruned);

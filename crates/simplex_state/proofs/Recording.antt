@@ -52,9 +52,12 @@ module _ {S L : Type 0} (attests : S → Subject → Option Attestation) (elects
         timely = k.timely;
         rounds = λ view low. rounds_are view low ∙ k.rounds view low;
         nullified = k.nullified;
+        published = k.published;
+        unpublished = k.unpublished;
         failed = k.failed;
         certified = k.certified;
         covered = k.covered;
+        whole = k.whole;
         waiting = waiting_are;
         missing = k.missing;
         notarizations = k.notarizations;

@@ -1,19 +1,20 @@
--- Walking over covered views from term to term, and to the greatest parent.
-use Rattle.std.proofs.Common.{◌≡◌, ℕ, zero, suc, ◌+◌, ◌-◌, ◌*◌, ◌/◌, ◌<◌, ◌≤◌, not, nat_lt, Bool, true, false, List, Option, Some, None, find, refl, sym, inl, inr, ◌⊎◌, ◌^◌, ◌||◌, if◌then◌else◌, arith}
-use Rattle.std.proofs.lemmas.Bool.{cases_eq}
+-- Walking over covered views from run to run, and to the greatest parent.
+use Rattle.std.proofs.Common.{◌≡◌, ℕ, zero, suc, ◌+◌, ◌-◌, ◌*◌, ◌/◌, ◌<◌, ◌≤◌, ◌==◌, min, not, Bool, true, false, List, Option, Some, None, find, refl, sym, inl, inr, ◌⊎◌, ◌^◌, ◌||◌, if◌then◌else◌, arith}
 use Rattle.std.proofs.lemmas.Grind.{common_steps}
 use Rattle.std.proofs.Math.Nat.{div-lt_iff_lt-mul}
 use Rattle.std.specs.List.{range_with_len}
 use Rattle.std.specs.Option.{is_none, is_some}
 use Rattle.std.specs.BTreeMap.{BTreeMap}
-use Rattle.simplex_values.specs.Terms.{greatest_view, next_of, term_index, term_end, next_term_start}
-use Rattle.simplex_rules.specs.Lists.{greatest_below}
+use Rattle.simplex_values.specs.Terms.{greatest_view, next_of, term_index, term_start, term_end, next_term_start}
 use Rattle.simplex_rules.specs.Known.{Made, Fact}
 use Rattle.simplex_rules.specs.Views.{last_finalized}
 use Rattle.simplex_rules.specs.Ancestry.{is_covered, gap_between, is_certified, is_met, has_ancestry, greatest_parent}
 use Rattle.simplex_rules.proofs.Soundness.{covered_between}
+use Rattle.simplex_state.specs.declared.ranges.Ranges.{Ranges}
+use Rattle.simplex_state.specs.Ranges.{holds}
 use Rattle.simplex_state.specs.Stands.{covered_in}
 use Rattle.simplex_state.proofs.Gates.{term_rises}
+use Rattle.simplex_state.proofs.Greatest.{greatest_is, greatest_none, greatest_passes}
 
 -- ---- a first number that passes
 
@@ -61,39 +62,92 @@ pub term_ends_later : (length a : ℕ) → 0 < length → a < greatest_view → 
 unfolding next_term_start term_end next_of term_index
 term_ends_later length a some low = grind (arith, some, low)
 
--- from a covered view on, its whole term is covered
-pub rest_covered : (length : ℕ) (covered : BTreeMap ℕ ℕ) (a q : ℕ) → 0 < length → covered_in length covered a ≡ true → a ≤ q → q < next_term_start length a
+-- only genesis is of no term
+term_some : (length view : ℕ) → 0 < length → 0 < view → 0 < term_index length view
+unfolding term_index
+term_some length view some later = grind (arith, some, later)
+
+-- the views up to the end of a term, and the terms up to it
+in_terms : (length n q : ℕ) → 0 < length → q ≤ n * length → term_index length q < n + 1
+unfolding term_index
+in_terms length n q some le = (div-lt_iff_lt-mul {k = length} {x = q + (length - 1)} {y = n + 1} some).1 (grind (arith, le, some))
+
+within_terms : (length n q : ℕ) → 0 < length → term_index length q < n + 1 → q ≤ n * length
+unfolding term_index
+within_terms length n q some le = (let w = (div-lt_iff_lt-mul {k = length} {x = q + (length - 1)} {y = n + 1} some).0 le in grind (arith, w, some))
+
+-- ---- runs of whole terms
+
+lies : (q next : ℕ) → (q < next) ⊎ (next ≤ q)
+lies q next = grind arith
+
+pub next_passes : (length view next q : ℕ) (whole : Ranges) → 0 < length → next ≡ next_term_start length view → view ≤ q → q < next
+    → (term_index length q == term_index length view || holds whole (term_index length q)) ≡ true
+next_passes length view next q whole some e from to = grind (arith, common_steps, same_term length view q some from (omega (arith, to, e)))
+
+behind_term : (length last end q : ℕ) → end ≡ next_of (min (last * length) greatest_view) → q < end → q ≤ last * length
+unfolding next_of
+behind_term length last end q e to = grind (arith, e, to)
+
+pub run_passes : (length view next last end q : ℕ) (whole : Ranges) → 0 < length → next ≡ next_term_start length view
+    → ((t : ℕ) → term_index length next ≤ t → t ≤ last → holds whole t ≡ true)
+    → end ≡ next_of (min (last * length) greatest_view)
+    → view ≤ q → q < end
+    → (term_index length q == term_index length view || holds whole (term_index length q)) ≡ true
+run_passes length view next last end q whole some e held is from to = elim (lies q next) [
+  | inl before ↦ next_passes length view next q whole some e from before
+  | inr behind ↦ (let low = in_terms length last q some (behind_term length last end q is to) in
+      grind (arith, common_steps, held (term_index length q) (term_rises length next q some behind) (omega (arith, low))))
+]
+
+later_by : (view next far end : ℕ) → view < next → next ≤ far → end ≡ next_of (min far greatest_view) → view < greatest_view → view < end
+unfolding next_of
+later_by view next far end before below is low = grind (arith, before, below, is, low)
+
+pub run_later : (length view next last end : ℕ) → 0 < length → next ≡ next_term_start length view → term_index length next ≤ last
+    → end ≡ next_of (min (last * length) greatest_view)
+    → view < greatest_view → view < end
+run_later length view next last end some e rises is low =
+    (let later = term_ends_later length view some low in
+    later_by view next (last * length) end (omega (arith, later, e)) (within_terms length last next some (omega (arith, rises))) is low)
+
+same_covered : (length : ℕ) (covered : BTreeMap ℕ ℕ) (a q : ℕ) → covered_in length covered a ≡ true → a ≤ q → term_index length q ≡ term_index length a
     → covered_in length covered q ≡ true
 unfolding covered_in
-rest_covered length covered a q some e le lt = grind (arith, common_steps, e, le, same_term length a q some le lt)
+same_covered length covered a q e le same = grind (arith, common_steps, e, le, same)
 
--- ---- the greatest that passes
-
-greatest_is : (test : ℕ → Bool) (n p : ℕ) → p < n → test p ≡ true → ((q : ℕ) → p < q → q < n → test q ≡ false) → greatest_below test n ≡ Some p
-unfolding greatest_below
-greatest_is test zero p l e none = absurd (omega (arith, l))
-greatest_is test (suc n) p l e none = grind (arith, common_steps, l, e, none n, greatest_is test n p, cases_eq n p, λ (q : ℕ) (a : p < q) (b : q < n). none q a (omega (arith, b)))
-
-greatest_none : (test : ℕ → Bool) (n : ℕ) → ((q : ℕ) → q < n → test q ≡ false) → greatest_below test n ≡ None
-unfolding greatest_below
-greatest_none test zero none = refl
-greatest_none test (suc n) none = grind (arith, common_steps, none n (omega arith), greatest_none test n (λ q l. none q (omega (arith, l))))
-
--- a covered view's term may be left out
-pub skip_term : (length : ℕ) (covered : BTreeMap ℕ ℕ) (a next n : ℕ) → 0 < length → a < greatest_view → next ≡ next_term_start length a → covered_in length covered a ≡ true
+-- behind a covered view, its term and whole ones may be left out
+pub skip_run : (length : ℕ) (covered : BTreeMap ℕ ℕ) (whole : Ranges) (first a next n : ℕ) → first ≤ a → a < next → covered_in length covered a ≡ true
+    → ((q : ℕ) → first ≤ q → holds whole (term_index length q) ≡ true → covered_in length covered q ≡ true)
+    → ((q : ℕ) → a ≤ q → q < next → (term_index length q == term_index length a || holds whole (term_index length q)) ≡ true)
     → find (λ v. not (covered_in length covered v)) (range_with_len next (n - next)) ≡ find (λ v. not (covered_in length covered v)) (range_with_len a (n - a))
-skip_term length covered a next n some low e c =
-    (let later = term_ends_later length a some low in
-    let w = skip_failed (λ v. not (covered_in length covered v)) a (next - a) n (λ q l h k. grind (arith, common_steps, rest_covered length covered a q some c l (omega (arith, h, e, later)))) in
-    grind (arith, w, e, later))
+skip_run length covered whole first a next n from later c within passed =
+    (let w = skip_failed (λ v. not (covered_in length covered v)) a (next - a) n
+    (λ q l h k. grind (arith, common_steps, passed q l (omega (arith, h, later)), within q (omega (arith, from, l)), same_covered length covered a q c l)) in
+    grind (arith, w, later))
+
+pub find_nothing : (test : ℕ → Bool) (a n : ℕ) → n ≡ 0 → find test (range_with_len a n) ≡ None
+find_nothing test a n e = rw e refl
+
+-- before a term's first view, each is of an earlier term
+starts_later : (length view q : ℕ) → 0 < length → view ≡ (term_index length view - 1) * length + 1 → q < view → term_index length view ≡ term_index length q → ⊥
+starts_later length view q some e before same =
+    (let w = in_terms length (term_index length view - 1) q some (omega (arith, e, before)) in
+    let first = term_some length view some (omega (arith, before)) in
+    absurd (omega (arith, w, first, same)))
+
+-- where the first view of a term is nullified, the whole term is
+pub first_least : (length view q : ℕ) → 0 < length → view ≡ term_start length view → term_index length view ≡ term_index length q → view ≤ q
+unfolding term_start
+first_least length view q some e same = elim (lies q view) [
+  | inl before ↦ absurd (starts_later length view q some (grind (arith, common_steps, e, before)) (omega (arith, before)) same)
+  | inr behind ↦ behind
+]
 
 -- ---- gaps
 
 split_at : (q parent : ℕ) → (q ≤ parent) ⊎ (parent < q)
 split_at q parent = grind arith
-
-find_nothing : (test : ℕ → Bool) (a n : ℕ) → n ≡ 0 → find test (range_with_len a n) ≡ None
-find_nothing test a n e = rw e refl
 
 pub gap_none : (made : Made) (known : List Fact) (parent view : ℕ) → view ≤ parent + 1 → gap_between made known parent view ≡ None
 unfolding gap_between
@@ -212,25 +266,6 @@ parent_is made known parent before view None e low below certified none met gap 
     sym (parent_certified made known parent view low (omega (arith, below, e)) certified (λ q l h. none q l (omega (arith, h, e))) (before_alone made known before view e met) (sym gap))
 parent_is made known parent before view (Some g) e low below certified none met gap =
     sym (parent_gapped made known parent view g (sym gap) (λ q l h. none q l (omega (arith, h, e))) (before_alone made known before view e met))
-
--- ---- from view to view
-
-pub find_next : (test : ℕ → Bool) (a next n : ℕ) → next ≡ a + 1 → test a ≡ false → find test (range_with_len next (n - next)) ≡ find test (range_with_len a (n - a))
-find_next test a next n e none = (let w = skip_failed test a 1 n (λ q l h k. grind (arith, none, l, h)) in grind (arith, w, e))
-
-pub find_last : (test : ℕ → Bool) (a n : ℕ) → find test (range_with_len a (n - a)) ≡ (if nat_lt a n then find test (range_with_len a (n - a)) else None)
-find_last test a n = grind (arith, common_steps, find_nothing test a (n - a))
-
-one_left : (a n : ℕ) → n ≡ a + 1 → n - a ≡ 1
-one_left a n e = omega (arith, e)
-
-pub find_one : (test : ℕ → Bool) (a n : ℕ) → n ≡ a + 1 → find test (range_with_len a (n - a)) ≡ (if test a then Some a else None)
-find_one test a n e = rw (one_left a n e) (grind (arith, common_steps))
-
-greatest_passes : (test : ℕ → Bool) (n p : ℕ) → greatest_below test n ≡ Some p → (test p ≡ true) × (p < n)
-unfolding greatest_below
-greatest_passes test zero p e = absurd (none_is_some p e)
-greatest_passes test (suc n) p e = (grind (arith, common_steps, e, greatest_passes test n p), grind (arith, common_steps, e, greatest_passes test n p))
 
 -- a parent is not before the last final view, and before its child
 pub parent_above : (made : Made) (known : List Fact) (view p : ℕ) → greatest_parent made known view ≡ Some p → (last_finalized known ≤ p) × (p < view)

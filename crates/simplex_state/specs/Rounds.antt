@@ -9,9 +9,9 @@ use Rattle.simplex_values.specs.Proposal.{is_same_proposal}
 use Rattle.simplex_wire.specs.declared.vote.Vote.TheVariants as votes
 use Rattle.simplex_wire.specs.declared.certificate.Certificate.TheVariants as certificates
 use Rattle.simplex_rules.specs.Lists.{first_of}
-use Rattle.simplex_rules.specs.Known.{Fact, FloorAt, Added, Taken, Answered, Approved, Judged, Voted, Published, Expired, Failed, ProposalAsked, ProposalFreed, VerifyAsked, CertifyAsked, ParentAsked, view_of, notarization_of, finalization_of, own_notarize, proposal_of, has_finalized, verdict_of}
+use Rattle.simplex_rules.specs.Known.{Fact, FloorAt, Added, Taken, Answered, Approved, Judged, Voted, Expired, Failed, ProposalAsked, ProposalFreed, VerifyAsked, CertifyAsked, ParentAsked, view_of, notarization_of, finalization_of, own_notarize, proposal_of, has_finalized, verdict_of}
 use Rattle.simplex_rules.specs.Ancestry.{floor_in}
-use Rattle.simplex_rules.specs.Deadline.{published_at, expired_in, failed_in}
+use Rattle.simplex_rules.specs.Deadline.{expired_in, failed_in}
 use Rattle.simplex_rules.specs.Requests.{was_proposal_asked, verify_asked, is_certify_in, is_parent_in}
 use Rattle.simplex_state.specs.declared.rounds.RoundRecord.{RoundRecord}
 
@@ -29,7 +29,6 @@ blank =
       approved = false;
       voted_final = false;
       verdict = None;
-      published = None;
       expired = None;
       failed = None;
       proposal_asked = false;
@@ -63,7 +62,6 @@ round_of known view =
       approved = list_any (is_approval_of view) known;
       voted_final = has_finalized known view;
       verdict = verdict_of known view;
-      published = published_at known view;
       expired = first_of (expired_in view) known;
       failed = first_of (failed_in view) known;
       proposal_asked = was_proposal_asked known view;
@@ -82,7 +80,6 @@ learn_round (Approved p) view r = if view_of p == view then record r { approved 
 learn_round (Judged v good now) view r = if v == view then record r { verdict = option_or r.verdict (Some good) } else r
 learn_round (Voted (votes.Notarize n)) view r = if view_of n.proposal == view then record r { voted = option_or r.voted (Some n.proposal) } else r
 learn_round (Voted (votes.Finalize f)) view r = if view_of f.proposal == view then record r { voted_final = true } else r
-learn_round (Published v now) view r = if v == view then record r { published = Some now } else r
 learn_round (Expired v reason now) view r = if v == view then record r { expired = option_or r.expired (Some (now, reason)) } else r
 learn_round (Failed v reason) view r = if v == view then record r { failed = option_or r.failed (Some reason) } else r
 learn_round (ProposalAsked v) view r = if v == view then record r { proposal_asked = true } else r

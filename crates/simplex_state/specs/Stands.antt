@@ -1,5 +1,5 @@
 -- Which calls a state stands for.
-use Rattle.std.specs.Prelude.{◌≡◌, ℕ, ◌^◌, ◌-◌, ◌<◌, ◌≤◌, ◌&&◌, ◌||◌, nat_le, Bool, true, false, List, ◌∷◌, Option, IfSome}
+use Rattle.std.specs.Prelude.{◌≡◌, ℕ, ◌==◌, ◌^◌, ◌-◌, ◌<◌, ◌≤◌, ◌&&◌, ◌||◌, nat_le, Bool, true, false, List, ◌∷◌, Option, None, IfSome}
 use Rattle.std.specs.List.{list_any}
 use Rattle.std.specs.Option.{option_map_or, is_some}
 use Rattle.std.specs.BTreeMap.{BTreeMap}
@@ -22,6 +22,7 @@ use Rattle.simplex_state.specs.declared.settings.Settings.{Settings}
 use Rattle.simplex_state.specs.declared.state.State.{State}
 use Rattle.simplex_values.specs.Maps.{found, has}
 use Rattle.simplex_state.specs.Missing.{is_asked}
+use Rattle.simplex_state.specs.Ranges.{holds}
 use Rattle.simplex_state.specs.Rounds.{round_in, round_of, is_named}
 use Rattle.simplex_state.specs.Progress.{progress_of}
 use Rattle.simplex_state.specs.Certificates.{unsent_in, held_notarization, held_nullification, held_finalization}
@@ -119,10 +120,13 @@ module _ {S L : Type 0} where
     pub held : IsHeld known
     pub timely : IsTimely made known
     pub rounds : (view : ℕ) → (progress_of made known).pruned ≤ view → round_in state.rounds view ≡ round_of known view
-    pub nullified : (view : ℕ) → has state.nullified view ≡ has_nullified known view
-    pub failed : (view : ℕ) → has state.failed view ≡ has_false_verdict known view
+    pub published : state.published ≡ published_at known (progress_of made known).current
+    pub unpublished : (view : ℕ) → (progress_of made known).current < view → published_at known view ≡ None
+    pub nullified : (view : ℕ) → ((state.gave_up && view == (progress_of made known).current) || holds state.nullified view) ≡ has_nullified known view
+    pub failed : (view : ℕ) → holds state.failed view ≡ has_false_verdict known view
     pub certified : (view : ℕ) → (progress_of made known).pruned ≤ view → has state.certified view ≡ has_true_verdict known view
     pub covered : (view : ℕ) → (progress_of made known).pruned ≤ view → covered_in made.term_length state.covered view ≡ is_covered made known view
+    pub whole : (view : ℕ) → holds state.whole (term_index made.term_length view) ≡ true → is_covered made known view ≡ true
     pub waiting : (view : ℕ) → is_some (notarization_of known view) ≡ true → is_unjudged known view ≡ true → has state.waiting view ≡ true
     pub missing : (proposal view : ℕ) (kind : Kind) → (progress_of made known).pruned ≤ proposal
         → is_asked state.missing proposal view kind ≡ list_any (is_missing_in proposal view kind) known

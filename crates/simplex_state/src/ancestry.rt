@@ -1,19 +1,22 @@
 //! Which view a proposal may stand on.
 #![tactic(auto, unfolding(crate::specs::Stands::StandsFor, crate::specs::Rounds::round_of, crate::specs::Rounds::slot_in, simplex_rules::specs::Slot::slot_of, crate::specs::Progress::progress_of, simplex_rules::specs::Views::least_active))]
 
-ghost use Rattle.std.specs.Prelude.{◌≡◌, ◌≤◌, ◌<◌, ◌^◌, ◌-◌, ℕ, not, true, false, find, List};
+ghost use Rattle.std.specs.Prelude.{◌≡◌, ◌≤◌, ◌<◌, ◌==◌, ◌||◌, ◌^◌, ◌-◌, ℕ, not, true, false, find, List};
 ghost use Rattle.std.specs.List.{range_with_len};
+ghost use Rattle.simplex_values.specs.Terms.{greatest_view, term_index};
 ghost use Rattle.simplex_rules.specs.Known.{Made, Fact};
 ghost use Rattle.simplex_rules.specs.Views.{last_finalized};
 ghost use Rattle.simplex_rules.specs.Ancestry.{gap_between, has_ancestry, greatest_parent, is_certified, is_met};
 ghost use Rattle.simplex_rules.specs.Requests.{is_superseded, is_abandoned};
 ghost use Rattle.simplex_state.specs.Progress.{progress_of};
+ghost use Rattle.simplex_state.specs.Ranges.{holds};
 ghost use Rattle.simplex_state.specs.Stands.{Answers, Keeps, covered_in};
 
+use crate::ranges::Ranges;
 use crate::rounds::round_at;
 use crate::state::State;
 use simplex_types::elector::Elector;
-use simplex_values::maps::{contains, last_up_to};
+use simplex_values::maps::last_up_to;
 use simplex_values::{Context, TermLength, View};
 use simplex_wire::Scheme;
 use std::collections::BTreeMap;
@@ -33,10 +36,10 @@ impl<S: Scheme + Drop, L: Elector + Drop> State<S, L> {
     pub fn pending_handoff_abandonment(&self, context: &Context) -> bool
         ensures answer { Answers S.attests L.elects self.now (λ made known. is_abandoned known context.now.parent.view context.now.round.view) result }
     {
-        let parent = context.parent.view.0;
-        contains(&self.nullified, context.round.view.0)
-            || contains(&self.nullified, parent)
-            || contains(&self.failed, parent)
+        let parent = context.parent.view;
+        self.has_given_up(context.round.view)
+            || self.has_given_up(parent)
+            || self.failed.contains(parent.0)
     }
 
     /// Whether a proposal of the view may stand on the parent.
@@ -100,7 +103,7 @@ impl<S: Scheme + Drop, L: Elector + Drop> State<S, L> {
         parent < view
             && view.0 - parent.0 == 1
             && round_at(&self.rounds, parent.0).voted.is_some()
-            && !contains(&self.nullified, parent.0)
+            && !self.has_given_up(parent)
     }
 
     /// The least view strictly between that no known nullification covers.
@@ -111,29 +114,50 @@ impl<S: Scheme + Drop, L: Elector + Drop> State<S, L> {
         if view <= parent {
             return None;
         }
-        gap_from(&self.covered, self.term_length(), parent.next(), view)
+        gap_from(
+            &self.covered,
+            &self.whole,
+            self.term_length(),
+            parent.next(),
+            view,
+        )
     }
 }
 
 /// The least view from the first to before the second that is not covered.
 fn gap_from(
     covered: &BTreeMap<u64, u64>,
+    whole: &Ranges,
     length: TermLength,
     first: View,
     end: View,
 ) -> Option<View>
     requires some { 0 < length }
     requires low { end < 2 ^ 64 }
-    ensures { result ≡ find (λ v. not (covered_in length covered.now v)) (range_with_len first (end - first)) }
+    ensures { ((q : ℕ) → first ≤ q → holds whole.now (term_index length q) ≡ true → covered_in length covered.now q ≡ true)
+        → result ≡ find (λ v. not (covered_in length covered.now v)) (range_with_len first (end - first)) }
 {
     let mut view = first;
     while view < end {
         if !is_covered(covered, length, view) {
             return Some(view);
         }
-        view = view.next_term_start(length);
+        view = behind(whole, length, view);
     }
     None
+}
+
+/// The view behind the whole terms that follow the view's term, or the first of the next term.
+fn behind(whole: &Ranges, length: TermLength, view: View) -> View
+    requires { 0 < length }
+    ensures later { view < greatest_view → view < result }
+    ensures passed { (q : ℕ) → view ≤ q → q < result → (term_index length q == term_index length view || holds whole.now (term_index length q)) ≡ true }
+{
+    let next = view.next_term_start(length);
+    match whole.run_end(next.term_index(length)) {
+        None => next,
+        Some(last) => View(last.saturating_mul(length.get())).next(),
+    }
 }
 
 /// Whether the view's term has a nullified view that is not later.

@@ -4,14 +4,17 @@
 ghost use Rattle.std.specs.Prelude.{◌≡◌, ◌≤◌, ◌<◌, ◌^◌, ◌∷◌, ℕ, ◌==◌, ◌||◌, false, true, List, Some, unwrap_or, if◌then◌else◌, OnOk, IfOk};
 ghost use Rattle.simplex_wire.specs.declared.certificate.Certificate.TheVariants as certificates;
 ghost use Rattle.simplex_values.specs.Covers.{covers};
+ghost use Rattle.simplex_values.specs.Terms.{term_index};
 ghost use Rattle.simplex_rules.specs.Known.{Made, Fact, Added, view_of};
 ghost use Rattle.simplex_rules.specs.Calls.{Call, AddNotarization, AddNullification, AddFinalization, known_of, adds_notarization, adds_nullification, adds_finalization, contradicted_leader, add_notarization_answer, add_finalization_answer};
 ghost use Rattle.simplex_values.specs.Maps.{found};
 ghost use Rattle.simplex_state.specs.Certificates.{held};
 ghost use Rattle.simplex_state.specs.Progress.{progress_of};
+ghost use Rattle.simplex_state.specs.Ranges.{holds};
 ghost use Rattle.simplex_state.specs.Stands.{StandsFor, Takes, Answers, Keeps, covered_in};
 
 use crate::held::hold;
+use crate::ranges::Ranges;
 use crate::rounds::{put_round, round_at};
 use crate::state::State;
 use simplex_types::elector::Elector;
@@ -145,10 +148,13 @@ impl<S: Scheme + Drop, L: Elector + Drop> State<S, L> {
             → Keeps S.attests L.elects self.new made (Added (certificates.Nullification nullification) now ∷ known)) }
     {
         let view = nullification.view();
-        let length = self.settings.terms.length;
+        let length = self.term_length();
+        let next = view.next_term_start(length);
+        self.put_away()?;
         cover(&mut self.covered, length, view)?;
-        self.progress
-            .open(view.next_term_start(length), length, now);
+        complete(&mut self.whole, length, view)?;
+        self.published = self.published_in(next);
+        self.progress.open(next, length, now);
         hold(&mut self.nullifications, view.0, nullification)?;
         Ok(())
     }
@@ -165,9 +171,11 @@ impl<S: Scheme + Drop, L: Elector + Drop> State<S, L> {
             → Keeps S.attests L.elects self.new made (Added (certificates.Finalization finalization) now ∷ known)) }
     {
         let view = finalization.view();
+        self.put_away()?;
         let mut round = round_at(&self.rounds, view.0);
         round.finalized = round.finalized.or(Some(finalization.proposal));
         put_round(&mut self.rounds, view.0, round)?;
+        self.published = self.published_in(view.next());
         self.progress
             .finalize(view, self.settings.terms.length, now);
         hold(&mut self.finalizations, view.0, finalization)?;
@@ -189,4 +197,16 @@ pub(crate) fn cover(
         None => view.0,
     };
     put(covered, term, least)
+}
+
+/// Takes the view's term for whole, where the view is its first.
+pub(crate) fn complete(whole: &mut Ranges, length: TermLength, view: View) -> Result<(), AllocError>
+    requires { 0 < length }
+    ensures { OnOk result ((q : ℕ) → holds whole.new (term_index length q) ≡ true → (covers length view q || holds whole.old (term_index length q)) ≡ true) }
+{
+    if view != view.term_start(length) {
+        return Ok(());
+    }
+    whole.insert(view.term_index(length))?;
+    Ok(())
 }

@@ -52,13 +52,13 @@ impl<S: Scheme + Drop, L: Elector + Drop> State<S, L> {
     pub fn next_timeout(&self) -> (u64, TimeoutReason)
         ensures answer { Answers S.attests L.elects self.now (λ made known. deadline_of made known) result }
     {
-        let round = round_at(&self.rounds, self.progress.current.0);
-        if let Some(at) = round.published {
+        if let Some(at) = self.published {
             return (
                 at.saturating_add(self.settings.timeout_retry),
                 TimeoutReason::LeaderTimeout,
             );
         }
+        let round = round_at(&self.rounds, self.progress.current.0);
         let timely = self.timely(&round);
         match self.expiry(&round) {
             None => timely,

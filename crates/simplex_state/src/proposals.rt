@@ -13,7 +13,6 @@ ghost use Rattle.simplex_state.specs.Stands.{Takes, Answers, Keeps};
 use crate::rounds::{put_round, round_at};
 use crate::state::State;
 use simplex_types::elector::Elector;
-use simplex_values::maps::contains;
 use simplex_values::{Context, Digest, Proposal, View};
 use simplex_wire::Scheme;
 use std::alloc::AllocError;
@@ -96,6 +95,6 @@ impl<S: Scheme + Drop, L: Elector + Drop> State<S, L> {
     {
         view >= self.progress.current
             && round_at(&self.rounds, view.0).slot().is_none()
-            && !contains(&self.nullified, view.0)
+            && !self.has_given_up(view)
     }
 }

@@ -8,7 +8,7 @@ ghost use Rattle.simplex_state.specs.Progress.{progress_of};
 ghost use Rattle.simplex_state.specs.Floor.{keeps_view, keeps_record};
 ghost use Rattle.simplex_state.specs.Stands.{StandsFor, Takes, Keeps};
 
-use crate::certificates::cover;
+use crate::certificates::{complete, cover};
 use crate::held::{hold, mark_sent};
 use crate::state::State;
 use simplex_types::elector::Elector;
@@ -114,10 +114,13 @@ impl<S: Scheme + Drop, L: Elector + Drop> State<S, L> {
             → Keeps S.attests L.elects self.new made (kept_nullification nullification now ++ known)) }
     {
         let view = nullification.view();
-        let length = self.settings.terms.length;
+        let length = self.term_length();
+        let next = view.next_term_start(length);
+        self.put_away()?;
         cover(&mut self.covered, length, view)?;
-        self.progress
-            .open(view.next_term_start(length), length, now);
+        complete(&mut self.whole, length, view)?;
+        self.published = self.published_in(next);
+        self.progress.open(next, length, now);
         hold(&mut self.nullifications, view.0, nullification)?;
         mark_sent(&mut self.nullifications, view.0);
         Ok(())

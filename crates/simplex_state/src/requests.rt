@@ -17,7 +17,6 @@ use crate::rounds::{first_round, free_proposal, put_round, round_at};
 use crate::state::State;
 use simplex_rules::ProposalRequest;
 use simplex_types::elector::Elector;
-use simplex_values::maps::contains;
 use simplex_values::{Context, Digest, Parent, Proposal, Round, View};
 use simplex_wire::Scheme;
 use std::alloc::AllocError;
@@ -132,7 +131,7 @@ impl<S: Scheme + Drop, L: Elector + Drop> State<S, L> {
             → result ≡ (is_none (slot_of known view) && not (has_nullified known view) && not (was_proposal_asked known view)) }
     {
         let round = round_at(&self.rounds, view.0);
-        round.slot().is_none() && !contains(&self.nullified, view.0) && !round.proposal_asked
+        round.slot().is_none() && !self.has_given_up(view) && !round.proposal_asked
     }
 
     /// Whether a term begins on a parent that is not certified.

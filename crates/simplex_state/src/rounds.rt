@@ -33,8 +33,6 @@ pub(crate) struct RoundRecord {
     pub(crate) voted_final: bool,
     /// The verdict on the notarization.
     pub(crate) verdict: Option<bool>,
-    /// When the own nullify last went out.
-    pub(crate) published: Option<u64>,
     /// When the view expired, and why.
     pub(crate) expired: Option<(u64, TimeoutReason)>,
     /// Why the view will expire as it becomes current.
@@ -60,7 +58,6 @@ impl RoundRecord {
         approved: false,
         voted_final: false,
         verdict: None,
-        published: None,
         expired: None,
         failed: None,
         proposal_asked: false,

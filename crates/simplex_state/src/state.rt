@@ -10,6 +10,7 @@ use crate::config::StateConfig;
 use crate::held::Held;
 use crate::missing::Missing;
 use crate::progress::Progress;
+use crate::ranges::Ranges;
 use crate::rounds::RoundRecord;
 use crate::settings::Settings;
 use simplex_types::elector::Elector;
@@ -29,14 +30,20 @@ pub struct State<S, L> {
     pub(crate) progress: Progress,
     /// What is known of each view, but for its certificates.
     pub(crate) rounds: BTreeMap<u64, RoundRecord>,
-    /// The views that the member gave up.
-    pub(crate) nullified: BTreeSet<u64>,
+    /// Whether the member gave up the current view. `nullified` has it at the latest when another one opens.
+    pub(crate) gave_up: bool,
+    /// When the own nullify of the current view last went out.
+    pub(crate) published: Option<u64>,
+    /// The views that the member gave up, but maybe for the current one.
+    pub(crate) nullified: Ranges,
     /// The views with a false verdict.
-    pub(crate) failed: BTreeSet<u64>,
+    pub(crate) failed: Ranges,
     /// The views with a true verdict.
     pub(crate) certified: BTreeSet<u64>,
     /// The least nullified view of each term.
     pub(crate) covered: BTreeMap<u64, u64>,
+    /// The terms whose first view is nullified.
+    pub(crate) whole: Ranges,
     /// The notarized views that wait for the verdict to be asked for, and maybe some that do not any more.
     pub(crate) waiting: BTreeSet<u64>,
     /// What was asked for below proposals.
@@ -76,10 +83,13 @@ impl<S: Scheme + Drop, L: Elector + Drop> State<S, L> {
             settings,
             progress: Progress::new(now),
             rounds: empty_map(alloc),
-            nullified: empty_set(alloc),
-            failed: empty_set(alloc),
+            gave_up: false,
+            published: None,
+            nullified: Ranges::new(alloc),
+            failed: Ranges::new(alloc),
             certified: empty_set(alloc),
             covered: empty_map(alloc),
+            whole: Ranges::new(alloc),
             waiting: empty_set(alloc),
             missing: Missing::new(alloc),
             notarizations: empty_map(alloc),

@@ -80,12 +80,14 @@ impl<S: Scheme + Drop, L: Elector + Drop> State<S, L> {
             → verdict_of known view ≡ None
             → Keeps S.attests L.elects self.new made (Judged view true now ∷ known)) }
     {
+        self.put_away()?;
         let mut round = round_at(&self.rounds, view.0);
         round.verdict = round.verdict.or(Some(true));
         put_round(&mut self.rounds, view.0, round)?;
         add(&mut self.certified, view.0)?;
-        self.progress
-            .open(view.next(), self.settings.terms.length, now);
+        let next = view.next();
+        self.published = self.published_in(next);
+        self.progress.open(next, self.settings.terms.length, now);
         Ok(())
     }
 
@@ -99,7 +101,7 @@ impl<S: Scheme + Drop, L: Elector + Drop> State<S, L> {
         let mut round = round_at(&self.rounds, view.0);
         round.verdict = round.verdict.or(Some(false));
         put_round(&mut self.rounds, view.0, round)?;
-        add(&mut self.failed, view.0)?;
+        self.failed.insert(view.0)?;
         Ok(())
     }
 

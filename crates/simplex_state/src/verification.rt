@@ -96,7 +96,7 @@ impl<S: Scheme + Drop, L: Elector + Drop> State<S, L> {
         ensures { (made : Made) (known : List Fact) → Keeps S.attests L.elects self.now made known
             → (progress_of made known).pruned ≤ view → result ≡ wants_verify known view }
     {
-        round_at(&self.rounds, view.0).wants_verify() && !contains(&self.nullified, view.0)
+        round_at(&self.rounds, view.0).wants_verify() && !self.has_given_up(view)
     }
 
     /// Whether the view's slot may stand on its parent.

@@ -1,21 +1,20 @@
 //! The member's own votes.
 #![tactic(auto, unfolding(crate::specs::Stands::StandsFor, crate::specs::Rounds::round_of, crate::specs::Rounds::slot_in, crate::specs::Progress::progress_of, simplex_rules::specs::Slot::slot_of, simplex_rules::specs::Views::least_active, simplex_rules::specs::Calls::known_of, simplex_rules::specs::Calls::facts_of))]
 
-ghost use Rattle.std.specs.Prelude.{◌≡◌, ◌≤◌, ◌<◌, ◌^◌, ◌∷◌, ◌++◌, true, List, OnOk, IfOk};
+ghost use Rattle.std.specs.Prelude.{◌≡◌, ◌≤◌, ◌∷◌, true, List, OnOk, IfOk};
 ghost use Rattle.simplex_wire.specs.declared.vote.Vote.TheVariants as votes;
-ghost use Rattle.simplex_rules.specs.Known.{Made, Fact, Voted, Published, has_nullified};
-ghost use Rattle.simplex_rules.specs.Views.{current_of};
-ghost use Rattle.simplex_rules.specs.Votes.{notarize_at, is_votable, finalize_at, nullify_at, finalizes, is_gated};
-ghost use Rattle.simplex_rules.specs.Calls.{ConstructNotarize, ConstructFinalize, ConstructNullify, construct_nullify_answer, nullify_facts};
+ghost use Rattle.simplex_rules.specs.Known.{Made, Fact, Voted};
+ghost use Rattle.simplex_rules.specs.Votes.{notarize_at, is_votable, finalize_at, finalizes, is_gated};
+ghost use Rattle.simplex_rules.specs.Calls.{ConstructNotarize, ConstructFinalize};
 ghost use Rattle.simplex_state.specs.Progress.{progress_of};
 ghost use Rattle.simplex_state.specs.Stands.{Takes, Answers, Keeps};
 
 use crate::rounds::{put_round, round_at};
 use crate::state::State;
 use simplex_types::elector::Elector;
-use simplex_values::maps::{add, contains, last_up_to};
-use simplex_values::{Round, TimeoutReason, View};
-use simplex_wire::{Finalize, Notarize, Nullify, Scheme};
+use simplex_values::View;
+use simplex_values::maps::contains;
+use simplex_wire::{Finalize, Notarize, Scheme};
 use std::alloc::AllocError;
 
 impl<S: Scheme + Drop, L: Elector + Drop> State<S, L> {
@@ -43,35 +42,6 @@ impl<S: Scheme + Drop, L: Elector + Drop> State<S, L> {
         Ok(Some(vote))
     }
 
-    /// Gives the current view up, where the scheme signs it. The answer tells whether that is a repeat.
-    #[tactic(auto, unfolding(crate::specs::Stands::StandsFor, simplex_rules::specs::Calls::known_of, simplex_rules::specs::Calls::facts_of, simplex_rules::specs::Calls::construct_nullify_answer))]
-    pub fn construct_nullify(
-        &mut self,
-        view: View,
-        reason: TimeoutReason,
-        now: u64,
-    ) -> Result<Option<(bool, Nullify)>, AllocError>
-        requires clock { now < 2 ^ 63 }
-        requires current { Answers S.attests L.elects self.old (λ made known. current_of made known) view }
-        ensures stands { OnOk result (Takes S.attests L.elects self.old self.new (ConstructNullify view reason now)) }
-        ensures answer { IfOk result (Answers S.attests L.elects self.old (λ made known. construct_nullify_answer made known view)) }
-    {
-        let Some(vote) = self.nullify_at(view) else {
-            return Ok(None);
-        };
-        let repeated = contains(&self.nullified, view.0);
-        self.give_up(view, &vote, now)?;
-        Ok(Some((repeated, vote)))
-    }
-
-    /// Whether the member gave the view up.
-    #[tactic(auto, unfolding(crate::specs::Stands::StandsFor))]
-    pub fn voted_nullify(&self, view: View) -> bool
-        ensures answer { Answers S.attests L.elects self.now (λ made known. has_nullified known view) result }
-    {
-        contains(&self.nullified, view.0)
-    }
-
     /// The member's vote for the view's proposal.
     #[tactic(auto, using(crate::proofs::Checking::notarize_by, crate::proofs::Checking::notarize_none, crate::proofs::Checking::notarize_unvotable, crate::proofs::Proposing::slot_is), unfolding(crate::specs::Stands::StandsFor, crate::specs::Rounds::slot_in, simplex_rules::specs::Votes::signed_notarize))]
     fn notarize_at(&self, view: View) -> Option<Notarize>
@@ -86,7 +56,7 @@ impl<S: Scheme + Drop, L: Elector + Drop> State<S, L> {
         };
         let ready = round.is_checked()
             && round.voted.is_none()
-            && !contains(&self.nullified, view.0)
+            && !self.has_given_up(view)
             && self.has_ancestry(proposal.parent, view);
         if !ready {
             return None;
@@ -134,18 +104,6 @@ impl<S: Scheme + Drop, L: Elector + Drop> State<S, L> {
         Finalize::sign(&self.scheme, proposal)
     }
 
-    /// The member's nullify of the view.
-    #[tactic(auto, unfolding(crate::specs::Stands::StandsFor, simplex_rules::specs::Votes::nullify_at, simplex_rules::specs::Votes::signed_nullify))]
-    fn nullify_at(&self, view: View) -> Option<Nullify>
-        ensures { Answers S.attests L.elects self.now (λ made known. nullify_at made view) result }
-    {
-        let round = Round {
-            epoch: self.settings.epoch,
-            view,
-        };
-        Nullify::sign(&self.scheme, round)
-    }
-
     /// Whether the member votes for the finality of the view's slot.
     #[tactic(auto, unfolding(crate::specs::Stands::StandsFor, crate::specs::Rounds::round_of, crate::specs::Rounds::slot_in, crate::specs::Progress::progress_of, simplex_rules::specs::Slot::slot_of, simplex_rules::specs::Views::least_active, simplex_rules::specs::Calls::known_of, simplex_rules::specs::Calls::facts_of, simplex_rules::specs::Votes::finalizes))]
     fn finalizes(&self, view: View) -> bool
@@ -163,11 +121,10 @@ impl<S: Scheme + Drop, L: Elector + Drop> State<S, L> {
     fn is_gated(&self, view: View) -> bool
         ensures { Answers S.attests L.elects self.now (λ made known. is_gated made known view) result }
     {
-        match last_up_to(&self.nullified, view.0) {
+        match self.last_given_up(view) {
             None => false,
             Some(last) => {
-                self.progress.last_finalized.0 < last
-                    && View(last).covers(view, self.settings.terms.length)
+                self.progress.last_finalized < last && last.covers(view, self.settings.terms.length)
             }
         }
     }
@@ -180,42 +137,6 @@ impl<S: Scheme + Drop, L: Elector + Drop> State<S, L> {
     {
         let mut round = round_at(&self.rounds, view.0);
         round.voted_final = true;
-        put_round(&mut self.rounds, view.0, round)?;
-        Ok(())
-    }
-
-    /// Takes an own nullify, which goes out now.
-    fn give_up(&mut self, view: View, vote: &Nullify, now: u64) -> Result<(), AllocError>
-        requires clock { now < 2 ^ 63 }
-        ensures { OnOk result ((made : Made) (known : List Fact) → Keeps S.attests L.elects self.old made known
-            → vote.now.round.view ≡ view
-            → Keeps S.attests L.elects self.new made (nullify_facts known view now vote.now ++ known)) }
-    {
-        if !contains(&self.nullified, view.0) {
-            self.vote_nullify(view, vote)?;
-        }
-        self.publish(view, now)?;
-        Ok(())
-    }
-
-    /// Takes an own nullify.
-    pub(crate) fn vote_nullify(&mut self, view: View, vote: &Nullify) -> Result<(), AllocError>
-        ensures { OnOk result ((made : Made) (known : List Fact) → Keeps S.attests L.elects self.old made known
-            → vote.now.round.view ≡ view
-            → Keeps S.attests L.elects self.new made (Voted (votes.Nullify vote.now) ∷ known)) }
-    {
-        add(&mut self.nullified, view.0)?;
-        Ok(())
-    }
-
-    /// An own nullify goes out.
-    fn publish(&mut self, view: View, now: u64) -> Result<(), AllocError>
-        requires clock { now < 2 ^ 63 }
-        ensures { OnOk result ((made : Made) (known : List Fact) → Keeps S.attests L.elects self.old made known
-            → Keeps S.attests L.elects self.new made (Published view now ∷ known)) }
-    {
-        let mut round = round_at(&self.rounds, view.0);
-        round.published = Some(now);
         put_round(&mut self.rounds, view.0, round)?;
         Ok(())
     }

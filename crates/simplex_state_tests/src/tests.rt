@@ -14,10 +14,10 @@ use simplex_wire::{
 use std::alloc::{AllocError, Global};
 use std::test::Fail;
 
-type Member = State<Keyed, RoundRobinElector>;
+pub(crate) type Member = State<Keyed, RoundRobinElector>;
 
 /// Member 0 of so many, which works so many views ahead.
-fn start(alloc: Global, members: u32, lookahead: u64) -> Result<Member, Fail>
+pub(crate) fn start(alloc: Global, members: u32, lookahead: u64) -> Result<Member, Fail>
     requires some { 0 < members }
     requires limit { lookahead ≤ 2 ^ 32 }
 {
@@ -64,7 +64,7 @@ fn notarization(alloc: Global, view: u64, parent: u64) -> Notarization {
     }
 }
 
-fn nullification(alloc: Global, view: u64) -> Nullification {
+pub(crate) fn nullification(alloc: Global, view: u64) -> Nullification {
     Nullification {
         round: round(view),
         certificate: Signatures::new(Vec::new(alloc)),
@@ -108,7 +108,7 @@ fn an_own_nullify_gates_the_rest_of_its_term(rt: HostRuntime) -> Result<(), Fail
     certify(alloc, &mut member, 1, 0, 110)?;
     let view = member.current_view();
     assert_eq!(rt; view, View(2));
-    let nullify = member.construct_nullify(view, TimeoutReason::LeaderTimeout, 120)?;
+    let nullify = member.construct_nullify(view, TimeoutReason::LeaderTimeout, 120);
     assert!(rt; nullify.is_some());
     for (view, parent) in [(2, 1), (3, 2), (5, 3), (6, 5)] {
         certify(alloc, &mut member, view, parent, 130)?;
@@ -129,7 +129,7 @@ fn finality_lifts_an_own_nullify(rt: HostRuntime) -> Result<(), Fail> {
     certify(alloc, &mut member, 2, 1, 110)?;
     let view = member.current_view();
     assert_eq!(rt; view, View(3));
-    let nullify = member.construct_nullify(view, TimeoutReason::LeaderTimeout, 120)?;
+    let nullify = member.construct_nullify(view, TimeoutReason::LeaderTimeout, 120);
     assert!(rt; nullify.is_some());
     certify(alloc, &mut member, 3, 2, 130)?;
     certify(alloc, &mut member, 4, 3, 130)?;
@@ -196,7 +196,7 @@ fn deadlines(rt: HostRuntime) -> Result<(), Fail> {
     );
     let view = member.current_view();
     assert_eq!(rt; view, View(1));
-    let nullify = member.construct_nullify(view, TimeoutReason::CertificationTimeout, 2100)?;
+    let nullify = member.construct_nullify(view, TimeoutReason::CertificationTimeout, 2100);
     assert!(rt; nullify.is_some());
     assert_eq!(rt; member.next_timeout(), (2600, TimeoutReason::LeaderTimeout));
     for (entered, deadline, reason) in [
@@ -259,7 +259,7 @@ fn a_handoff_is_given_up_with_its_parent(rt: HostRuntime) -> Result<(), Fail> {
     let (mut member, prepared) = handing_on(alloc)?;
     let view = member.current_view();
     assert_eq!(rt; view, View(5));
-    let nullify = member.construct_nullify(view, TimeoutReason::LeaderTimeout, 120)?;
+    let nullify = member.construct_nullify(view, TimeoutReason::LeaderTimeout, 120);
     assert!(rt; nullify.is_some());
     assert!(rt; member.pending_handoff_abandonment(&prepared));
     assert!(rt; !member.supersede_proposal_request(&prepared));

@@ -48,7 +48,7 @@ impl<S: Scheme + Drop, L: Elector + Drop> Planner<S, L> {
     {
         let best = self.state.get_best_certificate()?;
         let view = self.state.current_view();
-        let vote = self.construct_nullify(view, TimeoutReason::LeaderTimeout, now)?;
+        let vote = self.construct_nullify(view, TimeoutReason::LeaderTimeout, now);
         self.keep_nullify(&vote, best)?;
         Ok(())
     }

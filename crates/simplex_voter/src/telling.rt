@@ -142,14 +142,13 @@ impl<S: Scheme + Drop, L: Elector + Drop> Planner<S, L> {
         view: View,
         reason: TimeoutReason,
         now: u64,
-    ) -> Result<Option<(bool, Nullify)>, AllocError>
+    ) -> Option<(bool, Nullify)>
         requires clock { now < 2 ^ 63 }
         requires current { Answers S.attests L.elects self.old.state (λ made known. current_of made known) view }
-        ensures stands { OnOk result (Does S.attests L.elects self.old self.new (λ made. tell made (ConstructNullify view reason now))) }
-        ensures answer { IfOk result (Knows S.attests L.elects self.old (λ made known. construct_nullify_answer made known view)) }
+        ensures stands { Does S.attests L.elects self.old self.new (λ made. tell made (ConstructNullify view reason now)) }
+        ensures answer { Knows S.attests L.elects self.old (λ made known. construct_nullify_answer made known view) result }
     {
-        let vote = self.state.construct_nullify(view, reason, now)?;
-        Ok(vote)
+        self.state.construct_nullify(view, reason, now)
     }
 
     pub(crate) fn construct_finalize(&mut self, view: View) -> Result<Option<Finalize>, AllocError>

@@ -9,11 +9,11 @@ use Rattle.simplex_state.proofs.state.State.is_gated.Goals as goal
 pub returns-in-None : goal.returns-in-None
 unfolding StandsFor
 returns-in-None g c = λ made calls s.
-    sym (gate_free made (known_of made calls) c.args.view (λ q le. grind (arith, common_steps, s.nullified q, c.in-None.ensures.none q (grind (arith, le, c.view.view_is)))))
+    sym (gate_free made (known_of made calls) c.args.view (c.in-None.ensures.none made (known_of made calls) s))
 
-pub returns-then-self-last : goal.returns-then-self-last
+pub returns-then-lt : goal.returns-then-lt
 unfolding StandsFor progress_of
-returns-then-self-last g c = λ made calls s.
+returns-then-lt g c = λ made calls s.
     grind (
       arith,
       common_steps,
@@ -21,23 +21,23 @@ returns-then-self-last g c = λ made calls s.
       s.settings.term_length,
       s.progress,
       gated_by_last made (known_of made calls) c.args.view c.in-Some.last _ _ refl refl
-          (grind (arith, common_steps, s.nullified c.in-Some.last, c.in-Some.ensures.member))
-          (grind (arith, c.in-Some.ensures.bound, c.view.view_is))
-          (λ q le h. c.in-Some.ensures.greatest q (grind (arith, le, c.view.view_is)) (grind (arith, common_steps, s.nullified q, h)))
+          (c.in-Some.ensures.member made (known_of made calls) s)
+          c.in-Some.ensures.bound
+          (c.in-Some.ensures.greatest made (known_of made calls) s)
           s.settings.some_length,
     )
 
-pub returns-else-self-last : goal.returns-else-self-last
+pub returns-else-lt : goal.returns-else-lt
 unfolding StandsFor progress_of
-returns-else-self-last g c = λ made calls s.
+returns-else-lt g c = λ made calls s.
     grind (
       arith,
       common_steps,
       s.settings.term_length,
       s.progress,
       gated_by_last made (known_of made calls) c.args.view c.in-Some.last _ _ refl refl
-          (grind (arith, common_steps, s.nullified c.in-Some.last, c.in-Some.ensures.member))
-          (grind (arith, c.in-Some.ensures.bound, c.view.view_is))
-          (λ q le h. c.in-Some.ensures.greatest q (grind (arith, le, c.view.view_is)) (grind (arith, common_steps, s.nullified q, h)))
+          (c.in-Some.ensures.member made (known_of made calls) s)
+          c.in-Some.ensures.bound
+          (c.in-Some.ensures.greatest made (known_of made calls) s)
           s.settings.some_length,
     )

@@ -6,8 +6,10 @@ use Rattle.simplex_state.proofs.state.State.know_finalization.Goals as goal
 
 pub returns : goal.returns
 unfolding learn_round
-returns g c = λ made known k active.
-    keeps_finalization _ _ _ made known _ _ _ _ _ k (omega arith) active
-    (grind (arith, common_steps, k.settings.term_length))
+returns g c = λ made known k active. (
+    let put = c.in_ok-put_away.ensures.kept made known k in
+    keeps_finalization _ _ _ made known _ _ _ _ _ _ put c.in_ok-put_away.ensures.away (omega arith) active
+    (grind (arith, common_steps, put.settings.term_length))
+    (grind (arith, common_steps, c.published_in-self.ensures))
     (λ q low. grind (arith, common_steps, c.in_ok-put_round.ensures q))
-    (λ q. grind (arith, common_steps, c.in_ok-hold.ensures q))
+    (λ q. grind (arith, common_steps, c.in_ok-hold.ensures q)))

@@ -18,7 +18,6 @@ returns-then-not-ready g c = λ made calls s.
       s.rounds c.args.view (c.is_votable.ensures.above made (known_of made calls) s (grind (arith, c.if-not-is_votable.false))),
       c.is_votable.ensures.answer made calls s,
       c.round_at-round.ensures,
-      s.nullified c.args.view,
     )
 
 pub returns : goal.returns
@@ -32,6 +31,5 @@ returns g c = λ made calls s. (
       s.rounds c.args.view (c.is_votable.ensures.above made (known_of made calls) s (grind (arith, c.if-not-is_votable.false))),
       c.is_votable.ensures.answer made calls s,
       c.round_at-round.ensures,
-      s.nullified c.args.view,
     ) in
     signed_is made c.in-Some.proposal _ _ s.attest (grind (arith, c.sign.ensures)) ∙ sym e)
