@@ -5,6 +5,7 @@ pub mod Holding
 pub mod More
 pub mod ResolverMail
 pub mod Polls
+pub mod Sourced
 pub mod Stages
 pub mod Limits
 pub mod Making

@@ -1,5 +1,5 @@
 -- How far an engine is, by how its steps ended.
-use Rattle.std.proofs.Common.{◌≡◌, refl, sym, ap, ℕ, true, false, List, [], ◌∷◌, Some, None, Result, Ok, Err}
+use Rattle.std.proofs.Common.{◌≡◌, refl, sym, ap, ℕ, Bool, true, false, List, [], ◌∷◌, Some, None, Result, Ok, Err}
 use Rattle.std.proofs.lemmas.Bool.{false≢true}
 use Rattle.std.specs.Prelude.{OnOk, IfOk, IfErr}
 use Rattle.simplex_wire.specs.declared.scheme.Scheme as scheme
@@ -10,6 +10,7 @@ use Rattle.simplex_messages.specs.declared.step.Outcome.{Outcome}
 use Rattle.simplex_messages.specs.declared.step.Outcome.TheVariants as outcomes
 use Rattle.simplex_steps.specs.Engine.{EngineMade, Did, runs, sections_of, voter_in, voter_past, started_at}
 use Rattle.simplex_rules.specs.Views.{current_of}
+use Rattle.simplex_transcript.specs.declared.event.StepSource.{StepSource}
 use Rattle.simplex_steps.specs.VoterLife.{VoterMade, place_of}
 use Rattle.simplex_voter.specs.Actor.{voter_made}
 use Rattle.simplex_engine.specs.declared.unstarted.Unstarted.{Unstarted}
@@ -21,6 +22,7 @@ use Rattle.simplex_engine.specs.declared.input.Input.{Input}
 use Rattle.simplex_engine.specs.declared.input.Polled.{Polled}
 use Rattle.simplex_engine.specs.declared.error.PollError.{PollError}
 use Rattle.simplex_engine.specs.declared.error.PollError.TheVariants as errors
+use Rattle.simplex_engine.specs.Holding.{holds}
 use Rattle.simplex_engine.specs.Parts.{parts_of}
 use Rattle.simplex_engine.specs.Polled.{is_taken, refusal_of, is_memory, taken_inside}
 use Rattle.simplex_engine.specs.Stands.{CrewStands, Tells, CrewTakes, CrewGives, CrewAnswers, CrewRefuses, StageStands, StandsFor, Takes, Stays, Gives, Answers, Starts, GivesFirst, FailsAfter, has_begun, has_failed, is_failed, Waits, settled, settled_with}
@@ -214,3 +216,11 @@ module _ {S L J : Type 0} {s : scheme.Ghosts S} {l : elector.Ghosts L} {j : jour
   running-view engine crew view e tells = λ made past h.
       let held = rw e at h in
       tells (parts_of made past) held.1
+
+  pub running-holds : (engine : Engine S L J s l j) (crew : Crew S L J s l j) (held : Bool) (source : StepSource) (now : ℕ) → engine.stage ≡ stages.Running crew
+      → CrewAnswers crew (λ made past. holds made past source now) held
+      → Answers engine (λ made past. holds made past source now) held
+  unfolding StandsFor
+  running-holds engine crew held source now e tells = λ made past h.
+      let is = rw e at h in
+      tells made past is.1

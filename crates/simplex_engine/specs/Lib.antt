@@ -1,4 +1,5 @@
 pub mod Config
+pub mod Holding
 pub mod Laws
 pub mod Made
 pub mod Parts

@@ -130,7 +130,7 @@ impl<S: Scheme + Drop, L: Elector + Drop, J: Journal + Drop> Crew<S, L, J> {
     }
 
     /// Whether the clock has reached a deadline of the fetcher.
-    fn is_fetch_due(&self, now: u64) -> bool
+    pub(crate) fn is_fetch_due(&self, now: u64) -> bool
         ensures { Tells self.now (λ parts. is_reached now (deadline_after parts.resolver parts.asked)) result }
     {
         is_reached(now, self.resolver.next_deadline())

@@ -8,6 +8,7 @@ ghost use Rattle.simplex_messages.specs.Step.{no_out};
 ghost use Rattle.simplex_steps.specs.VoterLife.{place_of};
 ghost use Rattle.simplex_steps.specs.Engine.{EngineMade, Did, begun, runs, sections_of, voter_in, voter_past};
 ghost use Rattle.simplex_engine.specs.Config.{engine_made, first_bad, Refused};
+ghost use Rattle.simplex_engine.specs.Holding.{holds};
 ghost use Rattle.simplex_engine.specs.Polled.{polled, refusal_of, is_memory};
 ghost use Rattle.simplex_engine.specs.Stands.{StandsFor, Takes, Stays, Gives, Answers, Starts, GivesFirst, FailsAfter, has_begun, has_failed};
 
@@ -20,6 +21,7 @@ use crate::stage::{Stage, crew_of, stage_after, stage_with};
 use crate::unstarted::Unstarted;
 use simplex_journal::Journal;
 use simplex_messages::{Outcome, StepOut, Stop};
+use simplex_transcript::StepSource;
 use simplex_types::elector::Elector;
 use simplex_types::{Keep, Scheme, View};
 use std::alloc::{AllocError, Global};
@@ -213,6 +215,18 @@ impl<S: Scheme + Drop, L: Elector + Drop, J: Journal + Drop> Engine<S, L, J> {
             Stage::Stopped(crew) => crew.current_view(),
             Stage::Waiting(_) => View(1),
             Stage::Failed => View(1),
+        }
+    }
+
+    /// Whether the source of a step holds something at this clock, while the engine runs.
+    pub fn holds(&self, source: StepSource, now: u64) -> bool
+        ensures { (made : EngineMade) (past : List Did) → StandsFor self.now made past → runs past ≡ true → result ≡ holds made past source now }
+    {
+        match &self.stage {
+            Stage::Running(crew) => crew.holds(source, now),
+            Stage::Stopped(_) => false,
+            Stage::Waiting(_) => false,
+            Stage::Failed => false,
         }
     }
 }

@@ -15,6 +15,7 @@ mod held;
 mod input;
 mod laws;
 mod polling;
+mod sources;
 mod stage;
 mod unstarted;
 mod working;

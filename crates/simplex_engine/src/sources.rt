@@ -1,0 +1,31 @@
+//! What the sources of a crew's steps hold.
+#![tactic(auto, unfolding(crate::specs::Stands::CrewStands))]
+
+ghost use Rattle.simplex_engine.specs.Holding.{holds};
+ghost use Rattle.simplex_engine.specs.Stands.{CrewAnswers};
+
+use crate::crew::Crew;
+use simplex_journal::Journal;
+use simplex_messages::VoterInput;
+use simplex_transcript::StepSource;
+use simplex_types::Scheme;
+use simplex_types::elector::Elector;
+
+impl<S: Scheme + Drop, L: Elector + Drop, J: Journal + Drop> Crew<S, L, J> {
+    /// Whether the source holds something at this clock.
+    pub(crate) fn holds(&self, source: StepSource, now: u64) -> bool
+        ensures { CrewAnswers self.now (λ made past. holds made past source now) result }
+    {
+        match source {
+            StepSource::Batcher => !self.boxes.batcher.is_empty(),
+            StepSource::Voter => !self.boxes.voter.is_empty(),
+            StepSource::Timer => self.voter.holds(&VoterInput::Timer, now),
+            StepSource::Propose => self.voter.holds(&VoterInput::Propose, now),
+            StepSource::Verify => self.voter.holds(&VoterInput::Verify, now),
+            StepSource::Certify => self.voter.holds(&VoterInput::Certify, now),
+            StepSource::Resolver => !self.boxes.resolver.is_empty(),
+            StepSource::Handler => self.resolver.holds_handler(),
+            StepSource::Fetch => self.is_fetch_due(now),
+        }
+    }
+}
