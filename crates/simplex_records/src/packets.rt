@@ -3,7 +3,7 @@
 
 ghost use Rattle.std.specs.Prelude.{◌≡◌, ◌==◌, ◌++◌, ◌∷◌, ◌&&◌, ◌-◌, ℕ, List, [], length, IfOk, OnOk, Some, None};
 ghost use Rattle.std.specs.List.{list_any};
-ghost use Rattle.std.specs.Option.{option_map, option_and_then};
+ghost use Rattle.std.specs.Option.{option_map, option_and_then, is_some};
 ghost use Rattle.simplex_run.specs.Members.{is_same_node};
 ghost use Rattle.simplex_run.specs.Requests.{if_for};
 ghost use Rattle.simplex_run.specs.Entries as entries;
@@ -100,6 +100,13 @@ pub(crate) fn packet_for(events: &[Sequence<Packet>], node: Node, at: Ref) -> Op
     } else {
         None
     }
+}
+
+/// Whether there is a packet at this place.
+pub(crate) fn has_packet(events: &[Sequence<Packet>], at: Ref) -> bool
+    ensures { result ≡ is_some (packet_in events.now at) }
+{
+    packet_at(events, at).is_some()
 }
 
 // The packet at this place.

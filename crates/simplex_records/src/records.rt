@@ -2,7 +2,7 @@
 #![tactic(auto, unfolding(crate::specs::Stands::seats_in))]
 
 ghost use Rattle.std.specs.Prelude.{◌≡◌, ◌+◌, ◌*◌, ◌<◌, ◌^◌, ◌∷◌, ◌&&◌, ◌||◌, [], List, length, IfOk, OnOk};
-ghost use Rattle.std.specs.Option.{option_map};
+ghost use Rattle.std.specs.Option.{option_map, is_some};
 ghost use Rattle.simplex_run.specs.Life.{Noted};
 ghost use Rattle.simplex_run.specs.Entries as entries;
 ghost use Rattle.simplex_run.specs.Requests as requests;
@@ -20,7 +20,7 @@ ghost use Rattle.simplex_records.specs.Stands.{RecordsStand, DesksStand, Answers
 use crate::entries::{entry_of, idle_entry, spoken_entry};
 use crate::forgery::Forgery;
 use crate::kinds::{are_honest, is_honest};
-use crate::packets::{packet_for, packets_of, push_packets};
+use crate::packets::{has_packet, packet_for, packets_of, push_packets};
 use crate::reported::Reported;
 use crate::requests::Requests;
 use crate::seats::seat_of;
@@ -70,6 +70,13 @@ impl Records {
         ensures { Answers self.now (λ setup before. requests.packet_for before node at) (option_map (λ packet. packet.now) result) }
     {
         packet_for(&self.packets, node, at)
+    }
+
+    /// Whether there is a packet at this place, whoever it is for.
+    pub fn has_packet(&self, at: Ref) -> bool
+        ensures { Answers self.now (λ setup before. is_some (requests.packet_at before at)) result }
+    {
+        has_packet(&self.packets, at)
     }
 
     /// The number of the request at this place, where the node asked it since its last start.
