@@ -22,20 +22,20 @@ pub sections_same : (C : ℕ → Option (List ℕ)) (H : List Call) (es : List (
 sections_same C H es reads = ap sections_of (read-same C (λ n. content n H) es reads)
 
 module _ {St0 St1 St2 St3 : List Call → Type 0} (begins : (calls : List Call) → St0 calls → St1 calls) (ends : (calls : List Call) → St2 calls → St3 calls)
-    (es new : List (ℕ × Segment)) (l0 l1 : Option ℕ) (Leaves : List Section → List Call → Type 0) (Becomes : List Section → List Section → Type 0)
+    (es new : List (ℕ × Segment)) (l0 l1 : Option ℕ) (Leaves : List Section → List Call → List Call → Type 0) (Becomes : List Section → List Section → Type 0)
     (goes : (calls : List Call) → St1 calls → IsIndexed es l0 calls
-    → Then St2 (Always (Leaves (sections_at calls es)) calls) (λ now. IsIndexed new l1 now × Becomes (sections_at calls es) (sections_at now new))) where
+    → Then St2 (Always (Leaves (sections_at calls es) calls) calls) (λ now. IsIndexed new l1 now × Becomes (sections_at calls es) (sections_at now new))) where
   pub still : (calls : List Call) × St0 calls × IsIndexed es l0 calls → (calls : List Call) × St3 calls × IsIndexed new l1 calls
   still inv = let t = goes inv.0 (begins inv.0 inv.1) inv.2 in (t.now, ends t.now t.stands, t.holds.0)
 
   module _ (C0 : ℕ → Option (List ℕ)) (reads0 : (calls : List Call) → St0 calls → (n : ℕ) → content n calls ≡ C0 n) where
-    pub moments : (calls : List Call) → St0 calls × IsIndexed es l0 calls → Then (λ now. St3 now × IsIndexed new l1 now) (Always (Leaves (sections_in C0 es)) calls) Any
+    pub moments : (calls : List Call) → St0 calls × IsIndexed es l0 calls → Then (λ now. St3 now × IsIndexed new l1 now) (Always (Leaves (sections_in C0 es) calls) calls) Any
     moments H is =
         let t = goes H (begins H is.0) is.1 in
         record {
           now = t.now;
           stands = (ends t.now t.stands, t.holds.0);
-          held = subst (λ (s : List Section). Always (Leaves s) H t.now) (sections_same C0 H es (reads0 H is.0)) t.held;
+          held = subst (λ (s : List Section). Always (Leaves s H) H t.now) (sections_same C0 H es (reads0 H is.0)) t.held;
           holds = tt;
         }
 

@@ -16,9 +16,10 @@ use Rattle.simplex_disk.specs.Contents.{Any}
 use Rattle.simplex_disk.specs.Left.{IsClosed, LeavesChain}
 use Rattle.simplex_disk.specs.Moments.{AlwaysOf}
 use Rattle.simplex_disk.specs.Segments.{IsSegment, lists_in}
-use Rattle.simplex_disk.specs.Index.{read_entries, sections_at, StandsAt, IsIndexed}
+use Rattle.simplex_disk.specs.Index.{read_entries, sections_at, StandsAt, IsIndexed, LeavesOld}
 use Rattle.simplex_disk.specs.Opening.{IsSettledAt, IsSettled}
 use Rattle.simplex_disk.specs.Stopping.{crashed_lists, StopsAt, IsNext}
+use Rattle.simplex_disk.proofs.Backs.{back_on}
 use Rattle.simplex_disk.proofs.Chains.{LeavesChain-front}
 use Rattle.simplex_disk.proofs.Lookups.{lookup-set_same, lookup-set_other}
 use Rattle.simplex_disk.proofs.Moments.{Untouched, untouched}
@@ -49,8 +50,17 @@ stands-settle n H (Some s) h =
       record { stands = record { content = (has.0, content-settle n H ∙ has.1, has.2); left = LeavesChain-front n h.0 h.1 _ left }; kept = h.2.kept },
     )
 
-pub IsIndexed-settle : (es : List (ℕ × Segment)) (leaving : Option ℕ) (H : List Call) → IsIndexed es leaving H → IsIndexed es leaving (Settle ∷ H)
-IsIndexed-settle es leaving H indexed = record { at = λ n stays. stands-settle n H (lookup (is_at (nat_cmp n)) es) (indexed.at n stays); gone = indexed.gone }
+pub old_settle : (n : ℕ) (H : List Call) → MayLeave n H (content n H) → LeavesOld n H (Settle ∷ H)
+old_settle n H may = λ x now. inr (subst (λ (y : Option (List ℕ)). MayLeave n H y) (sym ((settled-settle H).only n x now ∙ content-settle n H)) may)
+
+pub IsIndexed-settle : (es : List (ℕ × Segment)) (leaving : Option ℕ) (H : List Call) → ((n : ℕ) → MayLeave n H (content n H)) → IsIndexed es leaving H → IsIndexed es leaving (Settle ∷ H)
+IsIndexed-settle es leaving H may indexed = record {
+  at = λ n stays. stands-settle n H (lookup (is_at (nat_cmp n)) es) (indexed.at n stays);
+  gone = indexed.gone;
+  back = λ n leaves.
+      let s = indexed.back n leaves in
+      (s.0, s.1, back_on s.0 n H (Settle ∷ H) s.1 (old_settle n H (may n)) s.2);
+}
 
 -- ---- one section
 

@@ -20,7 +20,8 @@ use Rattle.simplex_disk.specs.Chain.{opened, opened_by, block}
 use Rattle.simplex_wire.specs.Number.{number_from}
 use Rattle.simplex_disk.specs.Left.{LeavesFront, IsClosed}
 use Rattle.simplex_disk.specs.Segments.{IsSegment, lists_in}
-use Rattle.simplex_disk.specs.Index.{read_entries, sections_in, sections_at, StandsAt, IsLeaving, IsIndexed, section_numbered, IsLeft, LeavesJournal}
+use Rattle.simplex_disk.specs.Index.{read_entries, sections_in, sections_at, StandsAt, IsLeaving, IsIndexed, section_numbered, IsLeft, LeavesOld, LeavesJournal}
+use Rattle.simplex_disk.proofs.Backs.{back_on}
 use Rattle.simplex_disk.proofs.Chain.{opened-front}
 use Rattle.simplex_disk.proofs.Moments.{Untouched}
 use Rattle.simplex_disk.proofs.Segments.{lists_are}
@@ -164,8 +165,8 @@ left_other n m H0 H (Some segment) u other h = (h.0, h.1, h.2, (λ x now. h.2.st
 
 -- Where only one file was called, the others leave what they left.
 pub LeavesJournal-one : (n : ℕ) (es : List (ℕ × Segment)) (leaving : Option ℕ) (H0 H : List Call) → IsIndexed es leaving H0 → Untouched n H0 H
-    → (¬ IsLeaving leaving n → LeavesAt n H0 H (lookup (is_at (nat_cmp n)) es)) → LeavesJournal (sections_at H0 es) leaving H
-LeavesJournal-one n es leaving H0 H indexed u h = record {
+    → (¬ IsLeaving leaving n → LeavesAt n H0 H (lookup (is_at (nat_cmp n)) es)) → (IsLeaving leaving n → LeavesOld n H0 H) → LeavesJournal (sections_at H0 es) leaving H0 H
+LeavesJournal-one n es leaving H0 H indexed u h old = record {
   each = λ m x stays now. elim (cases_eq m n) [
     | inl same ↦
         let here : ¬ IsLeaving leaving m → LeavesAt m H0 H (lookup (is_at (nat_cmp m)) es) =
@@ -173,10 +174,14 @@ LeavesJournal-one n es leaving H0 H indexed u h = record {
         at_left m es H0 H _ refl (here stays) x now
     | inr other ↦ at_left m es H0 H _ refl (left_other n m H0 H _ u other (indexed.at m stays)) x now
   ];
+  back = λ m leaves x now. elim (cases_eq m n) [
+    | inl same ↦ subst (λ (k : ℕ). IsLeaving leaving k → LeavesOld k H0 H) (sym same) old leaves x now
+    | inr other ↦ inr (u.left m other x now)
+  ];
 }
 
-pub LeavesJournal-now : (es : List (ℕ × Segment)) (leaving : Option ℕ) (H : List Call) → IsIndexed es leaving H → LeavesJournal (sections_at H es) leaving H
-LeavesJournal-now es leaving H indexed = record { each = λ m x stays now. at_left m es H H _ refl (left_now m H _ (indexed.at m stays)) x now }
+pub LeavesJournal-now : (es : List (ℕ × Segment)) (leaving : Option ℕ) (H : List Call) → IsIndexed es leaving H → LeavesJournal (sections_at H es) leaving H H
+LeavesJournal-now es leaving H indexed = record { each = λ m x stays now. at_left m es H H _ refl (left_now m H _ (indexed.at m stays)) x now; back = λ m leaves x now. inr now }
 
 -- ---- what is kept, at another moment
 
@@ -201,8 +206,8 @@ stands_other n m H0 H (Some segment) u other h = (
 pub IsIndexed-to : (n : ℕ) (es new : List (ℕ × Segment)) (was now : Option ℕ) (H0 H : List Call) → IsIndexed es was H0 → Untouched n H0 H
     → ((m : ℕ) → m ≢ n → lookup (is_at (nat_cmp m)) new ≡ lookup (is_at (nat_cmp m)) es) → (¬ IsLeaving now n → StandsAt n H (lookup (is_at (nat_cmp n)) new))
     → (IsLeaving now n → lookup (is_at (nat_cmp n)) new ≡ None) → ((m : ℕ) → m ≢ n → IsLeaving was m → IsLeaving now m) → ((m : ℕ) → m ≢ n → IsLeaving now m → IsLeaving was m)
-    → IsIndexed new now H
-IsIndexed-to n es new was now H0 H indexed u others here out more less = record {
+    → (IsLeaving now n → LeavesOld n H0 H × IsLeaving was n) → IsIndexed new now H
+IsIndexed-to n es new was now H0 H indexed u others here out more less old = record {
   at = λ m stays. elim (cases_eq m n) [
     | inl same ↦
         subst (λ (k : ℕ). ¬ IsLeaving now k → StandsAt k H (lookup (is_at (nat_cmp k)) new)) (sym same) here stays
@@ -211,5 +216,14 @@ IsIndexed-to n es new was now H0 H indexed u others here out more less = record 
   gone = λ m leaves. elim (cases_eq m n) [
     | inl same ↦ subst (λ (k : ℕ). IsLeaving now k → lookup (is_at (nat_cmp k)) new ≡ None) (sym same) out leaves
     | inr other ↦ others m other ∙ indexed.gone m (less m other leaves)
+  ];
+  back = λ m leaves. elim (cases_eq m n) [
+    | inl same ↦
+        let here = old (subst (λ (k : ℕ). IsLeaving now k) same leaves) in
+        let s = indexed.back n here.1 in
+        (s.0, s.1 ∙ sym same, back_on s.0 n H0 H s.1 here.0 s.2)
+    | inr other ↦
+        let s = indexed.back m (less m other leaves) in
+        (s.0, s.1, back_on s.0 m H0 H s.1 (λ x may. inr (u.left m other x may)) s.2)
   ];
 }

@@ -12,9 +12,18 @@ pub found_all : List (ℕ × List ℕ) → List Call
 found_all [] = []
 found_all (e ∷ es) = Found e.0 e.1 ∷ found_all es
 
+found_it : (b : Bool) (k : ℕ) (bytes : List ℕ) (c : Option (List ℕ)) (before : Option (List ℕ) → Type 0) → before c → LeavesIf b (Found k bytes) (cond b (Some bytes) c) before (cond b (Some bytes) c)
+found_it true k bytes c before may = refl
+found_it false k bytes c before may = may
+
+found_stays : (kept : List (ℕ × List ℕ)) (n : ℕ) → MayLeave n (found_all kept) (content n (found_all kept))
+unfolding found_all content MayLeave
+found_stays [] n = refl
+found_stays (e ∷ es) n = found_it (eqb e.0 n) e.0 e.1 (content n (found_all es)) (MayLeave n (found_all es)) (found_stays es n)
+
 pub found_left : (kept : List (ℕ × List ℕ)) → IsLeftBy kept (found_all kept)
 unfolding found_all content
-found_left kept = record { each = at kept }
+found_left kept = record { each = at kept; stays = λ n. found_stays kept n }
   where
     at : (kept : List (ℕ × List ℕ)) (n : ℕ) → content n (found_all kept) ≡ file_in kept n
     at [] n = refl

@@ -1,5 +1,5 @@
 -- The files of a disk in memory, after a change of one.
-use Rattle.std.proofs.Common.{◌≡◌, ℕ, zero, suc, ◌+◌, ◌≤◌, ◌<◌, true, cond, eqb, List, [], ◌∷◌, ◌++◌, length, take, drop, set, Option, None, Some, refl, sym, ap, subst, ◌∙◌, arith, inl, inr}
+use Rattle.std.proofs.Common.{◌≡◌, ℕ, zero, suc, ◌+◌, ◌≤◌, ◌<◌, Bool, true, false, cond, eqb, List, [], ◌∷◌, ◌++◌, length, take, drop, set, Option, None, Some, refl, sym, ap, subst, ◌∙◌, arith, inl, inr}
 use Rattle.std.specs.Option.{option_map, is_some}
 use Rattle.std.specs.Global.{Vec}
 use Rattle.std.specs.Ordering.{nat_cmp}
@@ -12,12 +12,13 @@ use Rattle.std.proofs.lemmas.Bool.{cases_eq}
 use Rattle.std.proofs.lemmas.Bool.Decides.{nat_tests}
 use Rattle.std.proofs.lemmas.Grind.{common_steps}
 use Rattle.std.proofs.lemmas.Map.Steps.{set_value_same}
-use Rattle.simplex_disk.specs.Calls.{Call, is_of, after, written, content}
+use Rattle.simplex_disk.specs.Calls.{Call, Write, is_of, after, bytes_of, written, content, TornIn, Leaves, LeavesIf, MayLeave}
 use Rattle.simplex_disk.specs.Moments.{IsOfOnly}
 use Rattle.simplex_disk.specs.Memory.{file_in, IsLeftBy}
 use Rattle.simplex_disk.specs.Answers.{IsListing}
 use Rattle.simplex_disk.specs.Files.{kept_of, AreFilesBut}
 use Rattle.simplex_disk.proofs.Lookups.{lookup-set_same, lookup-set_other}
+use Rattle.simplex_disk.proofs.Bytes.{torn_written}
 use Rattle.simplex_disk.proofs.Calls.{content-here, content-other}
 
 pub file-kept : (es : List (ℕ × Vec ℕ)) (n : ℕ) → file_in (kept_of es) n ≡ option_map (λ (v : Vec ℕ). v.items) (lookup (is_at (nat_cmp n)) es)
@@ -69,23 +70,52 @@ same_files kept n = record { here = refl; others = λ m other. refl }
 pub AreFilesBut-is : (n : ℕ) (old new : List (ℕ × List ℕ)) (x y : Option (List ℕ)) → x ≡ y → AreFilesBut n old new x → AreFilesBut n old new y
 AreFilesBut-is n old new x y is h = record { here = h.here ∙ is; others = h.others }
 
+-- After this call a crash may leave the file as it reads, where it might before.
+abbrev pub IsKeptBy : ℕ → List Call → Call → Option (List ℕ) → Type 0
+IsKeptBy n calls call old = MayLeave n calls old → Leaves call (after call old) (MayLeave n calls) (after call old)
+
+may-here : (n : ℕ) (call : Call) (calls : List Call) → is_of n call ≡ true → IsKeptBy n calls call (content n calls) → MayLeave n calls (content n calls) → MayLeave n (call ∷ calls) (content n (call ∷ calls))
+unfolding MayLeave
+may-here n call calls here kept may =
+    subst (λ (o : Option (List ℕ)). MayLeave n (call ∷ calls) o) (sym (content-here n call calls here))
+    (subst (λ (o : Option (List ℕ)). LeavesIf (is_of n call) call o (MayLeave n calls) (after call (content n calls))) (sym (content-here n call calls here))
+    (subst (λ (b : Bool). LeavesIf b call (after call (content n calls)) (MayLeave n calls) (after call (content n calls))) (sym here) (kept may)))
+
+may-other : (m : ℕ) (call : Call) (calls : List Call) → is_of m call ≡ false → MayLeave m calls (content m calls) → MayLeave m (call ∷ calls) (content m (call ∷ calls))
+unfolding MayLeave
+may-other m call calls none may =
+    subst (λ (o : Option (List ℕ)). MayLeave m (call ∷ calls) o) (sym (content-other m call calls none))
+    (subst (λ (b : Bool). LeavesIf b call (content m (call ∷ calls)) (MayLeave m calls) (content m calls)) (sym none) may)
+
+pub kept-write : (calls : List Call) (place : ℕ) (bytes : List ℕ) (files : List (ℕ × List ℕ)) (n : ℕ) → place ≤ length (bytes_of (file_in files n)) → IsKeptBy n calls (Write n place (length bytes) bytes) (file_in files n)
+kept-write calls place bytes files n within = λ may. (file_in files n, may, torn_in place bytes (file_in files n) within)
+  where
+    torn_in : (place : ℕ) (bytes : List ℕ) (o : Option (List ℕ)) → place ≤ length (bytes_of o) → TornIn place (length bytes) o (Some (written place bytes (bytes_of o)))
+    torn_in place bytes None within = torn_written place (length bytes) bytes [] (omega arith) within
+    torn_in place bytes (Some old) within = torn_written place (length bytes) bytes old (omega arith) within
+
 -- What one call does to a disk in memory is what it does to the files.
-pub IsLeftBy-call : (n : ℕ) (call : Call) (calls : List Call) (old new : List (ℕ × List ℕ)) → IsOfOnly n call → is_of n call ≡ true
+pub IsLeftBy-call : (n : ℕ) (call : Call) (calls : List Call) (old new : List (ℕ × List ℕ)) → IsOfOnly n call → is_of n call ≡ true → IsKeptBy n calls call (file_in old n)
     → AreFilesBut n old new (after call (file_in old n)) → IsLeftBy old calls → IsLeftBy new (call ∷ calls)
-IsLeftBy-call n call calls old new only here but left = record {
+IsLeftBy-call n call calls old new only here kept but left = record {
   each = λ m. elim (cases_eq m n) [
     | inl same ↦ subst (λ (k : ℕ). content k (call ∷ calls) ≡ file_in new k) (sym same)
         (content-here n call calls here ∙ ap (λ (o : Option (List ℕ)). after call o) (left.each n) ∙ sym but.here)
     | inr other ↦ content-other m call calls (only m other) ∙ left.each m ∙ sym (but.others m other)
   ];
+  stays = λ m. elim (cases_eq m n) [
+    | inl same ↦ subst (λ (k : ℕ). MayLeave k (call ∷ calls) (content k (call ∷ calls))) (sym same)
+        (may-here n call calls here (subst (λ (o : Option (List ℕ)). IsKeptBy n calls call o) (sym (left.each n)) kept) (left.stays n))
+    | inr other ↦ may-other m call calls (only m other) (left.stays m)
+  ];
 }
 
 -- the same, where the files are named otherwise
-pub IsLeftBy-named : (n : ℕ) (call : Call) (calls : List Call) (old was new now : List (ℕ × List ℕ)) → IsOfOnly n call → is_of n call ≡ true
+pub IsLeftBy-named : (n : ℕ) (call : Call) (calls : List Call) (old was new now : List (ℕ × List ℕ)) → IsOfOnly n call → is_of n call ≡ true → IsKeptBy n calls call (file_in was n)
     → was ≡ old → now ≡ new → AreFilesBut n was new (after call (file_in was n)) → IsLeftBy old calls → IsLeftBy now (call ∷ calls)
-IsLeftBy-named n call calls old was new now only here before behind but left =
+IsLeftBy-named n call calls old was new now only here kept before behind but left =
     subst (λ (l : List (ℕ × List ℕ)). IsLeftBy l (call ∷ calls)) (sym behind)
-    (IsLeftBy-call n call calls was new only here but (subst (λ (l : List (ℕ × List ℕ)). IsLeftBy l calls) (sym before) left))
+    (IsLeftBy-call n call calls was new only here kept but (subst (λ (l : List (ℕ × List ℕ)). IsLeftBy l calls) (sym before) left))
 
 pub written-new : (place : ℕ) (bytes : List ℕ) → place ≤ 0 → written place bytes [] ≡ bytes
 written-new place bytes none = grind (arith, common_steps)

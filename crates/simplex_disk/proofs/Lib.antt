@@ -1,3 +1,4 @@
+pub mod Backs
 pub mod Bytes
 pub mod Calls
 pub mod Chain

@@ -86,6 +86,15 @@ each_weaker_all P Q gives (call ∷ made) old each = (gives (call ∷ made ++ ol
 pub always_weaker : (P Q : List Call → Type 0) → ((calls : List Call) → P calls → Q calls) → (old new : List Call) → Always P old new → Always Q old new
 always_weaker P Q gives old new h = record { made = h.made; goes_on = h.goes_on; each = each_weaker_all P Q gives h.made old h.each }
 
+each_first_all : (P : List Call → Type 0) (made old : List Call) → Each P made old → P (made ++ old)
+unfolding Each
+each_first_all P [] old each = each
+each_first_all P (call ∷ made) old each = each.0
+
+-- P holds now.
+pub always_now : (P : List Call → Type 0) (old new : List Call) → Always P old new → P new
+always_now P old new h = subst P (sym h.goes_on) (each_first_all P h.made old h.each)
+
 each_join_all : (P : List Call → Type 0) (later earlier old : List Call) → Each P later (earlier ++ old) → Each P earlier old → Each P (later ++ earlier) old
 unfolding Each
 each_join_all P [] earlier old after before = before

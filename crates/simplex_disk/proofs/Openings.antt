@@ -244,7 +244,7 @@ module _ (H0 : List Call) (files : ℕ → Option (List ℕ)) (numbers : List �
       (opened d.0, [], d.2)
 
   pub all_indexed : IsIndexed es None H
-  all_indexed = record { at = λ m stays. stands_of m (lookup (is_at (nat_cmp m)) es) refl; gone = λ m leaves. absurd leaves }
+  all_indexed = record { at = λ m stays. stands_of m (lookup (is_at (nat_cmp m)) es) refl; gone = λ m leaves. absurd leaves; back = λ m leaves. absurd leaves }
 
   read_of : (m : ℕ) (v : Option Segment) → lookup (is_at (nat_cmp m)) es ≡ v → section_numbered m (sections_at H es) ≡ section_read m (content m H0)
   read_of m None none = numbered-none (λ k. content k H) m es none ∙ ap (λ (x : Option (List ℕ)). section_read m x) (sym (absent_of m none))

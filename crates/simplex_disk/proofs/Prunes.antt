@@ -16,16 +16,17 @@ use Rattle.simplex_journal.specs.Journal.{Section, pruned, pruned_first}
 use Rattle.simplex_journal.specs.Memory.{Lists, section_of, sections_of}
 use Rattle.simplex_journal.proofs.Entries.{pruned_first-zero, pruned_first-all, length-sections_of}
 use Rattle.simplex_disk.specs.declared.segment.Segment.{Segment}
-use Rattle.simplex_disk.specs.Calls.{Call, Remove, Sync, content, bytes_of}
-use Rattle.simplex_disk.specs.Chain.{opened, opened_by, IsFront}
+use Rattle.simplex_disk.specs.Calls.{Call, Remove, Sync, content}
+use Rattle.simplex_disk.specs.Chain.{IsFront}
 use Rattle.simplex_disk.specs.Left.{IsShut, LeavesFront}
 use Rattle.simplex_disk.specs.Moments.{Each, Always, AlwaysOf}
 use Rattle.simplex_disk.specs.Segments.{IsSegment}
-use Rattle.simplex_disk.specs.Index.{read_entries, sections_in, sections_at, StandsAt, IsIndexed, section_numbered, IsLeft, LeavesJournal}
+use Rattle.simplex_disk.specs.Index.{read_entries, sections_in, sections_at, StandsAt, IsIndexed, IsLeaving, section_numbered, IsLeft, MayBeBack, LeavesJournal}
 use Rattle.simplex_disk.specs.Pruning.{LeavesPruned, LeavesGone, HasNoneBelow, BeginsAt, behind_first}
+use Rattle.simplex_disk.proofs.Backs.{none_left}
 use Rattle.simplex_disk.proofs.Calls.{left-remove, left-sync, content-remove}
 use Rattle.simplex_disk.proofs.Chain.{opened-front}
-use Rattle.simplex_disk.proofs.Moments.{Untouched, always_all, untouched}
+use Rattle.simplex_disk.proofs.Moments.{Untouched, always_all, untouched, now_of}
 use Rattle.simplex_disk.proofs.Entries.{read-none, left_now, numbered-none, numbered-some, segment_lists, at_left, left_other, stands_other}
 
 -- ---- one file
@@ -73,10 +74,6 @@ first_sections F (e ∷ es) n least at below =
 pub segment_first : (n : ℕ) (es : List (ℕ × Segment)) (H0 : List Call) (v : Segment) → IsIndexed es None H0 → lookup (is_at (nat_cmp n)) es ≡ Some v → (S P : List Artifact) × IsSegment n v S P H0
 segment_first n es H0 v indexed found = subst (λ (o : Option Segment). StandsAt n H0 o) found (indexed.at n (λ h. h))
 
-nil_opened : opened [] ≡ []
-unfolding opened_by
-nil_opened = refl
-
 -- the first section and its file
 module _ (n least : ℕ) (es : List (ℕ × Segment)) (at : BeginsAt n es) (below : n < least) (H0 : List Call) (indexed : IsIndexed es None H0)
     (v : Segment) (found : lookup (is_at (nat_cmp n)) es ≡ Some v) (S P : List Artifact) (seg : IsSegment n v S P H0)
@@ -98,7 +95,7 @@ module _ (n least : ℕ) (es : List (ℕ × Segment)) (at : BeginsAt n es) (belo
       numbered-some (λ m. content m H0) n es v found ∙ ap (λ (k : Lists). Some (section_of (n, k))) (segment_lists n v S P H0 seg) in
       subst (λ (s : Option Section). IsLeft s x) (sym lists) (bytes, there, read.0, read.1)
 
-  image_left : (l : List Call) → LeavesGone n S P l → Untouched n H0 l → LeavesPruned least (sections_at H0 es) None l
+  image_left : (l : List Call) → LeavesGone n S P l → Untouched n H0 l → LeavesPruned least (sections_at H0 es) None H0 l
   image_left l gone u = record {
     each = λ image may. elim (gone (image n) (may n)) [
       | inl none ↦ (
@@ -106,15 +103,15 @@ module _ (n least : ℕ) (es : List (ℕ × Segment)) (at : BeginsAt n es) (belo
         λ m stays. elim (cases_eq m n) [
           | inl same ↦
               let nothing : section_numbered n (sections_at H0 new) ≡ None = numbered-none (λ k. content k H0) n new absent in
-              let empty : opened (bytes_of (image n)) ≡ [] = subst (λ (x : Option (List ℕ)). opened (bytes_of x) ≡ []) (sym none) nil_opened in
               let here : IsLeft (section_numbered n (pruned_first 1 least (sections_at H0 es))) (image n) =
-              subst (λ (o : Option Section). IsLeft o (image n)) (sym (ap (λ (q : List Section). section_numbered n q) dropped_is ∙ nothing)) empty in
+              subst (λ (o : Option Section). IsLeft o (image n)) (sym (ap (λ (q : List Section). section_numbered n q) dropped_is ∙ nothing)) (none_left (image n) none) in
               subst (λ (k : ℕ). IsLeft (section_numbered k (pruned_first 1 least (sections_at H0 es))) (image k)) (sym same) here
           | inr other ↦
               let left : IsLeft (section_numbered m (sections_at H0 new)) (image m) =
               at_left m new H0 l (lookup (is_at (nat_cmp m)) new) refl (left_other n m H0 l (lookup (is_at (nat_cmp m)) new) u other (stands_new m other)) (image m) (may m) in
               subst (λ (q : List Section). IsLeft (section_numbered m q) (image m)) (sym dropped_is) left
         ],
+        λ m leaves. absurd leaves,
       )
       | inr front ↦ (
         0,
@@ -124,21 +121,30 @@ module _ (n least : ℕ) (es : List (ℕ × Segment)) (at : BeginsAt n es) (belo
               | inr other ↦ at_left m es H0 l (lookup (is_at (nat_cmp m)) es) refl (left_other n m H0 l (lookup (is_at (nat_cmp m)) es) u other (indexed.at m (λ h. h))) (image m) (may m)
             ] in
             subst (λ (q : List Section). IsLeft (section_numbered m q) (image m)) (sym (pruned_first-zero least (sections_at H0 es))) left,
+        λ m leaves. absurd leaves,
       )
     ];
   }
 
   module _ (H : List Call) (h : AlwaysOf n (LeavesGone n S P) H0 H) where
-    pub moments_dropped : Always (LeavesPruned least (sections_at H0 es) None) H0 H
-    moments_dropped = always_all n (LeavesGone n S P) (LeavesPruned least (sections_at H0 es) None) H0 H image_left h
+    pub moments_dropped : Always (LeavesPruned least (sections_at H0 es) None H0) H0 H
+    moments_dropped = always_all n (LeavesGone n S P) (LeavesPruned least (sections_at H0 es) None H0) H0 H image_left h
 
     pub sections_dropped : sections_at H new ≡ pruned_first 1 least (sections_at H0 es)
     sections_dropped = ap sections_of (read-none n (λ m. content m H0) (λ m. content m H) new (untouched n (LeavesGone n S P) H0 H h).content absent) ∙ sym dropped_is
+
+    -- the section whose file may be back
+    back_here : MayBeBack (record { number = n; synced = S; pending = P }) H
+    back_here = λ x now. elim (now_of n (LeavesGone n S P) H0 H h x now) [
+      | inl none ↦ inl (none_left x none)
+      | inr front ↦ let read = opened-front S P front.0 seg.kept.synced_reads seg.kept.pending_reads front.2 in inr (front.0, front.1, read.0, read.1)
+    ]
 
     pub leaving_dropped : IsIndexed new (Some n) H
     leaving_dropped = record {
       at = λ m stays. stands_other n m H0 H (lookup (is_at (nat_cmp m)) new) (untouched n (LeavesGone n S P) H0 H h) (λ same. stays (sym same)) (stands_new m (λ same. stays (sym same)));
       gone = λ m leaves. subst (λ (k : ℕ). lookup (is_at (nat_cmp k)) new ≡ None) leaves absent;
+      back = λ m leaves. (record { number = n; synced = S; pending = P }, leaves, back_here);
     }
 
     pub indexed_dropped : IsShut n H → IsIndexed new None H
@@ -148,6 +154,7 @@ module _ (n least : ℕ) (es : List (ℕ × Segment)) (at : BeginsAt n es) (belo
         | inr other ↦ stands_other n m H0 H (lookup (is_at (nat_cmp m)) new) (untouched n (LeavesGone n S P) H0 H h) other (stands_new m other)
       ];
       gone = λ m leaves. absurd leaves;
+      back = λ m leaves. absurd leaves;
     }
 
 -- ---- sections that are dropped in two steps
@@ -169,16 +176,17 @@ pruned_first-more j (suc k) least (s ∷ rest) = elim (cases_lt s.number least) 
 
 -- ---- the moments of more prunes
 
-pub pruned_on : (k least : ℕ) (s0 s1 : List Section) (l : List Call) → s1 ≡ pruned_first k least s0 → LeavesPruned least s1 None l → LeavesPruned least s0 None l
-pruned_on k least s0 s1 l is left = record {
+pub pruned_on : (k least : ℕ) (s0 s1 : List Section) (H0 H1 l : List Call) → s1 ≡ pruned_first k least s0 → LeavesPruned least s1 None H1 l → LeavesPruned least s0 None H0 l
+pruned_on k least s0 s1 H0 H1 l is left = record {
   each = λ image may.
       let e = left.each image may in (
         k + e.0,
         λ m stays. subst (λ (q : List Section). IsLeft (section_numbered m q) (image m)) (ap (λ (q : List Section). pruned_first e.0 least q) is ∙ pruned_first-more e.0 k least s0) (e.1 m stays),
+        λ m leaves. absurd leaves,
       );
 }
 
-pub pruned_start : (least : ℕ) (es : List (ℕ × Segment)) (H : List Call) → IsIndexed es None H → Always (LeavesPruned least (sections_at H es) None) H H
+pub pruned_start : (least : ℕ) (es : List (ℕ × Segment)) (H : List Call) → IsIndexed es None H → Always (LeavesPruned least (sections_at H es) None H) H H
 unfolding Each
 pruned_start least es H indexed = record {
   made = [];
@@ -188,6 +196,7 @@ pruned_start least es H indexed = record {
       0,
       λ m stays. subst (λ (q : List Section). IsLeft (section_numbered m q) (image m)) (sym (pruned_first-zero least (sections_at H es)))
           (at_left m es H H (lookup (is_at (nat_cmp m)) es) refl (left_now m H (lookup (is_at (nat_cmp m)) es) (indexed.at m stays)) (image m) (may m)),
+      λ m leaves. absurd leaves,
     );
   };
 }
@@ -211,16 +220,32 @@ pub none_below : (count least : ℕ) (H : List Call) (es : List (ℕ × Segment)
 none_below count least H es sorted none = none_below_in count least (λ n. content n H) es sorted none
 
 -- what a crash leaves of a journal is so of one under pruning
-pub pruned_none : (least : ℕ) (s : List Section) (leaving : Option ℕ) (l : List Call) → LeavesJournal s leaving l → LeavesPruned least s leaving l
-pruned_none least s leaving l left = record {
-  each = λ image may. (0, λ m stays. subst (λ (q : List Section). IsLeft (section_numbered m q) (image m)) (sym (pruned_first-zero least s)) (left.each m (image m) stays (may m)));
+pub pruned_none : (least : ℕ) (s : List Section) (leaving : Option ℕ) (H0 l : List Call) → LeavesJournal s leaving H0 l → LeavesPruned least s leaving H0 l
+pruned_none least s leaving H0 l left = record {
+  each = λ image may. (
+    0,
+    λ m stays. subst (λ (q : List Section). IsLeft (section_numbered m q) (image m)) (sym (pruned_first-zero least s)) (left.each m (image m) stays (may m)),
+    λ m leaves. elim (left.back m leaves (image m) (may m)) [ inl none ↦ inl none | inr before ↦ inr (refl, before) ],
+  );
 }
 
-pub pruned_but : (least : ℕ) (s0 s1 : List Section) (leaving : Option ℕ) (l : List Call) → s1 ≡ s0 → LeavesPruned least s1 None l → LeavesPruned least s0 leaving l
-pruned_but least s0 s1 leaving l is left = record {
+-- A section that is not there is not there among fewer.
+numbered_fewer : (n count least : ℕ) (xs : List Section) → section_numbered n xs ≡ None → section_numbered n (pruned_first count least xs) ≡ None
+unfolding section_numbered pruned_first
+numbered_fewer n count least [] none = refl
+numbered_fewer n count least (x ∷ xs) none =
+    let fewer = numbered_fewer n (count - 1) least xs in
+    let same = numbered_fewer n count least xs in
+    grind (arith, common_steps, nat_tests)
+
+-- The removal that was left over was finished before, so that no record is read in its file.
+pub pruned_but : (least : ℕ) (s0 s1 : List Section) (leaving : Option ℕ) (H0 H1 l : List Call) → s1 ≡ s0 → ((n : ℕ) → IsLeaving leaving n → section_numbered n s0 ≡ None)
+    → LeavesPruned least s1 None H1 l → LeavesPruned least s0 leaving H0 l
+pruned_but least s0 s1 leaving H0 H1 l is gone left = record {
   each = λ image may.
       let e = left.each image may in
-      (e.0, λ m stays. subst (λ (q : List Section). IsLeft (section_numbered m (pruned_first e.0 least q)) (image m)) is (e.1 m (λ h. h)));
+      let here : (m : ℕ) → IsLeft (section_numbered m (pruned_first e.0 least s0)) (image m) = λ m. subst (λ (q : List Section). IsLeft (section_numbered m (pruned_first e.0 least q)) (image m)) is (e.1 m (λ h. h)) in
+      (e.0, λ m stays. here m, λ m leaves. inl (subst (λ (o : Option Section). IsLeft o (image m)) (numbered_fewer m e.0 least s0 (gone m leaves)) (here m)));
 }
 
 length-read : (F : ℕ → Option (List ℕ)) (es : List (ℕ × Segment)) → length (read_entries F es) ≡ length es

@@ -95,8 +95,8 @@ module _ (n : ℕ) (v : Segment) (es : List (ℕ × Segment)) (leaving : Option 
   pub sections_open : IsStrictlySortedBy nat_cmp (keys_of es) → sections_at H1 es ≡ sections_at H0 es → sections_at H2 es ≡ sections_at H0 es
   sections_open sorted same = same_there n es leaving H1 indexed v found H2 S P seg h es v same_es sorted here ∙ same
 
-  pub moments_open : Always (LeavesJournal (sections_at H0 es) leaving) H0 H1 → sections_at H1 es ≡ sections_at H0 es → Always (LeavesJournal (sections_at H0 es) leaving) H0 H2
-  moments_open first same = goes_join es leaving leaving H0 H1 H2 (λ k leaves. leaves) first same (moments_there n es leaving H1 indexed v found H2 S P seg h)
+  pub moments_open : Always (LeavesJournal (sections_at H0 es) leaving H0) H0 H1 → sections_at H1 es ≡ sections_at H0 es → Always (LeavesJournal (sections_at H0 es) leaving H0) H0 H2
+  moments_open first same = goes_join es leaving leaving H0 H1 H2 (λ k leaves. leaves) indexed.gone first same (moments_there n es leaving H1 indexed v found H2 S P seg h)
 
   pub is_opened : Stands n (S ++ P) [] H2 → IsOpened n v H2
   is_opened all = (S, P, here, all)
@@ -113,7 +113,7 @@ module _ (es new : List (ℕ × Segment)) (leaving : Option ℕ) (H : List Call)
       (c.0, c.1, o.0, o.1, o.2, record { stands = o.3; kept = c.2 o.0 o.1 o.2.kept })
 
   pub indexed_counted : IsIndexed es leaving H → IsIndexed new leaving H
-  indexed_counted indexed = record { at = λ n stays. at n stays (lookup (is_at (nat_cmp n)) es) refl; gone = λ n leaves. counted.none n (indexed.gone n leaves) }
+  indexed_counted indexed = record { at = λ n stays. at n stays (lookup (is_at (nat_cmp n)) es) refl; gone = λ n leaves. counted.none n (indexed.gone n leaves); back = indexed.back }
     where
       at : (n : ℕ) → ¬ IsLeaving leaving n → (o : Option Segment) → lookup (is_at (nat_cmp n)) es ≡ o → StandsAt n H (lookup (is_at (nat_cmp n)) new)
       at n stays None is = subst (λ (o : Option Segment). StandsAt n H o) (is ∙ sym (counted.none n is)) (indexed.at n stays)

@@ -1,27 +1,29 @@
 -- What a call of one file makes of the whole.
-use Rattle.std.proofs.Common.{◌≡◌, ◌≢◌, ℕ, List, [], ◌∷◌, ◌++◌, Option, None, Some, Result, Ok, Err, refl, sym, ap, subst, ◌∙◌}
+use Rattle.std.proofs.Common.{◌≡◌, ◌≢◌, ◌⊎◌, ℕ, List, [], ◌∷◌, ◌++◌, Option, None, Some, Result, Ok, Err, refl, sym, ap, subst, ◌∙◌, inl, inr}
 use Rattle.std.specs.Result.{OnOk, OnErr}
 use Rattle.std.specs.List.Sorted.{IsStrictlySortedBy}
 use Rattle.std.specs.Ordering.{nat_cmp}
 use Rattle.std.specs.Map.{lookup, set_value, keys_of}
 use Rattle.std.specs.BTreeMap.{is_at, insert_entry}
+use Rattle.std.proofs.lemmas.Bool.{cases_eq}
 use Rattle.std.proofs.lemmas.Map.Steps.{set_value_same}
 use Rattle.simplex_wire.specs.declared.artifact.Artifact.{Artifact}
 use Rattle.simplex_journal.specs.Journal.{Section, appended, synced_at}
 use Rattle.simplex_journal.specs.Memory.{Lists, sections_of}
 use Rattle.simplex_journal.proofs.Entries.{appended_lists, synced_lists, appended-some, appended-none, synced_at-some, synced_at-none}
 use Rattle.simplex_disk.specs.declared.segment.Segment.{Segment}
-use Rattle.simplex_disk.specs.Calls.{Call, Sync, content}
+use Rattle.simplex_disk.specs.Calls.{Call, Sync, MayLeave, content}
 use Rattle.simplex_disk.specs.Left.{IsShut, LeavesClosed, LeavesFront}
 use Rattle.simplex_disk.specs.Moments.{Each, Always, AlwaysOf, Then}
 use Rattle.simplex_disk.specs.Segments.{IsSegment, lists_in}
 use Rattle.simplex_disk.specs.Goes.{Changes, LeavesNoMore}
 use Rattle.simplex_disk.specs.Index.{read_entries, sections_at, StandsAt, IsIndexed, IsLeaving, LeavesJournal, IsLeft, section_numbered}
 use Rattle.simplex_disk.proofs.Lookups.{lookup-set_same, lookup-set_other, lookup-insert_same, lookup-insert_other}
-use Rattle.simplex_disk.proofs.Moments.{Untouched, always_all, untouched, none_of, always_join, always_weaker}
+use Rattle.simplex_disk.proofs.Moments.{Untouched, always_all, untouched, none_of, always_now, always_join, always_weaker}
 use Rattle.simplex_disk.proofs.Steps.{sync_so_far}
 use Rattle.simplex_disk.proofs.Chains.{IsShut-sync}
-use Rattle.simplex_disk.proofs.Entries.{keys-read, lookup-read, lookup-read_none, read-none, read-set, read-insert, LeavesAt, LeavesJournal-one, LeavesJournal-now, IsIndexed-to, segment_lists}
+use Rattle.simplex_disk.proofs.Entries.{keys-read, lookup-read, lookup-read_none, read-none, read-set, read-insert, LeavesAt, LeavesJournal-one, LeavesJournal-now, IsIndexed-to, numbered-none, segment_lists}
+use Rattle.simplex_disk.proofs.Backs.{old_sync}
 
 pub not_none : {V : Type 0} (o : Option V) (v : V) → o ≡ Some v → o ≡ None → ⊥
 not_none {V} o v some none = let P : Option V → Type 0 = shows in subst P (sym some ∙ none) tt
@@ -34,26 +36,26 @@ not_none {V} o v some none = let P : Option V → Type 0 = shows in subst P (sym
 pub IsIndexed-but : (n : ℕ) (es new : List (ℕ × Segment)) (leaving : Option ℕ) (H0 H : List Call) → IsIndexed es leaving H0 → Untouched n H0 H → ¬ IsLeaving leaving n
     → ((m : ℕ) → m ≢ n → lookup (is_at (nat_cmp m)) new ≡ lookup (is_at (nat_cmp m)) es) → StandsAt n H (lookup (is_at (nat_cmp n)) new) → IsIndexed new leaving H
 IsIndexed-but n es new leaving H0 H indexed u stays others here =
-    IsIndexed-to n es new leaving leaving H0 H indexed u others (λ _. here) (λ leaves. absurd (stays leaves)) (λ m other leaves. leaves) (λ m other leaves. leaves)
+    IsIndexed-to n es new leaving leaving H0 H indexed u others (λ _. here) (λ leaves. absurd (stays leaves)) (λ m other leaves. leaves) (λ m other leaves. leaves) (λ leaves. absurd (stays leaves))
 
 module _ (n : ℕ) (es : List (ℕ × Segment)) (leaving : Option ℕ) (H0 : List Call) (indexed : IsIndexed es leaving H0) where
   -- nothing was called
-  pub moments_no : Always (LeavesJournal (sections_at H0 es) leaving) H0 H0
+  pub moments_no : Always (LeavesJournal (sections_at H0 es) leaving H0) H0 H0
   unfolding Each
   moments_no = record { made = []; goes_on = refl; each = LeavesJournal-now es leaving H0 indexed }
 
   -- a sync of a file of which nothing is kept
-  pub sync_absent : {T E : Type 0} → lookup (is_at (nat_cmp n)) es ≡ None → (was : List (ℕ × Segment)) → was ≡ es → (r : Result T E) (Old New : List Call → Type 0) → Old H0
+  pub sync_absent : {T E : Type 0} → lookup (is_at (nat_cmp n)) es ≡ None → MayLeave n H0 (content n H0) → (was : List (ℕ × Segment)) → was ≡ es → (r : Result T E) (Old New : List Call → Type 0) → Old H0
       → OnOk r ((calls : List Call) → Old calls → New (Sync n ∷ calls)) → OnErr r ((calls : List Call) → Old calls → New calls)
-      → Then New (Always (LeavesJournal (sections_at H0 es) leaving) H0) (λ now. IsIndexed was leaving now × Changes r (synced_at n) (sections_at H0 es) (sections_at now was))
+      → Then New (Always (LeavesJournal (sections_at H0 es) leaving H0) H0) (λ now. IsIndexed was leaving now × Changes r (synced_at n) (sections_at H0 es) (sections_at now was))
   unfolding Each
-  sync_absent none was same (Ok x) Old New st ok err =
+  sync_absent none may was same (Ok x) Old New st ok err =
       let H = Sync n ∷ H0 in
       let h = sync_so_far n (λ l. Unit {0}) H0 H0 (none_of n (λ l. Unit {0}) H0 tt) tt in
       let u = untouched n (λ l. Unit {0}) H0 H h in
       let shut : ¬ IsLeaving leaving n → IsShut n H = λ stays. IsShut-sync n H0 (subst (λ (o : Option Segment). StandsAt n H0 o) none (indexed.at n stays)) in
       let now : IsIndexed es leaving H =
-      IsIndexed-to n es es leaving leaving H0 H indexed u (λ m other. refl) (λ stays. subst (λ (o : Option Segment). StandsAt n H o) (sym none) (shut stays)) (λ leaves. none) (λ m other leaves. leaves) (λ m other leaves. leaves) in
+      IsIndexed-to n es es leaving leaving H0 H indexed u (λ m other. refl) (λ stays. subst (λ (o : Option Segment). StandsAt n H o) (sym none) (shut stays)) (λ leaves. none) (λ m other leaves. leaves) (λ m other leaves. leaves) (λ leaves. (old_sync n H0 may, leaves)) in
       let read : sections_at H es ≡ sections_at H0 es = ap sections_of (read-none n (λ m. content m H0) (λ m. content m H) es u.content none) in
       record {
         now = H;
@@ -62,7 +64,7 @@ module _ (n : ℕ) (es : List (ℕ × Segment)) (leaving : Option ℕ) (H0 : Lis
           made = Sync n ∷ [];
           goes_on = refl;
           each = (
-            LeavesJournal-one n es leaving H0 H indexed u (λ stays. subst (λ (o : Option Segment). LeavesAt n H0 H o) (sym none) (shut stays).left),
+            LeavesJournal-one n es leaving H0 H indexed u (λ stays. subst (λ (o : Option Segment). LeavesAt n H0 H o) (sym none) (shut stays).left) (λ leaves. old_sync n H0 may),
             LeavesJournal-now es leaving H0 indexed,
           );
         };
@@ -71,7 +73,7 @@ module _ (n : ℕ) (es : List (ℕ × Segment)) (leaving : Option ℕ) (H0 : Lis
           ap (λ (l : List (ℕ × Segment)). sections_at H l) same ∙ read ∙ sym (synced_at-none n (read_entries (λ m. content m H0) es) (lookup-read_none (λ m. content m H0) n es none)),
         );
       }
-  sync_absent none was same (Err e) Old New st ok err = record {
+  sync_absent none may was same (Err e) Old New st ok err = record {
     now = H0;
     stands = err H0 st;
     held = moments_no;
@@ -85,9 +87,9 @@ module _ (n : ℕ) (es : List (ℕ × Segment)) (leaving : Option ℕ) (H0 : Lis
     shut_of = subst (λ (o : Option Segment). StandsAt n H0 o) none (indexed.at n stays)
 
     module _ (H : List Call) (h : AlwaysOf n (LeavesClosed n) H0 H) (now : IsShut n H) where
-      pub moments_new : Always (LeavesJournal (sections_at H0 es) leaving) H0 H
-      moments_new = always_all n (LeavesClosed n) (LeavesJournal (sections_at H0 es) leaving) H0 H
-          (λ l closed u. LeavesJournal-one n es leaving H0 l indexed u (λ _. subst (λ (o : Option Segment). LeavesAt n H0 l o) (sym none) closed)) h
+      pub moments_new : Always (LeavesJournal (sections_at H0 es) leaving H0) H0 H
+      moments_new = always_all n (LeavesClosed n) (LeavesJournal (sections_at H0 es) leaving H0) H0 H
+          (λ l closed u. LeavesJournal-one n es leaving H0 l indexed u (λ _. subst (λ (o : Option Segment). LeavesAt n H0 l o) (sym none) closed) (λ leaves. absurd (stays leaves))) h
 
       -- nothing is kept of it now
       pub indexed_none : IsIndexed es leaving H
@@ -131,9 +133,9 @@ module _ (n : ℕ) (es : List (ℕ × Segment)) (leaving : Option ℕ) (H0 : Lis
     segment_of = subst (λ (o : Option Segment). StandsAt n H0 o) found (indexed.at n stays_of)
 
     module _ (H : List Call) (S P : List Artifact) (seg : IsSegment n v S P H0) (h : AlwaysOf n (LeavesFront n S P) H0 H) where
-      pub moments_there : Always (LeavesJournal (sections_at H0 es) leaving) H0 H
-      moments_there = always_all n (LeavesFront n S P) (LeavesJournal (sections_at H0 es) leaving) H0 H
-          (λ l left u. LeavesJournal-one n es leaving H0 l indexed u (λ _. subst (λ (o : Option Segment). LeavesAt n H0 l o) (sym found) (S, P, seg, left))) h
+      pub moments_there : Always (LeavesJournal (sections_at H0 es) leaving H0) H0 H
+      moments_there = always_all n (LeavesFront n S P) (LeavesJournal (sections_at H0 es) leaving H0) H0 H
+          (λ l left u. LeavesJournal-one n es leaving H0 l indexed u (λ _. subst (λ (o : Option Segment). LeavesAt n H0 l o) (sym found) (S, P, seg, left)) (λ leaves. absurd (stays_of leaves))) h
 
       module _ (new : List (ℕ × Segment)) (w : Segment) (is : new ≡ set_value (is_at (nat_cmp n)) es w) where
         pub indexed_there : (S' P' : List Artifact) → IsSegment n w S' P' H → IsIndexed new leaving H
@@ -173,11 +175,27 @@ module _ (n : ℕ) (es : List (ℕ × Segment)) (leaving : Option ℕ) (H0 : Lis
           appended_or (Ok x) a ok err = (indexed_there S (P ++ a ∷ []) ok, appended_there a ok)
           appended_or (Err e) a ok err = (indexed_there S P err, same_there err)
 
+leaves_or : (leaving : Option ℕ) (n : ℕ) → IsLeaving leaving n ⊎ ¬ IsLeaving leaving n
+leaves_or None n = inr (λ h. h)
+leaves_or (Some m) n = elim (cases_eq m n) [ inl same ↦ inl same | inr other ↦ inr other ]
+
 -- The moments of two parts, of which the first only let a file be no longer leaving.
-pub goes_join : (es : List (ℕ × Segment)) (l0 l1 : Option ℕ) (H0 H1 H2 : List Call) → LeavesNoMore l0 l1
-    → Always (LeavesJournal (sections_at H0 es) l0) H0 H1 → sections_at H1 es ≡ sections_at H0 es → Always (LeavesJournal (sections_at H1 es) l1) H1 H2
-    → Always (LeavesJournal (sections_at H0 es) l0) H0 H2
-goes_join es l0 l1 H0 H1 H2 less first same second =
-    let P = LeavesJournal (sections_at H0 es) l0 in
-    always_join P H0 H1 H2 first (always_weaker (LeavesJournal (sections_at H1 es) l1) P
-    (λ l left. record { each = λ n x stays now. subst (λ (s : List Section). IsLeft (section_numbered n s) x) same (left.each n x (λ leaves. stays (less n leaves)) now) }) H1 H2 second)
+module _ (es : List (ℕ × Segment)) (l0 l1 : Option ℕ) (H0 H1 H2 : List Call) (less : LeavesNoMore l0 l1) (gone : (n : ℕ) → IsLeaving l0 n → lookup (is_at (nat_cmp n)) es ≡ None)
+    (first : Always (LeavesJournal (sections_at H0 es) l0 H0) H0 H1) (same : sections_at H1 es ≡ sections_at H0 es) where
+  -- what was left by the second part, from before the first
+  join_left : (l : List Call) → LeavesJournal (sections_at H1 es) l1 H1 l → LeavesJournal (sections_at H0 es) l0 H0 l
+  join_left l left = record {
+    each = λ n x stays now. subst (λ (s : List Section). IsLeft (section_numbered n s) x) same (left.each n x (λ leaves. stays (less n leaves)) now);
+    back = λ n leaves x now. elim (leaves_or l1 n) [
+      | inl still ↦ elim (left.back n still x now) [
+        | inl none ↦ inl none
+        | inr before ↦ (always_now _ H0 H1 first).back n leaves x before
+      ]
+      | inr stays ↦ inl (subst (λ (o : Option Section). IsLeft o x) (numbered-none (λ m. content m H1) n es (gone n leaves)) (left.each n x stays now))
+    ];
+  }
+
+  pub goes_join : Always (LeavesJournal (sections_at H1 es) l1 H1) H1 H2 → Always (LeavesJournal (sections_at H0 es) l0 H0) H0 H2
+  goes_join second =
+      let P = LeavesJournal (sections_at H0 es) l0 H0 in
+      always_join P H0 H1 H2 first (always_weaker (LeavesJournal (sections_at H1 es) l1 H1) P join_left H1 H2 second)

@@ -11,7 +11,7 @@ use Rattle.simplex_disk.specs.Moments.{Always, Then}
 -- leaves a journal with all records that were synced before, and a first part of the pending ones.
 abbrev pub Goes : (Old New : List Call → Type 0) → List (ℕ × Segment) → List (ℕ × Segment) → Option ℕ → Option ℕ → (List Section → List Section → Type 0) → Type 0
 Goes Old New es new leaving leaving_now Becomes = (calls : List Call) → Old calls → IsIndexed es leaving calls
-    → Then New (Always (LeavesJournal (sections_at calls es) leaving) calls) (λ now. IsIndexed new leaving_now now × Becomes (sections_at calls es) (sections_at now new))
+    → Then New (Always (LeavesJournal (sections_at calls es) leaving calls) calls) (λ now. IsIndexed new leaving_now now × Becomes (sections_at calls es) (sections_at now new))
 
 -- The second sections are these of the first where the call ended well, else the first ones.
 abbrev pub Changes : {T E : Type 0} → Result T E → (List Section → List Section) → List Section → List Section → Type 0

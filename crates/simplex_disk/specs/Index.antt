@@ -1,5 +1,5 @@
 -- The sections of a journal, as the files have them.
-use Rattle.std.specs.Prelude.{◌≡◌, ℕ, ◌==◌, if◌then◌else◌, List, [], ◌∷◌, ◌++◌, take, Option, None, Some}
+use Rattle.std.specs.Prelude.{◌≡◌, ◌⊎◌, ℕ, ◌==◌, if◌then◌else◌, List, [], ◌∷◌, ◌++◌, take, Option, None, Some}
 use Rattle.std.specs.Ordering.{nat_cmp}
 use Rattle.std.specs.Map.{lookup}
 use Rattle.std.specs.BTreeMap.{is_at}
@@ -35,22 +35,38 @@ abbrev pub IsLeaving : Option ℕ → ℕ → Type 0
 IsLeaving None n = ⊥
 IsLeaving (Some m) n = m ≡ n
 
--- It is so of all files but one that is leaving, of which nothing is kept.
+-- What is left of a section: its synced records, and a first part of the pending ones. Of a section that is not there no record is.
+abbrev pub IsLeft : Option Section → Option (List ℕ) → Type 0
+IsLeft None x = opened (bytes_of x) ≡ []
+IsLeft (Some s) x = (bytes : List ℕ) × (x ≡ Some bytes) × (k : ℕ) × (opened bytes ≡ s.synced ++ take k s.pending)
+
+-- Whatever a crash leaves of the file of this section, which was dropped, it is not there, or is back: all its synced records and
+-- a first part of the pending ones.
+abbrev pub MayBeBack : Section → List Call → Type 0
+MayBeBack s calls = (x : Option (List ℕ)) → MayLeave s.number calls x → IsLeft None x ⊎ IsLeft (Some s) x
+
+-- It is so of all files but one that is leaving, of which nothing is kept. There a section that was dropped may be back.
 pub record IsIndexed (es : List (ℕ × Segment)) (leaving : Option ℕ) (calls : List Call) : Type 0 where
   pub at : (n : ℕ) → ¬ IsLeaving leaving n → StandsAt n calls (lookup (is_at (nat_cmp n)) es)
   pub gone : (n : ℕ) → IsLeaving leaving n → lookup (is_at (nat_cmp n)) es ≡ None
+  pub back : (n : ℕ) → IsLeaving leaving n → (s : Section) × (s.number ≡ n) × MayBeBack s calls
 
 -- the section of this number
 unfoldable pub section_numbered : ℕ → List Section → Option Section
 section_numbered n [] = None
 section_numbered n (s ∷ sections) = if n == s.number then Some s else section_numbered n sections
 
--- What is left of a section: its synced records, and a first part of the pending ones. Of a section that is not there no record is.
-abbrev pub IsLeft : Option Section → Option (List ℕ) → Type 0
-IsLeft None x = opened (bytes_of x) ≡ []
-IsLeft (Some s) x = (bytes : List ℕ) × (x ≡ Some bytes) × (k : ℕ) × (opened bytes ≡ s.synced ++ take k s.pending)
+-- Whatever a crash leaves of the file, no record is read there, or a crash before might have left it so.
+abbrev pub LeavesOld : ℕ → List Call → List Call → Type 0
+LeavesOld n before calls = (x : Option (List ℕ)) → MayLeave n calls x → IsLeft None x ⊎ MayLeave n before x
+
+-- So it is of a file that is leaving.
+abbrev pub IsBackAsBefore : Option ℕ → List Call → List Call → Type 0
+IsBackAsBefore leaving before calls = (n : ℕ) → IsLeaving leaving n → LeavesOld n before calls
 
 -- Whatever a crash leaves of the disk is, read by the chain of gates, a journal with all synced records and a first part of the
--- pending ones of each section. Nothing is said of the file of a section that was dropped and whose removal failed.
-pub record LeavesJournal (sections : List Section) (leaving : Option ℕ) (calls : List Call) : Type 0 where
+-- pending ones of each section. A section that was dropped and whose removal failed is back at most where it might have been
+-- before the call, and as it might have been.
+pub record LeavesJournal (sections : List Section) (leaving : Option ℕ) (before calls : List Call) : Type 0 where
   pub each : (n : ℕ) (x : Option (List ℕ)) → ¬ IsLeaving leaving n → MayLeave n calls x → IsLeft (section_numbered n sections) x
+  pub back : IsBackAsBefore leaving before calls

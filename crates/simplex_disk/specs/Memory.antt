@@ -7,7 +7,7 @@ use Rattle.std.specs.BTreeMap.{is_at}
 use Rattle.simplex_journal.specs.Faults.{raised}
 use Rattle.simplex_disk.specs.declared.error.DiskError.{DiskError}
 use Rattle.simplex_disk.specs.declared.error.DiskError.TheVariants.{Failed}
-use Rattle.simplex_disk.specs.Calls.{Call, content}
+use Rattle.simplex_disk.specs.Calls.{Call, content, MayLeave}
 
 -- Its files by number, how many calls were answered, which ones were to fail from the first on, which one
 -- from now on is to fail, and how many failed.
@@ -42,9 +42,10 @@ after_call disk kept = record { kept = kept; made = next disk.made; failing = di
 abbrev pub answer_of : Bool → Result (Unit {0}) DiskError
 answer_of failed = if failed then Err Failed else Ok tt
 
--- Its calls may have been any that leave of each file what a read gives.
+-- Its calls may have been any by which each file reads as it does, and may be left so.
 pub record IsLeftBy (kept : List (ℕ × List ℕ)) (calls : List Call) : Type 0 where
   pub each : (n : ℕ) → content n calls ≡ file_in kept n
+  pub stays : (n : ℕ) → MayLeave n calls (content n calls)
 
 -- It tells its order where no other call is to fail.
 abbrev pub order_told : List ℕ → ℕ → Option ℕ

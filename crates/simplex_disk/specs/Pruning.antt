@@ -12,12 +12,18 @@ use Rattle.simplex_disk.specs.Index.{section_numbered, IsLeft, IsLeaving}
 abbrev pub IsImage : List Call → (ℕ → Option (List ℕ)) → Type 0
 IsImage calls image = (n : ℕ) → MayLeave n calls (image n)
 
+-- What a crash leaves of the file of a section that was dropped before: no record is read there, or none more is gone yet, and a
+-- crash before the call might have left it so.
+abbrev pub IsFirstGone : ℕ → ℕ → List Call → Option (List ℕ) → Type 0
+IsFirstGone count n before x = IsLeft None x ⊎ ((count ≡ 0) × MayLeave n before x)
+
 -- Each whole image is a journal from which the first sections below the least number are gone, and that has of the others all
--- synced records and a first part of the pending ones. Nothing is said of the file of a section that was dropped before and
--- whose removal failed.
-pub record LeavesPruned (least : ℕ) (sections : List Section) (leaving : Option ℕ) (calls : List Call) : Type 0 where
+-- synced records and a first part of the pending ones. A section that was dropped before and whose removal failed is gone first:
+-- it is back at most where no other is gone, and as it might have been back before the call.
+pub record LeavesPruned (least : ℕ) (sections : List Section) (leaving : Option ℕ) (before calls : List Call) : Type 0 where
   pub each : (image : ℕ → Option (List ℕ)) → IsImage calls image
       → (count : ℕ) × ((n : ℕ) → ¬ IsLeaving leaving n → IsLeft (section_numbered n (pruned_first count least sections)) (image n))
+      × ((n : ℕ) → IsLeaving leaving n → IsFirstGone count n before (image n))
 
 -- What is leaving now was leaving before, or is below the least number.
 abbrev pub LeavesNoneAbove : ℕ → Option ℕ → Option ℕ → Type 0

@@ -1,6 +1,6 @@
 //! A disk that may crash.
 ghost use Rattle.std.specs.Prelude.{◌≡◌, ◌≢◌, ◌≤◌, ◌<◌, ◌∷◌, ℕ, List, Option, Some, length, IfOk, OnOk, OnErr, IsErrOf, IfSome, true};
-ghost use Rattle.simplex_disk.specs.Calls.{Call, Write, Cut, Remove, Sync, Settle, Leave, bytes_of, content, WritesInPart, CutsInPart, RemovesInPart};
+ghost use Rattle.simplex_disk.specs.Calls.{Call, Write, Cut, Remove, Sync, Settle, Leave, bytes_of, content, MayLeave, WritesInPart, CutsInPart, RemovesInPart};
 ghost use Rattle.simplex_disk.specs.Answers.{Counts, Heeds, OrderStands, IsListing};
 
 use crate::error::DiskError;
@@ -75,6 +75,9 @@ pub trait Disk {
 
     // a read gives what its calls left
     ghost reads: { (disk : Self) (calls : List Call) → StandsFor disk calls → (n : ℕ) → content n calls ≡ contents disk n };
+
+    // and so a crash may leave it
+    ghost stays: { (disk : Self) (calls : List Call) → StandsFor disk calls → (n : ℕ) → MayLeave n calls (content n calls) };
 }
 
 /// A disk that can be left in a named image, and whose calls can be ordered to fail.

@@ -1,13 +1,13 @@
 //! The journal.
-ghost use Rattle.std.specs.Prelude.{◌≡◌, List, None, Some, OnOk, OnErr, IfOk, IfErr, IfSome, IsErrOf};
+ghost use Rattle.std.specs.Prelude.{◌≡◌, ℕ, List, None, Some, OnOk, OnErr, IfOk, IfErr, IfSome, IsErrOf};
 ghost use Rattle.std.specs.Result.{MatchResult};
 ghost use Rattle.simplex_journal.specs.Contents.{IsRising};
 ghost use Rattle.simplex_journal.specs.Faults.{Counts};
-ghost use Rattle.simplex_journal.specs.Journal.{appended, synced_at, all_synced, pruned, crashed, replayed};
+ghost use Rattle.simplex_journal.specs.Journal.{Section, appended, synced_at, all_synced, pruned, crashed, replayed};
 ghost use Rattle.simplex_journal.specs.Order.{no_order, Obeys, Stands, PrunesInPart};
 ghost use Rattle.simplex_disk.specs.Calls.{Call};
 ghost use Rattle.simplex_disk.specs.Contents.{OnDisk, sections_kept, IsOf, Any};
-ghost use Rattle.simplex_disk.specs.Index.{LeavesJournal};
+ghost use Rattle.simplex_disk.specs.Index.{LeavesJournal, IsLeaving, IsBackAsBefore, MayBeBack};
 ghost use Rattle.simplex_disk.specs.Moments.{Always, Then};
 ghost use Rattle.simplex_disk.specs.Orders.{order_told};
 ghost use Rattle.simplex_disk.specs.Goes.{LeavesNoMore};
@@ -91,7 +91,9 @@ impl<D: Disk> DiskJournal<D> {
     /// A crash right now leaves a journal with all synced records, and a first part of the pending ones: that is said, and nothing
     /// done.
     pub fn outlasts_a_crash(&self)
-        ensures { (calls : List Call) → IsOf D.StandsFor self.now calls → LeavesJournal (sections_kept D.contents self.now) self.now.leaving calls }
+        ensures left { (calls : List Call) → IsOf D.StandsFor self.now calls → LeavesJournal (sections_kept D.contents self.now) self.now.leaving calls calls }
+        // Of a section that was dropped and whose removal failed it leaves that section, with all that was synced, or nothing.
+        ensures back { (calls : List Call) → IsOf D.StandsFor self.now calls → (n : ℕ) → IsLeaving self.now.leaving n → (s : Section) × (s.number ≡ n) × MayBeBack s calls }
     {}
 
     /// The disk, as it is.
@@ -125,7 +127,7 @@ impl<D: StopDisk> Journal for DiskJournal<D> {
         ensures faults { Counts (D.fault_count self.old.disk) result (D.fault_count self.new.disk) }
         ensures leaving { LeavesNoMore self.old.leaving self.new.leaving }
         // A crash at any moment of the call leaves a journal with all synced records, and a first part of the pending ones.
-        ensures moments { (calls : List Call) → IsOf D.StandsFor self.old calls → Then (IsOf D.StandsFor self.new) (Always (LeavesJournal (sections_kept D.contents self.old) self.old.leaving) calls) Any }
+        ensures moments { (calls : List Call) → IsOf D.StandsFor self.old calls → Then (IsOf D.StandsFor self.new) (Always (LeavesJournal (sections_kept D.contents self.old) self.old.leaving calls) calls) Any }
     {
         begin_call(&mut self.disk, self.failing_call, 1);
         let appended = append_to(
@@ -146,7 +148,7 @@ impl<D: StopDisk> Journal for DiskJournal<D> {
         ensures faults { Counts (D.fault_count self.old.disk) result (D.fault_count self.new.disk) }
         ensures leaving { self.new.leaving ≡ self.old.leaving }
         // A crash at any moment of the call leaves a journal with all synced records, and a first part of the pending ones.
-        ensures moments { (calls : List Call) → IsOf D.StandsFor self.old calls → Then (IsOf D.StandsFor self.new) (Always (LeavesJournal (sections_kept D.contents self.old) self.old.leaving) calls) Any }
+        ensures moments { (calls : List Call) → IsOf D.StandsFor self.old calls → Then (IsOf D.StandsFor self.new) (Always (LeavesJournal (sections_kept D.contents self.old) self.old.leaving calls) calls) Any }
     {
         begin_call(&mut self.disk, self.failing_call, 1);
         let synced = sync_at(&mut self.disk, &mut self.index, section);
@@ -160,7 +162,7 @@ impl<D: StopDisk> Journal for DiskJournal<D> {
         ensures faults { Counts (D.fault_count self.old.disk) result (D.fault_count self.new.disk) }
         ensures leaving { self.new.leaving ≡ self.old.leaving }
         // A crash at any moment of the call leaves a journal with all synced records, and a first part of the pending ones.
-        ensures moments { (calls : List Call) → IsOf D.StandsFor self.old calls → Then (IsOf D.StandsFor self.new) (Always (LeavesJournal (sections_kept D.contents self.old) self.old.leaving) calls) Any }
+        ensures moments { (calls : List Call) → IsOf D.StandsFor self.old calls → Then (IsOf D.StandsFor self.new) (Always (LeavesJournal (sections_kept D.contents self.old) self.old.leaving calls) calls) Any }
     {
         begin_call(&mut self.disk, self.failing_call, 1);
         let synced = sync_each(&mut self.disk, &mut self.index, self.alloc);
@@ -176,7 +178,7 @@ impl<D: StopDisk> Journal for DiskJournal<D> {
         ensures gone { OnOk result (self.new.leaving ≡ None) }
         ensures leaving { LeavesNoneAbove min self.old.leaving self.new.leaving }
         // A crash at any moment of the call leaves a journal from which the first sections below the least number are gone.
-        ensures moments { (calls : List Call) → IsOf D.StandsFor self.old calls → Then (IsOf D.StandsFor self.new) (Always (LeavesPruned min (sections_kept D.contents self.old) self.old.leaving) calls) Any }
+        ensures moments { (calls : List Call) → IsOf D.StandsFor self.old calls → Then (IsOf D.StandsFor self.new) (Always (LeavesPruned min (sections_kept D.contents self.old) self.old.leaving calls) calls) Any }
     {
         let Some(number) = call_to_fail(&self.index, &self.leaving, self.failing_sections, min)
         else {
@@ -215,7 +217,7 @@ impl<D: StopDisk> Journal for DiskJournal<D> {
         ensures order { Stands (order_told (D.order self.old.disk) self.old.order) (order_told (D.order self.new.disk) self.new.order) }
         ensures faults { D.fault_count self.new.disk ≡ D.fault_count self.old.disk }
         // A crash right after it leaves each file as it reads, so that the disk may be opened again.
-        ensures moments { (calls : List Call) → IsOf D.StandsFor self.old calls → Then (IsOf D.StandsFor self.new) Any IsSettled }
+        ensures moments { (calls : List Call) → IsOf D.StandsFor self.old calls → Then (IsOf D.StandsFor self.new) Any (λ now. IsSettled now × IsBackAsBefore self.old.leaving calls now) }
         ensures leaving { self.new.leaving ≡ self.old.leaving }
     {
         crash(&mut self.disk, &mut self.index, keep);

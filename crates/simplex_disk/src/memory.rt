@@ -95,6 +95,8 @@ impl Disk for MemoryDisk {
 
     ghost reads = { λ disk calls left. left.each };
 
+    ghost stays = { λ disk calls left. left.stays };
+
     fn read(&mut self, alloc: Global, file: u64) -> Result<Vec<u8>, DiskError>
         ensures bytes { IfOk result (λ bytes. bytes.items ≡ bytes_of (file_in self.old.kept file)) }
         ensures stays { (calls : List Call) → IsLeftBy self.old.kept calls → IsLeftBy self.new.kept calls }

@@ -52,7 +52,7 @@ fn drop_section<D: Disk>(
 ) -> Result<(), DiskError>
     requires { BeginsAt number index.old.entries }
     ensures stands { (calls : List Call) → D.StandsFor disk.old calls → IsIndexed index.old.entries None calls → leaving.old ≡ None → (least : ℕ) → number < least
-        → Then (D.StandsFor disk.new) (Always (LeavesPruned least (sections_at calls index.old.entries) None) calls)
+        → Then (D.StandsFor disk.new) (Always (LeavesPruned least (sections_at calls index.old.entries) None calls) calls)
         (λ now. IsIndexed index.new.entries leaving.new now × (sections_at now index.new.entries ≡ pruned_first 1 least (sections_at calls index.old.entries))) }
     ensures gone { OnOk result (leaving.new ≡ None) }
     ensures leaves { LeavesNoMore (Some number) leaving.new }
@@ -77,7 +77,7 @@ pub(crate) fn drop_sections<D: Disk>(
     least: u64,
 ) -> Result<(), DiskError>
     ensures stands { (calls : List Call) → D.StandsFor disk.old calls → IsIndexed index.old.entries None calls → leaving.old ≡ None
-        → Then (D.StandsFor disk.new) (Always (LeavesPruned least (sections_at calls index.old.entries) None) calls)
+        → Then (D.StandsFor disk.new) (Always (LeavesPruned least (sections_at calls index.old.entries) None calls) calls)
         (λ now. IsIndexed index.new.entries leaving.new now
         × MatchResult result (λ _. (leaving.new ≡ None) × (sections_at now index.new.entries ≡ pruned_first count least (sections_at calls index.old.entries)))
         (λ _. (dropped : ℕ) × (sections_at now index.new.entries ≡ pruned_first dropped least (sections_at calls index.old.entries))
@@ -109,7 +109,7 @@ pub(crate) fn prune_files<D: Disk>(
 ) -> Result<(), DiskError>
     requires { (calls : List Call) × D.StandsFor disk.old calls × IsIndexed index.old.entries leaving.old calls }
     ensures stands { (calls : List Call) → D.StandsFor disk.old calls → IsIndexed index.old.entries leaving.old calls
-        → Then (D.StandsFor disk.new) (Always (LeavesPruned least (sections_at calls index.old.entries) leaving.old) calls)
+        → Then (D.StandsFor disk.new) (Always (LeavesPruned least (sections_at calls index.old.entries) leaving.old calls) calls)
         (λ now. IsIndexed index.new.entries leaving.new now
         × MatchResult result (λ _. sections_at now index.new.entries ≡ pruned least (sections_at calls index.old.entries))
         (λ e. (dropped : ℕ) × (sections_at now index.new.entries ≡ pruned_first dropped least (sections_at calls index.old.entries))

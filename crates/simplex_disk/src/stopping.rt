@@ -6,7 +6,7 @@ ghost use Rattle.simplex_disk.specs.Answers.{OrderStands};
 ghost use Rattle.simplex_disk.specs.Calls.{Call};
 ghost use Rattle.simplex_disk.specs.Chain.{total, places};
 ghost use Rattle.simplex_disk.specs.Contents.{Any};
-ghost use Rattle.simplex_disk.specs.Index.{IsIndexed, sections_at};
+ghost use Rattle.simplex_disk.specs.Index.{IsIndexed, IsBackAsBefore, sections_at};
 ghost use Rattle.simplex_disk.specs.Moments.{AlwaysOf, Then};
 ghost use Rattle.simplex_disk.specs.Opening.{IsSettledAt, IsSettled};
 ghost use Rattle.simplex_disk.specs.Segments.{IsSegment};
@@ -80,7 +80,7 @@ fn crash_at<D: StopDisk>(disk: &mut D, index: &mut Index, number: u64, keep: u64
 pub(crate) fn crash<D: StopDisk>(disk: &mut D, index: &mut Index, keep: u64)
     requires { (calls : List Call) × D.StandsFor disk.old calls × ((leaving : Option ℕ) × IsIndexed index.old.entries leaving calls) }
     ensures stands { (calls : List Call) → D.StandsFor disk.old calls → (leaving : Option ℕ) → IsIndexed index.old.entries leaving calls
-        → Then (D.StandsFor disk.new) Any (λ now. IsIndexed index.new.entries leaving now × IsSettled now × (sections_at now index.new.entries ≡ crashed keep (sections_at calls index.old.entries))) }
+        → Then (D.StandsFor disk.new) Any (λ now. IsIndexed index.new.entries leaving now × IsSettled now × (sections_at now index.new.entries ≡ crashed keep (sections_at calls index.old.entries)) × IsBackAsBefore leaving calls now) }
     ensures faults { D.fault_count disk.new ≡ D.fault_count disk.old }
     ensures order { OrderStands (D.order disk.old) (D.order disk.new) }
 {

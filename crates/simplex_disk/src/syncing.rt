@@ -21,7 +21,7 @@ use std::alloc::Global;
 fn open_each<D: Disk>(disk: &mut D, index: &Index) -> Result<(), DiskError>
     requires { (calls : List Call) × D.StandsFor disk.old calls × ((leaving : Option ℕ) × IsIndexed index.now.entries leaving calls) }
     ensures stands { (calls : List Call) → D.StandsFor disk.old calls → (leaving : Option ℕ) → IsIndexed index.now.entries leaving calls
-        → Then (D.StandsFor disk.new) (Always (LeavesJournal (sections_at calls index.now.entries) leaving) calls)
+        → Then (D.StandsFor disk.new) (Always (LeavesJournal (sections_at calls index.now.entries) leaving calls) calls)
         (λ now. IsIndexed index.now.entries leaving now × (sections_at now index.now.entries ≡ sections_at calls index.now.entries) × OnOk result (AreOpened index.now.entries now)) }
     ensures ends { Ends (D.fault_count disk.old) (D.order disk.old) result (D.fault_count disk.new) (D.order disk.new) }
     ensures named { 0 < length index.now.entries → IsNamed (D.order disk.old) result }

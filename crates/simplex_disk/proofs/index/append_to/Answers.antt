@@ -35,6 +35,6 @@ returns-clause-goes g c = λ H st indexed.
     record {
       now = u.now;
       stands = u.stands;
-      held = goes_join es l0 l1 H t.now u.now c.free_file.ensures.less t.held t.holds.1 u.held;
+      held = goes_join es l0 l1 H t.now u.now c.free_file.ensures.less indexed.gone t.held t.holds.1 u.held;
       holds = (u.holds.0, subst (λ (s : List Section). Changes c.append_bytes.result (appended c.args.number c.args.artifact.now) s (sections_at u.now c.append_bytes.new.index.entries)) t.holds.1 u.holds.1);
     }

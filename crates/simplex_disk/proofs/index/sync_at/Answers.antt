@@ -13,7 +13,7 @@ returns-in_default-clause-goes g c = λ leaving H st indexed.
     let es = c.args.index.now.entries in
     let absent : lookup (is_at (nat_cmp n)) es ≡ None = search rules in
     let same : c.get_mut.follows.lender-at-none.entries ≡ es = rw c.get_mut.follows.holds-at-none refl in
-    sync_absent n es leaving H indexed absent _ same c.sync.result (g.D.Disk.StandsFor c.args.disk.now) (g.D.Disk.StandsFor c.sync.new.self) st c.sync.ensures.ok c.sync.ensures.err
+    sync_absent n es leaving H indexed absent (g.met.D.Disk.stays c.args.disk.now H st n) _ same c.sync.result (g.D.Disk.StandsFor c.args.disk.now) (g.D.Disk.StandsFor c.sync.new.self) st c.sync.ensures.ok c.sync.ensures.err
 
 pub open_segment-requires : goal.open_segment-requires
 open_segment-requires g c =

@@ -48,9 +48,9 @@ returns-in_default-clause-stands g c = λ H st indexed none.
     record { now = t.now; stands = t.stands; held = t.held; holds = (subst (λ (l : Option ℕ). IsIndexed es l t.now) (sym t.holds.1) t.holds.0, (t.holds.1, all)) }
 
 -- the moments of one prune more
-on : (least k : ℕ) (s0 s1 : List Section) (H0 H1 H2 : List Call) → s1 ≡ pruned_first k least s0 → Always (LeavesPruned least s0 None) H0 H1 → Always (LeavesPruned least s1 None) H1 H2 → Always (LeavesPruned least s0 None) H0 H2
+on : (least k : ℕ) (s0 s1 : List Section) (H0 H1 H2 : List Call) → s1 ≡ pruned_first k least s0 → Always (LeavesPruned least s0 None H0) H0 H1 → Always (LeavesPruned least s1 None H1) H1 H2 → Always (LeavesPruned least s0 None H0) H0 H2
 on least k s0 s1 H0 H1 H2 is first second =
-    always_join (LeavesPruned least s0 None) H0 H1 H2 first (always_weaker (LeavesPruned least s1 None) (LeavesPruned least s0 None) (λ l left. pruned_on k least s0 s1 l is left) H1 H2 second)
+    always_join (LeavesPruned least s0 None H0) H0 H1 H2 first (always_weaker (LeavesPruned least s1 None H1) (LeavesPruned least s0 None H0) (λ l left. pruned_on k least s0 s1 H0 H1 l is left) H1 H2 second)
 
 pub returns-in_err-drop_section-clause-stands : goal.returns-in_err-drop_section-clause-stands
 returns-in_err-drop_section-clause-stands g c = λ H st indexed none.

@@ -10,7 +10,7 @@ use Rattle.simplex_disk.proofs.pruning.drop_sections.Given as goal
 abbrev pub invariant-loop-left : goal.invariant-loop-left
 invariant-loop-left g l = record {
   so_far : (calls : List Call) → g.D.Disk.StandsFor l.fn.disk calls → IsIndexed l.fn.index.entries None calls → l.fn.leaving ≡ None
-      → Then (g.D.Disk.StandsFor l.disk) (Always (LeavesPruned l.least (sections_at calls l.fn.index.entries) None) calls)
+      → Then (g.D.Disk.StandsFor l.disk) (Always (LeavesPruned l.least (sections_at calls l.fn.index.entries) None calls) calls)
       (λ now. IsIndexed l.index.entries None now × (l.leaving ≡ None) × ((k : ℕ) × (k + l.left ≡ l.count) × (sections_at now l.index.entries ≡ pruned_first k l.least (sections_at calls l.fn.index.entries))));
   none : l.fn.leaving ≡ None → l.leaving ≡ None;
   some : l.left ≤ l.count;

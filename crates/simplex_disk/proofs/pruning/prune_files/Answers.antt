@@ -1,7 +1,7 @@
 use Rattle.std.proofs.Common.{◌≡◌, ◌∙◌, ◌≤◌, ◌<◌, ◌+◌, ◌*◌, ℕ, List, Option, None, Some, Result, Ok, length, sym, ap, subst, rules, arith, inl, inr}
 use Rattle.simplex_journal.specs.Journal.{Section}
 use Rattle.simplex_journal.proofs.Entries.{pruned_first-zero}
-use Rattle.simplex_disk.specs.Calls.{Call}
+use Rattle.simplex_disk.specs.Calls.{Call, content}
 use Rattle.simplex_disk.specs.Index.{IsIndexed, LeavesJournal, sections_at}
 use Rattle.simplex_disk.specs.Moments.{Always}
 use Rattle.simplex_disk.specs.declared.error.DiskError.{DiskError}
@@ -12,14 +12,14 @@ use Rattle.simplex_disk.proofs.Paces.{heeded_ok, heeded_err, match_ok, match_err
 use Rattle.simplex_disk.proofs.Moments.{always_join, always_weaker}
 use Rattle.simplex_disk.proofs.Segments.{ok_of}
 use Rattle.simplex_journal.specs.Memory.{sections_of}
-use Rattle.simplex_disk.proofs.Entries.{read-same}
+use Rattle.simplex_disk.proofs.Entries.{read-same, numbered-none}
 use Rattle.simplex_disk.proofs.Whole.{moments_no}
 use Rattle.simplex_disk.proofs.Prunes.{pruned_none, pruned_but, all_pruned, pruned_or}
 use Rattle.simplex_disk.proofs.pruning.prune_files.Goals as goal
 
 -- the moments before the first section is dropped
-before : (least : ℕ) (s : List Section) (leaving : Option ℕ) (H0 H1 : List Call) → Always (LeavesJournal s leaving) H0 H1 → Always (LeavesPruned least s leaving) H0 H1
-before least s leaving H0 H1 h = always_weaker (LeavesJournal s leaving) (LeavesPruned least s leaving) (λ l left. pruned_none least s leaving l left) H0 H1 h
+before : (least : ℕ) (s : List Section) (leaving : Option ℕ) (H0 H1 : List Call) → Always (LeavesJournal s leaving H0) H0 H1 → Always (LeavesPruned least s leaving H0) H0 H1
+before least s leaving H0 H1 h = always_weaker (LeavesJournal s leaving H0) (LeavesPruned least s leaving H0) (λ l left. pruned_none least s leaving H0 l left) H0 H1 h
 
 pub returns-in_err-files-clause-stands : goal.returns-in_err-files-clause-stands
 returns-in_err-files-clause-stands g c = λ H st indexed.
@@ -92,8 +92,9 @@ returns-clause-stands g c = λ H st indexed.
     record {
       now = u.now;
       stands = u.stands;
-      held = always_join (LeavesPruned least s l0) H t.now u.now (before least s l0 H t.now t.held)
-          (always_weaker (LeavesPruned least (sections_at t.now es) None) (LeavesPruned least s l0) (λ l left. pruned_but least s (sections_at t.now es) l0 l t.holds.1 left) t.now u.now u.held);
+      held = always_join (LeavesPruned least s l0 H) H t.now u.now (before least s l0 H t.now t.held)
+          (always_weaker (LeavesPruned least (sections_at t.now es) None t.now) (LeavesPruned least s l0 H)
+          (λ l left. pruned_but least s (sections_at t.now es) l0 H t.now l t.holds.1 (λ n leaves. numbered-none (λ m. content m H) n es (indexed.gone n leaves)) left) t.now u.now u.held);
       holds = (u.holds.0, pruned_or c.drop_sections.result least s (sections_at t.now es) (sections_at u.now c.drop_sections.new.index.entries) c.drop_sections.new.leaving c.len-all.result _ _ t.holds.1 (all_pruned c.len-all.result least t.now es enough) also u.holds.1);
     }
 

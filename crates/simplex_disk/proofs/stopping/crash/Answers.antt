@@ -4,10 +4,12 @@ use Rattle.std.specs.Map.{lookup}
 use Rattle.std.specs.BTreeMap.{is_at}
 use Rattle.simplex_disk.specs.Calls.{Settle}
 use Rattle.simplex_disk.specs.Contents.{Any}
+use Rattle.simplex_disk.specs.Index.{IsLeaving}
 use Rattle.simplex_disk.specs.Stopping.{crashed_lists, IsNext}
 use Rattle.simplex_disk.proofs.Moments.{untouched}
 use Rattle.simplex_disk.proofs.Each.{done_none, done_more}
-use Rattle.simplex_disk.proofs.Crashes.{content-settle, settled-settle, IsIndexed-settle, crashed_all, left_of, smaller, small_of, some_value}
+use Rattle.simplex_disk.proofs.Crashes.{content-settle, settled-settle, old_settle, IsIndexed-settle, crashed_all, left_of, smaller, small_of, some_value}
+use Rattle.simplex_disk.proofs.Whole.{stays_of}
 use Rattle.simplex_disk.proofs.stopping.crash.Goals as goal
 
 pub loop-next-init : goal.loop-next-init
@@ -18,7 +20,7 @@ loop-next-init g c = record {
         now = Settle ∷ H;
         stands = c.settle.ensures.stands H st;
         held = tt;
-        holds = (IsIndexed-settle es leaving H indexed, settled-settle H, (0, done_none (crashed_lists c.args.keep) H (Settle ∷ H) es (λ n. content-settle n H), c.first_section-next.ensures.next));
+        holds = (IsIndexed-settle es leaving H (g.met.D.Disk.stays c.args.disk.now H st) indexed, settled-settle H, (0, done_none (crashed_lists c.args.keep) H (Settle ∷ H) es (λ n. content-settle n H), c.first_section-next.ensures.next), λ n leaves. old_settle n H (g.met.D.Disk.stays c.args.disk.now H st n));
       };
   small = λ n is. small_of c.first_section-next.result c.first_section-next.ensures.small n is;
   faults = c.settle.ensures.faults;
@@ -53,6 +55,8 @@ loop-next-preserved g c = record {
             done_more (crashed_lists c.args.keep) t.holds.2.0 n H t.now u.now c.args.index.now.entries es _ v.0 step.0 t.holds.2.1 nx.0 nx.2 v.1 step.1 (untouched n Any t.now u.now u.held) step.2,
             c.section_after-next.ensures.next,
           ),
+          λ m leaves x now. t.holds.3 m leaves x
+              ((untouched n Any t.now u.now u.held).left m (λ same. stays_of n es leaving t.now t.holds.0 v.0 v.1 (subst (λ (k : ℕ). IsLeaving leaving k) same leaves)) x now),
         );
       };
   small = λ n is. small_of c.section_after-next.result c.section_after-next.ensures.small n is;
@@ -75,5 +79,5 @@ returns-clause-stands g c = λ H st leaving indexed.
       now = t.now;
       stands = t.stands;
       held = tt;
-      holds = (t.holds.0, t.holds.1, crashed_all c.args.keep t.holds.2.0 H t.now c.args.index.now.entries es t.holds.2.1 none c.len-ordered.ensures.ordered);
+      holds = (t.holds.0, t.holds.1, crashed_all c.args.keep t.holds.2.0 H t.now c.args.index.now.entries es t.holds.2.1 none c.len-ordered.ensures.ordered, t.holds.3);
     }

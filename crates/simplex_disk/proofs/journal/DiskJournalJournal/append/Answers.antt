@@ -45,7 +45,7 @@ pub returns-clause-moments : goal.returns-clause-moments
 returns-clause-moments g c =
     let K = g.D.Disk.contents in
     let St = g.D.Disk.StandsFor in
-    subst (λ j. (calls : List Call) → IsOf St j calls → Then (λ now. St c.end_call.new.disk now × IsIndexed c.append_to-appended.new.index.entries c.append_to-appended.new.leaving now) (Always (LeavesJournal (sections_kept K j) j.leaving) calls) Any) c.self.view_is
+    subst (λ j. (calls : List Call) → IsOf St j calls → Then (λ now. St c.end_call.new.disk now × IsIndexed c.append_to-appended.new.index.entries c.append_to-appended.new.leaving now) (Always (LeavesJournal (sections_kept K j) j.leaving calls) calls) Any) c.self.view_is
     (moments c.begin_call.ensures.stands c.end_call.ensures.stands c.self.inside.index.entries c.append_to-appended.new.index.entries c.self.inside.leaving c.append_to-appended.new.leaving (λ s. LeavesJournal s c.self.inside.leaving) (Changes c.append_to-appended.result (appended c.args.section c.args.artifact.now)) c.append_to-appended.ensures.goes (K c.self.inside.disk) (g.met.D.Disk.reads c.self.inside.disk))
 
 pub returns-clause-leaving : goal.returns-clause-leaving

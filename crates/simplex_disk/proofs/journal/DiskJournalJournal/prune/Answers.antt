@@ -27,10 +27,10 @@ Prunes r least leaving begun old new = MatchResult r (λ _. new ≡ pruned least
 
 -- the one moment where nothing was called
 no_prune : (least : ℕ) (es : List (ℕ × Segment)) (leaving : Option ℕ) (H : List Call) (C : ℕ → Option (List ℕ)) → ((n : ℕ) → content n H ≡ C n) → IsIndexed es leaving H
-    → Always (LeavesPruned least (sections_in C es) leaving) H H
+    → Always (LeavesPruned least (sections_in C es) leaving H) H H
 no_prune least es leaving H C reads indexed =
-    subst (λ (s : List Section). Always (LeavesPruned least s leaving) H H) (sections_same C H es reads)
-    (always_weaker (LeavesJournal (sections_at H es) leaving) (LeavesPruned least (sections_at H es) leaving) (λ l left. pruned_none least (sections_at H es) leaving l left) H H (moments_no 0 es leaving H indexed))
+    subst (λ (s : List Section). Always (LeavesPruned least s leaving H) H H) (sections_same C H es reads)
+    (always_weaker (LeavesJournal (sections_at H es) leaving H) (LeavesPruned least (sections_at H es) leaving H) (λ l left. pruned_none least (sections_at H es) leaving H l left) H H (moments_no 0 es leaving H indexed))
 
 pub returns-in_default-clause-moments : goal.returns-in_default-clause-moments
 returns-in_default-clause-moments g c = λ H is.
@@ -111,7 +111,7 @@ pub returns-clause-moments : goal.returns-clause-moments
 returns-clause-moments g c =
     let K = g.D.Disk.contents in
     let St = g.D.Disk.StandsFor in
-    subst (λ j. (calls : List Call) → IsOf St j calls → Then (λ now. St c.end_call.new.disk now × IsIndexed c.prune_files-pruned.new.index.entries c.prune_files-pruned.new.leaving now) (Always (LeavesPruned c.args.min (sections_kept K j) j.leaving) calls) Any) c.self.view_is
+    subst (λ j. (calls : List Call) → IsOf St j calls → Then (λ now. St c.end_call.new.disk now × IsIndexed c.prune_files-pruned.new.index.entries c.prune_files-pruned.new.leaving now) (Always (LeavesPruned c.args.min (sections_kept K j) j.leaving calls) calls) Any) c.self.view_is
     (moments c.begin_call.ensures.stands c.end_call.ensures.stands c.self.inside.index.entries c.prune_files-pruned.new.index.entries c.self.inside.leaving c.prune_files-pruned.new.leaving
     (λ s. LeavesPruned c.args.min s c.self.inside.leaving) (Prunes c.prune_files-pruned.result c.args.min c.self.inside.leaving (g.D.Disk.order c.begin_call.new.disk)) c.prune_files-pruned.ensures.stands (K c.self.inside.disk) (g.met.D.Disk.reads c.self.inside.disk))
 

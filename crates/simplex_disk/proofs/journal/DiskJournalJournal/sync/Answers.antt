@@ -45,5 +45,5 @@ pub returns-clause-moments : goal.returns-clause-moments
 returns-clause-moments g c =
     let K = g.D.Disk.contents in
     let St = g.D.Disk.StandsFor in
-    subst (λ j. (calls : List Call) → IsOf St j calls → Then (λ now. St c.end_call.new.disk now × IsIndexed c.sync_at-synced.new.index.entries c.self.inside.leaving now) (Always (LeavesJournal (sections_kept K j) j.leaving) calls) Any) c.self.view_is
+    subst (λ j. (calls : List Call) → IsOf St j calls → Then (λ now. St c.end_call.new.disk now × IsIndexed c.sync_at-synced.new.index.entries c.self.inside.leaving now) (Always (LeavesJournal (sections_kept K j) j.leaving calls) calls) Any) c.self.view_is
     (moments c.begin_call.ensures.stands c.end_call.ensures.stands c.self.inside.index.entries c.sync_at-synced.new.index.entries c.self.inside.leaving c.self.inside.leaving (λ s. LeavesJournal s c.self.inside.leaving) (Changes c.sync_at-synced.result (synced_at c.args.section)) (c.sync_at-synced.ensures.goes c.self.inside.leaving) (K c.self.inside.disk) (g.met.D.Disk.reads c.self.inside.disk))

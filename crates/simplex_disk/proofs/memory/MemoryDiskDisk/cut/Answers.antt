@@ -1,4 +1,4 @@
-use Rattle.std.proofs.Common.{◌≡◌, ◌∙◌, ap, true}
+use Rattle.std.proofs.Common.{◌≡◌, ◌∙◌, ap, refl, inr, true}
 use Rattle.simplex_disk.specs.Calls.{Cut}
 use Rattle.simplex_disk.specs.Files.{kept_of}
 use Rattle.simplex_disk.specs.Memory.{Held}
@@ -11,4 +11,4 @@ returns-clause-ok c = λ calls left.
     let n = c.args.file in
     let before : kept_of c.self.inside.files.entries ≡ c.args.self.now.kept = ap (λ (h : Held). h.kept) (c.self.view_is ∙ c.in_ok-obey.ensures.ok) in
     let behind : c.count_call.new.self.kept ≡ kept_of c.cut_file.new.files.entries = ap (λ (h : Held). h.kept) c.count_call.ensures in
-    IsLeftBy-named n (Cut n c.args.len true) calls _ _ _ _ (only-cut n c.args.len true) (same_file n) before behind c.cut_file.ensures left
+    IsLeftBy-named n (Cut n c.args.len true) calls _ _ _ _ (only-cut n c.args.len true) (same_file n) (λ may. (_, may, inr refl)) before behind c.cut_file.ensures left

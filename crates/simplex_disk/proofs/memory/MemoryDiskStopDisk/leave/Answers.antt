@@ -11,4 +11,4 @@ returns-clause-stands c = λ calls left.
     let n = c.args.file in
     let before : kept_of c.self.inside.files.entries ≡ c.args.self.now.kept = ap (λ (h : Held). h.kept) (c.self.view_is) in
     let behind : kept_of c.put_byte.new.files.entries ≡ kept_of c.put_byte.new.files.entries = refl in
-    IsLeftBy-named n (Leave n c.args.place c.args.byte) calls _ _ _ _ (only-leave n c.args.place c.args.byte) (same_file n) before behind c.put_byte.ensures left
+    IsLeftBy-named n (Leave n c.args.place c.args.byte) calls _ _ _ _ (only-leave n c.args.place c.args.byte) (same_file n) (λ may. refl) before behind c.put_byte.ensures left
