@@ -1,6 +1,6 @@
 -- One more answer comes to an open request.
-use Rattle.std.proofs.Common.{◌≡◌, ℕ, ◌+◌, ◌<◌, ◌≤◌, ◌==◌, ◌&&◌, ◌||◌, ◌-◌, ◌^◌, min, List, [], ◌∷◌, ◌++◌, length, map, sum_by, Option, Some, None, true, false, Bool, refl, ap, sym, ◌∙◌, arith, cond, nat_lt}
-use Rattle.std.specs.Option.{is_none, is_some, option_map, option_map_or}
+use Rattle.std.proofs.Common.{◌≡◌, ℕ, ◌+◌, ◌<◌, ◌≤◌, ◌==◌, ◌&&◌, ◌||◌, List, [], ◌∷◌, ◌++◌, length, map, sum_by, Option, Some, None, true, false, Bool, refl, ap, sym, ◌∙◌, arith, cond, nat_lt}
+use Rattle.std.specs.Option.{is_none, option_map, option_map_or}
 use Rattle.std.specs.List.{list_any, list_all}
 use Rattle.std.proofs.lemmas.Grind.{common_steps}
 use Rattle.std.proofs.lemmas.Bool.Decides.{nat_tests}

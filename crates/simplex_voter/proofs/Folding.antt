@@ -1,5 +1,5 @@
 -- A loop that folds a change of the desk over a list.
-use Rattle.std.proofs.Common.{◌≡◌, ℕ, ◌+◌, ◌<◌, List, [], ◌∷◌, length, get_or, fold, drop, refl, ap, sym, ◌∙◌, arith, add-one, suc}
+use Rattle.std.proofs.Common.{◌≡◌, ℕ, ◌+◌, ◌<◌, List, ◌∷◌, length, get_or, fold, drop, ap, sym, ◌∙◌, add-one, suc}
 use Rattle.std.proofs.Math.Seq.{drop-cons}
 use Rattle.simplex_rules.specs.Pending.{Desk}
 use Rattle.simplex_steps.specs.Desk.{Doing}

@@ -6,9 +6,11 @@ pub mod Cases
 pub mod Reading
 pub mod Taking
 pub mod Running
+pub mod Over
 pub mod Answered
 pub mod Restoring
 pub mod Places
 pub mod Posts
 pub mod Sources
 pub mod Lives
+pub mod LivesOver

@@ -1,6 +1,5 @@
 -- What a voter stands for after a start or a step.
-use Rattle.std.proofs.Common.{◌≡◌, ℕ, Bool, true, false, List, [], ◌∷◌, Option, Some, None, refl, ap, sym, ◌∙◌, cond}
-use Rattle.std.specs.Option.{is_some, option_map}
+use Rattle.std.proofs.Common.{◌≡◌, ℕ, Bool, true, false, List, [], ◌∷◌, Option, Some, None, refl, ap, ◌∙◌, cond}
 use Rattle.std.specs.Global.{Vec}
 use Rattle.simplex_values.specs.declared.proposal.Subject.{Subject}
 use Rattle.simplex_values.specs.declared.round.Round.{Round}
@@ -18,14 +17,14 @@ use Rattle.simplex_messages.specs.declared.voter.VoterInput.{VoterInput}
 use Rattle.simplex_messages.specs.Step.{no_out}
 use Rattle.simplex_steps.specs.Desk.{Doing, begun}
 use Rattle.simplex_steps.specs.Performed.{Performed, performed, kept_by}
-use Rattle.simplex_steps.specs.Voter.{Standing, blank_desk, stepped, started}
+use Rattle.simplex_steps.specs.Voter.{blank_desk, stepped, started}
 use Rattle.simplex_steps.specs.VoterLife.{VoterMade, Given, Started, Stepped, Place, place_of, rest, unreadable, start_at, start_given, step_given}
 use Rattle.simplex_voter.specs.declared.planner.Planner.{Planner}
 use Rattle.simplex_voter.specs.declared.actor.Actor.{Actor}
-use Rattle.simplex_voter.specs.Actor.{Stays, StandsFor, floor_calls}
+use Rattle.simplex_voter.specs.Actor.{Stays, floor_calls}
 use Rattle.simplex_voter.specs.Performing.{Gave, Settled, Read, out_of, past_reading}
 use Rattle.simplex_voter.specs.Stands.{Stands, Planned, Does, Finds, rested}
-use Rattle.simplex_voter.proofs.Places.{stepped-place, idle-place, stepped-given, idle-given, none-held, start-place, start-gives, unread-place, unread-gives}
+use Rattle.simplex_voter.proofs.Places.{stepped-place, idle-place, stepped-given, idle-given, start-place, start-gives, unread-place, unread-gives}
 
 -- the voter is at this place, and gave so much
 pub record After (IsAt : Place → Type 0) (place : Place) (given : Performed) (outcome : Outcome) (out : StepOut) : Type 0 where
@@ -33,7 +32,7 @@ pub record After (IsAt : Place → Type 0) (place : Place) (given : Performed) (
   pub outcome_is : outcome ≡ given.outcome
   pub out_is : out ≡ given.out
 
-blank-standing : (made : VoterMade) → place_of made [] ≡ record { standing = record { desk = blank_desk; answers = [] }; sections = made.sections }
+pub blank-standing : (made : VoterMade) → place_of made [] ≡ record { standing = record { desk = blank_desk; answers = [] }; sections = made.sections }
 unfolding place_of
 blank-standing made = refl
 

@@ -1,16 +1,16 @@
 -- Where a voter is after a start or a step, and what that gives.
-use Rattle.std.proofs.Common.{◌≡◌, ℕ, ◌-◌, ◌==◌, Bool, true, false, List, [], ◌∷◌, take, Option, Some, None, refl, ap, sym, ◌∙◌}
-use Rattle.std.specs.Option.{is_some, option_map_or}
+use Rattle.std.proofs.Common.{◌≡◌, ℕ, true, false, List, [], ◌∷◌, Option, Some, None, refl, ap, ◌∙◌}
+use Rattle.std.specs.Option.{is_some}
 use Rattle.simplex_journal.specs.Journal.{crashed, replayed}
 use Rattle.simplex_messages.specs.declared.step.Stop.{Stop}
 use Rattle.simplex_messages.specs.declared.step.Stop.TheVariants as stops
 use Rattle.simplex_messages.specs.declared.step.Outcome.TheVariants as outcomes
 use Rattle.simplex_messages.specs.declared.voter.VoterInput.{VoterInput}
 use Rattle.simplex_messages.specs.Step.{no_out}
-use Rattle.simplex_steps.specs.Desk.{Doing, begun}
-use Rattle.simplex_steps.specs.Performed.{Performed, performed, kept_by}
-use Rattle.simplex_steps.specs.Voter.{Standing, blank_desk, stepped, started}
-use Rattle.simplex_steps.specs.VoterLife.{VoterMade, Given, Started, Stepped, Place, place_of, rest, unreadable, unread, start_performed, start_at, start_given, step_given, idle}
+use Rattle.simplex_steps.specs.Desk.{Doing}
+use Rattle.simplex_steps.specs.Performed.{performed, kept_by}
+use Rattle.simplex_steps.specs.Voter.{stepped}
+use Rattle.simplex_steps.specs.VoterLife.{VoterMade, Given, Started, Stepped, place_of, rest, unreadable, unread, start_performed, start_at, start_given, step_given, idle}
 use Rattle.simplex_voter.specs.Actor.{floor_calls}
 use Rattle.simplex_voter.specs.Performing.{past_reading}
 use Rattle.simplex_voter.proofs.Restoring.{begins-so}

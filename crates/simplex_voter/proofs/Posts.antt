@@ -1,5 +1,5 @@
 -- Messages that are put one by one, each where it is for.
-use Rattle.std.proofs.Common.{◌≡◌, ℕ, ◌+◌, ◌<◌, List, [], ◌∷◌, ◌++◌, drop, Option, Some, None, refl, sym, subst}
+use Rattle.std.proofs.Common.{◌≡◌, ℕ, ◌+◌, List, [], ◌∷◌, ◌++◌, drop, Option, Some, None, refl, sym, subst}
 use Rattle.std.specs.List.{filter_map, cons_option}
 use Rattle.simplex_values.specs.declared.feedback.Feedback.{Feedback}
 use Rattle.simplex_mailbox.specs.Post.{Posted}

@@ -1,6 +1,5 @@
 -- What a start knows again, and with which call it begins.
-use Rattle.std.proofs.Common.{◌≡◌, ℕ, ◌+◌, ◌<◌, max, Bool, true, false, List, [], ◌∷◌, ◌++◌, length, get_or, drop, take, Option, Some, None, refl, ap, sym, ◌∙◌, arith, nat_lt, cond}
-use Rattle.std.proofs.lemmas.Grind.{common_steps}
+use Rattle.std.proofs.Common.{◌≡◌, ℕ, ◌+◌, ◌<◌, Bool, true, false, List, [], ◌∷◌, ◌++◌, length, get_or, drop, take, Option, Some, None, refl, ap, ◌∙◌, arith, nat_lt, cond}
 use Rattle.simplex_wire.specs.declared.artifact.Artifact.{Artifact}
 use Rattle.simplex_wire.specs.declared.artifact.Artifact.TheVariants as artifacts
 use Rattle.simplex_wire.specs.declared.certificate.Certificate.{Certificate}
@@ -17,11 +16,10 @@ use Rattle.simplex_rules.specs.Known.{Made, Fact, Expired, Failed, Judged}
 use Rattle.simplex_rules.specs.Deadline.{triggered, expires, fails}
 use Rattle.simplex_rules.specs.Calls as state
 use Rattle.simplex_rules.specs.Calls.{pruned_view, replay_answer, certified_answer, takes_verdict, judged, facts_of, prune_answer}
-use Rattle.simplex_rules.specs.Pending.{Desk}
 use Rattle.simplex_messages.specs.declared.call.Call.{Call}
 use Rattle.simplex_messages.specs.declared.call.Call.TheVariants as calls
-use Rattle.simplex_steps.specs.Desk.{Doing, begun, make, tell}
-use Rattle.simplex_steps.specs.Voter.{block_for, report_if, updated_if, replay_verdict, activity_of, certificate_in, replay_record, replay_all, floor_view, stand_on, keep_floor, sync, prune_at, prune, begin_iteration, started, blank_desk}
+use Rattle.simplex_steps.specs.Desk.{Doing, begun, tell}
+use Rattle.simplex_steps.specs.Voter.{block_for, report_if, updated_if, replay_verdict, activity_of, certificate_in, replay_record, replay_all, stand_on, keep_floor, prune_at, prune, begin_iteration, started, blank_desk}
 use Rattle.simplex_steps.specs.VoterLife.{before_reading}
 use Rattle.simplex_values.specs.declared.round.Round.{Round}
 use Rattle.simplex_wire.specs.declared.certificate.Finalization.{Finalization}

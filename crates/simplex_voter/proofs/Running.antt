@@ -1,6 +1,6 @@
 -- The loop over the calls of a step, and what each stop makes of it.
-use Rattle.std.proofs.Common.{◌≡◌, ℕ, ◌+◌, ◌-◌, ◌<◌, ◌≤◌, ◌==◌, ◌&&◌, List, [], ◌∷◌, length, take, drop, Option, Some, None, true, false, Bool, refl, ap, sym, ◌∙◌, arith, cond, nat_lt, nat_le, zero, suc, add-one}
-use Rattle.std.specs.Option.{option_map, option_map_or}
+use Rattle.std.proofs.Common.{◌≡◌, ℕ, ◌+◌, ◌-◌, ◌==◌, ◌&&◌, List, [], ◌∷◌, length, take, drop, Option, Some, None, true, false, Bool, refl, ap, sym, ◌∙◌, arith, cond, nat_lt, nat_le, zero, suc, add-one}
+use Rattle.std.specs.Option.{is_some, option_map, option_map_or}
 use Rattle.std.proofs.lemmas.Grind.{common_steps}
 use Rattle.std.proofs.lemmas.Bool.Decides.{nat_tests}
 use Rattle.simplex_journal.specs.Journal.{Section, crashed}
@@ -18,7 +18,7 @@ use Rattle.simplex_messages.specs.declared.step.StepOut.{StepOut}
 use Rattle.simplex_messages.specs.Step.{no_out}
 use Rattle.simplex_steps.specs.Desk.{Doing}
 use Rattle.simplex_steps.specs.VoterLife.{unreadable}
-use Rattle.simplex_voter.specs.Performing.{after_order, fails_at, broken_at, out_of, Tells, Ran, Broke, Made, Gave, Settled, Reads, Read}
+use Rattle.simplex_voter.specs.Performing.{after_order, fails_at, broken_at, out_of, Tells, Ran, Passed, Made, Gave, Settled, Reads, Read}
 
 -- ---- lists of calls
 
@@ -161,43 +161,59 @@ no-order-told : {told : Option Order} → Tells no_order told → told ≡ Some 
 no-order-told t = t.is_told ∙ ap (λ (n : ℕ). Some (record { call = n; sections = 0 })) (t.stays refl)
 
 -- where a failing call ends a step
-place-failing : (number keep : ℕ) (calls : List Call) → stop_place (stops.Fail number keep) calls ≡ journal_place number calls
+pub place-failing : (number keep : ℕ) (calls : List Call) → stop_place (stops.Fail number keep) calls ≡ journal_place number calls
 unfolding stop_place
 place-failing zero keep calls = sym (none-at-zero calls)
 place-failing (suc n) keep calls = let some : nat_lt 0 (suc n) ≡ true = grind (arith, nat_tests) in rw some refl
 
-module _ (calls : List Call) (before now : List Section) (broke : Option Break) (told : Option Order) (keep : ℕ) where
-  -- no call failed, where none is named
-  pub unbroken : Broke no_order keep calls before broke now told → broke ≡ None
-  unbroken b = rw (none-at-zero calls) at b.ends
+-- all calls were made where the order names none
+pub passed : (calls : List Call) (before now : List Section) (failed : Option ℕ) (told : Option Order) → Ran no_order calls before failed now told
+    → Passed calls before (option_map (λ place. record { place = place; outcome = outcomes.Journal }) failed) now told
+passed calls before now failed told r =
+    let none : failed ≡ None = r.fails ∙ none-at-zero calls in
+    record { unbroken = rw none refl; leaves = rw none at r.leaves; tells = no-order-told r.tells }
 
-  pub unbroken-left : Broke no_order keep calls before broke now told → now ≡ after_calls calls before
-  unbroken-left b = rw (none-at-zero calls) at b.leaves
-
+module _ (calls : List Call) (before now : List Section) (broke : Option Break) (told : Option Order) where
   -- the stop names no call of the step
-  pub made-whole : (stop : Stop) → stop_place stop calls ≡ None → Broke no_order keep calls before broke now told → Made stop calls before broke now told
-  made-whole stop none b = record { ends = rw none (unbroken b); leaves = rw none (unbroken-left b); tells = no-order-told b.tells }
+  pub made-whole : (stop : Stop) → stop_place stop calls ≡ None → Passed calls before broke now told → Made stop calls before broke now told
+  made-whole stop none b = record { ends = rw none b.unbroken; leaves = rw none b.leaves; tells = b.tells }
 
-  -- a call is ordered to fail
-  pub made-failing : (number : ℕ) (told' : Option Order) → Broke (record { call = number; sections = keep }) keep calls before broke now told → told' ≡ Some no_order
-      → Made (stops.Fail number keep) calls before broke now told'
-  made-failing number told' b tells =
-      record {
-        ends = rw (place-failing number keep calls) b.ends;
-        leaves = rw (place-failing number keep calls) b.leaves;
-        tells = tells;
-      }
+-- where a call that failed ended the calls
+abbrev pub ends_there : Option ℕ → Option Break
+ends_there = option_map (λ place. record { place = place; outcome = outcomes.Journal })
+
+-- a call was ordered to fail, and none did
+pub unfailed-made : (calls : List Call) (before now : List Section) (failed : Option ℕ) (told told' : Option Order) (number keep : ℕ) → failed ≡ None
+    → Ran (record { call = number; sections = keep }) calls before failed now told → told' ≡ Some no_order → Made (stops.Fail number keep) calls before (ends_there failed) now told'
+unfailed-made calls before now failed told told' number keep none r tells =
+    let at : journal_place number calls ≡ None = sym r.fails ∙ none in
+    record {
+      ends = rw (place-failing number keep calls, at, none) refl;
+      leaves = rw (place-failing number keep calls, at) (rw none at r.leaves);
+      tells = tells;
+    }
+
+-- one did
+pub failing-made : (calls : List Call) (before now then : List Section) (failed : Option ℕ) (told told' : Option Order) (number keep p : ℕ) → failed ≡ Some p → then ≡ crashed keep now
+    → Ran (record { call = number; sections = keep }) calls before failed now told → told' ≡ Some no_order → Made (stops.Fail number keep) calls before (ends_there failed) then told'
+failing-made calls before now then failed told told' number keep p some left r tells =
+    let at : journal_place number calls ≡ Some p = sym r.fails ∙ some in
+    record {
+      ends = rw (place-failing number keep calls, at, some) refl;
+      leaves = rw (place-failing number keep calls, at) (left ∙ ap (crashed keep) (rw some at r.leaves));
+      tells = tells;
+    }
 
 -- the step was cut off
 pub made-until : (calls : List Call) (before now then : List Section) (broke : Option Break) (told told' : Option Order) (number keep place : ℕ)
-    → stop_place (stops.Cut number keep) calls ≡ Some place → Broke no_order keep (take place calls) before broke now told → then ≡ crashed keep now
+    → stop_place (stops.Cut number keep) calls ≡ Some place → Passed (take place calls) before broke now told → then ≡ crashed keep now
     → (told ≡ Some no_order → told' ≡ Some no_order)
     → Made (stops.Cut number keep) calls before (Some (record { place = place; outcome = outcomes.Cut })) then told'
 made-until calls before now then broke told told' number keep place at b left tells =
     record {
       ends = rw at refl;
-      leaves = rw at (left ∙ ap (crashed keep) (unbroken-left (take place calls) before now broke told keep b ∙ sym (cut-leaves number keep calls place (after_calls (take place calls) before))));
-      tells = tells (no-order-told b.tells);
+      leaves = rw at (left ∙ ap (crashed keep) (b.leaves ∙ sym (cut-leaves number keep calls place (after_calls (take place calls) before))));
+      tells = tells b.tells;
     }
 
 -- no call is named
@@ -256,14 +272,27 @@ settled-broken stop planned out before now broke b told some made m =
 
 -- ---- the reading
 
-pub read-all : (stop : Stop) (before : List Section) (records : Option (Vec Artifact)) (now : List Section) (told : Option Order) (b : Bool) → unreadable stop ≡ b
-    → cond b (Some (kept_by stop)) None ≡ None → Reads no_order 0 before records now told → Read stop before records now told
-read-all stop before records now told true is none r = absurd cc
-read-all stop before records now told false is none r = record { reads = rw is r.reads; leaves = rw is r.leaves; tells = r.tells }
+-- no failing call is the reading
+pub read-all : (stop : Stop) (before : List Section) (records : Option (Vec Artifact)) (now : List Section) (told : Option Order) → unreadable stop ≡ false
+    → now ≡ before → Reads no_order before records told → Read stop before records now told
+read-all stop before records now told readable same r = record { reads = rw readable r.reads; leaves = rw readable same; tells = r.tells }
 
-pub read-failing : (stop : Stop) (keep : ℕ) (before : List Section) (records : Option (Vec Artifact)) (now : List Section) (told told' : Option Order) (b : Bool) → unreadable stop ≡ b
-    → cond b (Some (kept_by stop)) None ≡ Some keep → Reads (record { call = 1; sections = keep }) keep before records now told → told' ≡ Some no_order → Read stop before records now told'
-read-failing stop keep before records now told told' false is some r tells = absurd cc
-read-failing stop keep before records now told told' true is some r tells =
-    let kept : kept_by stop ≡ keep = cc in
-    record { reads = rw is r.reads; leaves = rw (is, kept) r.leaves; tells = tells }
+-- which call of the journal is to fail, the reading or none of it
+pub read-so : (call keep first : ℕ) (before : List Section) (records : Option (Vec Artifact)) (now : List Section) (told told' : Option Order) (b : Bool) → (call == 1) ≡ b
+    → first ≡ cond b 1 0 → Reads (record { call = first; sections = keep }) before records told → now ≡ option_map_or (λ r. before) records (crashed keep before) → told' ≡ Some no_order
+    → Read (stops.Fail call keep) before records now told'
+read-so call keep first before None now told told' true is at r left tells = record { reads = rw is refl; leaves = rw is left; tells = tells }
+read-so call keep first before (Some records) now told told' true is at r left tells = absurd (let e = rw at at r.reads in cc)
+read-so call keep first before None now told told' false is at r left tells = absurd (let e = rw at at r.reads in cc)
+read-so call keep first before (Some records) now told told' false is at r left tells =
+    record { reads = rw is (rw at at r.reads); leaves = rw is left; tells = tells }
+
+pub left-none : (keep : ℕ) (before : List Section) (records : Option (Vec Artifact)) (now : List Section) → is_some records ≡ false → now ≡ crashed keep before
+    → now ≡ option_map_or (λ r. before) records (crashed keep before)
+left-none keep before None now none left = left
+left-none keep before (Some records) now none left = absurd cc
+
+pub left-some : (keep : ℕ) (before : List Section) (records : Option (Vec Artifact)) (now : List Section) → is_some records ≡ true → now ≡ before
+    → now ≡ option_map_or (λ r. before) records (crashed keep before)
+left-some keep before None now some left = absurd cc
+left-some keep before (Some records) now some left = left

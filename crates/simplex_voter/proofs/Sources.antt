@@ -1,5 +1,5 @@
 -- Whether a source holds anything, and which answer it would take.
-use Rattle.std.proofs.Common.{◌≡◌, ℕ, Bool, true, false, List, [], ◌∷◌, map, Option, Some, None, refl, ap, sym, ◌∙◌, cond, nat_le}
+use Rattle.std.proofs.Common.{◌≡◌, ℕ, Bool, true, false, List, map, Option, Some, None, refl, ap, ◌∙◌, cond, nat_le}
 use Rattle.std.specs.Option.{is_some, option_map, option_and_then}
 use Rattle.simplex_values.specs.declared.proposal.Subject.{Subject}
 use Rattle.simplex_values.specs.declared.answer.Answer.{Answer}
@@ -14,13 +14,13 @@ use Rattle.simplex_rules.specs.declared.request.ProposalState.{ProposalState}
 use Rattle.simplex_rules.specs.declared.request.ProposalState.TheVariants.{Preparing, Proposing, Waiting, Held, Closed}
 use Rattle.simplex_messages.specs.declared.voter.VoterInput.TheVariants as inputs
 use Rattle.simplex_steps.specs.Desk.{Doing, begun}
-use Rattle.simplex_steps.specs.Voter.{Standing, answer_to, first_answered, acted, take_proposal, act_on_deadline, propose, act_on_proposal, act_on_verify, act_on_certify, with_answer}
+use Rattle.simplex_steps.specs.Voter.{Standing, answer_to, acted, take_proposal, act_on_deadline, propose, act_on_proposal, act_on_verify, act_on_certify, with_answer}
 use Rattle.simplex_voter.specs.declared.request.Arrival.{Arrival}
 use Rattle.simplex_voter.specs.declared.request.OpenRequest.{OpenRequest}
 use Rattle.simplex_voter.specs.declared.request.PendingProposal.{PendingProposal}
 use Rattle.simplex_voter.specs.declared.planner.Planner.{Planner}
 use Rattle.simplex_voter.specs.Actor.{next_answer}
-use Rattle.simplex_voter.specs.Arrivals.{arrival_from, arrival_of, pending_of, opened_of, least_of, AllKept, IsKept, with_number, answer_kept}
+use Rattle.simplex_voter.specs.Arrivals.{arrival_of, pending_of, opened_of, least_of, with_number, answer_kept}
 use Rattle.simplex_voter.specs.Stands.{Stands, doing_of}
 use Rattle.simplex_voter.proofs.Taking.{answer-kept, proposal-some, proposal-none, verify-none, certify-acts, certify-first, taken_of}
 

@@ -1,5 +1,5 @@
 -- For which history a voter stands.
-use Rattle.std.specs.Prelude.{◌≡◌, ℕ, List, [], ◌∷◌, Option, Some, None}
+use Rattle.std.specs.Prelude.{◌≡◌, ◌≢◌, ℕ, List, [], ◌∷◌, length, Option, Some, None}
 use Rattle.std.specs.Option.{option_map, option_and_then}
 use Rattle.simplex_values.specs.declared.proposal.Subject.{Subject}
 use Rattle.simplex_values.specs.declared.answer.Answer.{Answer}
@@ -16,7 +16,9 @@ use Rattle.simplex_state.specs.Stands.{made_of}
 use Rattle.simplex_state.specs.declared.config.StateConfig.{StateConfig}
 use Rattle.simplex_messages.specs.declared.call.Call.{Call}
 use Rattle.simplex_messages.specs.declared.call.Call.TheVariants as calls
+use Rattle.simplex_messages.specs.declared.step.Stop.{Stop}
 use Rattle.simplex_messages.specs.declared.step.Outcome.{Outcome}
+use Rattle.simplex_messages.specs.declared.step.Outcome.TheVariants as outcomes
 use Rattle.simplex_messages.specs.declared.step.StepOut.{StepOut}
 use Rattle.simplex_messages.specs.declared.voter.VoterInput.{VoterInput}
 use Rattle.simplex_messages.specs.declared.voter.VoterInput.TheVariants as inputs
@@ -26,6 +28,7 @@ use Rattle.simplex_steps.specs.Voter.{Standing, answer_to, first_answered}
 use Rattle.simplex_steps.specs.VoterLife.{VoterMade, Given, Place, place_of}
 use Rattle.simplex_voter.specs.Arrivals.{with_number}
 use Rattle.simplex_voter.specs.Stands.{Stands}
+use Rattle.simplex_voter.specs.Turned.{Becomes, BecomesFirst}
 use Rattle.simplex_voter.specs.declared.config.Config.{Config}
 use Rattle.simplex_voter.specs.declared.actor.Actor.{Actor}
 
@@ -102,3 +105,47 @@ module _ {S L J : Type 0} where
   GivesFirst attests elects sections order actor rule outcome out =
       (made : VoterMade) → StandsFor attests elects sections order actor made []
       → (outcome ≡ (rule made []).outcome) × (out ≡ (rule made []).out)
+
+  -- ---- over any journal, also one that does not tell which of its calls fail
+
+  abbrev pub journal_of : Actor S L J → J
+  journal_of actor = actor.journal
+
+  -- the voter is where the history says, whatever its journal tells
+  pub record StaysOver (attests : S → Subject → Option Attestation) (elects : L → Round → ℕ) (sections : J → List Section) (actor : Actor S L J) (made : VoterMade) (place : Place) : Type 0 where
+    pub floor : actor.floor ≡ made.floor
+    pub planner : Stands attests elects actor.planner made.rules place.standing.answers (begun place.standing.desk)
+    pub sections_are : sections actor.journal ≡ place.sections
+
+  -- the voter stands for what it was given, the newest first. A stop of the history is what a given one became
+  unfoldable pub StandsOver : (S → Subject → Option Attestation) → (L → Round → ℕ) → (J → List Section) → Actor S L J → VoterMade → List Given → Type 0
+  StandsOver attests elects sections actor made past = StaysOver attests elects sections actor made (place_of made past)
+
+  abbrev pub TakesOver : (S → Subject → Option Attestation) → (L → Round → ℕ) → (J → List Section) → Actor S L J → Actor S L J → Given → Type 0
+  TakesOver attests elects sections old new given =
+      (made : VoterMade) (past : List Given) → StandsOver attests elects sections old made past → StandsOver attests elects sections new made (given ∷ past)
+
+  abbrev pub AnswersOver : {R : Type 0} → (S → Subject → Option Attestation) → (L → Round → ℕ) → (J → List Section) → Actor S L J → (VoterMade → List Given → R) → R → Type 0
+  AnswersOver attests elects sections actor rule answer =
+      (made : VoterMade) (past : List Given) → StandsOver attests elects sections actor made past → answer ≡ rule made past
+
+  -- What a step does over any journal. There is a stop that the given one became by what the journal did: the step gives
+  -- what the rule says with that stop, and leaves of the journal what is left so. Where no call of the journal ended the
+  -- step, the voter stands for it.
+  pub record Fares (attests : S → Subject → Option Attestation) (elects : L → Round → ℕ) (sections : J → List Section) (old new : Actor S L J) (stop : Stop) (outcome : Outcome) (out : StepOut) (given : Stop → Given) (rule : Stop → VoterMade → List Given → Performed) (left : Stop → VoterMade → List Given → List Section) : Type 0 where
+    pub turned : Stop
+    pub becomes : Becomes stop (length out.calls) turned
+    pub gives : (made : VoterMade) (past : List Given) → StandsOver attests elects sections old made past
+        → (outcome ≡ (rule turned made past).outcome) × (out ≡ (rule turned made past).out)
+    pub leaves : (made : VoterMade) (past : List Given) → StandsOver attests elects sections old made past → sections new.journal ≡ left turned made past
+    pub stands : outcome ≢ outcomes.Journal → TakesOver attests elects sections old new (given turned)
+
+  -- the same of a start, which comes first
+  pub record FaresFirst (attests : S → Subject → Option Attestation) (elects : L → Round → ℕ) (sections : J → List Section) (old new : Actor S L J) (stop : Stop) (outcome : Outcome) (out : StepOut) (given : Stop → Given) (rule : Stop → VoterMade → List Given → Performed) (left : Stop → VoterMade → List Given → List Section) : Type 0 where
+    pub turned : Stop
+    pub becomes : BecomesFirst stop (length out.calls) turned
+    pub gives : (made : VoterMade) → StandsOver attests elects sections old made []
+        → (outcome ≡ (rule turned made []).outcome) × (out ≡ (rule turned made []).out)
+    pub leaves : (made : VoterMade) → StandsOver attests elects sections old made [] → sections new.journal ≡ left turned made []
+    pub stands : outcome ≢ outcomes.Journal
+        → (made : VoterMade) → StandsOver attests elects sections old made [] → StandsOver attests elects sections new made (given turned ∷ [])

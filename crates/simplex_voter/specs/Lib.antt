@@ -2,3 +2,4 @@ pub mod Actor
 pub mod Arrivals
 pub mod Performing
 pub mod Stands
+pub mod Turned

@@ -10,7 +10,8 @@ ghost use Rattle.simplex_state.specs.Stands.{IsConfigured};
 ghost use Rattle.simplex_steps.specs.Engine.{for_batcher, for_resolver};
 ghost use Rattle.simplex_steps.specs.Voter.{takes_answer, acted};
 ghost use Rattle.simplex_steps.specs.VoterLife.{VoterMade, Given, Started, Stepped, Answered, place_of, start_given, step_given};
-ghost use Rattle.simplex_voter.specs.Actor.{state_config, voter_made, StandsFor, Takes, Answers, Gives, Starts, GivesFirst, next_answer};
+ghost use Rattle.simplex_voter.specs.Actor.{state_config, voter_made, StandsFor, Takes, Answers, Gives, Starts, GivesFirst, StandsOver, TakesOver, AnswersOver, Fares, FaresFirst, journal_of, next_answer};
+ghost use Rattle.simplex_voter.specs.Turned.{FaultsAt, step_left, start_left};
 
 use crate::config::Config;
 use crate::performing::settle;
@@ -36,7 +37,8 @@ pub struct Actor<S, L, J> {
 }
 
 impl<S: Scheme + Drop, L: Elector + Drop, J: Journal + Drop> Actor<S, L, J> {
-    /// A voter that has not started yet, over what the journal holds.
+    /// A voter that has not started yet, over what the journal holds. Of a journal that tells which of its calls fails,
+    /// and names none, more is known than of any other.
     pub fn new(
         alloc: Global,
         config: Config<S, L>,
@@ -44,9 +46,10 @@ impl<S: Scheme + Drop, L: Elector + Drop, J: Journal + Drop> Actor<S, L, J> {
         now: u64,
     ) -> Result<Actor<S, L, J>, AllocError>
         requires limits { IsConfigured S.members L.built_for L.cuts (state_config config) }
-        requires order { J.order journal ≡ Some no_order }
         requires clock { now < 2 ^ 63 }
-        ensures { IfOk result (λ actor. StandsFor S.attests L.elects J.sections J.order actor (voter_made S.attests S.member L.elects L.cuts config now (J.sections journal)) []) }
+        ensures stands { IfOk result (λ actor. J.order journal ≡ Some no_order → StandsFor S.attests L.elects J.sections J.order actor (voter_made S.attests S.member L.elects L.cuts config now (J.sections journal)) []) }
+        ensures over { IfOk result (λ actor. StandsOver S.attests L.elects J.sections actor (voter_made S.attests S.member L.elects L.cuts config now (J.sections journal)) []) }
+        ensures journal { IfOk result (λ actor. journal_of actor ≡ journal) }
     {
         let settings = StateConfig {
             scheme: config.scheme,
@@ -82,6 +85,8 @@ impl<S: Scheme + Drop, L: Elector + Drop, J: Journal + Drop> Actor<S, L, J> {
         requires empty { out.old ≡ no_out }
         ensures stands { OnOk result (Starts S.attests L.elects J.sections J.order self.old self.new (Started now stop.now)) }
         ensures gives { IfOk result (λ outcome. GivesFirst S.attests L.elects J.sections J.order self.old (λ made past. start_given made past now stop.now) outcome out.new) }
+        ensures over { IfOk result (λ outcome. FaresFirst S.attests L.elects J.sections self.old self.new stop.now outcome out.new (λ turned. Started now turned) (λ turned made past. start_given made past now turned) (λ turned made past. start_left made past now stop.now turned)) }
+        ensures faults { IfOk result (λ outcome. FaultsAt outcome (J.fault_count (journal_of self.old)) (J.fault_count (journal_of self.new))) }
         ensures batcher { OnOk result (Posted B.puts batcher.old (filter_map for_batcher out.new.handed) batcher.new) }
         ensures resolver { OnOk result (Posted R.puts resolver.old (filter_map for_resolver out.new.handed) resolver.new) }
     {
@@ -104,6 +109,8 @@ impl<S: Scheme + Drop, L: Elector + Drop, J: Journal + Drop> Actor<S, L, J> {
         requires empty { out.old ≡ no_out }
         ensures stands { OnOk result (Takes S.attests L.elects J.sections J.order self.old self.new (Stepped input now stop.now)) }
         ensures gives { IfOk result (λ outcome. Gives S.attests L.elects J.sections J.order self.old (λ made past. step_given made past input now stop.now) outcome out.new) }
+        ensures over { IfOk result (λ outcome. Fares S.attests L.elects J.sections self.old self.new stop.now outcome out.new (λ turned. Stepped input now turned) (λ turned made past. step_given made past input now turned) (λ turned made past. step_left made past input now stop.now turned)) }
+        ensures faults { IfOk result (λ outcome. FaultsAt outcome (J.fault_count (journal_of self.old)) (J.fault_count (journal_of self.new))) }
         ensures batcher { OnOk result (Posted B.puts batcher.old (filter_map for_batcher out.new.handed) batcher.new) }
         ensures resolver { OnOk result (Posted R.puts resolver.old (filter_map for_resolver out.new.handed) resolver.new) }
     {
@@ -123,6 +130,8 @@ impl<S: Scheme + Drop, L: Elector + Drop, J: Journal + Drop> Actor<S, L, J> {
         requires empty { out.old ≡ no_out }
         ensures stands { OnOk result (Starts S.attests L.elects J.sections J.order self.old self.new (Started now stop.now)) }
         ensures gives { IfOk result (λ outcome. GivesFirst S.attests L.elects J.sections J.order self.old (λ made past. start_given made past now stop.now) outcome out.new) }
+        ensures over { IfOk result (λ outcome. FaresFirst S.attests L.elects J.sections self.old self.new stop.now outcome out.new (λ turned. Started now turned) (λ turned made past. start_given made past now turned) (λ turned made past. start_left made past now stop.now turned)) }
+        ensures faults { IfOk result (λ outcome. FaultsAt outcome (J.fault_count (journal_of self.old)) (J.fault_count (journal_of self.new))) }
     {
         let Some(records) = read(&mut self.journal, self.alloc, stop)? else {
             list_floor(out, &self.floor, self.alloc)?;
@@ -147,6 +156,8 @@ impl<S: Scheme + Drop, L: Elector + Drop, J: Journal + Drop> Actor<S, L, J> {
         requires empty { out.old ≡ no_out }
         ensures stands { OnOk result (Takes S.attests L.elects J.sections J.order self.old self.new (Stepped input now stop.now)) }
         ensures gives { IfOk result (λ outcome. Gives S.attests L.elects J.sections J.order self.old (λ made past. step_given made past input now stop.now) outcome out.new) }
+        ensures over { IfOk result (λ outcome. Fares S.attests L.elects J.sections self.old self.new stop.now outcome out.new (λ turned. Stepped input now turned) (λ turned made past. step_given made past input now turned) (λ turned made past. step_left made past input now stop.now turned)) }
+        ensures faults { IfOk result (λ outcome. FaultsAt outcome (J.fault_count (journal_of self.old)) (J.fault_count (journal_of self.new))) }
     {
         let is_held = self.planner.plan(input, now)?;
         if !is_held {
@@ -158,59 +169,70 @@ impl<S: Scheme + Drop, L: Elector + Drop, J: Journal + Drop> Actor<S, L, J> {
     }
 
     /// Takes the application's answer, if its request is open, unanswered and asks for such an answer. Whether it did.
-    #[tactic(auto, unfolding(crate::specs::Actor::StandsFor, simplex_steps::specs::VoterLife::place_of))]
+    #[tactic(auto, unfolding(crate::specs::Actor::StandsFor, crate::specs::Actor::StandsOver, simplex_steps::specs::VoterLife::place_of))]
     pub fn answer(&mut self, request: u64, answer: Answer) -> bool
         ensures stands { Takes S.attests L.elects J.sections J.order self.old self.new (Answered request answer) }
         ensures answer { Answers S.attests L.elects J.sections J.order self.old (λ made past. takes_answer (place_of made past).standing request answer) result }
+        ensures stands_over { TakesOver S.attests L.elects J.sections self.old self.new (Answered request answer) }
+        ensures answer_over { AnswersOver S.attests L.elects J.sections self.old (λ made past. takes_answer (place_of made past).standing request answer) result }
+        ensures journal { journal_of self.new ≡ journal_of self.old }
     {
         self.planner.answer(request, answer)
     }
 
     /// Where the pending proposal stands, if there is one.
-    #[tactic(auto, unfolding(crate::specs::Actor::StandsFor))]
+    #[tactic(auto, unfolding(crate::specs::Actor::StandsFor, crate::specs::Actor::StandsOver))]
     pub fn proposal_state(&self) -> Option<ProposalState>
-        ensures { Answers S.attests L.elects J.sections J.order self.now (λ made past. option_map (λ p. p.state) (place_of made past).standing.desk.proposal) result }
+        ensures told { Answers S.attests L.elects J.sections J.order self.now (λ made past. option_map (λ p. p.state) (place_of made past).standing.desk.proposal) result }
+        ensures over { AnswersOver S.attests L.elects J.sections self.now (λ made past. option_map (λ p. p.state) (place_of made past).standing.desk.proposal) result }
     {
         self.planner.proposal_state()
     }
 
     /// Whether the source holds anything.
-    #[tactic(auto, unfolding(crate::specs::Actor::StandsFor))]
+    #[tactic(auto, unfolding(crate::specs::Actor::StandsFor, crate::specs::Actor::StandsOver))]
     pub fn holds(&self, input: &VoterInput, now: u64) -> bool
-        ensures { Answers S.attests L.elects J.sections J.order self.now (λ made past. is_some (acted made.rules now (place_of made past).standing input.now)) result }
+        ensures told { Answers S.attests L.elects J.sections J.order self.now (λ made past. is_some (acted made.rules now (place_of made past).standing input.now)) result }
+        ensures over { AnswersOver S.attests L.elects J.sections self.now (λ made past. is_some (acted made.rules now (place_of made past).standing input.now)) result }
     {
         self.planner.holds(input, now)
     }
 
     /// The answer that a step with this source would take, and its request.
-    #[tactic(auto, unfolding(crate::specs::Actor::StandsFor))]
+    #[tactic(auto, unfolding(crate::specs::Actor::StandsFor, crate::specs::Actor::StandsOver))]
     pub fn next_answer(&self, input: &VoterInput) -> Option<(u64, Answer)>
-        ensures { Answers S.attests L.elects J.sections J.order self.now (λ made past. next_answer (place_of made past).standing input.now) result }
+        ensures told { Answers S.attests L.elects J.sections J.order self.now (λ made past. next_answer (place_of made past).standing input.now) result }
+        ensures over { AnswersOver S.attests L.elects J.sections self.now (λ made past. next_answer (place_of made past).standing input.now) result }
     {
         self.planner.next_answer(input)
     }
 
     /// The view that the member is in.
-    #[tactic(auto, unfolding(crate::specs::Actor::StandsFor))]
+    #[tactic(auto, unfolding(crate::specs::Actor::StandsFor, crate::specs::Actor::StandsOver))]
     pub fn current_view(&self) -> View
-        ensures { Answers S.attests L.elects J.sections J.order self.now (λ made past. current_of made.rules (place_of made past).standing.desk.known) result }
+        ensures told { Answers S.attests L.elects J.sections J.order self.now (λ made past. current_of made.rules (place_of made past).standing.desk.known) result }
+        ensures over { AnswersOver S.attests L.elects J.sections self.now (λ made past. current_of made.rules (place_of made past).standing.desk.known) result }
     {
         self.planner.current_view()
     }
 
     /// The journal.
-    #[tactic(auto, unfolding(crate::specs::Actor::StandsFor))]
+    #[tactic(auto, unfolding(crate::specs::Actor::StandsFor, crate::specs::Actor::StandsOver))]
     pub fn journal(&self) -> &J
         ensures sections { Answers S.attests L.elects J.sections J.order self.now (λ made past. (place_of made past).sections) (J.sections result.now) }
+        ensures over { AnswersOver S.attests L.elects J.sections self.now (λ made past. (place_of made past).sections) (J.sections result.now) }
+        ensures whole { result.now ≡ journal_of self.now }
         ensures order { (made : VoterMade) (past : List Given) → StandsFor S.attests L.elects J.sections J.order self.now made past → J.order result.now ≡ Some no_order }
     {
         &self.journal
     }
 
     /// The journal, of a voter that is no longer used.
-    #[tactic(auto, unfolding(crate::specs::Actor::StandsFor))]
+    #[tactic(auto, unfolding(crate::specs::Actor::StandsFor, crate::specs::Actor::StandsOver))]
     pub fn into_journal(self) -> J
         ensures sections { Answers S.attests L.elects J.sections J.order self (λ made past. (place_of made past).sections) (J.sections result) }
+        ensures over { AnswersOver S.attests L.elects J.sections self (λ made past. (place_of made past).sections) (J.sections result) }
+        ensures whole { result ≡ journal_of self }
         ensures order { (made : VoterMade) (past : List Given) → StandsFor S.attests L.elects J.sections J.order self made past → J.order result ≡ Some no_order }
     {
         self.journal

@@ -3,7 +3,11 @@ ghost use Rattle.std.specs.Prelude.{◌≡◌, ◌-◌, ◌&&◌, nat_lt, nat_le
 ghost use Rattle.simplex_journal.specs.Order.{Order, no_order};
 ghost use Rattle.simplex_messages.specs.Step.{no_out};
 ghost use Rattle.simplex_steps.specs.Performed.{after_call};
-ghost use Rattle.simplex_voter.specs.Performing.{Heeds, FailsPart, Ran, Broke, Made, Settled};
+ghost use Rattle.simplex_journal.specs.Faults.{Counts};
+ghost use Rattle.simplex_messages.specs.declared.step.Outcome.TheVariants as outcomes;
+ghost use Rattle.std.specs.Option.{option_map};
+ghost use Rattle.simplex_voter.specs.Performing.{Heeds, FailsPart, Ran, Reached, FaultsBy, Passed, BrokeOver, Made, MadeOver, FaultsWith, Settled, SettledOver};
+ghost use Rattle.simplex_voter.specs.Turned.{FaultsAt};
 
 use simplex_journal::{Journal, JournalError};
 use simplex_messages::{Call, Outcome, StepOut, Stop};
@@ -23,6 +27,7 @@ fn make_call<J: Journal>(journal: &mut J, alloc: Global, call: &Call) -> Result<
     ensures ok { OnOk result (J.sections journal.new ≡ after_call call.now (J.sections journal.old)) }
     ensures part { IsErrOf result JournalError.Failed → FailsPart (J.order journal.old) call.now (J.sections journal.old) (J.sections journal.new) }
     ensures ordered { Heeds (J.order journal.old) call.now result (J.order journal.new) }
+    ensures faults { Counts (J.fault_count journal.old) result (J.fault_count journal.new) }
 {
     match call {
         Call::Append(section, artifact) => journal.append(alloc, *section, artifact)?,
@@ -39,7 +44,9 @@ fn make_calls<J: Journal>(
     alloc: Global,
     calls: &[Call],
 ) -> Result<Option<usize>, AllocError>
-    ensures { IfOk result (λ failed. (order : Order) → J.order journal.old ≡ Some order → Ran order calls.now (J.sections journal.old) failed (J.sections journal.new) (J.order journal.new)) }
+    ensures told { IfOk result (λ failed. (order : Order) → J.order journal.old ≡ Some order → Ran order calls.now (J.sections journal.old) failed (J.sections journal.new) (J.order journal.new)) }
+    ensures over { IfOk result (λ failed. Reached calls.now (J.sections journal.old) failed (J.sections journal.new)) }
+    ensures faults { IfOk result (λ failed. FaultsBy failed (J.fault_count journal.old) (J.fault_count journal.new)) }
 {
     for (place, call) in calls.iter().enumerate() {
         match make_call(journal, alloc, call) {
@@ -51,23 +58,31 @@ fn make_calls<J: Journal>(
     Ok(None)
 }
 
-// Makes the calls in order, up to the first that fails: then so many pending records of each section are kept.
-fn make_or_break<J: Journal>(
+// A call of the journal at this place failed, if one did.
+fn broken_off(failed: Option<usize>) -> Option<Break>
+    ensures { result ≡ option_map (λ place. record { place = place; outcome = outcomes.Journal }) failed }
+{
+    match failed {
+        None => None,
+        Some(place) => Some(Break {
+            place,
+            outcome: Outcome::Journal,
+        }),
+    }
+}
+
+// Makes the calls in order, up to the first that fails by itself: the pending records stand.
+fn make_all<J: Journal>(
     journal: &mut J,
     alloc: Global,
     calls: &[Call],
-    keep: u64,
 ) -> Result<Option<Break>, AllocError>
-    ensures { IfOk result (λ broke. (order : Order) → J.order journal.old ≡ Some order → Broke order keep calls.now (J.sections journal.old) broke (J.sections journal.new) (J.order journal.new)) }
+    ensures told { IfOk result (λ broke. J.order journal.old ≡ Some no_order → Passed calls.now (J.sections journal.old) broke (J.sections journal.new) (J.order journal.new)) }
+    ensures over { IfOk result (λ broke. BrokeOver calls.now (J.sections journal.old) broke (J.sections journal.new)) }
+    ensures faults { IfOk result (λ broke. FaultsWith broke (J.fault_count journal.old) (J.fault_count journal.new)) }
 {
-    let Some(place) = make_calls(journal, alloc, calls)? else {
-        return Ok(None);
-    };
-    journal.crash(keep);
-    Ok(Some(Break {
-        place,
-        outcome: Outcome::Journal,
-    }))
+    let failed = make_calls(journal, alloc, calls)?;
+    Ok(broken_off(failed))
 }
 
 // The place of the call that a cut names, counted from 0.
@@ -88,13 +103,15 @@ fn make_until<J: Journal>(
     call: u64,
     keep: u64,
 ) -> Result<Option<Break>, AllocError>
-    ensures { IfOk result (λ broke. J.order journal.old ≡ Some no_order → Made (Stop.Cut call keep) calls.now (J.sections journal.old) broke (J.sections journal.new) (J.order journal.new)) }
+    ensures told { IfOk result (λ broke. J.order journal.old ≡ Some no_order → Made (Stop.Cut call keep) calls.now (J.sections journal.old) broke (J.sections journal.new) (J.order journal.new)) }
+    ensures over { IfOk result (λ broke. MadeOver (Stop.Cut call keep) calls.now (J.sections journal.old) broke (J.sections journal.new)) }
+    ensures faults { IfOk result (λ broke. FaultsWith broke (J.fault_count journal.old) (J.fault_count journal.new)) }
 {
     let Some(place) = cut_place(call, calls.len()) else {
-        let broke = make_or_break(journal, alloc, calls, keep)?;
+        let broke = make_all(journal, alloc, calls)?;
         return Ok(broke);
     };
-    let broke = make_or_break(journal, alloc, &calls[..place], keep)?;
+    let broke = make_all(journal, alloc, &calls[..place])?;
     if broke.is_some() {
         return Ok(broke);
     }
@@ -105,7 +122,8 @@ fn make_until<J: Journal>(
     }))
 }
 
-// Makes the calls, of which the journal's call of this number fails.
+// Makes the calls, of which the journal's call of this number fails: then so many pending records of each section are
+// kept.
 fn make_failing<J: Journal>(
     journal: &mut J,
     alloc: Global,
@@ -113,12 +131,17 @@ fn make_failing<J: Journal>(
     call: u64,
     keep: u64,
 ) -> Result<Option<Break>, AllocError>
-    ensures { IfOk result (λ broke. J.order journal.old ≡ Some no_order → Made (Stop.Fail call keep) calls.now (J.sections journal.old) broke (J.sections journal.new) (J.order journal.new)) }
+    ensures told { IfOk result (λ broke. J.order journal.old ≡ Some no_order → Made (Stop.Fail call keep) calls.now (J.sections journal.old) broke (J.sections journal.new) (J.order journal.new)) }
+    ensures over { IfOk result (λ broke. MadeOver (Stop.Fail call keep) calls.now (J.sections journal.old) broke (J.sections journal.new)) }
+    ensures faults { IfOk result (λ broke. FaultsWith broke (J.fault_count journal.old) (J.fault_count journal.new)) }
 {
     journal.fail_next(call, keep);
-    let broke = make_or_break(journal, alloc, calls, keep)?;
+    let failed = make_calls(journal, alloc, calls)?;
+    if failed.is_some() {
+        journal.crash(keep);
+    }
     journal.fail_next(0, 0);
-    Ok(broke)
+    Ok(broken_off(failed))
 }
 
 // Makes the calls up to where the stop ends them: the journal is then as after a stop.
@@ -128,11 +151,13 @@ fn perform<J: Journal>(
     calls: &[Call],
     stop: &Stop,
 ) -> Result<Option<Break>, AllocError>
-    ensures { IfOk result (λ broke. J.order journal.old ≡ Some no_order → Made stop.now calls.now (J.sections journal.old) broke (J.sections journal.new) (J.order journal.new)) }
+    ensures told { IfOk result (λ broke. J.order journal.old ≡ Some no_order → Made stop.now calls.now (J.sections journal.old) broke (J.sections journal.new) (J.order journal.new)) }
+    ensures over { IfOk result (λ broke. MadeOver stop.now calls.now (J.sections journal.old) broke (J.sections journal.new)) }
+    ensures faults { IfOk result (λ broke. FaultsWith broke (J.fault_count journal.old) (J.fault_count journal.new)) }
 {
     match stop {
         Stop::None => {
-            let broke = make_or_break(journal, alloc, calls, 0)?;
+            let broke = make_all(journal, alloc, calls)?;
             Ok(broke)
         }
         Stop::Cut { call, keep } => {
@@ -164,7 +189,9 @@ pub(crate) fn settle<J: Journal>(
     out: &mut StepOut,
 ) -> Result<Outcome, AllocError>
     requires empty { out.old ≡ no_out }
-    ensures { IfOk result (λ outcome. J.order journal.old ≡ Some no_order → Settled stop.now planned (J.sections journal.old) outcome out.new (J.sections journal.new) (J.order journal.new)) }
+    ensures told { IfOk result (λ outcome. J.order journal.old ≡ Some no_order → Settled stop.now planned (J.sections journal.old) outcome out.new (J.sections journal.new) (J.order journal.new)) }
+    ensures over { IfOk result (λ outcome. SettledOver stop.now planned (J.sections journal.old) outcome out.new (J.sections journal.new)) }
+    ensures faults { IfOk result (λ outcome. FaultsAt outcome (J.fault_count journal.old) (J.fault_count journal.new)) }
 {
     match perform(journal, alloc, planned.calls.as_slice(), stop)? {
         None => {

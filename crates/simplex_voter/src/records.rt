@@ -1,61 +1,85 @@
 //! A start reads the journal.
-ghost use Rattle.std.specs.Prelude.{◌≡◌, None, Some, if◌then◌else◌, IfOk, OnOk};
+ghost use Rattle.std.specs.Prelude.{◌≡◌, ◌==◌, Some, if◌then◌else◌, IfOk, OnOk, IfSome};
+ghost use Rattle.simplex_journal.specs.Journal.{replayed};
 ghost use Rattle.simplex_journal.specs.Order.{Order, no_order};
 ghost use Rattle.simplex_messages.specs.Step.{no_out};
-ghost use Rattle.simplex_steps.specs.Performed.{kept_by};
-ghost use Rattle.simplex_steps.specs.VoterLife.{unreadable};
 ghost use Rattle.simplex_voter.specs.Actor.{floor_calls};
-ghost use Rattle.simplex_voter.specs.Performing.{Reads, Read, past_reading};
+ghost use Rattle.simplex_voter.specs.Performing.{Reads, Read, ReadOver, CountsReading, past_reading};
 
 use simplex_journal::{Journal, JournalError};
 use simplex_messages::{Call, StepOut, Stop};
 use simplex_types::{Activity, Artifact, Floor, Keep};
 use std::alloc::{AllocError, Global};
 
-// All records; none where the reading fails, and then the journal is as after a stop.
+// All records; none where the reading fails.
 fn read_records<J: Journal>(
     journal: &mut J,
     alloc: Global,
-    keep: u64,
 ) -> Result<Option<Vec<Artifact>>, AllocError>
-    ensures { IfOk result (λ records. (order : Order) → J.order journal.old ≡ Some order → Reads order keep (J.sections journal.old) records (J.sections journal.new) (J.order journal.new)) }
+    ensures told { IfOk result (λ records. (order : Order) → J.order journal.old ≡ Some order → Reads order (J.sections journal.old) records (J.order journal.new)) }
+    ensures over { IfOk result (λ records. IfSome records (λ r. r.items ≡ replayed (J.sections journal.old))) }
+    ensures stays { J.sections journal.new ≡ J.sections journal.old }
+    ensures faults { IfOk result (λ records. CountsReading records (J.fault_count journal.old) (J.fault_count journal.new)) }
 {
     match journal.replay(alloc) {
         Ok(records) => Ok(Some(records)),
-        Err(JournalError::Failed) => {
-            journal.crash(keep);
-            Ok(None)
-        }
+        Err(JournalError::Failed) => Ok(None),
         Err(JournalError::Memory) => Err(AllocError),
     }
 }
 
-// How many pending records of each section stay, where the stop lets the reading fail.
-fn kept_unread(stop: &Stop) -> Option<u64>
-    ensures { result ≡ (if unreadable stop.now then Some (kept_by stop.now) else None) }
+// The reading is a journal's first call: 1 where it is the call of this number, else 0.
+fn reading_of(call: u64) -> u64
+    ensures { result ≡ (if call == 1 then 1 else 0) }
 {
-    match stop {
-        Stop::Fail { call: 1, keep } => Some(*keep),
-        _ => None,
-    }
+    if call == 1 { 1 } else { 0 }
 }
 
-/// All records, unless the stop lets the reading fail: then the journal is as after a stop.
+// All records, of a reading that fails where it is the call of this number: then so many pending records of each
+// section stay.
+fn read_failing<J: Journal>(
+    journal: &mut J,
+    alloc: Global,
+    call: u64,
+    keep: u64,
+) -> Result<Option<Vec<Artifact>>, AllocError>
+    ensures told { IfOk result (λ records. J.order journal.old ≡ Some no_order → Read (Stop.Fail call keep) (J.sections journal.old) records (J.sections journal.new) (J.order journal.new)) }
+    ensures over { IfOk result (λ records. ReadOver (Stop.Fail call keep) (J.sections journal.old) records (J.sections journal.new)) }
+    ensures faults { IfOk result (λ records. CountsReading records (J.fault_count journal.old) (J.fault_count journal.new)) }
+{
+    journal.fail_next(reading_of(call), keep);
+    let records = read_records(journal, alloc)?;
+    if records.is_none() {
+        journal.crash(keep);
+    }
+    journal.fail_next(0, 0);
+    Ok(records)
+}
+
+/// All records, unless the reading fails. Where the stop lets a call fail, the journal is then as after a stop.
 pub(crate) fn read<J: Journal>(
     journal: &mut J,
     alloc: Global,
     stop: &Stop,
 ) -> Result<Option<Vec<Artifact>>, AllocError>
-    ensures { IfOk result (λ records. J.order journal.old ≡ Some no_order → Read stop.now (J.sections journal.old) records (J.sections journal.new) (J.order journal.new)) }
+    ensures told { IfOk result (λ records. J.order journal.old ≡ Some no_order → Read stop.now (J.sections journal.old) records (J.sections journal.new) (J.order journal.new)) }
+    ensures over { IfOk result (λ records. ReadOver stop.now (J.sections journal.old) records (J.sections journal.new)) }
+    ensures faults { IfOk result (λ records. CountsReading records (J.fault_count journal.old) (J.fault_count journal.new)) }
 {
-    let Some(keep) = kept_unread(stop) else {
-        let records = read_records(journal, alloc, 0)?;
-        return Ok(records);
-    };
-    journal.fail_next(1, keep);
-    let records = read_records(journal, alloc, keep)?;
-    journal.fail_next(0, 0);
-    Ok(records)
+    match stop {
+        Stop::None => {
+            let records = read_records(journal, alloc)?;
+            Ok(records)
+        }
+        Stop::Cut { .. } => {
+            let records = read_records(journal, alloc)?;
+            Ok(records)
+        }
+        Stop::Fail { call, keep } => {
+            let records = read_failing(journal, alloc, *call, *keep)?;
+            Ok(records)
+        }
+    }
 }
 
 /// The stop, once the journal was read: the reading was the journal's first call.

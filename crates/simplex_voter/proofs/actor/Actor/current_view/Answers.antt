@@ -1,6 +1,10 @@
-use Rattle.simplex_voter.specs.Actor.{StandsFor}
+use Rattle.simplex_voter.specs.Actor.{StandsFor, StandsOver}
 use Rattle.simplex_voter.proofs.actor.Actor.current_view.Goals as goal
 
-pub returns : goal.returns
+pub returns-clause-told : goal.returns-clause-told
 unfolding StandsFor
-returns g c = λ made past s. c.current_view.ensures made.rules _ _ s.planner
+returns-clause-told g c = λ made past s. c.current_view.ensures made.rules _ _ s.planner
+
+pub returns-clause-over : goal.returns-clause-over
+unfolding StandsOver
+returns-clause-over g c = λ made past s. c.current_view.ensures made.rules _ _ s.planner

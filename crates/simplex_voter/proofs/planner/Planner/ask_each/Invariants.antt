@@ -1,9 +1,9 @@
-use Rattle.std.proofs.Common.{◌≡◌, List, ℕ, fold, drop}
+use Rattle.std.proofs.Common.{List, ℕ, drop}
 use Rattle.simplex_rules.specs.Known.{Made}
 use Rattle.simplex_rules.specs.Pending.{open_certify}
 use Rattle.simplex_values.specs.declared.answer.Answer.{Answer}
 use Rattle.simplex_steps.specs.Desk.{Doing}
-use Rattle.simplex_voter.specs.Stands.{Stands, on_desk}
+use Rattle.simplex_voter.specs.Stands.{Stands}
 use Rattle.simplex_voter.proofs.Folding.{Folded}
 use Rattle.simplex_voter.proofs.planner.Planner.ask_each.Given as goal
 

@@ -1,4 +1,4 @@
-use Rattle.std.proofs.Common.{sym, ◌∙◌}
+use Rattle.std.proofs.Common.{sym}
 use Rattle.simplex_voter.proofs.Sources.{certify-held}
 use Rattle.simplex_voter.proofs.planner.Planner.holds_certify.Goals as goal
 

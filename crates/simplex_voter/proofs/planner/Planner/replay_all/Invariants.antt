@@ -1,4 +1,4 @@
-use Rattle.std.proofs.Common.{◌≡◌, List, ℕ, drop}
+use Rattle.std.proofs.Common.{List, ℕ, drop}
 use Rattle.simplex_rules.specs.Known.{Made}
 use Rattle.simplex_values.specs.declared.answer.Answer.{Answer}
 use Rattle.simplex_steps.specs.Desk.{Doing}

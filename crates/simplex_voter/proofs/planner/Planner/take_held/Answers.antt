@@ -1,14 +1,9 @@
-use Rattle.std.proofs.Common.{ap, sym, ◌∙◌, refl, Some, None, Option, ℕ}
-use Rattle.std.specs.Option.{option_map}
-use Rattle.simplex_rules.specs.Views.{current_of}
-use Rattle.simplex_steps.specs.Desk.{Doing, begun}
-use Rattle.simplex_steps.specs.Voter.{acted, act_on_verify, act_on_proposal, act_on_certify, propose, stepped, finished}
-use Rattle.simplex_values.specs.declared.answer.Answer.{Answer}
-use Rattle.simplex_rules.specs.Pending.{Opened}
-use Rattle.simplex_voter.specs.Arrivals.{opened_of, pending_of, least_of}
-use Rattle.simplex_voter.specs.Stands.{doing_of, Acted}
+use Rattle.std.proofs.Common.{refl}
+use Rattle.simplex_steps.specs.Desk.{begun}
+use Rattle.simplex_steps.specs.Voter.{propose}
+use Rattle.simplex_voter.specs.Arrivals.{pending_of}
 use Rattle.simplex_voter.proofs.Reading.{known-is}
-use Rattle.simplex_voter.proofs.Taking.{nothing-acted, acted-so, verify-none, verify-unanswered, verify-answered, verify-touches, answer-kept, proposal-none, proposal-some, certify-acts, taken_of, planned-none, planned-some}
+use Rattle.simplex_voter.proofs.Taking.{nothing-acted, acted-so}
 use Rattle.simplex_voter.proofs.planner.Planner.take_held.Goals as goal
 
 pub returns-then-not-parent_certified : goal.returns-then-not-parent_certified
