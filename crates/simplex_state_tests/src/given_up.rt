@@ -47,10 +47,10 @@ fn skip(alloc: Global, member: &mut Member, now: u64) -> Result<bool, Fail>
 fn a_long_silence_takes_little_time(rt: HostRuntime) -> Result<(), Fail> {
     let alloc = rt.alloc();
     let mut member = start(alloc, 4, 2)?;
-    let mut led = 0;
+    let mut led = 0u64;
     for _ in 0..10_000 {
         if skip(alloc, &mut member, 120)? {
-            led += 1;
+            led = led.saturating_add(1);
         }
     }
     assert_eq!(rt; led, 2500);
