@@ -34,6 +34,11 @@ parcels_from event place (packet ∷ packets) =
 abbrev pub without_first : {A : Type 0} → (A → Bool) → List A → List A
 without_first test items = option_map_or (λ at. remove items at) (position test items) items
 
+-- whether the event delivers something
+abbrev pub delivers : Event → Bool
+delivers (events.Deliver node packet) = true
+delivers _ = false
+
 -- whether the event delivers it
 abbrev pub is_delivered_by : Event → Parcel → Bool
 is_delivered_by (events.Deliver node packet) parcel = is_same_node node parcel.node && is_same_ref packet parcel.packet

@@ -4,7 +4,7 @@
 ghost use Rattle.std.specs.Prelude.{◌≡◌, ◌++◌, [], OnOk, IfOk, filter, take};
 ghost use Rattle.std.specs.List.{list_any, position};
 ghost use Rattle.simplex_run.specs.Kinds.{is_same_node};
-ghost use Rattle.simplex_generated.specs.Undelivered.{is_delivered_by, parcels_of, parcels_at, parcels_from, without_first, undelivered_behind};
+ghost use Rattle.simplex_generated.specs.Undelivered.{delivers, is_delivered_by, parcels_of, parcels_at, parcels_from, without_first, undelivered_behind};
 
 use crate::nodes::NODES;
 use simplex_transcript::{Entry, Event, Node, Packet, Ref};
@@ -74,13 +74,23 @@ fn deliver(parcels: &mut VecDeque<Parcel>, event: &Event)
     }
 }
 
-// Where the first stands that the event delivers.
+// Where the first stands that the event delivers. An event that delivers nothing looks at none.
+#[tactic(auto, using(crate::proofs::Delivered::none_delivered))]
 fn place_of(parcels: &VecDeque<Parcel>, event: &Event) -> Option<usize>
     ensures { result ≡ position (is_delivered_by event.now) parcels.now.items }
 {
+    if !delivers(event) {
+        return None;
+    }
     parcels
         .iter()
         .position(|parcel| is_delivered_by(event, parcel))
+}
+
+fn delivers(event: &Event) -> bool
+    ensures { result ≡ delivers event.now }
+{
+    matches!(event, Event::Deliver { .. })
 }
 
 fn is_delivered_by(event: &Event, parcel: &Parcel) -> bool
