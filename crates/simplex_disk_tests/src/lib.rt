@@ -5,5 +5,8 @@
 mod images;
 #[cfg(test)]
 mod runs;
+mod samples;
 #[cfg(test)]
 mod tests;
+
+pub use samples::two_records;
