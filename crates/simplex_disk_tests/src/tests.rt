@@ -176,6 +176,51 @@ fn orders_as_in_memory(rt: HostRuntime) {
     }
 }
 
+/// What is left of a section whose file was not removed.
+#[derive(Clone, Copy, Debug, PartialEq, Eq)]
+struct Dropped {
+    failed: bool,
+    /// How many records the journal has.
+    kept: usize,
+    /// How many are read where its disk is opened again.
+    back: usize,
+}
+
+/// One synced record, a prune of its section whose removal of the file fails, and another prune if so.
+fn after_failed_removal(alloc: Global, again: bool) -> Result<Dropped, JournalError> {
+    // The eleventh call of the disk is the removal.
+    let mut journal = new_journal(alloc, 11)?;
+    journal.append(alloc, 1, &record(1))?;
+    journal.sync(1)?;
+    let failed = journal.prune(2).is_err();
+    if again {
+        journal.prune(2)?;
+    }
+    let kept = journal.replay(alloc)?.len();
+    let mut journal = opened(journal.into_disk(), alloc)?;
+    let back = journal.replay(alloc)?.len();
+    Ok(Dropped { failed, kept, back })
+}
+
+#[test]
+fn a_dropped_section_may_be_back(rt: HostRuntime) {
+    let alloc = rt.alloc();
+    let at_once = after_failed_removal(alloc, false).expect(&rt, "room");
+    let wanted = Dropped {
+        failed: true,
+        kept: 0,
+        back: 1,
+    };
+    same(&rt, "opened at once", &at_once, &wanted);
+    let later = after_failed_removal(alloc, true).expect(&rt, "room");
+    let wanted = Dropped {
+        failed: true,
+        kept: 0,
+        back: 0,
+    };
+    same(&rt, "opened after another prune", &later, &wanted);
+}
+
 /// Appends so many records to one section, syncs them, and replays them.
 fn many(alloc: Global, size: u64) -> Result<u64, JournalError> {
     let mut journal = new_journal(alloc, 0)?;
