@@ -6,7 +6,7 @@ use crate::legend::{HEIGHT, SHAPES, push_legend};
 use crate::mark::{Deed, Mark};
 use crate::message::Message;
 use crate::picture::Picture;
-use crate::sheet::{Row, SIGN, STEP, Sheet};
+use crate::sheet::{Row, SIGN, Sheet};
 use crate::sign::Sign;
 use crate::tell::{arrow_told, event_told, kind_word};
 use crate::text::push_title;
@@ -20,7 +20,13 @@ const NUMBERED: u64 = 5;
 // How wide a digit or a letter is in a band, at most.
 const LETTER: u64 = 7;
 // How far the stubs of an event reach to the right, mostly.
-const STUBS: u64 = 22;
+const STUBS: u64 = 25;
+// How many stubs end below each other, or above.
+const DEEP: u64 = 8;
+// How high an arrow bows from an event to another of the same node.
+const BOW: u64 = 40;
+// How many letters of how long a tick is have room.
+const LONG: usize = 11;
 // How far a text stands from the edge of its band, at least.
 const EDGE: u64 = 3;
 
@@ -42,9 +48,38 @@ fn packet_at(entries: &[Entry], at: Ref) -> Option<&Packet> {
     entry.packets.as_slice().get(at.place as usize)
 }
 
-// What stands above all: how many events there are, and which of them are drawn.
+// How many events there are, and which of them are drawn.
+fn push_counts(
+    out: &mut String,
+    cut: &Cut,
+    picture: &Picture,
+    all: usize,
+) -> Result<(), AllocError> {
+    let drawn = picture.marks.len();
+    let lanes = picture.lanes.len();
+    write!(
+        out,
+        "<text class=\"h\" x=\"20\" y=\"24\">Events drawn: {drawn} of {all}. Nodes: {lanes}.</text>\n"
+    )?;
+    let rest = all.saturating_sub(drawn);
+    let first = cut.first;
+    let last = cut.last;
+    let whose = if cut.nodes.is_empty() {
+        ""
+    } else {
+        " of these nodes"
+    };
+    if rest > 0 {
+        write!(
+            out,
+            "<text x=\"20\" y=\"59\">Not drawn: {rest} events. Asked for were those from {first} to {last}{whose}.</text>\n"
+        )?;
+    }
+    Ok(())
+}
+
+// What stands above all.
 fn push_head(
-    alloc: Global,
     out: &mut String,
     cut: &Cut,
     sheet: &Sheet,
@@ -62,35 +97,24 @@ fn push_head(
         out,
         "<rect width=\"{width}\" height=\"{height}\" fill=\"#fff\"/>\n"
     )?;
-    let drawn = picture.marks.len();
-    let all = events.len();
-    let lanes = picture.lanes.len();
-    let rest = all.saturating_sub(drawn);
-    let first = cut.first;
-    let last = cut.last;
-    let mut line = format!(in alloc;
-        "Drawn: {drawn} of the {all} events of a run, on the lanes of {lanes} nodes."
-    )?;
-    if rest > 0 {
-        write!(
-            line,
-            " The other {rest} are not drawn: asked for were the events from {first} to {last}."
-        )?;
-    }
-    let line = line.as_str();
-    write!(out, "<text class=\"h\" x=\"20\" y=\"24\">{line}</text>\n")?;
+    push_counts(out, cut, picture, events.len())?;
     out.push_str(
-        "<text class=\"s\" x=\"20\" y=\"42\">Events go to the right, each with a mark on the lane of its node. An arrow is a packet, from the event that sent it to the one that took it. Where the pointer rests, more is told.</text>\n",
+        "<text class=\"s\" x=\"20\" y=\"42\">Each event has a mark on the lane of its node. An arrow is a packet, from the event that sent it to the one that took it. Where the pointer rests, more is told.</text>\n",
     )
 }
 
+// Whether the event is numbered: each fifth one is, and the first one where the next number is not too near.
+fn is_numbered(first: u64, number: u64) -> bool {
+    let behind = number % NUMBERED;
+    number > 0 && (behind == 0 || (number == first && behind < 4))
+}
+
 // The numbers of events above the lanes, and a fine line below each.
-fn push_numbers(out: &mut String, sheet: &Sheet, marks: &[Mark]) -> Result<(), AllocError> {
+fn push_numbers(out: &mut String, sheet: &Sheet) -> Result<(), AllocError> {
     let foot = sheet.foot;
     let head = sheet.head;
-    for mark in marks {
-        let number = mark.event;
-        if number % NUMBERED == 0 || number == sheet.first {
+    for number in sheet.first..sheet.last.saturating_add(1) {
+        if is_numbered(sheet.first, number) {
             let x = sheet.x_of(number);
             write!(
                 out,
@@ -215,16 +239,17 @@ fn has_engine(kind: MemberKind) -> bool {
     )
 }
 
-// The name of a lane's node, and its kind; of a member without an engine the line too.
+// The name of a lane's node, on the right too, and its kind; of a member without an engine the line.
 fn push_lane(out: &mut String, sheet: &Sheet, row: Row, lane: &Lane) -> Result<(), AllocError> {
     let y = row.y;
     let node = lane.node;
     let kind = kind_word(lane.kind);
     let name = y.saturating_add(4);
     let below = y.saturating_add(17);
+    let right = sheet.end().saturating_add(10);
     write!(
         out,
-        "<text class=\"h\" x=\"20\" y=\"{name}\">{node}</text><text class=\"s\" x=\"20\" y=\"{below}\">{kind}</text>\n"
+        "<text class=\"h\" x=\"20\" y=\"{name}\">{node}</text><text class=\"s\" x=\"20\" y=\"{below}\">{kind}</text><text class=\"h\" x=\"{right}\" y=\"{name}\">{node}</text>\n"
     )?;
     if !has_engine(lane.kind) {
         let from = sheet.start();
@@ -266,14 +291,15 @@ fn style_of(message: Message) -> (&'static str, &'static str) {
     }
 }
 
-// The end of a stub that begins here, to a lane that is so many lanes away, above or below. Ends of stubs stand in
-// columns of four.
-fn stub_end(from: (u64, u64), row: u64, to_row: u64) -> (u64, u64) {
+// The end of a stub that begins here, to a lane that is so many lanes away, above or below. It stands between the columns of
+// two events, if not too many stubs do.
+fn stub_end(from: (u64, u64), row: u64, to_row: u64, lanes: usize) -> (u64, u64) {
     let (x, y) = from;
-    let lanes = row.abs_diff(to_row).saturating_sub(1);
-    let right = lanes.min(15) / 4 * 9 + 14;
-    let down = lanes % 4 * 9 + 10;
+    let place = row.abs_diff(to_row).saturating_sub(1);
+    let gap = if lanes > 8 { 6 } else { 8 };
+    let right = (place / DEEP).saturating_mul(7).saturating_add(13);
     let x = x.saturating_add(right);
+    let down = (place % DEEP).saturating_mul(gap).saturating_add(10);
     if to_row < row {
         (x, y.saturating_sub(down))
     } else {
@@ -281,41 +307,90 @@ fn stub_end(from: (u64, u64), row: u64, to_row: u64) -> (u64, u64) {
     }
 }
 
+// What an arrow bends towards on its way: so it leaves its event more steeply than it comes to the other one, and those that
+// go from one event to many do not hide each other.
+fn bend_of(from: (u64, u64), to: (u64, u64)) -> (u64, u64) {
+    let (from_x, from_y) = from;
+    let (to_x, to_y) = to;
+    let right = to_x.saturating_sub(from_x) / 5;
+    let x = from_x.saturating_add(right.saturating_mul(2));
+    let down = (from_y.abs_diff(to_y) / 5).saturating_mul(3);
+    if from_y < to_y {
+        (x, from_y.saturating_add(down))
+    } else if to_y < from_y {
+        (x, from_y.saturating_sub(down))
+    } else {
+        (x, from_y.saturating_sub(BOW))
+    }
+}
+
 // The way of an arrow on the sheet, and its head.
 #[derive(Clone, Copy)]
 struct Way {
     from: (u64, u64),
+    /// What it bends towards, if it is no stub.
+    bend: Option<(u64, u64)>,
     to: (u64, u64),
     head: &'static str,
 }
 
+// The way to the event that took the packet, from the one that sent it, if that one is drawn.
+fn taken_way(sheet: &Sheet, arrow: &Arrow, to: (u64, u64), head: &'static str) -> Way {
+    match sheet.row_of(arrow.from) {
+        Some((y, _)) if sheet.first <= arrow.packet.event => {
+            let from = (sheet.x_of(arrow.packet.event), y);
+            Way {
+                from,
+                bend: Some(bend_of(from, to)),
+                to,
+                head,
+            }
+        }
+        _ => {
+            let (x, y) = to;
+            Way {
+                from: (x.saturating_sub(18), y.saturating_sub(12)),
+                bend: None,
+                to,
+                head,
+            }
+        }
+    }
+}
+
 fn way_of(sheet: &Sheet, arrow: &Arrow, head: &'static str) -> Option<Way> {
-    let sent = sheet.x_of(arrow.packet.event);
     let (to_y, to_row) = sheet.row_of(arrow.to)?;
-    let from = sheet.row_of(arrow.from);
-    match arrow.fate {
+    let head = match arrow.fate {
         Fate::Taken(event) => {
-            let x = sheet.x_of(event);
-            let from = match from {
-                Some((y, _)) if sheet.first <= arrow.packet.event => (sent, y),
-                _ => (x.saturating_sub(18), to_y.saturating_sub(12)),
-            };
-            Some(Way {
-                from,
-                to: (x, to_y),
-                head,
-            })
+            return Some(taken_way(sheet, arrow, (sheet.x_of(event), to_y), head));
         }
-        Fate::Outside | Fate::Lost => {
-            let (y, row) = from?;
-            let head = if arrow.fate == Fate::Lost { "ml" } else { "mo" };
-            let from = (sent, y);
-            Some(Way {
-                from,
-                to: stub_end(from, row, to_row),
-                head,
-            })
-        }
+        Fate::Outside => "mo",
+        Fate::Lost => "ml",
+    };
+    let (y, row) = sheet.row_of(arrow.from)?;
+    let from = (sheet.x_of(arrow.packet.event), y);
+    Some(Way {
+        from,
+        bend: None,
+        to: stub_end(from, row, to_row, sheet.rows.len()),
+        head,
+    })
+}
+
+// The beginning of an arrow's element.
+fn push_way(out: &mut String, class: &str, way: Way) -> Result<(), AllocError> {
+    let (from_x, from_y) = way.from;
+    let (to_x, to_y) = way.to;
+    let head = way.head;
+    match way.bend {
+        Some((x, y)) => write!(
+            out,
+            "<path class=\"a {class}\" d=\"M{from_x} {from_y}Q{x} {y} {to_x} {to_y}\" marker-end=\"url(#{head})\">"
+        ),
+        None => write!(
+            out,
+            "<path class=\"a l {class}\" d=\"M{from_x} {from_y}L{to_x} {to_y}\" marker-end=\"url(#{head})\">"
+        ),
     }
 }
 
@@ -330,13 +405,7 @@ fn push_arrow(
     let Some(way) = way_of(sheet, arrow, head) else {
         return Ok(());
     };
-    let (from_x, from_y) = way.from;
-    let (to_x, to_y) = way.to;
-    let head = way.head;
-    write!(
-        out,
-        "<path class=\"a {class}\" d=\"M{from_x} {from_y}L{to_x} {to_y}\" marker-end=\"url(#{head})\">"
-    )?;
+    push_way(out, class, way)?;
     if let Some(packet) = packet_at(entries, arrow.packet) {
         let title = arrow_told(alloc, arrow, packet)?;
         push_title(out, title.as_str())?;
@@ -401,19 +470,48 @@ fn push_signs(out: &mut String, signs: &[Sign]) -> Result<(), AllocError> {
 }
 
 // A tick: a line over all lanes.
-fn push_tick(out: &mut String, sheet: &Sheet, mark: &Mark, ms: u64) -> Result<(), AllocError> {
+fn push_tick(
+    alloc: Global,
+    out: &mut String,
+    sheet: &Sheet,
+    mark: &Mark,
+    ms: u64,
+) -> Result<(), AllocError> {
     let x = sheet.x_of(mark.event);
     let foot = sheet.foot;
     let top = sheet.head.saturating_sub(12);
     let line = sheet.head.saturating_add(5);
-    let text = x.saturating_add(4);
+    let base = x.saturating_add(4);
     let number = mark.event;
+    let text = format!(in alloc; "+{ms} ms")?;
+    let squeeze = if text.len() > LONG {
+        " textLength=\"64\" lengthAdjust=\"spacingAndGlyphs\""
+    } else {
+        ""
+    };
+    let text = text.as_str();
     write!(
         out,
-        "<g><title>event {number}: the clock goes on by {ms} ms</title><path class=\"t\" d=\"M{x} {line}V{foot}\"/><text class=\"s\" transform=\"translate({text},{top})rotate(-90)\">+{ms} ms</text></g>\n"
+        "<g><title>event {number}: the clock goes on by {ms} ms</title><path class=\"t\" d=\"M{x} {line}V{foot}\"/><text class=\"s\" transform=\"translate({base},{top})rotate(-90)\"{squeeze}>{text}</text></g>\n"
     )
 }
 
+// The ticks, below all else.
+fn push_ticks(
+    alloc: Global,
+    out: &mut String,
+    sheet: &Sheet,
+    marks: &[Mark],
+) -> Result<(), AllocError> {
+    for mark in marks {
+        if let Deed::Tick(ms) = mark.deed {
+            push_tick(alloc, out, sheet, mark, ms)?;
+        }
+    }
+    Ok(())
+}
+
+// The mark of an event of a node.
 fn push_mark(
     alloc: Global,
     out: &mut String,
@@ -422,9 +520,6 @@ fn push_mark(
     events: &[Event],
     entries: &[Entry],
 ) -> Result<(), AllocError> {
-    if let Deed::Tick(ms) = mark.deed {
-        return push_tick(out, sheet, mark, ms);
-    }
     let Some(node) = mark.node else {
         return Ok(());
     };
@@ -457,8 +552,9 @@ pub fn svg(
     let sheet = Sheet::new(alloc, picture)?;
     let marks = picture.marks.as_slice();
     let mut out = String::new(alloc);
-    push_head(alloc, &mut out, cut, &sheet, picture, events)?;
-    push_numbers(&mut out, &sheet, marks)?;
+    push_head(&mut out, cut, &sheet, picture, events)?;
+    push_numbers(&mut out, &sheet)?;
+    push_ticks(alloc, &mut out, &sheet, marks)?;
     let lanes = picture.lanes.as_slice();
     for (lane, row) in lanes.iter().zip(sheet.rows.as_slice()) {
         push_lane(&mut out, &sheet, *row, lane)?;

@@ -6,12 +6,13 @@ use std::alloc::AllocError;
 pub(crate) const SHAPES: &str = r##"<style>
 text{font:11px sans-serif;fill:#000}
 .h{font:bold 14px sans-serif}.s{font-size:10px;fill:#444}.e{font-size:9px;fill:#666;text-anchor:middle}
+.m{font:bold 11px sans-serif}
 .v{font-size:10px;fill:#333;paint-order:stroke;stroke:#fff;stroke-width:2.5px}
 .w{font:bold 9px sans-serif;fill:#fff;text-anchor:middle}.k{font:bold 9px sans-serif;text-anchor:middle}
-.r{stroke:#000;stroke-width:1.2}.o{stroke:#bbb;stroke-width:1;stroke-dasharray:1 4}
+.r{stroke:#000;stroke-width:1.2}.o{stroke:#888;stroke-width:1.2;stroke-dasharray:1 4}
 .t{stroke:#888;stroke-dasharray:4 3}.g{stroke:#eee}
 .b0{fill:#d6eaf6;stroke:#8ab}.b1{fill:#fff;stroke:#8ab}
-.a{fill:none;stroke-width:1.3}.a:hover{stroke-width:4}.c{stroke-width:2.6}
+.a{fill:none;stroke-width:1.3}.c{stroke-width:2.6}.l{stroke-width:.9}.l.c{stroke-width:1.8}.a:hover{stroke-width:4}
 .n{stroke:#0072b2}.x{stroke:#d55e00;stroke-dasharray:6 3}.f{stroke:#009e73;stroke-dasharray:12 3}
 .q{stroke:#cc79a7;stroke-dasharray:2 3}.p{stroke:#cc79a7;stroke-dasharray:8 3 2 3}.z{stroke:#888;stroke-dasharray:2 3}
 .u{stroke:#000;stroke-dasharray:1 3}
@@ -21,7 +22,7 @@ text{font:11px sans-serif;fill:#000}
 <marker id="mf" viewBox="0 0 10 10" refX="15" refY="5" markerWidth="8" markerHeight="8" orient="auto" markerUnits="userSpaceOnUse"><path d="M0 0L10 5L0 10z" fill="#009e73"/></marker>
 <marker id="mq" viewBox="0 0 10 10" refX="15" refY="5" markerWidth="8" markerHeight="8" orient="auto" markerUnits="userSpaceOnUse"><path d="M0 0L10 5L0 10" fill="none" stroke="#cc79a7" stroke-width="1.5"/></marker>
 <marker id="mu" viewBox="0 0 10 10" refX="15" refY="5" markerWidth="8" markerHeight="8" orient="auto" markerUnits="userSpaceOnUse"><path d="M0 0L10 5L0 10" fill="none" stroke="#000" stroke-width="1.5"/></marker>
-<marker id="ml" viewBox="0 0 10 10" refX="5" refY="5" markerWidth="8" markerHeight="8" markerUnits="userSpaceOnUse"><path d="M1 1L9 9M9 1L1 9" stroke="#000" stroke-width="1.6"/></marker>
+<marker id="ml" viewBox="0 0 10 10" refX="5" refY="5" markerWidth="7" markerHeight="7" markerUnits="userSpaceOnUse"><path d="M1 1L9 9M9 1L1 9" stroke="#000" stroke-width="1.6"/></marker>
 <marker id="mo" viewBox="0 0 10 10" refX="5" refY="5" markerWidth="7" markerHeight="7" markerUnits="userSpaceOnUse"><circle cx="5" cy="5" r="4" fill="#fff" stroke="#000" stroke-width="1.4"/></marker>
 <path id="start" d="M-5-6L7 0L-5 6z"/>
 <circle id="take" r="4"/>
@@ -42,6 +43,7 @@ text{font:11px sans-serif;fill:#000}
 <g id="blame"><path d="M0-8L8 6H-8z" fill="#f0e442" stroke="#000"/><text class="k" y="4">!</text></g>
 <path id="tick" class="t" d="M0-7V7"/>
 <rect id="band" class="b0" x="-15" y="-6" width="30" height="12"/>
+<path id="still" class="o" d="M-15 0H15"/>
 <path id="block" d="M-5-5L5 5M0-7A7 7 0 1 0 .1-7" fill="none" stroke="#000" stroke-width="2"/>
 </defs>
 "##;
@@ -61,7 +63,8 @@ struct Line {
     text: &'static str,
 }
 
-const ITEMS: [Item; 20] = [
+// What happens.
+const HAPPENS: [Item; 8] = [
     Item {
         shape: "start",
         text: "the node starts",
@@ -94,42 +97,46 @@ const ITEMS: [Item; 20] = [
         shape: "tick",
         text: "the clock goes on",
     },
-    Item {
-        shape: "band",
-        text: "the view that the node is in",
-    },
+];
+
+// What a node stores in its journal.
+const STORES: [Item; 8] = [
     Item {
         shape: "vn",
-        text: "stores its notarize",
+        text: "its notarize",
     },
     Item {
         shape: "vx",
-        text: "stores its nullify",
+        text: "its nullify",
     },
     Item {
         shape: "vf",
-        text: "stores its finalize",
+        text: "its finalize",
     },
     Item {
         shape: "cn",
-        text: "stores a notarization",
+        text: "a notarization",
     },
     Item {
         shape: "cx",
-        text: "stores a nullification",
+        text: "a nullification",
     },
     Item {
         shape: "cf",
-        text: "stores a finalization",
+        text: "a finalization",
     },
     Item {
         shape: "yes",
-        text: "stores a true verdict",
+        text: "a true verdict",
     },
     Item {
         shape: "no",
-        text: "stores a false verdict",
+        text: "a false verdict",
     },
+];
+
+// What it tells, and how it stands.
+const TELLS: [Item; 5] = [
     Item {
         shape: "final",
         text: "reports a final view",
@@ -142,9 +149,18 @@ const ITEMS: [Item; 20] = [
         shape: "block",
         text: "blocks a member",
     },
+    Item {
+        shape: "band",
+        text: "the view that it is in",
+    },
+    Item {
+        shape: "still",
+        text: "stands still",
+    },
 ];
 
-const LINES: [Line; 8] = [
+// Packets.
+const LINES: [Line; 9] = [
     Line {
         class: "n",
         end: "mn",
@@ -181,22 +197,30 @@ const LINES: [Line; 8] = [
         text: "bytes that are no message",
     },
     Line {
-        class: "n",
+        class: "n l",
         end: "ml",
-        text: "never taken; circle: not here",
+        text: "never taken",
+    },
+    Line {
+        class: "n l",
+        end: "mo",
+        text: "taken outside of this picture",
     },
 ];
 
-/// How many texts stand below each other.
-const DEEP: u64 = 7;
+// How far the texts of a column stand from each other.
+const DOWN: u64 = 20;
 
-/// The height of the legend.
-pub(crate) const HEIGHT: u64 = 20 + DEEP * 21;
+/// The height of the legend: a heading, and nine lines.
+pub(crate) const HEIGHT: u64 = 30 + 10 * DOWN;
 
-// Adds the beginning of a text's group.
-fn push_place(out: &mut String, top: u64, place: u64) -> Result<(), AllocError> {
-    let x = (place / DEEP).saturating_mul(245).saturating_add(20);
-    let y = top.saturating_add(20 + place % DEEP * 21);
+// Adds the beginning of the group at this place of a column, from 0.
+fn push_place(out: &mut String, top: u64, column: u64, place: u64) -> Result<(), AllocError> {
+    let x = column.saturating_mul(245).saturating_add(20);
+    let y = place
+        .saturating_mul(DOWN)
+        .saturating_add(top)
+        .saturating_add(24);
     write!(out, "<g transform=\"translate({x},{y})\">")
 }
 
@@ -205,16 +229,32 @@ fn push_words(out: &mut String, text: &str) -> Result<(), AllocError> {
     write!(out, "<text x=\"44\" y=\"4\">{text}</text></g>\n")
 }
 
-/// Adds the legend below this height.
-pub(crate) fn push_legend(out: &mut String, top: u64) -> Result<(), AllocError> {
-    for (place, item) in ITEMS.iter().enumerate() {
-        push_place(out, top, place as u64)?;
+fn push_heading(out: &mut String, top: u64, column: u64, text: &str) -> Result<(), AllocError> {
+    push_place(out, top, column, 0)?;
+    write!(out, "<text class=\"m\" y=\"4\">{text}</text></g>\n")
+}
+
+fn push_items(
+    out: &mut String,
+    top: u64,
+    column: u64,
+    heading: &str,
+    items: &[Item],
+) -> Result<(), AllocError> {
+    push_heading(out, top, column, heading)?;
+    for (place, item) in items.iter().enumerate() {
+        push_place(out, top, column, (place as u64).saturating_add(1))?;
         let shape = item.shape;
         write!(out, "<use href=\"#{shape}\" x=\"17\"/>")?;
         push_words(out, item.text)?;
     }
+    Ok(())
+}
+
+fn push_lines(out: &mut String, top: u64, column: u64, heading: &str) -> Result<(), AllocError> {
+    push_heading(out, top, column, heading)?;
     for (place, line) in LINES.iter().enumerate() {
-        push_place(out, top, (place as u64).saturating_add(ITEMS.len() as u64))?;
+        push_place(out, top, column, (place as u64).saturating_add(1))?;
         let class = line.class;
         let end = line.end;
         write!(
@@ -224,4 +264,18 @@ pub(crate) fn push_legend(out: &mut String, top: u64) -> Result<(), AllocError> 
         push_words(out, line.text)?;
     }
     Ok(())
+}
+
+/// Adds the legend below this height.
+pub(crate) fn push_legend(out: &mut String, top: u64) -> Result<(), AllocError> {
+    push_items(out, top, 0, "What happens", HAPPENS.as_slice())?;
+    push_items(out, top, 1, "What the node stores", STORES.as_slice())?;
+    push_items(
+        out,
+        top,
+        2,
+        "What it tells, and how it stands",
+        TELLS.as_slice(),
+    )?;
+    push_lines(out, top, 3, "Packets")
 }

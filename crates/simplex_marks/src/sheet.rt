@@ -5,19 +5,19 @@ use simplex_transcript::Node;
 use std::alloc::{AllocError, Global};
 
 /// How far the events stand from each other.
-pub(crate) const STEP: u64 = 22;
+const STEP: u64 = 26;
 /// How far a sign stands above the one below it.
 pub(crate) const SIGN: u64 = 16;
 /// Where the first event stands.
 const LEFT: u64 = 150;
-/// What is left free on the right.
-const RIGHT: u64 = 50;
+/// What is left free on the right, for the names of the lanes.
+const RIGHT: u64 = 90;
 /// The least width, in which the legend has room.
 const WIDTH: u64 = 1010;
 /// The height of the lines above the lanes.
-const HEAD: u64 = 70;
+const HEAD: u64 = 84;
 /// What ticks need above the lanes, for how long they are.
-const TICKS: u64 = 56;
+const TICKS: u64 = 64;
 /// What a lane needs below its line, for the band.
 const BELOW: u64 = 34;
 /// What a lane needs above its line, with no sign.
@@ -106,9 +106,9 @@ impl Sheet {
         LEFT - STEP / 2
     }
 
-    /// The end of the last event on the right.
+    /// The end of the last event on the right, behind its stubs.
     pub(crate) fn end(&self) -> u64 {
-        self.x_of(self.last).saturating_add(STEP / 2)
+        self.x_of(self.last).saturating_add(STEP)
     }
 
     /// The width of the sheet.
