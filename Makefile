@@ -1,6 +1,7 @@
 # example: runs the program on the worked example of the README, unproved. build: proves and builds the program. test: the
-# whole gate. wrong-bodies: tries the wrong bodies that the gate leaves out, of all crates or of those in CRATE.
-.PHONY: example build test wrong-bodies
+# whole gate. wrong-bodies: tries the wrong bodies that the gate leaves out, of all crates or of those in CRATE. pictures: draws
+# the runs of docs/TOUR.md into pictures/, by the proved program where there is one, else unproved, and says so.
+.PHONY: example build test wrong-bodies pictures
 example:
 	@cd crates/simplex_net && rt try -- run < stdin
 	@echo "This run was not proved (rt try). make build proves and builds the program."
@@ -14,3 +15,6 @@ test:
 
 wrong-bodies:
 	./wrong-bodies.sh $(CRATE)
+
+pictures:
+	@./pictures.sh

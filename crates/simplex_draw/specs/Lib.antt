@@ -1,0 +1,3 @@
+pub mod Cause
+pub mod Exit
+pub mod Words
