@@ -101,7 +101,7 @@ made_keeps setup before (events.Crash at) = engine_keeps setup before at (events
 made_keeps setup before (events.Inject who channel to bytes) =
     if_keeps (events.Inject who channel to bytes) (nat_lt who (members_of setup) && list_all (is_node setup) to) _ _ (if_keeps (events.Inject who channel to bytes) (is_honest setup who) _ _ tt refl) tt
 
-made_event : (setup : Setup) (before : List Noted) (event : Event) (noted : Noted) → made_of setup before event ≡ Ok noted → noted.event ≡ event
+pub made_event : (setup : Setup) (before : List Noted) (event : Event) (noted : Noted) → made_of setup before event ≡ Ok noted → noted.event ≡ event
 made_event setup before event noted e = subst (KeepsEvent event) e (made_keeps setup before event)
 
 -- ---- what a node without an engine heard
