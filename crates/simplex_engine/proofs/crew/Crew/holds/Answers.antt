@@ -8,16 +8,16 @@ pub returns-in-Voter : goal.returns-in-Voter
 returns-in-Voter g c = rw c.in-Voter.is (voter-holds c.args.self.now _ c.args.now c.is_empty-in-Voter.ensures)
 
 pub returns-in-Timer : goal.returns-in-Timer
-returns-in-Timer g c = rw c.in-Timer.is (timer-holds c.args.self.now _ c.args.now c.holds.ensures)
+returns-in-Timer g c = rw c.in-Timer.is (timer-holds c.args.self.now _ c.args.now c.holds.ensures.told)
 
 pub returns-in-Propose : goal.returns-in-Propose
-returns-in-Propose g c = rw c.in-Propose.is (propose-holds c.args.self.now _ c.args.now c.holds-in-Propose.ensures)
+returns-in-Propose g c = rw c.in-Propose.is (propose-holds c.args.self.now _ c.args.now c.holds-in-Propose.ensures.told)
 
 pub returns-in-Verify : goal.returns-in-Verify
-returns-in-Verify g c = rw c.in-Verify.is (verify-holds c.args.self.now _ c.args.now c.holds-in-Verify.ensures)
+returns-in-Verify g c = rw c.in-Verify.is (verify-holds c.args.self.now _ c.args.now c.holds-in-Verify.ensures.told)
 
 pub returns-in-Certify : goal.returns-in-Certify
-returns-in-Certify g c = rw c.in-Certify.is (certify-holds c.args.self.now _ c.args.now c.holds-in-Certify.ensures)
+returns-in-Certify g c = rw c.in-Certify.is (certify-holds c.args.self.now _ c.args.now c.holds-in-Certify.ensures.told)
 
 pub returns-in-Resolver : goal.returns-in-Resolver
 returns-in-Resolver g c = rw c.in-Resolver.is (resolver-holds c.args.self.now _ c.args.now c.is_empty-in-Resolver.ensures)
