@@ -1,5 +1,5 @@
 //! An application that makes payloads of random words, and judges those of others.
-ghost use Rattle.std.specs.Prelude.{◌≡◌, ◌∷◌, [], length, Option, Some, None, IfOk, OnOk, OnErr, IfSome, MatchOption, map, true, false};
+ghost use Rattle.std.specs.Prelude.{◌≡◌, [], length, Option, Some, None, IfOk, OnOk, OnErr, IfSome, MatchOption, map, true, false};
 ghost use Rattle.std.specs.Option.{IsSomeAnd};
 ghost use Rattle.simplex_values.specs.declared.answer.Answer.{Answer};
 ghost use Rattle.simplex_application.specs.Application.{as_reply, replies_to, prepared, MayAnswer, Shows, Idles, on_prepare, on_propose, on_verify, on_broadcast, on_relayed, relayed_by};

@@ -1,5 +1,5 @@
 //! Payloads by their texts.
-ghost use Rattle.std.specs.Prelude.{◌≡◌, ◌++◌, ℕ, List, IfOk, OnOk};
+ghost use Rattle.std.specs.Prelude.{◌≡◌, ◌++◌, IfOk, OnOk};
 ghost use Rattle.sha2.specs.Sha256.{sha256};
 ghost use Rattle.simplex_wire.specs.Number.{varint};
 ghost use Rattle.simplex_faults.specs.Payload.{payload_text};

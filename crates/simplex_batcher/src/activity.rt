@@ -1,5 +1,5 @@
 //! Which members were seen of late.
-ghost use Rattle.std.specs.Prelude.{◌≡◌, ℕ, nat_le, length, filter, OnOk};
+ghost use Rattle.std.specs.Prelude.{◌≡◌, length, filter, OnOk};
 ghost use Rattle.std.specs.List.{range_with_len};
 ghost use Rattle.simplex_steps.specs.Batcher.{is_active, was_seen, required_active, seen_now};
 ghost use Rattle.simplex_batcher.specs.Activity.{seen_in};

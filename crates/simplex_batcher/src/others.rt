@@ -1,7 +1,7 @@
 //! The rounds of the views but the current one, and what a vote comes to in a round.
 #![tactic(auto, unfolding(crate::specs::Rounds::found, crate::specs::Rounds::round_of, simplex_round::specs::Stands::StandsFor))]
 
-ghost use Rattle.std.specs.Prelude.{◌≡◌, ◌≤◌, ◌==◌, ◌++◌, ℕ, [], None, Some, false, nat_le, not, ◌&&◌, length, map, if◌then◌else◌, IfOk, OnOk};
+ghost use Rattle.std.specs.Prelude.{◌≡◌, ◌≤◌, ◌==◌, ◌++◌, ℕ, None, Some, false, nat_le, not, ◌&&◌, length, map, if◌then◌else◌, IfOk, OnOk};
 ghost use Rattle.std.specs.BTreeMap.Range.{entries_between};
 ghost use Rattle.std.specs.List.Sorted.{IsStrictlySortedBy};
 ghost use Rattle.std.specs.Map.{keys_of};
@@ -11,9 +11,9 @@ ghost use Rattle.simplex_round.specs.Acceptance.{heard, heard_from, has_nullify}
 ghost use Rattle.std.specs.Option.{is_some};
 ghost use Rattle.simplex_steps.specs.Batcher.{some_passes};
 ghost use Rattle.simplex_batcher.specs.Hearing.{voted, heard_of};
-ghost use Rattle.simplex_round.specs.Calls.{AddNetwork, AcceptVote, SetLeader, RecordCertificate};
+ghost use Rattle.simplex_round.specs.Calls.{AcceptVote, SetLeader, RecordCertificate};
 ghost use Rattle.simplex_round.specs.Forwarding.{gives_proposal};
-ghost use Rattle.simplex_steps.specs.Batcher.{RoundHistory, called, known_in};
+ghost use Rattle.simplex_steps.specs.Batcher.{RoundHistory, known_in};
 ghost use Rattle.simplex_batcher.specs.Rounds.{found, round_of, given, ChangesAt, TakesAt, StaysWithout, AnswersAt, HistoryAnswersAt};
 
 use crate::kept::Kept;

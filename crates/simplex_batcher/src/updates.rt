@@ -1,5 +1,5 @@
 //! Updates from the voter.
-ghost use Rattle.std.specs.Prelude.{◌≡◌, IfOk, OnOk};
+ghost use Rattle.std.specs.Prelude.{IfOk, OnOk};
 ghost use Rattle.simplex_steps.specs.Batcher.{took_update, with_leader, window_views};
 ghost use Rattle.simplex_batcher.specs.Working.{entered, with_leads, with_window};
 ghost use Rattle.simplex_batcher.specs.Stands.{Marks, Moves, Reads};

@@ -1,5 +1,5 @@
 //! Votes: those of the network, and own ones.
-ghost use Rattle.std.specs.Prelude.{◌≡◌, ◌++◌, IfOk, OnOk};
+ghost use Rattle.std.specs.Prelude.{◌++◌, IfOk, OnOk};
 ghost use Rattle.simplex_round.specs.Acceptance.{heard_from, has_nullify};
 ghost use Rattle.simplex_round.specs.Calls.{AddNetwork};
 ghost use Rattle.simplex_steps.specs.Batcher.{took_vote, took_constructed, round_for, called, known_in, vote_view, some_passes};

@@ -20,7 +20,7 @@ use Rattle.simplex_steps.specs.Voter.{floor_view, stand_on, replay_all, prune_at
 use Rattle.simplex_lives.specs.Artifacts as member
 use Rattle.simplex_lives.specs.Journal as kept
 use Rattle.simplex_lives.specs.Member as life
-use Rattle.simplex_lives.specs.Member.{Member, happens, run, IsLegal}
+use Rattle.simplex_lives.specs.Member.{Member, run, IsLegal}
 use Rattle.simplex_conduct.specs.Life.{statement_of, memory_of, remembered, AreSent, IsInOrder, IsStopped, floor_statement, IsBegun}
 use Rattle.simplex_conduct.proofs.Facts.{one_more}
 use Rattle.simplex_conduct.proofs.Living.{subjects_of}

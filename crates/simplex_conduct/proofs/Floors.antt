@@ -26,7 +26,7 @@ use Rattle.simplex_steps.specs.VoterLife.{unread, before_reading, start_performe
 use Rattle.simplex_lives.specs.Artifacts as member
 use Rattle.simplex_lives.specs.Journal as kept
 use Rattle.simplex_lives.specs.Member as life
-use Rattle.simplex_lives.specs.Member.{Member, happens, run, IsLegal}
+use Rattle.simplex_lives.specs.Member.{Member, happens, run}
 use Rattle.simplex_conduct.specs.Life.{statement_of, IsRunning, IsStopped, IsFloor, IsBegun}
 use Rattle.simplex_conduct.proofs.Journals.{append_is}
 use Rattle.simplex_conduct.proofs.Living.{own_afters, subjects_of}

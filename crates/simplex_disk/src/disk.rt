@@ -1,5 +1,5 @@
 //! A disk that may crash.
-ghost use Rattle.std.specs.Prelude.{◌≡◌, ◌≢◌, ◌≤◌, ◌<◌, ◌∷◌, ℕ, List, Option, Some, length, IfOk, OnOk, OnErr, IsErrOf, IfSome, true};
+ghost use Rattle.std.specs.Prelude.{◌≡◌, ◌≤◌, ◌<◌, ◌∷◌, ℕ, List, Option, Some, length, IfOk, OnOk, OnErr, IsErrOf, IfSome, true};
 ghost use Rattle.simplex_disk.specs.Calls.{Call, Write, Cut, Remove, Sync, Settle, Leave, bytes_of, content, MayLeave, WritesInPart, CutsInPart, RemovesInPart};
 ghost use Rattle.simplex_disk.specs.Answers.{Counts, Heeds, OrderStands, IsListing};
 

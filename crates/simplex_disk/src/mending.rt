@@ -1,5 +1,5 @@
 //! The end of a file, after a crash.
-ghost use Rattle.std.specs.Prelude.{◌≡◌, ◌++◌, [], List, IfOk, OnOk, length};
+ghost use Rattle.std.specs.Prelude.{◌≡◌, [], List, IfOk, OnOk, length};
 ghost use Rattle.std.specs.Option.{option_map};
 ghost use Rattle.simplex_wire.specs.declared.artifact.Artifact.{Artifact};
 ghost use Rattle.simplex_disk.specs.Calls.{Call};

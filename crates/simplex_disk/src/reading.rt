@@ -1,5 +1,5 @@
 //! Records in the bytes of a file.
-ghost use Rattle.std.specs.Prelude.{◌≡◌, ◌≤◌, ◌++◌, IfOk, OnOk, IsErrOf, length};
+ghost use Rattle.std.specs.Prelude.{◌≡◌, ◌≤◌, ◌++◌, IfOk, OnOk, length};
 ghost use Rattle.std.specs.Option.{option_map};
 ghost use Rattle.simplex_wire.specs.Format.{GivesBy};
 ghost use Rattle.simplex_wire.specs.Number.{IsLimit, number_from};

@@ -1,5 +1,5 @@
 //! A stop.
-ghost use Rattle.std.specs.Prelude.{◌≡◌, ◌≤◌, ◌+◌, ◌++◌, ℕ, List, Option, [], length, take};
+ghost use Rattle.std.specs.Prelude.{◌≡◌, ◌+◌, ◌++◌, ℕ, List, Option, [], length, take};
 ghost use Rattle.simplex_journal.specs.Journal.{crashed};
 ghost use Rattle.simplex_wire.specs.declared.artifact.Artifact.{Artifact};
 ghost use Rattle.simplex_disk.specs.Answers.{OrderStands};

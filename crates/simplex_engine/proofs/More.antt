@@ -16,7 +16,6 @@ use Rattle.simplex_messages.specs.declared.step.Outcome.{Outcome}
 use Rattle.simplex_messages.specs.declared.step.Outcome.TheVariants as outcomes
 use Rattle.simplex_messages.specs.declared.step.Stop.{Stop}
 use Rattle.simplex_messages.specs.declared.step.StepOut.{StepOut}
-use Rattle.simplex_messages.specs.Step.{no_out}
 use Rattle.simplex_transcript.specs.declared.event.StepSource.TheVariants as sources
 use Rattle.simplex_steps.specs.Performed.{Performed}
 use Rattle.simplex_steps.specs.VoterLife.{Started, Stepped}

@@ -1,5 +1,5 @@
 -- A resolver hands on to the voter, and to its own handler.
-use Rattle.std.proofs.Common.{◌≡◌, ◌∙◌, refl, sym, arith, ℕ, Bool, true, false, List, [], ◌∷◌, if◌then◌else◌, length, Option, None}
+use Rattle.std.proofs.Common.{◌≡◌, ◌∙◌, refl, sym, arith, ℕ, Bool, true, false, List, [], ◌∷◌, if◌then◌else◌, length, None}
 use Rattle.std.specs.Prelude.{◌==◌, ◌&&◌, not}
 use Rattle.std.specs.List.{list_all}
 use Rattle.simplex_messages.specs.declared.resolver.ResolverInput.{ResolverInput}
@@ -13,7 +13,7 @@ use Rattle.simplex_messages.specs.declared.step.Stop.TheVariants as stops
 use Rattle.simplex_messages.specs.declared.step.StepOut.{StepOut}
 use Rattle.simplex_mailbox.specs.Waiting.{front, is_clear}
 use Rattle.simplex_resolving.specs.Resolver.{Made, Given, step_out, handler_message, holds_handled, standing_after}
-use Rattle.simplex_steps.specs.Engine.{cut_short, if_held}
+use Rattle.simplex_steps.specs.Engine.{cut_short}
 use Rattle.simplex_steps.specs.ResolverSteps.{is_handed_by_resolver}
 use Rattle.simplex_steps.proofs.ResolverSteps.{handed_by_resolver}
 use Rattle.simplex_engine.proofs.BatcherMail.{IsForVoter, nil-tells}

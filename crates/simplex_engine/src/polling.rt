@@ -1,16 +1,16 @@
 //! What a crew does with an input.
 #![tactic(auto, unfolding(crate::specs::Stands::CrewStands))]
 
-ghost use Rattle.std.specs.Prelude.{◌≡◌, ◌<◌, ◌^◌, ◌∷◌, ℕ, true, false, OnOk, IfOk, IfErr, IfNone, OnErr, None, Some};
+ghost use Rattle.std.specs.Prelude.{◌≡◌, ◌<◌, ◌^◌, ℕ, true, false, OnOk, IfOk, IfErr, IfNone, None, Some};
 ghost use Rattle.simplex_mailbox.specs.Mail.{received};
 ghost use Rattle.simplex_messages.specs.Step.{no_out};
 ghost use Rattle.simplex_values.specs.declared.plan.Channel.TheVariants as channels;
 ghost use Rattle.simplex_messages.specs.declared.step.Outcome.TheVariants as outcomes;
 ghost use Rattle.simplex_engine.specs.declared.error.PollError.TheVariants as poll_errors;
 ghost use Rattle.simplex_transcript.specs.declared.event.StepSource.TheVariants as sources;
-ghost use Rattle.simplex_steps.specs.Engine.{EngineMade, Did, heard, stepped, replied, takes_reply};
+ghost use Rattle.simplex_steps.specs.Engine.{heard, stepped, replied, takes_reply};
 ghost use Rattle.simplex_engine.specs.Parts.{after_voter_mail, after_batcher_mail};
-ghost use Rattle.simplex_engine.specs.Polled.{polled, taken_inside, is_taken, unless_idle};
+ghost use Rattle.simplex_engine.specs.Polled.{polled, taken_inside, is_taken};
 ghost use Rattle.simplex_engine.specs.Stands.{CrewTakes, CrewStays, CrewGives, CrewAnswers, CrewRefuses, Works, Tells};
 
 use crate::crew::Crew;

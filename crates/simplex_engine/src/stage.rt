@@ -1,9 +1,9 @@
 //! How far an engine is.
 #![tactic(auto, unfolding(crate::specs::Stands::CrewStands, simplex_steps::specs::Engine::runs))]
 
-ghost use Rattle.std.specs.Prelude.{◌≡◌, ◌<◌, ◌^◌, ◌∷◌, List, IfOk};
-ghost use Rattle.simplex_steps.specs.Engine.{EngineMade, Did};
-ghost use Rattle.simplex_engine.specs.Stands.{CrewStands, StageStands, Waits, Fresh, settled, settled_with};
+ghost use Rattle.std.specs.Prelude.{◌≡◌, ◌<◌, ◌^◌, IfOk};
+ghost use Rattle.simplex_steps.specs.Engine.{EngineMade};
+ghost use Rattle.simplex_engine.specs.Stands.{CrewStands, Waits, Fresh, settled, settled_with};
 
 use crate::crew::Crew;
 use crate::error::PollError;

@@ -13,7 +13,7 @@ use Rattle.simplex_wire.specs.declared.vote.Vote.TheVariants as votes
 use Rattle.simplex_wire.specs.Fields.{vote_subject}
 use Rattle.simplex_wire.specs.Format.{◌>>=◌, Left, Format, both, seen_as, whole, ended}
 use Rattle.simplex_wire.specs.Message as format
-use Rattle.simplex_wire.specs.Message.{notarize, nullify, finalize, vote, proposal, round, attestation, vote_behind}
+use Rattle.simplex_wire.specs.Message.{notarize, nullify, finalize, vote, proposal, round, attestation}
 use Rattle.simplex_wire.proofs.Bytes.{bind_ok, ok_is}
 use Rattle.simplex_wire.proofs.Formats.{IsFormat}
 use Rattle.simplex_wire.proofs.Messages.{proposal_is, round_is}

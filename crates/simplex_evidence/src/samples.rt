@@ -1,5 +1,5 @@
 //! What the definitions say, in samples. Each clause is computed.
-ghost use Rattle.std.specs.Prelude.{ℕ, ◌≡◌, true, false, List, [], ◌∷◌, map, All};
+ghost use Rattle.std.specs.Prelude.{ℕ, ◌≡◌, true, false, [], ◌∷◌, map, All};
 ghost use Rattle.simplex_wire.specs.declared.vote.Notarize.{Notarize};
 ghost use Rattle.simplex_wire.specs.declared.vote.Nullify.{Nullify};
 ghost use Rattle.simplex_wire.specs.declared.vote.Finalize.{Finalize};

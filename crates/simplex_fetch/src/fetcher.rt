@@ -1,11 +1,8 @@
 //! The fetcher.
-ghost use Rattle.std.specs.Prelude.{◌≡◌, ◌&&◌, nat_lt, ◌<◌, ◌≤◌, ◌+◌, ◌^◌, ◌++◌, ◌∷◌, ◌%◌, [], map, IfOk, OnOk, OnErr, None, Some, length, not};
-ghost use Rattle.std.specs.Option.{option_map, is_some};
-ghost use Rattle.std.specs.List.{All};
+ghost use Rattle.std.specs.Prelude.{◌≡◌, ◌&&◌, nat_lt, ◌<◌, ◌+◌, ◌^◌, ◌++◌, ◌∷◌, ◌%◌, [], map, IfOk, OnOk, None, Some};
+ghost use Rattle.std.specs.Option.{option_map};
 ghost use Rattle.simplex_values.specs.declared.ask.Outcome.{Outcome};
-ghost use Rattle.simplex_resolving.specs.declared.arrivals.Arrival.{Arrival};
 ghost use Rattle.simplex_resolving.specs.Views.{entry_at, asked_view, next_deadline};
-ghost use Rattle.simplex_fetch.specs.Index.{IsFree};
 ghost use Rattle.simplex_resolving.specs.Fetcher.{no_fetches, attempted, attempting, expiring, retiring, peer_of, retrying, of_all, of_target, fetched, noting, adding, attempted_at, retained, retired_at, kept_or_left, heard, heard_body, requested, answered, refused, judged, judged_as, asked_on, served, expired, expired_at, message_bytes, visited, is_done, blocked_by, answer_body, keeping, in_state, cyclic, other_at, IsSoundConfig, IsSoundEntry};
 ghost use Rattle.simplex_resolving.specs.declared.entry.State.TheVariants.{Waiting};
 

@@ -1,5 +1,5 @@
 //! The deadlines of views, in order.
-ghost use Rattle.std.specs.Prelude.{◌≡◌, ◌<◌, ◌≤◌, ◌==◌, ◌&&◌, ◌||◌, ℕ, not, ◌+◌, ◌^◌, IfOk, OnOk, OnErr, map, filter};
+ghost use Rattle.std.specs.Prelude.{◌≡◌, ◌<◌, ◌==◌, ◌&&◌, ◌||◌, ℕ, not, ◌+◌, ◌^◌, IfOk, OnOk, OnErr, map, filter};
 ghost use Rattle.std.specs.Ordering.{nat_cmp};
 ghost use Rattle.std.specs.declared.ops.Bound.TheVariants.{Excluded, Unbounded};
 ghost use Rattle.std.specs.BTreeMap.Range.{range_contains};

@@ -1,5 +1,5 @@
 //! The views that are asked for, and how they are found by deadline, by number and by what they ask for.
-ghost use Rattle.std.specs.Prelude.{◌≡◌, ◌<◌, ◌≤◌, map, ◌^◌, ◌&&◌, ◌==◌, if◌then◌else◌, ℕ, nat_le, [], IfOk, IfSome, IfNone, OnOk, OnErr, None, Some};
+ghost use Rattle.std.specs.Prelude.{◌≡◌, ◌<◌, ◌≤◌, map, ◌^◌, ◌&&◌, ◌==◌, if◌then◌else◌, ℕ, [], IfOk, IfSome, IfNone, OnOk, OnErr, None, Some};
 ghost use Rattle.std.specs.Option.{option_copied};
 ghost use Rattle.std.specs.Ordering.{nat_cmp};
 ghost use Rattle.std.specs.declared.ops.Bound.TheVariants.{Included};

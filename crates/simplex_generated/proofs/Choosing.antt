@@ -1,5 +1,5 @@
 -- A drawing that is new, and one that chooses.
-use Rattle.std.proofs.Common.{◌≡◌, ◌<◌, ◌+◌, ◌-◌, ◌%◌, ◌==◌, ◌∷◌, [], ℕ, zero, suc, false, nat_lt, List, length, refl, sym, ap, ◌∙◌, arith}
+use Rattle.std.proofs.Common.{◌≡◌, ◌<◌, ◌+◌, ◌-◌, ◌%◌, ◌==◌, [], ℕ, zero, suc, false, nat_lt, List, length, refl, sym, ap, ◌∙◌, arith}
 use Rattle.std.proofs.lemmas.Bool.{le-ltb}
 use Rattle.std.specs.Prelude.{Some, None}
 use Rattle.std.specs.List.{slice_get}

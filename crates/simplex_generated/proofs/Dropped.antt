@@ -1,5 +1,5 @@
 -- Events that name no node drop no requests.
-use Rattle.std.proofs.Common.{◌≡◌, ◌&&◌, Bool, true, false, not, List, [], ◌∷◌, ◌++◌, refl, sym, ap, ◌∙◌, append-nil}
+use Rattle.std.proofs.Common.{◌≡◌, false, not, List, [], ◌∷◌, ◌++◌, refl, sym, ap, ◌∙◌, append-nil}
 use Rattle.std.specs.Prelude.{filter, None, ℕ}
 use Rattle.std.specs.Option.{option_map_or}
 use Rattle.simplex_transcript.specs.declared.node.Node.{Node}

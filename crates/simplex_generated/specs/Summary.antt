@@ -1,6 +1,6 @@
 -- The line that sums up a run.
 use Rattle.std.specs.Prelude.{ℕ, ◌+◌, max, Bool, true, false, List, [], ◌∷◌, length, filter, codes, decimal, Option, Some, None, if◌then◌else◌}
-use Rattle.std.specs.List.{flat_map, filter_map, fold}
+use Rattle.std.specs.List.{filter_map, fold}
 use Rattle.std.specs.Option.{is_some}
 use Rattle.simplex_types.specs.declared.activity.Activity.TheVariants as activities
 use Rattle.simplex_messages.specs.declared.call.Call.{Call}

@@ -1,7 +1,7 @@
 //! What the events of a list are drawn from, and which is drawn.
 #![tactic(auto, unfolding(crate::specs::Drawing::next_event, crate::specs::Drawing::drawn, crate::specs::Drawing::deliveries))]
 
-ghost use Rattle.std.specs.Prelude.{◌≡◌, ◌<◌, ◌%◌, ◌/◌, ◌+◌, ◌-◌, ◌∷◌, ℕ, [], IfOk, OnOk, length, List};
+ghost use Rattle.std.specs.Prelude.{◌≡◌, ◌<◌, ◌%◌, ◌/◌, ◌+◌, ◌-◌, ℕ, [], IfOk, OnOk, List};
 ghost use Rattle.std.specs.List.{slice_get};
 ghost use Rattle.std.specs.Option.{option_map};
 ghost use Rattle.simplex_faults.specs.Words.{words_of, list_seed};

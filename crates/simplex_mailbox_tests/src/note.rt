@@ -1,5 +1,5 @@
 //! The messages of the tests: an urgent note takes the place, and a note is skipped once its writer left.
-ghost use Rattle.std.specs.Prelude.{◌≡◌, ◌==◌, ◌&&◌, if◌then◌else◌, not, Option};
+ghost use Rattle.std.specs.Prelude.{◌==◌, ◌&&◌, if◌then◌else◌, not, Option};
 ghost use Rattle.simplex_mailbox.specs.Waiting.{put_last};
 
 use simplex_mailbox::{Pending, Policy, Requested};

@@ -1,6 +1,6 @@
 //! How members sign, and what they draw.
-ghost use Rattle.std.specs.Prelude.{◌≡◌, ◌<◌, ◌++◌, replicate, length, IsNone, IfOk, Some};
-ghost use Rattle.std.specs.Int.{w32, w64, to_be_bytes};
+ghost use Rattle.std.specs.Prelude.{◌≡◌, ◌<◌, length, IsNone, IfOk, Some};
+ghost use Rattle.std.specs.Int.{to_be_bytes};
 ghost use Rattle.simplex_faults.specs.Words.{member_seed};
 ghost use Rattle.simplex_run.specs.Kinds as kinds;
 ghost use Rattle.simplex_run.specs.Members.{kind_of};

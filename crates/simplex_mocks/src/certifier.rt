@@ -1,5 +1,5 @@
 //! Who decides whether a notarized payload may be certified.
-ghost use Rattle.std.specs.Prelude.{◌≡◌, Option, Bool};
+ghost use Rattle.std.specs.Prelude.{◌≡◌, Option};
 ghost use Rattle.simplex_mocks.specs.declared.certifier.Certifier.TheVariants as certifiers;
 ghost use Rattle.simplex_mocks.specs.Certifier.{always, cancels, leaves_open, by_closure, by_controller};
 

@@ -1,7 +1,7 @@
 //! A leader that proposes two payloads.
-ghost use Rattle.std.specs.Prelude.{◌≡◌, ◌∷◌, ◌||◌, ◌==◌, ◌<◌, ◌-◌, ◌^◌, [], ℕ, List, IfOk, OnOk, IfSome, OnSome, Some, None, if◌then◌else◌};
+ghost use Rattle.std.specs.Prelude.{◌≡◌, ◌∷◌, ◌||◌, ◌==◌, ◌<◌, ◌-◌, ◌^◌, [], ℕ, List, IfOk, OnOk, IfSome, OnSome, Some, None};
 ghost use Rattle.simplex_faults.specs.Heard.{Heard, certificate_heard};
-ghost use Rattle.simplex_faults.specs.Equivocator.{Made, was_heard, leads_next, proposal_in, equivocator_sends};
+ghost use Rattle.simplex_faults.specs.Equivocator.{Made, was_heard, proposal_in, equivocator_sends};
 ghost use Rattle.simplex_faults.specs.Words.{Words};
 ghost use Rattle.simplex_mocks.specs.Drawing.{words_left};
 ghost use Rattle.simplex_mocks.specs.Equivocating.{StandsFor, made_of, has_view, speaker};

@@ -1,11 +1,11 @@
 //! A member that votes for what was proposed some views before.
 #![tactic(auto, unfolding(crate::specs::Remembering::StandsFor, simplex_faults::specs::Outdated::stored_at, simplex_faults::specs::Outdated::outdated_sends))]
 
-ghost use Rattle.std.specs.Prelude.{◌≡◌, ◌∷◌, ◌-◌, [], ℕ, List, Option, IfOk, OnOk, Some, option_map};
+ghost use Rattle.std.specs.Prelude.{◌≡◌, ◌∷◌, ◌-◌, [], ℕ, List, Option, IfOk, OnOk, Some};
 ghost use Rattle.simplex_values.specs.declared.proposal.Subject.{Subject};
 ghost use Rattle.simplex_wire.specs.declared.attestation.Attestation.{Attestation};
 ghost use Rattle.simplex_faults.specs.Heard.{Heard};
-ghost use Rattle.simplex_faults.specs.Outdated.{if_view, proposal_in, outdated_sends};
+ghost use Rattle.simplex_faults.specs.Outdated.{if_view, outdated_sends};
 ghost use Rattle.simplex_mocks.specs.Remembering.{StandsFor, stored_in};
 
 use crate::hearing::heard_subject;

@@ -1,7 +1,7 @@
 //! A member that votes in the next epoch.
 #![tactic(auto, unfolding(simplex_faults::specs::Reconfigurer::reconfigurer_sends))]
 
-ghost use Rattle.std.specs.Prelude.{◌≡◌, ◌^◌, ◌-◌, ◌∷◌, [], nat_lt, IfOk, Some, None, if◌then◌else◌};
+ghost use Rattle.std.specs.Prelude.{◌≡◌, ◌^◌, ◌-◌, [], nat_lt, IfOk, Some, None, if◌then◌else◌};
 ghost use Rattle.std.specs.Option.{option_to_list};
 ghost use Rattle.simplex_faults.specs.Reconfigurer.{in_next_epoch, reconfigurer_subjects, reconfigurer_sends};
 

@@ -1,5 +1,5 @@
 //! One inbox of a relay.
-ghost use Rattle.std.specs.Prelude.{◌≡◌, ◌++◌, [], length, filter, replicate, ◌==◌, IfOk, OnOk, OnErr, None, Some};
+ghost use Rattle.std.specs.Prelude.{◌≡◌, [], length, filter, replicate, ◌==◌, IfOk, OnOk, OnErr, None, Some};
 ghost use Rattle.simplex_mocks.specs.Relay.{cleared, times_named, times_for, with_relayed, first_of, rest_of};
 
 use crate::relayed::Relayed;

@@ -1,6 +1,5 @@
 //! Schemes that fail their member, and the elector beside them.
-ghost use Rattle.std.specs.Prelude.{◌≡◌, ◌++◌, ℕ, List, find, not, map, ◌+◌, ◌-◌, ◌%◌, ◌<◌, ◌≤◌};
-ghost use Rattle.simplex_wire.specs.Number.{varint};
+ghost use Rattle.std.specs.Prelude.{◌≡◌, ◌+◌, ◌-◌, ◌%◌, ◌<◌};
 ghost use Rattle.simplex_faults.specs.Wrapped.{turned, first_bit, corrupted, wrapped_attests, wrapped_recovers};
 ghost use Rattle.simplex_mocks.specs.WrappedLaws.{wrapped_signs};
 

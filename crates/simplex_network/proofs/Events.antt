@@ -1,5 +1,5 @@
 -- What each event comes to, by what was found of its node.
-use Rattle.std.proofs.Common.{◌≡◌, ℕ, List, [], ◌∷◌, Bool, true, false, refl, sym, ap, ◌∙◌, length, ◌+◌, ◌-◌, ◌*◌, ◌≤◌, ◌<◌, ◌^◌, arith, map, if◌then◌else◌}
+use Rattle.std.proofs.Common.{◌≡◌, ℕ, List, [], ◌∷◌, Bool, true, false, refl, sym, ap, ◌∙◌, ◌+◌, ◌-◌, ◌*◌, ◌≤◌, ◌<◌, ◌^◌, arith, map, if◌then◌else◌}
 use Rattle.std.specs.Prelude.{◌&&◌, nat_lt, nat_le, Option, Some, None, Result, Ok, Err}
 use Rattle.std.specs.List.{list_all, slice_get}
 use Rattle.std.specs.Option.{option_map_or}
@@ -28,7 +28,7 @@ use Rattle.simplex_run.specs.Kinds.{members_of, is_of_kind, is_node, is_honest, 
 use Rattle.simplex_run.specs.Members.{kind_of}
 use Rattle.simplex_run.specs.Life.{Noted, Running, clock_of, life_in}
 use Rattle.simplex_run.specs.Requests.{request_number, packet_for}
-use Rattle.simplex_run.specs.Mocks.{Sent, heard_by}
+use Rattle.simplex_run.specs.Mocks.{heard_by}
 use Rattle.simplex_run.specs.Hearing.{heard_of, heard_in}
 use Rattle.simplex_run.specs.Forged.{unless_forged}
 use Rattle.simplex_run.specs.Entries.{taken_of, noted_with, noted_blank, noted_idle, noted_packets, sent_by, is_own_floor, made_of, entry_of}

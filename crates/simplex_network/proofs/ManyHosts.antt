@@ -1,5 +1,5 @@
 -- One host of many.
-use Rattle.std.proofs.Common.{◌≡◌, ◌≢◌, ℕ, List, [], ◌∷◌, ◌++◌, Bool, true, false, arith, refl, sym, subst, if◌then◌else◌, length, get_or, set, ◌<◌, suc, zero, ap, ◌∙◌, ◌+◌, ◌*◌}
+use Rattle.std.proofs.Common.{◌≡◌, ◌≢◌, ℕ, List, [], ◌∷◌, ◌++◌, Bool, true, false, arith, refl, sym, subst, if◌then◌else◌, length, get_or, set, ◌<◌, suc, zero, ap, ◌∙◌, ◌+◌}
 use Rattle.std.specs.Prelude.{◌==◌, Some}
 use Rattle.std.specs.List.{slice_get}
 use Rattle.std.proofs.lemmas.Grind.{common_steps}
@@ -7,7 +7,6 @@ use Rattle.std.proofs.lemmas.List.{length_push}
 use Rattle.std.proofs.lemmas.Option.{slice_get-get_or}
 use Rattle.simplex_transcript.specs.declared.node.Node.{Node}
 use Rattle.simplex_transcript.specs.declared.setup.Setup.{Setup}
-use Rattle.simplex_run.specs.Kinds.{is_same_node}
 use Rattle.simplex_records.specs.Seats.{seat_of, node_at}
 use Rattle.simplex_records.proofs.Seating.{same-seat, seated}
 use Rattle.simplex_network.specs.declared.host.Host.{Host}

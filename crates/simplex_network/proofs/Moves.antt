@@ -1,21 +1,17 @@
 -- The parts of all nodes behind one event more.
-use Rattle.std.proofs.Common.{◌≡◌, ℕ, List, ◌∷◌, Bool, true, false, refl, sym, subst, ap, ◌∙◌, if◌then◌else◌}
-use Rattle.std.specs.Prelude.{Option, Some, None}
+use Rattle.std.proofs.Common.{◌≡◌, List, ◌∷◌, Bool, true, false, refl, sym, subst, ap, ◌∙◌, if◌then◌else◌}
+use Rattle.std.specs.Prelude.{Some, None}
 use Rattle.std.specs.List.{cons_option}
-use Rattle.std.specs.Option.{option_map}
 use Rattle.simplex_transcript.specs.declared.event.Event.{Event}
 use Rattle.simplex_transcript.specs.declared.event.Event.TheVariants as events
-use Rattle.simplex_transcript.specs.declared.entry.Packet.{Packet}
 use Rattle.simplex_transcript.specs.declared.node.Node.{Node}
-use Rattle.simplex_transcript.specs.declared.node.Ref.{Ref}
 use Rattle.simplex_transcript.specs.declared.setup.Setup.{Setup}
 use Rattle.simplex_run.specs.Kinds.{is_same_node, runs_engine}
 use Rattle.simplex_run.specs.Life.{Noted, Life, is_of, after, life_in}
-use Rattle.simplex_run.specs.Requests.{packet_at}
 use Rattle.simplex_run.specs.Mocks.{Heard}
-use Rattle.simplex_run.specs.Hearing.{heard_of, heard_at, heard_in}
+use Rattle.simplex_run.specs.Hearing.{heard_at, heard_in}
 use Rattle.simplex_safety.proofs.Further.{same_node}
-use Rattle.simplex_network.specs.Parts.{Part, Lives, Hears, part_in, changed}
+use Rattle.simplex_network.specs.Parts.{Lives, Hears, part_in, changed}
 use Rattle.simplex_network.specs.Polls.{IsOf}
 
 -- a node that an event is not of hears nothing by it

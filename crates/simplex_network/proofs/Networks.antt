@@ -1,6 +1,6 @@
 -- A whole network behind one event more.
-use Rattle.std.proofs.Common.{◌≡◌, ◌⊎◌, inl, inr, ℕ, List, [], ◌∷◌, Bool, true, false, arith, refl, sym, ap, subst, ◌∙◌, length, ◌+◌, ◌<◌, ◌^◌, if◌then◌else◌}
-use Rattle.std.specs.Prelude.{Option, Some, None, Result, Ok, Err}
+use Rattle.std.proofs.Common.{◌≡◌, inl, inr, ℕ, List, [], ◌∷◌, Bool, true, false, refl, sym, ap, subst, ◌∙◌, length, ◌+◌, ◌<◌, if◌then◌else◌}
+use Rattle.std.specs.Prelude.{Option, Some, None, Result, Ok}
 use Rattle.std.specs.Option.{option_or, option_and_then}
 use Rattle.simplex_wire.specs.declared.certificate.Finalization.{Finalization}
 use Rattle.simplex_journal.specs.Journal.{Section, crashed}
@@ -12,7 +12,6 @@ use Rattle.simplex_transcript.specs.declared.event.Event.{Event}
 use Rattle.simplex_transcript.specs.declared.event.Event.TheVariants as events
 use Rattle.simplex_transcript.specs.declared.event.StepSource.{StepSource}
 use Rattle.simplex_transcript.specs.declared.entry.Entry.{Entry}
-use Rattle.simplex_transcript.specs.declared.entry.Packet.{Packet}
 use Rattle.simplex_transcript.specs.declared.entry.Took.{Took}
 use Rattle.simplex_transcript.specs.declared.entry.Took.TheVariants as tooks
 use Rattle.simplex_transcript.specs.declared.node.Node.{Node}
@@ -25,9 +24,8 @@ use Rattle.simplex_run.specs.Kinds.{members_of, is_node, is_same_node, runs_engi
 use Rattle.simplex_run.specs.Members.{floor_of, engine_of}
 use Rattle.simplex_run.specs.Life.{Noted, Life, Stopped, clock_of, is_of, after, life_in, sections_in}
 use Rattle.simplex_run.specs.Requests.{is_start}
-use Rattle.simplex_run.specs.Mocks.{Heard}
-use Rattle.simplex_run.specs.Hearing.{heard_at, heard_in}
-use Rattle.simplex_run.specs.Entries.{noted_blank, noted_idle, blank_entry, entry_with}
+use Rattle.simplex_run.specs.Hearing.{heard_at}
+use Rattle.simplex_run.specs.Entries.{noted_blank, noted_idle, entry_with}
 use Rattle.simplex_safety.proofs.Further.{same_node}
 use Rattle.simplex_members.specs.NodeEngine.{NodeConfig, made_with}
 use Rattle.simplex_records.specs.Seats.{seat_of}
@@ -37,7 +35,7 @@ use Rattle.simplex_records.proofs.KeptPackets.{packets-from}
 use Rattle.simplex_records.proofs.Seating.{same-seat}
 use Rattle.simplex_network.specs.declared.network.Network.{Network}
 use Rattle.simplex_network.specs.NodeEngine.{NodeEngine}
-use Rattle.simplex_network.specs.Parts.{Part, Lives, Hears, part_in, after_poll, IsPolled, IsStarted, after_start, changed}
+use Rattle.simplex_network.specs.Parts.{Part, Lives, part_in, after_poll, IsPolled, IsStarted, after_start, changed}
 use Rattle.simplex_network.specs.Polls.{on_poll, IsOf, IsInput, noted_start, named}
 use Rattle.simplex_network.specs.Stands.{Keeps, HostsStand, EngineOf, LivesAs, IsIdle, entered}
 use Rattle.simplex_network.proofs.Polled.{poll-noted, poll-entered}

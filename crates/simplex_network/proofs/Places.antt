@@ -1,9 +1,9 @@
 -- Nodes that exist have a seat.
-use Rattle.std.proofs.Common.{◌≡◌, ℕ, Bool, true, false, arith, refl, length, ◌<◌, ◌*◌, ◌/◌, ◌^◌, ◌+◌, ltb-true, if◌then◌else◌}
+use Rattle.std.proofs.Common.{◌≡◌, ℕ, Bool, true, false, arith, refl, length, ◌<◌, ◌*◌, ◌/◌, ◌^◌, ltb-true, if◌then◌else◌}
 use Rattle.std.specs.Prelude.{◌&&◌, nat_lt, List, IsNone}
 use Rattle.simplex_transcript.specs.declared.node.Node.{Node}
 use Rattle.simplex_transcript.specs.declared.setup.Setup.{Setup}
-use Rattle.simplex_run.specs.Kinds.{is_node, is_twin, halves_of}
+use Rattle.simplex_run.specs.Kinds.{is_node, is_twin}
 use Rattle.simplex_run.specs.Setups.{first_bad}
 use Rattle.simplex_members.proofs.Good.{good-few}
 use Rattle.simplex_records.specs.Seats.{seat_of}

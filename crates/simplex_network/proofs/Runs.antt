@@ -1,5 +1,5 @@
 -- Runs that are part of the way through their events.
-use Rattle.std.proofs.Common.{◌≡◌, ℕ, List, [], ◌∷◌, ◌++◌, drop, get_or, length, ◌<◌, ◌≤◌, ◌+◌, ◌∙◌, sym, refl, ap, arith, true, false}
+use Rattle.std.proofs.Common.{◌≡◌, ℕ, List, [], ◌∷◌, ◌++◌, drop, get_or, length, ◌<◌, ◌≤◌, ◌+◌, ◌∙◌, sym, refl, ap, arith, false}
 use Rattle.std.specs.Prelude.{Option, Some, None, Result, Ok, Err, map, reverse}
 use Rattle.std.specs.Option.{option_map}
 use Rattle.std.proofs.lemmas.List.{drop_more, drop_all, reverse-append, length-drop}

@@ -1,5 +1,5 @@
 -- Each packet was sent by a member.
-use Rattle.std.proofs.Common.{◌≡◌, ℕ, zero, suc, List, [], ◌∷◌, Bool, true, false, arith, refl, subst, sym, length, ◌+◌, ◌<◌, ◌^◌, if◌then◌else◌}
+use Rattle.std.proofs.Common.{◌≡◌, ℕ, zero, suc, List, [], ◌∷◌, Bool, true, false, arith, subst, sym, length, ◌+◌, ◌<◌, ◌^◌, if◌then◌else◌}
 use Rattle.std.specs.Prelude.{◌==◌, All, IsNone, Option, Some, None}
 use Rattle.std.specs.List.{slice_get, list_any}
 use Rattle.std.specs.Option.{option_and_then}

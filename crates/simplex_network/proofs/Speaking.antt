@@ -1,8 +1,8 @@
 -- A network in which a faulty member hears or sends bytes.
-use Rattle.std.proofs.Common.{◌≡◌, ℕ, List, [], ◌∷◌, Bool, true, false, refl, sym, ap, subst, ◌∙◌, length, ◌+◌, ◌<◌, map, if◌then◌else◌}
-use Rattle.std.specs.Prelude.{All, not, Option, Some, None, Result, Ok, Err}
-use Rattle.std.specs.List.{slice_get, list_any}
-use Rattle.std.specs.Option.{option_map, option_map_or, option_and_then}
+use Rattle.std.proofs.Common.{◌≡◌, ℕ, List, [], ◌∷◌, true, false, refl, sym, ap, subst, ◌∙◌, ◌<◌, map}
+use Rattle.std.specs.Prelude.{not, Option, Some, None}
+use Rattle.std.specs.List.{slice_get}
+use Rattle.std.specs.Option.{option_map, option_map_or}
 use Rattle.std.proofs.lemmas.List.Elements.{All-nil, All-cons}
 use Rattle.simplex_values.specs.declared.plan.Channel.{Channel}
 use Rattle.simplex_transcript.specs.declared.event.Event.TheVariants as events
@@ -13,10 +13,10 @@ use Rattle.simplex_transcript.specs.declared.node.Ref.{Ref}
 use Rattle.simplex_transcript.specs.declared.setup.Setup.{Setup}
 use Rattle.simplex_transcript.specs.declared.setup.MemberKind.{MemberKind}
 use Rattle.simplex_transcript.specs.declared.setup.MemberKind.TheVariants as kinds
-use Rattle.simplex_run.specs.Kinds.{members_of, is_same_node, is_of_kind, is_faulty, is_honest, has_engine, runs_engine, node_of}
+use Rattle.simplex_run.specs.Kinds.{members_of, is_of_kind, is_faulty, is_honest, has_engine, runs_engine, node_of}
 use Rattle.simplex_run.specs.Members.{kind_of}
 use Rattle.simplex_run.specs.Life.{Noted, clock_of}
-use Rattle.simplex_run.specs.Requests.{is_start, packet_at, if_for, packet_for}
+use Rattle.simplex_run.specs.Requests.{is_start, packet_at, packet_for}
 use Rattle.simplex_run.specs.Mocks.{Sent, Heard, heard_by}
 use Rattle.simplex_run.specs.Hearing.{heard_of, heard_at, heard_in}
 use Rattle.simplex_run.specs.Entries.{sent_by}

@@ -1,5 +1,5 @@
 -- What is tested for forgeries.
-use Rattle.std.proofs.Common.{◌≡◌, ℕ, List, Bool, true, false, refl, sym, ap, ◌∙◌, if◌then◌else◌}
+use Rattle.std.proofs.Common.{◌≡◌, ℕ, List, true, false, refl, sym, ap}
 use Rattle.std.specs.Prelude.{find, Option, Some, None, Result, Ok, Err}
 use Rattle.std.specs.Option.{option_map}
 use Rattle.simplex_values.specs.declared.proposal.Subject.{Subject}

@@ -23,7 +23,7 @@ use Rattle.simplex_run.specs.Requests.{packet_at}
 use Rattle.simplex_run.specs.Forged.{unless_forged}
 use Rattle.simplex_run.specs.Entries.{entry_of, blank_entry, noted_blank, noted_idle}
 use Rattle.simplex_safety.specs.Histories.{IsRun}
-use Rattle.simplex_backing.specs.Fitting.{IsTyped, AreTyped}
+use Rattle.simplex_backing.specs.Fitting.{AreTyped}
 use Rattle.simplex_forging.specs.Forging.{is_impersonator}
 use Rattle.simplex_members.specs.FaultyMember.{FaultyStands}
 use Rattle.simplex_records.specs.Seats.{seat_of, node_at}

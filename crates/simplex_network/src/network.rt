@@ -1,7 +1,7 @@
 //! The network: a host at each seat, the clock, and the records of what the entries made.
 #![tactic(auto, unfolding(crate::specs::Stands::has_failed))]
 
-ghost use Rattle.std.specs.Prelude.{◌≡◌, ◌↔◌, ◌<◌, ◌*◌, ◌^◌, ◌||◌, [], ◌∷◌, true, false, length, vec_len, IfOk, IfErr, IsErrOf, IsTrue, IsNone, OnOk, None, Some};
+ghost use Rattle.std.specs.Prelude.{◌≡◌, ◌↔◌, ◌<◌, ◌*◌, ◌^◌, ◌||◌, [], true, false, length, vec_len, IfOk, IfErr, IsErrOf, IsTrue, IsNone, None, Some};
 ghost use Rattle.simplex_run.specs.Setups as setups;
 ghost use Rattle.simplex_records.specs.Stands.{seats_in};
 

@@ -1,5 +1,5 @@
 //! The program: words and a source in, a text and an exit out.
-ghost use Rattle.std.specs.Prelude.{◌≡◌, ◌⊎◌, ◌↔◌, ◌≤◌, ℕ, List, [], Ok, Err, IfOk, IfSome, IsTrue, true, false};
+ghost use Rattle.std.specs.Prelude.{◌≡◌, ◌⊎◌, ◌↔◌, ℕ, List, [], Ok, Err, IfOk, IfSome, IsTrue, false};
 ghost use Rattle.simplex_transcript.specs.declared.event.Event.{Event};
 ghost use Rattle.simplex_transcript.specs.declared.refusal.RunError.{RunError};
 ghost use Rattle.simplex_form.specs.declared.input.Input.{Input};

@@ -1,7 +1,7 @@
 //! The packets of the events.
 #![tactic(auto, unfolding(crate::specs::Packets::packet_in, simplex_run::specs::Requests::packet_for))]
 
-ghost use Rattle.std.specs.Prelude.{◌≡◌, ◌==◌, ◌++◌, ◌∷◌, ◌&&◌, ◌-◌, ℕ, List, [], length, IfOk, OnOk, Some, None};
+ghost use Rattle.std.specs.Prelude.{◌≡◌, ◌==◌, ◌++◌, ◌∷◌, ◌-◌, [], IfOk, OnOk, Some, None};
 ghost use Rattle.std.specs.List.{list_any};
 ghost use Rattle.std.specs.Option.{option_map, option_and_then, is_some};
 ghost use Rattle.simplex_run.specs.Members.{is_same_node};

@@ -1,7 +1,7 @@
 //! The votes that honest members sent, and what is forged.
 #![tactic(auto, unfolding(crate::specs::Votes::has_vote, crate::specs::Forgeries::is_unsent, simplex_run::specs::Forged::signed_in))]
 
-ghost use Rattle.std.specs.Prelude.{◌≡◌, ◌==◌, ◌&&◌, ◌||◌, ◌<◌, ◌^◌, ◌∷◌, ℕ, [], false, true, length, map, IfOk, OnOk, filter_map, if◌then◌else◌};
+ghost use Rattle.std.specs.Prelude.{◌≡◌, ◌==◌, ◌&&◌, ◌||◌, ◌<◌, ◌^◌, ◌∷◌, ℕ, [], false, length, map, IfOk, OnOk, filter_map, if◌then◌else◌};
 ghost use Rattle.std.specs.List.{list_any};
 ghost use Rattle.simplex_values.specs.declared.proposal.Subject.{Subject};
 ghost use Rattle.simplex_wire.specs.Format.{whole};

@@ -8,7 +8,6 @@ ghost use Rattle.std.specs.Ordering.{nat_cmp};
 ghost use Rattle.std.specs.BTreeMap as tree;
 ghost use Rattle.simplex_values.specs.declared.proposal.Subject.{Subject};
 ghost use Rattle.simplex_round.specs.Votes as votes;
-ghost use Rattle.simplex_run.specs.SentVotes.{is_for_votes};
 ghost use Rattle.simplex_records.specs.Votes.{vote_in, is_on, subject_view, has_subject};
 
 use crate::reading::vote_in;

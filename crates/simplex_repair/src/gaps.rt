@@ -1,7 +1,7 @@
 //! The gaps: the views whose nullification is to be asked for.
 #![tactic(auto, unfolding(crate::specs::Stands::StandsFor))]
 
-ghost use Rattle.std.specs.Prelude.{◌≡◌, ℕ, ◌+◌, ◌<◌, ◌≤◌, ◌++◌, map, true, false, List, OnOk, IfSome, IfNone};
+ghost use Rattle.std.specs.Prelude.{◌≡◌, ℕ, ◌+◌, ◌<◌, ◌≤◌, ◌++◌, map, false, List, OnOk, IfSome, IfNone};
 ghost use Rattle.simplex_values.specs.Terms.{next_term_start};
 ghost use Rattle.simplex_rules.specs.declared.effect.Effect.TheVariants.{Fetch};
 ghost use Rattle.simplex_rules.specs.Repair.{RepairCall, is_gap, is_first_above, repair_floor};

@@ -1,7 +1,7 @@
 //! What a member holds for others.
 #![tactic(auto, unfolding(crate::specs::Stands::StandsFor))]
 
-ghost use Rattle.std.specs.Prelude.{◌≡◌, ℕ, ◌&&◌, nat_lt, false, List, [], IfOk, Some, None};
+ghost use Rattle.std.specs.Prelude.{◌≡◌, ℕ, ◌&&◌, false, List, [], IfOk, Some, None};
 ghost use Rattle.std.specs.Option.{option_map};
 ghost use Rattle.simplex_wire.specs.Message as messages;
 ghost use Rattle.simplex_wire.specs.declared.certificate.Certificate.TheVariants as certificates;

@@ -1,5 +1,5 @@
 -- How long the spellings of messages are.
-use Rattle.std.proofs.Common.{ℕ, suc, zero, ◌≡◌, ◌<◌, ◌≤◌, ◌+◌, ◌*◌, ◌/◌, ◌%◌, ◌^◌, Bool, true, false, List, [], ◌∷◌, ◌++◌, length, nat_lt, if◌then◌else◌, refl, ap, sym, ◌∙◌, arith, length-append}
+use Rattle.std.proofs.Common.{ℕ, suc, zero, ◌≡◌, ◌<◌, ◌≤◌, ◌+◌, ◌*◌, ◌/◌, ◌%◌, ◌^◌, Bool, true, false, List, [], ◌∷◌, length, nat_lt, if◌then◌else◌, refl, arith, length-append}
 use Rattle.std.specs.List.{flat_map, AllByRecursion}
 use Rattle.std.proofs.lemmas.Grind.{common_steps}
 use Rattle.std.proofs.Math.Nat.{div-lt_iff_lt-mul, pow-suc}
@@ -10,7 +10,6 @@ use Rattle.simplex_wire.specs.declared.vote.Vote.{Vote}
 use Rattle.simplex_wire.specs.declared.vote.Vote.TheVariants as votes
 use Rattle.simplex_wire.specs.declared.certificate.Certificate.{Certificate}
 use Rattle.simplex_wire.specs.declared.certificate.Certificate.TheVariants as certificates
-use Rattle.simplex_wire.specs.declared.resolver.ResolverMessage.{ResolverMessage}
 use Rattle.simplex_wire.specs.declared.resolver.ResolverBody.TheVariants.{Request, Response, Error}
 use Rattle.simplex_wire.specs.Number.{varint_by, varint}
 use Rattle.simplex_wire.specs.Message.{round, proposal, attestation, notarize, nullify, finalize, vote, signatures, notarization, nullification, finalization, certificate}

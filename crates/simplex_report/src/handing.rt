@@ -1,5 +1,4 @@
 //! What an entry reports, handed to a reporter.
-ghost use Rattle.std.specs.Prelude.{◌≡◌};
 ghost use Rattle.simplex_values.specs.declared.feedback.Feedback.TheVariants as feedback;
 ghost use Rattle.simplex_report.specs.Handing.{reported_in, tells_all};
 

@@ -1,5 +1,5 @@
 //! Two reporters in one.
-ghost use Rattle.std.specs.Prelude.{◌≡◌, Some, IfOk, Option};
+ghost use Rattle.std.specs.Prelude.{◌≡◌, Some, Option};
 ghost use Rattle.simplex_report.specs.Combined.{tells_both};
 
 use crate::answers::combine;

@@ -1,5 +1,5 @@
 //! Calls of the fetcher, with what it wants.
-ghost use Rattle.std.specs.Prelude.{◌≡◌, ◌<◌, ◌^◌, ◌∷◌, [], map, OnOk, Some, None};
+ghost use Rattle.std.specs.Prelude.{◌<◌, ◌^◌, ◌∷◌, [], map, OnOk, Some, None};
 ghost use Rattle.simplex_resolving.specs.Fetcher.{of_all, of_target};
 ghost use Rattle.simplex_resolving.specs.Resolver.{ancestry, judging, hearing, expiring, retiring, fetching};
 ghost use Rattle.simplex_resolver.specs.Stands.{Does};

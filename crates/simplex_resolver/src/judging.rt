@@ -1,9 +1,9 @@
 //! How an answer of a peer is judged.
-ghost use Rattle.std.specs.Prelude.{◌≡◌, ◌<◌, ◌^◌, ◌&&◌, ◌==◌, ℕ, nat_le, Bool, length, filter, Some, None, IfOk, OnOk};
+ghost use Rattle.std.specs.Prelude.{◌≡◌, ◌<◌, ◌^◌, ◌&&◌, ◌==◌, Some, None, IfOk, OnOk};
 ghost use Rattle.simplex_values.specs.declared.ask.Outcome.TheVariants.{Ignored, Invalid};
 ghost use Rattle.simplex_wire.specs.Certified.{is_certified};
 ghost use Rattle.simplex_wire.specs.Fields.{certificate_signatures, certificate_subject};
-ghost use Rattle.simplex_resolving.specs.Resolver.{may_answer, is_valid, validated, settled_count, is_excepted, verdict_of, handing, passed_over, accepted, answered, delivered};
+ghost use Rattle.simplex_resolving.specs.Resolver.{may_answer, is_valid, validated, settled_count, is_excepted, verdict_of, passed_over, accepted, answered, delivered};
 ghost use Rattle.simplex_resolver.specs.Stands.{Does, Reads};
 
 use crate::actor::Actor;

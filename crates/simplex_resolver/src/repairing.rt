@@ -1,5 +1,5 @@
 //! What follows from certificates and verdicts.
-ghost use Rattle.std.specs.Prelude.{◌≡◌, ◌<◌, ◌^◌, ◌∷◌, IfOk, OnOk};
+ghost use Rattle.std.specs.Prelude.{◌≡◌, ◌<◌, ◌^◌, IfOk, OnOk};
 ghost use Rattle.std.specs.List.{filter_map};
 ghost use Rattle.simplex_rules.specs.Repair as calls;
 ghost use Rattle.simplex_resolving.specs.Resolver.{retire_of, fetch_of, retiring_all, with_effects, repairing};

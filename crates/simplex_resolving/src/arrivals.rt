@@ -1,5 +1,5 @@
 //! The asks of a view, as they came.
-ghost use Rattle.std.specs.Prelude.{◌≡◌, [], filter, not, IfOk, OnOk, OnErr, length, ◌==◌};
+ghost use Rattle.std.specs.Prelude.{◌≡◌, [], IfOk, OnOk, OnErr, length, ◌==◌};
 ghost use Rattle.std.specs.List.{list_any};
 ghost use Rattle.simplex_resolving.specs.Asks.{same_ask, same_arrival, holds_ask, asks_of, targets_of, is_targeted, with_arrival, without_asks, holds_member, with_target, same_kind, same_until, asks_any, held_of};
 ghost use Rattle.simplex_resolving.specs.Retirement.{retires};

@@ -1,5 +1,5 @@
 -- A run: the one transcript that a setup and events make, or the one refusal.
-use Rattle.std.specs.Prelude.{ℕ, ◌+◌, ◌*◌, ◌^◌, ◌==◌, ◌&&◌, nat_le, Bool, true, false, not, List, [], ◌∷◌, length, map, reverse, Option, Some, None, Result, Ok, Err, if◌then◌else◌}
+use Rattle.std.specs.Prelude.{ℕ, ◌+◌, ◌*◌, ◌^◌, ◌&&◌, nat_le, Bool, not, List, [], ◌∷◌, length, map, reverse, Option, Some, None, Result, Ok, Err, if◌then◌else◌}
 use Rattle.simplex_transcript.specs.declared.event.Event.{Event}
 use Rattle.simplex_transcript.specs.declared.entry.Entry.{Entry}
 use Rattle.simplex_transcript.specs.declared.field.Field.{Field}

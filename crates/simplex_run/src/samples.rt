@@ -9,7 +9,7 @@ ghost use Rattle.simplex_transcript.specs.declared.refusal.RunError.TheVariants 
 ghost use Rattle.simplex_transcript.specs.declared.setup.MemberKind.TheVariants as kinds;
 ghost use Rattle.simplex_run.specs.Run.{Run, refused};
 ghost use Rattle.simplex_run.specs.Wrapped.{wrapped_recovers};
-ghost use Rattle.simplex_run.specs.Samples.{alone, crowd, cramped, nobody, at, other, half, starts, steps, with_last, with_two, last, last_half, crashes, answers_first, hears_first, injects, outcomes_in, packets_in};
+ghost use Rattle.simplex_run.specs.Samples.{alone, cramped, nobody, at, other, half, starts, steps, with_last, with_two, last, last_half, crashes, answers_first, hears_first, injects, outcomes_in, packets_in};
 
 /// The smallest refusals.
 pub fn refusals_come_out()

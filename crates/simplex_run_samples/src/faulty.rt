@@ -5,7 +5,7 @@ ghost use Rattle.simplex_transcript.specs.declared.refusal.RunError.TheVariants 
 ghost use Rattle.simplex_transcript.specs.declared.setup.MemberKind.TheVariants as kinds;
 ghost use Rattle.simplex_run.specs.Run.{Run, refused};
 ghost use Rattle.simplex_run_samples.specs.Faulty.{led_by, leader_votes, told_to, and_starts_there, verified_in};
-ghost use Rattle.simplex_run_samples.specs.Lists.{with_last, node, at, and_tell, overheard, overheard_both};
+ghost use Rattle.simplex_run_samples.specs.Lists.{with_last, at, and_tell, overheard, overheard_both};
 ghost use Rattle.simplex_run_samples.specs.Shown.{Append, Sync, Send, Report, Block, Notarize, Finalization, Evidence, Proposed, calls_behind, handed_behind, packets_behind, packet};
 
 /// It votes for another payload and then for the one that it heard: that is evidence against it, once.

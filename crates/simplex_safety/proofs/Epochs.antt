@@ -37,7 +37,7 @@ use Rattle.simplex_rules.specs.Votes.{notarize_at, finalize_at, nullify_at}
 use Rattle.simplex_rules.specs.Deadline.{deadline_of}
 use Rattle.simplex_rules.specs.Best.{best_certificate, forwardable_at}
 use Rattle.simplex_rules.specs.Calls as state
-use Rattle.simplex_rules.specs.Calls.{facts_of, certified_answer, replay_answer, unsent_notarization, unsent_nullification, unsent_finalization, prune_answer}
+use Rattle.simplex_rules.specs.Calls.{certified_answer, replay_answer, unsent_notarization, unsent_nullification, unsent_finalization, prune_answer}
 use Rattle.simplex_rules.specs.Pending.{Desk, Pending, Opened, Sought, pending_view, pending_parent, reconciled, iterated}
 use Rattle.simplex_messages.specs.declared.call.Call.{Call}
 use Rattle.simplex_messages.specs.declared.call.Call.TheVariants as calls

@@ -17,7 +17,7 @@ use Rattle.simplex_run.specs.Members.{is_same_node}
 use Rattle.simplex_agreement.specs.World as agreement
 use Rattle.simplex_agreement.proofs.ListFacts.{not_in_empty, Contains-cons_cases}
 use Rattle.simplex_lives.specs.Member as life
-use Rattle.simplex_lives.specs.Member.{Member, newborn, run}
+use Rattle.simplex_lives.specs.Member.{Member}
 use Rattle.simplex_conduct.specs.Life.{statement_of, certificate_in, taken}
 use Rattle.simplex_safety.specs.Sayings.{Each, InCall, InRecord}
 use Rattle.simplex_safety.specs.Histories.{calls_of, floor_in, floors_of, IsLivedBy}

@@ -1,5 +1,5 @@
 -- Every node of a run lives an honest member's life.
-use Rattle.std.proofs.Common.{◌≡◌, ℕ, ◌-◌, ◌*◌, ◌<◌, nat_lt, Bool, true, false, List, [], ◌∷◌, Option, Some, None, Ok, refl, sym, ◌∙◌, subst, inl, arith, if◌then◌else◌, inr, Contains}
+use Rattle.std.proofs.Common.{◌≡◌, ℕ, ◌-◌, ◌*◌, ◌<◌, nat_lt, Bool, true, false, List, [], ◌∷◌, Option, Some, None, refl, sym, ◌∙◌, subst, inl, arith, if◌then◌else◌, inr, Contains}
 use Rattle.std.proofs.lemmas.Bool.Decides.{nat_tests}
 use Rattle.simplex_values.specs.declared.plan.Channel.{Channel}
 use Rattle.simplex_values.specs.declared.plan.Channel.TheVariants as channels
@@ -30,7 +30,7 @@ use Rattle.simplex_steps.specs.Engine as engine
 use Rattle.simplex_steps.specs.Engine.{EngineMade, Did, voter_in, voter_past}
 use Rattle.simplex_run.specs.Life.{Noted, Stopped, Running, clock_of, is_of, going_on, sections_in, after, life_in}
 use Rattle.simplex_run.specs.Members.{is_same_node, floor_of, engine_of}
-use Rattle.simplex_run.specs.Entries.{noted_with, noted_blank, entry_of}
+use Rattle.simplex_run.specs.Entries.{noted_with, noted_blank}
 use Rattle.simplex_lives.specs.Member.{Member, newborn, run}
 use Rattle.simplex_conduct.specs.Life.{IsFloor}
 use Rattle.simplex_conduct.specs.Life as conduct

@@ -1,5 +1,5 @@
 //! Whom evidence does not name in a run.
-ghost use Rattle.std.specs.Prelude.{ℕ, ◌<◌, List, Contains};
+ghost use Rattle.std.specs.Prelude.{◌<◌, List, Contains};
 ghost use Rattle.simplex_transcript.specs.declared.node.Node.{Node};
 ghost use Rattle.simplex_transcript.specs.declared.setup.Setup.{Setup};
 ghost use Rattle.simplex_run.specs.Life.{Noted};

@@ -1,5 +1,5 @@
 //! Each node of a run is an honest member.
-ghost use Rattle.std.specs.Prelude.{ℕ, ◌<◌, List, Contains};
+ghost use Rattle.std.specs.Prelude.{◌<◌, List, Contains};
 ghost use Rattle.simplex_transcript.specs.declared.node.Node.{Node};
 ghost use Rattle.simplex_transcript.specs.declared.setup.Setup.{Setup};
 ghost use Rattle.simplex_run.specs.Life.{Noted};

@@ -2,7 +2,7 @@
 ghost use Rattle.std.specs.Prelude.{ℕ, ◌≡◌, Bool, List, Some};
 ghost use Rattle.simplex_wire.specs.declared.certificate.Certificate.{Certificate};
 ghost use Rattle.simplex_types.specs.declared.floor.Floor.{Floor};
-ghost use Rattle.simplex_rules.specs.Known.{Made, Fact};
+ghost use Rattle.simplex_rules.specs.Known.{Made};
 ghost use Rattle.simplex_journal.specs.Journal.{Section, replayed};
 ghost use Rattle.simplex_messages.specs.declared.step.Stop.{Stop};
 ghost use Rattle.simplex_messages.specs.declared.voter.VoterInput.{VoterInput};

@@ -1,5 +1,5 @@
 //! A value that threads use in turns.
-ghost use Rattle.std.specs.Prelude.{◌≡◌, ◌≤◌, ◌<◌, ◌+◌, ◌∷◌, ◌++◌, [], true, None, length};
+ghost use Rattle.std.specs.Prelude.{◌≡◌, ◌<◌, ◌+◌, ◌∷◌, ◌++◌, [], true, None, length};
 ghost use Rattle.simplex_shared.specs.declared.view.Stage.TheVariants.{Idle, Holding};
 ghost use Rattle.simplex_shared.specs.Lock.{MayDraw, Belongs, GoesOn, Hears, at_stage, holding, added};
 

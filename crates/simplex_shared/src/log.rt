@@ -1,5 +1,5 @@
 //! The calls of a shared mailbox, once all are made.
-ghost use Rattle.std.specs.Prelude.{◌≡◌, length};
+ghost use Rattle.std.specs.Prelude.{◌≡◌};
 
 use crate::op::Op;
 use std::marker::Model;

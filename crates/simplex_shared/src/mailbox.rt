@@ -1,5 +1,5 @@
 //! The mailbox that threads share.
-ghost use Rattle.std.specs.Prelude.{◌≡◌, ◌≢◌, ◌<◌, ◌∷◌, [], OnOk, OnErr, IfOk, IfErr};
+ghost use Rattle.std.specs.Prelude.{◌≡◌, ◌≢◌, ◌<◌, OnOk, OnErr, IfOk, IfErr};
 ghost use Rattle.simplex_values.specs.declared.feedback.Feedback.TheVariants as feedback;
 ghost use Rattle.simplex_shared.specs.declared.op.Op.TheVariants.{Put, Took, Shut};
 ghost use Rattle.simplex_shared.specs.Calls.{StartsWith};

@@ -1,5 +1,5 @@
 //! A shared mailbox is made, with its passes.
-ghost use Rattle.std.specs.Prelude.{◌≡◌, ◌<◌, ◌+◌, [], IfOk, vec_len};
+ghost use Rattle.std.specs.Prelude.{◌≡◌, ◌<◌, ◌+◌, [], IfOk};
 ghost use Rattle.std.specs.List.{All};
 ghost use Rattle.simplex_shared.specs.Lock.{maker_at};
 ghost use Rattle.simplex_shared.specs.Passes.{unused, unused_passes};

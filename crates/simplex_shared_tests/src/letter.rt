@@ -1,5 +1,5 @@
 //! The messages of the tests: where there is no room a letter waits behind the others.
-ghost use Rattle.std.specs.Prelude.{◌≡◌, false};
+ghost use Rattle.std.specs.Prelude.{false};
 ghost use Rattle.simplex_mailbox.specs.Waiting.{put_last};
 
 use simplex_mailbox::{Pending, Policy, Requested};

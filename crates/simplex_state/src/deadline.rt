@@ -2,12 +2,12 @@
 #![tactic(auto, unfolding(crate::specs::Stands::StandsFor, crate::specs::Rounds::round_of, crate::specs::Rounds::slot_in, crate::specs::Progress::progress_of, simplex_rules::specs::Slot::slot_of, simplex_rules::specs::Deadline::expiry_of, simplex_rules::specs::Deadline::may_skip, simplex_rules::specs::Deadline::expires, simplex_rules::specs::Deadline::fails))]
 
 ghost use Rattle.std.specs.Option.{option_map_or};
-ghost use Rattle.std.specs.Prelude.{◌≡◌, ◌≤◌, ◌<◌, ◌^◌, ◌∷◌, ◌++◌, true, List, OnOk};
+ghost use Rattle.std.specs.Prelude.{◌≡◌, ◌<◌, ◌^◌, ◌∷◌, ◌++◌, true, List, OnOk};
 ghost use Rattle.simplex_rules.specs.Known.{Made, Fact, Expired, Failed};
 ghost use Rattle.simplex_rules.specs.Deadline.{is_inactivity, is_failure, expires, fails, triggered, deadline_of, sooner, own_moment, stall_moment, expiry_of};
 ghost use Rattle.simplex_rules.specs.Views.{current_of};
 ghost use Rattle.simplex_state.specs.Rounds.{round_of};
-ghost use Rattle.simplex_rules.specs.Calls.{Call, TriggerTimeout, VerificationFailed};
+ghost use Rattle.simplex_rules.specs.Calls.{TriggerTimeout, VerificationFailed};
 ghost use Rattle.simplex_state.specs.Stands.{StandsFor, Takes, Answers, Keeps};
 
 use crate::rounds::{RoundRecord, put_round, round_at};

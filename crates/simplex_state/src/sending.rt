@@ -1,7 +1,7 @@
 //! Certificates that are handed out for sending.
 #![tactic(auto, unfolding(crate::specs::Stands::StandsFor, simplex_rules::specs::Calls::known_of, simplex_rules::specs::Calls::facts_of))]
 
-ghost use Rattle.std.specs.Prelude.{◌≡◌, OnOk, IfOk};
+ghost use Rattle.std.specs.Prelude.{OnOk, IfOk};
 ghost use Rattle.simplex_rules.specs.Calls.{BroadcastNotarization, BroadcastNullification, BroadcastFinalization, unsent_notarization, unsent_nullification, unsent_finalization};
 ghost use Rattle.simplex_state.specs.Stands.{Takes, Answers};
 

@@ -31,7 +31,7 @@ use Rattle.simplex_rules.specs.Deadline.{deadline_of}
 use Rattle.simplex_rules.specs.Best.{best_certificate, forwardable_at}
 use Rattle.simplex_rules.specs.Requests.{leader_of}
 use Rattle.simplex_rules.specs.Calls as state
-use Rattle.simplex_rules.specs.Calls.{adds_notarization, adds_nullification, adds_finalization, contradicted_leader, replay_answer, takes_verdict, certified_answer, unsent_notarization, unsent_nullification, unsent_finalization, prune_answer}
+use Rattle.simplex_rules.specs.Calls.{adds_notarization, adds_nullification, adds_finalization, replay_answer, certified_answer, unsent_notarization, unsent_nullification, unsent_finalization, prune_answer}
 use Rattle.simplex_rules.specs.Pending.{Desk, Pending, Opened, is_open, pending_view, pending_parent, reconciled, iterated}
 use Rattle.simplex_messages.specs.declared.call.Call.TheVariants as calls
 use Rattle.simplex_messages.specs.declared.handed.Handed.{Handed}

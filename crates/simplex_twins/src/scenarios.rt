@@ -1,5 +1,5 @@
 //! Every scenario of a size.
-ghost use Rattle.std.specs.Prelude.{◌≡◌, ◌<◌, ◌≤◌, ◌*◌, ◌-◌, ◌^◌, [], ◌∷◌, ℕ, List, min, take, replicate, length, IfOk, OnErr, MatchOption, MatchBool, IsTrue};
+ghost use Rattle.std.specs.Prelude.{◌≡◌, ◌<◌, ◌≤◌, ◌*◌, ◌-◌, ◌^◌, [], ◌∷◌, List, min, take, replicate, length, IfOk, OnErr, MatchOption, MatchBool, IsTrue};
 ghost use Rattle.simplex_twins.specs.Script.{ScriptedRound, scripted};
 ghost use Rattle.simplex_twins.specs.Every.{every_script, scripts_after, are_good};
 

@@ -15,7 +15,7 @@ use Rattle.simplex_rules.specs.Lists.{greatest_of}
 use Rattle.simplex_rules.specs.Known.{Made, Fact, Expired, Failed, Judged}
 use Rattle.simplex_rules.specs.Deadline.{triggered, expires, fails}
 use Rattle.simplex_rules.specs.Calls as state
-use Rattle.simplex_rules.specs.Calls.{pruned_view, replay_answer, certified_answer, takes_verdict, judged, facts_of, prune_answer}
+use Rattle.simplex_rules.specs.Calls.{pruned_view, replay_answer, certified_answer, takes_verdict, judged, facts_of}
 use Rattle.simplex_messages.specs.declared.call.Call.{Call}
 use Rattle.simplex_messages.specs.declared.call.Call.TheVariants as calls
 use Rattle.simplex_steps.specs.Desk.{Doing, begun, tell}

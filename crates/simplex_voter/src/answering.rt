@@ -1,9 +1,9 @@
 //! Answers of the application come to the open requests, and wait for a step.
-ghost use Rattle.std.specs.Prelude.{◌≡◌, ◌+◌, ◌==◌, ◌||◌, nat_lt, if◌then◌else◌, false, true, Some, None, map};
-ghost use Rattle.std.specs.Option.{is_some, option_map, option_map_or};
+ghost use Rattle.std.specs.Prelude.{◌≡◌, ◌+◌, ◌==◌, ◌||◌, nat_lt, if◌then◌else◌, false, true, Some, map};
+ghost use Rattle.std.specs.Option.{option_map, option_map_or};
 ghost use Rattle.std.specs.List.{list_any};
 ghost use Rattle.simplex_messages.specs.declared.voter.VoterInput.TheVariants as inputs;
-ghost use Rattle.simplex_steps.specs.Voter.{fits_proposal, fits_verdict, takes_answer, answered, acted};
+ghost use Rattle.simplex_steps.specs.Voter.{fits_proposal, fits_verdict, takes_answer, answered};
 ghost use Rattle.simplex_voter.specs.Arrivals.{mark_pending, mark_request, pending_takes, request_takes, takes_in, taken_answer};
 ghost use Rattle.simplex_voter.specs.Stands.{Becomes, Says};
 

@@ -1,5 +1,5 @@
 //! The calls of a planned step are made, up to where the step stops.
-ghost use Rattle.std.specs.Prelude.{◌≡◌, ◌-◌, ◌&&◌, nat_lt, nat_le, if◌then◌else◌, IfOk, OnOk, IsErrOf, length, take, Some, None};
+ghost use Rattle.std.specs.Prelude.{◌≡◌, ◌-◌, ◌&&◌, nat_lt, nat_le, if◌then◌else◌, IfOk, OnOk, IsErrOf, take, Some, None};
 ghost use Rattle.simplex_journal.specs.Order.{Order, no_order};
 ghost use Rattle.simplex_messages.specs.Step.{no_out};
 ghost use Rattle.simplex_steps.specs.Performed.{after_call};

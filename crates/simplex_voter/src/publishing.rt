@@ -1,5 +1,5 @@
 //! The end of a step: it votes, brings its requests up to date, syncs, and publishes.
-ghost use Rattle.std.specs.Prelude.{◌≡◌, ◌<◌, ◌^◌, ◌-◌, OnOk, IfOk};
+ghost use Rattle.std.specs.Prelude.{◌<◌, ◌^◌, ◌-◌, OnOk, IfOk};
 ghost use Rattle.std.specs.Option.{option_map_or};
 ghost use Rattle.simplex_wire.specs.declared.vote.Vote.TheVariants as votes;
 ghost use Rattle.simplex_rules.specs.Votes.{notarize_at, finalize_at};

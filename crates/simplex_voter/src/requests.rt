@@ -3,7 +3,7 @@ ghost use Rattle.std.specs.Prelude.{◌≡◌, ◌+◌, ◌||◌, ◌++◌, ◌�
 ghost use Rattle.simplex_rules.specs.declared.request.Verify.TheVariants.{Ready};
 ghost use Rattle.simplex_rules.specs.Views.{current_of};
 ghost use Rattle.simplex_rules.specs.Requests.{is_superseded};
-ghost use Rattle.simplex_rules.specs.Pending.{drop_number, drop_request, drop_proposal, drop_verify, abandon_handoff, end_waiting, open_request, with_request, open_proposal, with_verify, open_verify, reconciled, put_number, drop_certify, open_certify, seek_parent, certifying, iterated, pending_view, pending_parent, is_open};
+ghost use Rattle.simplex_rules.specs.Pending.{drop_number, drop_request, drop_proposal, drop_verify, abandon_handoff, end_waiting, open_request, with_request, open_proposal, with_verify, open_verify, reconciled, drop_certify, open_certify, seek_parent, certifying, iterated, pending_view, pending_parent, is_open};
 ghost use Rattle.simplex_voter.specs.Arrivals.{pending_of, opened_of, drop_final_number};
 ghost use Rattle.simplex_voter.specs.Stands.{Does, Knows, on_desk, sought_of};
 

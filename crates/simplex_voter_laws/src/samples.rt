@@ -1,5 +1,5 @@
 //! What can be read of a step, in samples. Each clause is computed.
-ghost use Rattle.std.specs.Prelude.{ℕ, ◌≡◌, [], ◌∷◌};
+ghost use Rattle.std.specs.Prelude.{◌≡◌, [], ◌∷◌};
 ghost use Rattle.simplex_wire.specs.declared.artifact.Artifact.TheVariants as artifacts;
 ghost use Rattle.simplex_wire.specs.declared.certificate.Certificate.TheVariants as certificates;
 ghost use Rattle.simplex_wire.specs.declared.certificate.Notarization.{Notarization};

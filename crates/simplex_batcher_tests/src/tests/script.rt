@@ -1,5 +1,5 @@
 //! Members, and the scripts that they are given.
-ghost use Rattle.std.specs.Prelude.{◌<◌, ◌^◌};
+ghost use Rattle.std.specs.Prelude.{◌<◌};
 
 use simplex_batcher::{Actor, Config};
 use simplex_mailbox::Mailbox;

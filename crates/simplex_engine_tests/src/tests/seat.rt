@@ -1,5 +1,5 @@
 //! A member of four: its engine, and what went out of it.
-ghost use Rattle.std.specs.Prelude.{◌≡◌, ◌<◌, ◌≤◌, ◌^◌, IfOk};
+ghost use Rattle.std.specs.Prelude.{◌<◌, ◌^◌};
 
 use simplex_engine::{Engine, EngineConfig, Input, Polled, TakenInside};
 use simplex_journal::MemoryJournal;

@@ -1,5 +1,5 @@
 //! Who leads by the elector of a node, how its scheme fails it, and that engines are made with what it is made with.
-ghost use Rattle.std.specs.Prelude.{◌<◌, length, IsNone};
+ghost use Rattle.std.specs.Prelude.{◌<◌};
 ghost use Rattle.simplex_run.specs.Setups as setups;
 
 use super::setups::GOOD;

@@ -1,5 +1,5 @@
 //! Each kind of member on 1,000 random packets, against what the rendering wants.
-ghost use Rattle.std.specs.Prelude.{◌<◌, ◌≤◌};
+ghost use Rattle.std.specs.Prelude.{◌<◌};
 
 use super::packets::{Kind, Packet, Said, any_packet, spell, spell_number};
 use super::rendering::{DELTA, EPOCH, Fault, Rendering, TERM, To, Wanted};

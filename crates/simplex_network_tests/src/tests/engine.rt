@@ -1,5 +1,5 @@
 //! The same view by an engine alone, and the records that it leaves.
-ghost use Rattle.std.specs.Prelude.{◌≡◌, false, OnOk};
+ghost use Rattle.std.specs.Prelude.{false};
 ghost use Rattle.simplex_engine.specs.Stands.{has_failed};
 
 use super::view::{CERTIFICATION, Deed, PROPOSAL, START, VIEW};

@@ -1,5 +1,5 @@
 //! A script: the lives of one member, each with the steps of its voter and what they do.
-ghost use Rattle.std.specs.Prelude.{◌≡◌, ◌<◌, ◌^◌};
+ghost use Rattle.std.specs.Prelude.{◌<◌, ◌^◌};
 
 use super::words::told;
 use simplex_journal::{Journal, MemoryJournal};

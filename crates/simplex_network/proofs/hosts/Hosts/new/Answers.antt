@@ -1,4 +1,4 @@
-use Rattle.std.proofs.Common.{refl, sym, arith}
+use Rattle.std.proofs.Common.{refl}
 use Rattle.simplex_network.proofs.ManyHosts.{no-hosts, hosts-push, length-pushed}
 use Rattle.simplex_network.proofs.hosts.Hosts.new.Goals as goal
 
