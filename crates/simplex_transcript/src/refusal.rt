@@ -1,6 +1,10 @@
 //! Why a run ends.
+ghost use Rattle.std.specs.Prelude.{◌≡◌};
+ghost use Rattle.simplex_transcript.specs.declared.refusal.RunError.TheVariants as refusals;
+
 use crate::field::Field;
 use simplex_types::Subject;
+use std::alloc::AllocError;
 use thiserror::Error;
 
 /// Why an event, or a setup, is refused.
@@ -45,6 +49,14 @@ pub enum RunError {
     /// Want of memory.
     #[error("Memory")]
     Memory,
+}
+
+impl From<AllocError> for RunError {
+    ghost from_gives = { λ _ e. e ≡ refusals.Memory };
+
+    fn from(_e: AllocError) -> RunError {
+        RunError::Memory
+    }
 }
 
 /// Why a run ended, and at which event: 0 for the setup.
