@@ -4,6 +4,8 @@
 #[cfg(test)]
 mod given_up;
 #[cfg(test)]
+mod greatest;
+#[cfg(test)]
 mod terms;
 #[cfg(test)]
 mod tests;
