@@ -1,0 +1,22 @@
+//! Setups and events that have a run.
+ghost use Rattle.std.specs.Prelude.{[], ◌∷◌};
+ghost use Rattle.simplex_values.specs.declared.plan.Channel.TheVariants as channels;
+ghost use Rattle.simplex_transcript.specs.declared.setup.MemberKind.TheVariants as kinds;
+ghost use Rattle.simplex_run_laws.specs.Complete.{IsPossible};
+ghost use Rattle.simplex_run_samples.specs.Faulty.{shows};
+ghost use Rattle.simplex_run_samples.specs.Lists.{alone, finalizes, with_last, node, at, hears};
+
+use simplex_run_laws::{possible_events_run, runs_are_possible};
+use simplex_run_samples::{deliveries_come_out, one_member_finalizes};
+
+/// What a law asks of a setup and events can be met: those by which a member alone finalizes view 1. A packet that comes
+/// to a member that was not started does not meet it.
+pub fn events_can_be_possible()
+    ensures possible { IsPossible alone finalizes }
+    ensures impossible { IsPossible (with_last kinds.Silent) (shows channels.Vote (node 0 ∷ []) (7 ∷ []) ∷ hears 0 (at 1 0) ∷ []) → ⊥ }
+{
+    one_member_finalizes();
+    runs_are_possible();
+    deliveries_come_out();
+    possible_events_run();
+}
