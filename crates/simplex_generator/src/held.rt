@@ -1,0 +1,105 @@
+//! What the engines of a network hold.
+#![tactic(auto)]
+
+ghost use Rattle.std.specs.Prelude.{◌≡◌, ◌++◌, ◌&&◌, ℕ, IfOk, OnOk, List, true};
+ghost use Rattle.simplex_steps.specs.Engine.{EngineMade, Did, runs};
+ghost use Rattle.simplex_run.specs.Life.{Noted, Running, clock_of, life_in};
+ghost use Rattle.simplex_run.specs.Kinds.{is_node, runs_engine};
+ghost use Rattle.simplex_generated.specs.Setup.{setup_of};
+ghost use Rattle.simplex_generator.specs.Generated as generated;
+ghost use Rattle.simplex_network.specs.NodeEngine.{EngineStands};
+ghost use Rattle.simplex_network.specs.Stands.{StandsFor};
+
+use simplex_generated::{ENGINE_NODES, Held, NODES, SOURCES};
+use simplex_network::{Network, NodeEngine};
+use simplex_transcript::Node;
+use std::alloc::{AllocError, Global};
+
+/// The sources that hold something, by node, then in order.
+#[tactic(auto, unfolding(crate::specs::Generated::held, simplex_generated::specs::Setup::setup_of))]
+pub(crate) fn all_held(alloc: Global, network: &Network, now: u64) -> Result<Vec<Held>, AllocError>
+    ensures { IfOk result (λ held. (number : ℕ) (before : List Noted) → StandsFor network.now (setup_of number) before → clock_of before ≡ now → held.items ≡ generated.held (setup_of number) before) }
+{
+    let mut held = Vec::new(alloc);
+    let mut rest = ENGINE_NODES.as_slice();
+    while let [node, after @ ..] = rest {
+        push_held(&mut held, network, *node, now)?;
+        rest = after;
+    }
+    Ok(held)
+}
+
+// Puts those of a node that hold something behind the others.
+#[tactic(auto, using(crate::proofs::Shown::held_none, crate::proofs::Shown::held_some))]
+fn push_held(
+    held: &mut Vec<Held>,
+    network: &Network,
+    node: Node,
+    now: u64,
+) -> Result<(), AllocError>
+    requires { (is_node (setup_of 0) node && runs_engine (setup_of 0) node.member) ≡ true }
+    ensures { OnOk result ((number : ℕ) (before : List Noted) → StandsFor network.now (setup_of number) before → clock_of before ≡ now → held.new.items ≡ held.old.items ++ generated.held_at (life_in (setup_of number) before node) (clock_of before) node) }
+{
+    match network.engine(node) {
+        None => Ok(()),
+        Some(engine) => push_sources(held, engine, node, now),
+    }
+}
+
+// The same of an engine.
+fn push_sources(
+    held: &mut Vec<Held>,
+    engine: &NodeEngine,
+    node: Node,
+    now: u64,
+) -> Result<(), AllocError>
+    ensures { OnOk result ((made : EngineMade) (past : List Did) → EngineStands engine.now made past → runs past ≡ true → held.new.items ≡ held.old.items ++ generated.held_at (Running made past) now node) }
+{
+    let mut rest = SOURCES.as_slice();
+    while let [source, after @ ..] = rest {
+        if engine.holds(*source, now) {
+            held.push(Held {
+                node,
+                source: *source,
+            })?;
+        }
+        rest = after;
+    }
+    Ok(())
+}
+
+/// The nodes that are given packets: those whose engine runs, and those that have none.
+#[tactic(auto, unfolding(simplex_generated::specs::Setup::setup_of))]
+pub(crate) fn running_nodes(alloc: Global, network: &Network) -> Result<Vec<Node>, AllocError>
+    ensures { IfOk result (λ running. (number : ℕ) (before : List Noted) → StandsFor network.now (setup_of number) before → running.items ≡ generated.running_nodes (setup_of number) before) }
+{
+    let mut running = Vec::new(alloc);
+    let mut rest = NODES.as_slice();
+    while let [node, after @ ..] = rest {
+        if is_running(network, *node) {
+            running.push(*node)?;
+        }
+        rest = after;
+    }
+    Ok(running)
+}
+
+#[tactic(auto, using(crate::proofs::Shown::runs_shown, crate::proofs::Shown::runs_without))]
+fn is_running(network: &Network, node: Node) -> bool
+    requires { is_node (setup_of 0) node ≡ true }
+    ensures { (number : ℕ) (before : List Noted) → StandsFor network.now (setup_of number) before → result ≡ generated.is_running (setup_of number) before node }
+{
+    if has_engine(node) {
+        network.engine(node).is_some()
+    } else {
+        true
+    }
+}
+
+// Whether the member runs engines.
+#[tactic(auto, using(crate::proofs::Shown::engines))]
+fn has_engine(node: Node) -> bool
+    ensures { (number : ℕ) → result ≡ runs_engine (setup_of number) node.member }
+{
+    node.member < 7 && node.member != 5
+}
