@@ -15,7 +15,7 @@ use std::alloc::AllocError;
 use std::env::Env;
 use std::io::ErrorKind;
 use std::process::ExitCode;
-use std::{env, io};
+use std::{env, io, mem};
 
 /// The words behind the program's own name. Where one of them is no text there are none, and the program takes
 /// neither.
@@ -65,5 +65,8 @@ fn main(rt: HostRuntime) -> ExitCode {
         }
     };
     tell(&rt, &exit);
-    ExitCode::from(exit.status())
+    let status = exit.status();
+    // The process ends here, and its memory with it: a run's entries need not be let go one by one.
+    mem::forget(exit);
+    ExitCode::from(status)
 }

@@ -50,13 +50,15 @@ fn is_run(words: &[String]) -> bool
     }
 }
 
-// The exit that an input leads to.
-fn answer(alloc: Global, bytes: &[u8]) -> Result<Decision, AllocError>
-    ensures exit { IfOk result (λ decision. ending_of bytes.now ≡ told decision.exit) }
-    ensures events { IfOk result (λ decision. events_of bytes.now ≡ decision.events) }
-    ensures whole { IfOk result (λ decision. (transcript : Transcript) → decision.exit ≡ Exit.Done transcript → WholeRun bytes.now transcript) }
+// The exit that an input leads to. The bytes are let go before the run.
+fn answer(alloc: Global, bytes: Vec<u8>) -> Result<Decision, AllocError>
+    ensures exit { IfOk result (λ decision. ending_of bytes.items ≡ told decision.exit) }
+    ensures events { IfOk result (λ decision. events_of bytes.items ≡ decision.events) }
+    ensures whole { IfOk result (λ decision. (transcript : Transcript) → decision.exit ≡ Exit.Done transcript → WholeRun bytes.items transcript) }
 {
-    let input = match read_input(alloc, bytes)? {
+    let read = read_input(alloc, &bytes)?;
+    drop(bytes);
+    let input = match read {
         Err(place) => return Ok(at_once(alloc, Exit::BadInput { place })),
         Ok(input) => input,
     };
@@ -95,7 +97,7 @@ fn decide<S: Source>(alloc: Global, words: &[String], source: &mut S) -> Decisio
         Err(InputEnd::TooLong) => at_once(alloc, Exit::TooLong),
         Err(InputEnd::ReadFault) => at_once(alloc, Exit::ReadFault),
         Err(InputEnd::Memory) => at_once(alloc, Exit::Memory),
-        Ok(bytes) => match answer(alloc, &bytes) {
+        Ok(bytes) => match answer(alloc, bytes) {
             Ok(decision) => decision,
             Err(AllocError) => at_once(alloc, Exit::Memory),
         },

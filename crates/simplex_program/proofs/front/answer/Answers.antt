@@ -5,8 +5,8 @@ use Rattle.simplex_program.proofs.front.answer.Goals as goal
 
 pub returns-in-Ok-run_network-clause-whole : goal.returns-in-Ok-run_network-clause-whole
 returns-in-Ok-run_network-clause-whole c =
-    let says : input_of c.args.bytes.now ≡ Ok c.in-Ok.input = search rules in
+    let says : input_of c.args.bytes.items ≡ Ok c.in-Ok.input = search rules in
     let given = c.as_slice.ensures in
-    made_whole c.args.bytes.now c.in-Ok.input c.in-Ok-run_network.transcript says
+    made_whole c.args.bytes.items c.in-Ok.input c.in-Ok-run_network.transcript says
     (rw given at c.in-Ok-run_network.ensures.done) (rw given at c.in-Ok-run_network.ensures.entries)
     (rw given at c.in-Ok-run_network.ensures.network) (rw given at c.in-Ok-run_network.ensures.safe)
