@@ -1,6 +1,7 @@
 //! Scripts with what each step of a voter does, worked out by hand from the rules.
 mod alone;
 mod cuts;
+mod failures;
 mod floors;
 mod followers;
 mod handoffs;
@@ -8,4 +9,5 @@ mod readers;
 mod restarts;
 mod script;
 mod terms;
+mod untold;
 mod words;

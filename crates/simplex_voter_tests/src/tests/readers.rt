@@ -11,7 +11,7 @@ use std::test::Fail;
 pub(super) type Watched = (u64, Move, &'static str, &'static str);
 
 /// Where the pending proposal stands.
-fn state(voter: &Voter) -> &'static str {
+fn state(voter: &Voter<MemoryJournal>) -> &'static str {
     match voter.proposal_state() {
         None => "",
         Some(ProposalState::Preparing) => ", preparing",
@@ -23,7 +23,7 @@ fn state(voter: &Voter) -> &'static str {
 }
 
 /// The source, where it holds anything.
-fn source(voter: &Voter, input: &VoterInput, now: u64) -> &'static str {
+fn source(voter: &Voter<MemoryJournal>, input: &VoterInput, now: u64) -> &'static str {
     if !voter.holds(input, now) {
         return "";
     }
@@ -37,7 +37,7 @@ fn source(voter: &Voter, input: &VoterInput, now: u64) -> &'static str {
 }
 
 /// The view, the pending proposal, and the sources that hold anything.
-fn read(alloc: Global, voter: &Voter, now: u64) -> Result<String, AllocError> {
+fn read(alloc: Global, voter: &Voter<MemoryJournal>, now: u64) -> Result<String, AllocError> {
     let view = voter.current_view();
     let mut text = format!(in alloc; "{view}{}", state(voter))?;
     text.push_str(source(voter, &VoterInput::Timer, now))?;

@@ -16,7 +16,7 @@ use std::alloc::{AllocError, Global};
 use std::process::Abort;
 use std::test::Fail;
 
-pub(super) type Voter = Actor<Keyed, RoundRobinElector, MemoryJournal>;
+pub(super) type Voter<J> = Actor<Keyed, RoundRobinElector, J>;
 
 /// A member: number `me` of so many, with terms of so many views, that prepares for the next term or not.
 #[derive(Clone, Copy)]
@@ -124,12 +124,12 @@ pub(super) fn floor(alloc: Global, view: Option<u64>) -> Floor {
 }
 
 /// The voter of the member over the journal.
-pub(super) fn made(
+pub(super) fn made<J: Journal + Drop>(
     alloc: Global,
     member: Member,
     floor: Floor,
-    mut journal: MemoryJournal,
-) -> Result<Voter, Fail> {
+    mut journal: J,
+) -> Result<Voter<J>, Fail> {
     if member.me >= member.members {
         return Err("it is a member".into());
     }
@@ -171,7 +171,12 @@ fn mailboxes(alloc: Global) -> Result<Posts, AllocError> {
     })
 }
 
-fn started(alloc: Global, voter: &mut Voter, now: u64, stop: &Stop) -> Result<String, AllocError>
+fn started<J: Journal + Drop>(
+    alloc: Global,
+    voter: &mut Voter<J>,
+    now: u64,
+    stop: &Stop,
+) -> Result<String, AllocError>
     requires { now < 2 ^ 63 }
 {
     let mut posts = mailboxes(alloc)?;
@@ -180,9 +185,9 @@ fn started(alloc: Global, voter: &mut Voter, now: u64, stop: &Stop) -> Result<St
     told(alloc, &out, outcome)
 }
 
-fn stepped(
+fn stepped<J: Journal + Drop>(
     alloc: Global,
-    voter: &mut Voter,
+    voter: &mut Voter<J>,
     input: VoterInput,
     now: u64,
     stop: &Stop,
@@ -202,9 +207,9 @@ fn stepped(
     told(alloc, &out, outcome)
 }
 
-fn answered(
+fn answered<J: Journal + Drop>(
     alloc: Global,
-    voter: &mut Voter,
+    voter: &mut Voter<J>,
     number: u64,
     answer: Answer,
 ) -> Result<String, AllocError> {
@@ -215,9 +220,9 @@ fn answered(
 }
 
 /// What comes of the move.
-pub(super) fn said(
+pub(super) fn said<J: Journal + Drop>(
     alloc: Global,
-    voter: &mut Voter,
+    voter: &mut Voter<J>,
     next: Move,
     now: u64,
     stop: &Stop,
@@ -243,7 +248,12 @@ pub(super) fn said(
 }
 
 /// The steps are made, and do what they are to do.
-fn go(rt: &impl Abort, alloc: Global, voter: &mut Voter, steps: &[Step]) -> Result<(), AllocError> {
+pub(super) fn go<J: Journal + Drop>(
+    rt: &impl Abort,
+    alloc: Global,
+    voter: &mut Voter<J>,
+    steps: &[Step],
+) -> Result<(), AllocError> {
     for (now, next, wanted) in steps {
         assert!(rt; *now < 1 << 63);
         let text = said(alloc, voter, *next, *now, &Stop::None)?;
