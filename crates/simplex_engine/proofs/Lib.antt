@@ -6,6 +6,8 @@ pub mod More
 pub mod ResolverMail
 pub mod Polls
 pub mod Sourced
+pub mod PollsOver
+pub mod Voters
 pub mod Stages
 pub mod Limits
 pub mod Making

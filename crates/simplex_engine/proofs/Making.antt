@@ -1,5 +1,5 @@
 -- What an engine that was just made is.
-use Rattle.std.proofs.Common.{◌≡◌, refl, []}
+use Rattle.std.proofs.Common.{◌≡◌, refl, Bool, []}
 use Rattle.simplex_wire.specs.declared.scheme.Scheme as scheme
 use Rattle.simplex_types.specs.declared.elector.Elector as elector
 use Rattle.simplex_journal.specs.declared.journal.Journal as journal
@@ -15,10 +15,11 @@ use Rattle.simplex_engine.specs.declared.config.EngineConfig.{EngineConfig}
 use Rattle.simplex_engine.specs.declared.unstarted.Unstarted.{Unstarted}
 use Rattle.simplex_engine.specs.Config.{engine_made}
 use Rattle.simplex_engine.specs.Made.{voter_config, batcher_config, resolver_config}
-use Rattle.simplex_engine.specs.Stands.{Waits, empty_boxes}
+use Rattle.simplex_engine.specs.Stands.{IsTold, Waits, empty_boxes}
 
 module _ {S L J : Type 0} {s : scheme.Ghosts S} {l : elector.Ghosts L} {j : journal.Ghosts J} where
-  pub made-waits : (unstarted : Unstarted S L J s l j) (config : EngineConfig S L) (for_batcher : batcher_configs.Config S) (for_resolver : resolver_configs.Config S)
+  pub made-waits : (told : Bool) (unstarted : Unstarted S L J s l j) (config : EngineConfig S L) (for_batcher : batcher_configs.Config S) (for_resolver : resolver_configs.Config S)
+      → IsTold told unstarted
       → unstarted.config ≡ voter_config s.members config
       → for_batcher ≡ batcher_config l.cuts config
       → for_resolver ≡ resolver_config l.cuts config
@@ -26,9 +27,10 @@ module _ {S L J : Type 0} {s : scheme.Ghosts S} {l : elector.Ghosts L} {j : jour
       (batcher_made s.verifies s.recovers s.members s.member for_batcher) []
       → resolver.StandsFor s.verifies s.members s.member unstarted.resolver (resolver_made s.verifies s.members s.member for_resolver) []
       → unstarted.boxes ≡ empty_boxes config.mailbox
-      → Waits unstarted (engine_made s.attests s.verifies s.recovers s.members s.member l.elects l.cuts config (j.sections unstarted.journal))
+      → Waits told unstarted (engine_made s.attests s.verifies s.recovers s.members s.member l.elects l.cuts config (j.sections unstarted.journal))
   unfolding engine_made voter_made made_of batcher_made resolver_made
-  made-waits unstarted config for_batcher for_resolver e f k stands asks boxes = record {
+  made-waits told unstarted config for_batcher for_resolver order e f k stands asks boxes = record {
+    order = order;
     voter = λ start. rw e refl;
     batcher = rw f at stands;
     resolver = rw k at asks;

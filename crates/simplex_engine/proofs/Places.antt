@@ -5,6 +5,7 @@ use Rattle.simplex_messages.specs.declared.step.Stop.{Stop}
 use Rattle.simplex_messages.specs.declared.voter.VoterInput.{VoterInput}
 use Rattle.simplex_steps.specs.Voter.{Standing, takes_answer, answered}
 use Rattle.simplex_steps.specs.VoterLife.{VoterMade, Given, Started, Stepped, Answered, place_of, step_given}
+use Rattle.simplex_voter.specs.Turned.{step_left}
 
 -- where two histories lead to one place, so do they with one more item
 pub place-more : (made : VoterMade) (given past : List Given) (next : Given) → place_of made given ≡ place_of made past
@@ -19,6 +20,12 @@ pub step-at : (made : VoterMade) (given past : List Given) (input : VoterInput) 
     → step_given made given input now stop ≡ step_given made past input now stop
 unfolding step_given
 step-at made given past input now stop e = rw e refl
+
+-- and what it leaves of the journal
+pub left-at : (made : VoterMade) (given past : List Given) (input : VoterInput) (now : ℕ) (stop turned : Stop) → place_of made given ≡ place_of made past
+    → step_left made given input now stop turned ≡ step_left made past input now stop turned
+unfolding step_left
+left-at made given past input now stop turned e = rw e refl
 
 answered-not : (number : ℕ) (answer : Answer) (standing : Standing) → takes_answer standing number answer ≡ false → answered number answer standing ≡ standing
 unfolding answered

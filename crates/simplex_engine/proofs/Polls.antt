@@ -43,7 +43,7 @@ use Rattle.simplex_resolving.specs.Views.{is_reached}
 use Rattle.simplex_resolving.specs.Resolver as resolver
 use Rattle.simplex_engine.specs.declared.crew.Crew.{Crew}
 use Rattle.simplex_engine.specs.Parts.{parts_of, after_voter, after_answer, after_batcher, after_resolver, after_voter_mail, after_batcher_mail, after_resolver_mail, after_handler_mail, ended}
-use Rattle.simplex_engine.specs.Stands.{CrewStands, Works, Ends, Tells, CrewTakes, CrewStays, CrewGives, CrewAnswers}
+use Rattle.simplex_engine.specs.Stands.{CrewStands, WorksAs, EndsAs, TellsAs, CrewTakesAs, CrewStaysAs, CrewGivesAs, CrewAnswersAs}
 use Rattle.simplex_engine.proofs.VoterMail.{step-quiet}
 use Rattle.simplex_engine.proofs.BatcherMail.{step-tells, cut-tells}
 use Rattle.simplex_engine.proofs.ResolverMail.{resolver-tells, cut-held}
@@ -109,13 +109,22 @@ taken-heard made past sender channels.Certificate bytes now = refl
 taken-heard made past sender channels.Resolver bytes now = refl
 
 module _ {S L J : Type 0} {s : scheme.Ghosts S} {l : elector.Ghosts L} {j : journal.Ghosts J} where
+  -- whether a deadline of the fetcher is reached
+  abbrev pub IsDue : Bool → Crew S L J s l j → ℕ → Bool → Type 0
+  IsDue told crew now test = TellsAs told crew (λ parts. is_reached now (resolver.deadline_after parts.resolver parts.asked)) test
+
+  pub taken-packet : (told : Bool) (crew : Crew S L J s l j) (sender : ℕ) (channel : Channel) (bytes : List ℕ) (now : ℕ)
+      → CrewAnswersAs told crew (λ made past. taken_inside made past (heard made past sender channel bytes now)) None
+  taken-packet told crew sender channel bytes now = λ made past h. sym (taken-heard made past sender channel bytes now)
+
+module _ {S L J : Type 0} {s : scheme.Ghosts S} {l : elector.Ghosts L} {j : journal.Ghosts J} {told : Bool} where
   -- a step of the voter that took no message
   takes-voter : (old new : Crew S L J s l j) (source : StepSource) (input : VoterInput) (now : ℕ) (stop : Stop) (outcome : Outcome) (out : StepOut)
       → ((made : EngineMade) (past : List Did) (p : Performed) → filter_map for_voter p.out.handed ≡ []
       → parts_of made (by_voter (Took source None) now stop p ∷ past) ≡ after_voter (Stepped input now stop) p.out (parts_of made past))
-      → Works old new (after_voter (Stepped input now stop) out)
-      → Ends old (λ parts. ended (step_given parts.voter parts.given input now stop)) outcome out
-      → CrewTakes old new (λ made past. on_voter made past source input now stop)
+      → WorksAs told old new (after_voter (Stepped input now stop) out)
+      → EndsAs told old (λ parts. ended (step_given parts.voter parts.given input now stop)) outcome out
+      → CrewTakesAs told old new (λ made past. on_voter made past source input now stop)
   unfolding CrewStands parts_of
   takes-voter old new source input now stop outcome out more works ends = λ made past h.
       let gives = (ends (parts_of made past) h).1 in
@@ -123,18 +132,18 @@ module _ {S L J : Type 0} {s : scheme.Ghosts S} {l : elector.Ghosts L} {j : jour
       (rw (← gives) (works (parts_of made past) h))
 
   gives-voter : (old : Crew S L J s l j) (source : StepSource) (input : VoterInput) (now : ℕ) (stop : Stop) (outcome : Outcome) (out : StepOut)
-      → Ends old (λ parts. ended (step_given parts.voter parts.given input now stop)) outcome out
-      → CrewGives old (λ made past. on_voter made past source input now stop) outcome out
+      → EndsAs told old (λ parts. ended (step_given parts.voter parts.given input now stop)) outcome out
+      → CrewGivesAs told old (λ made past. on_voter made past source input now stop) outcome out
   unfolding CrewStands parts_of
   gives-voter old source input now stop outcome out ends = λ made past h. ends (parts_of made past) h
 
   -- a step of the voter on a message
   pub takes-voter_mail : (old mid new : Crew S L J s l j) (message : voter_message.Message) (now : ℕ) (stop : Stop) (outcome : Outcome) (out : StepOut)
-      → Tells old (λ parts. received parts.to_voter) (Some message)
-      → Works old mid after_voter_mail
-      → Works mid new (after_voter (Stepped (inputs.Mail message) now stop) out)
-      → Ends mid (λ parts. ended (step_given parts.voter parts.given (inputs.Mail message) now stop)) outcome out
-      → CrewTakes old new (λ made past. stepped made past sources.Voter now stop)
+      → TellsAs told old (λ parts. received parts.to_voter) (Some message)
+      → WorksAs told old mid after_voter_mail
+      → WorksAs told mid new (after_voter (Stepped (inputs.Mail message) now stop) out)
+      → EndsAs told mid (λ parts. ended (step_given parts.voter parts.given (inputs.Mail message) now stop)) outcome out
+      → CrewTakesAs told old new (λ made past. stepped made past sources.Voter now stop)
   unfolding CrewStands parts_of stepped
   takes-voter_mail old mid new message now stop outcome out tells takes works ends = λ made past h.
       let held = takes (parts_of made past) h in
@@ -144,21 +153,21 @@ module _ {S L J : Type 0} {s : scheme.Ghosts S} {l : elector.Ghosts L} {j : jour
       (rw (← gives) (works (after_voter_mail (parts_of made past)) held)))
 
   pub gives-voter_mail : (old mid : Crew S L J s l j) (message : voter_message.Message) (now : ℕ) (stop : Stop) (outcome : Outcome) (out : StepOut)
-      → Tells old (λ parts. received parts.to_voter) (Some message)
-      → Works old mid after_voter_mail
-      → Ends mid (λ parts. ended (step_given parts.voter parts.given (inputs.Mail message) now stop)) outcome out
-      → CrewGives old (λ made past. stepped made past sources.Voter now stop) outcome out
+      → TellsAs told old (λ parts. received parts.to_voter) (Some message)
+      → WorksAs told old mid after_voter_mail
+      → EndsAs told mid (λ parts. ended (step_given parts.voter parts.given (inputs.Mail message) now stop)) outcome out
+      → CrewGivesAs told old (λ made past. stepped made past sources.Voter now stop) outcome out
   unfolding CrewStands parts_of stepped
   gives-voter_mail old mid message now stop outcome out tells takes ends = λ made past h.
       rw (← tells (parts_of made past) h) (ends (after_voter_mail (parts_of made past)) (takes (parts_of made past) h))
 
   -- a step of the batcher on a message
   pub takes-batcher_mail : (old mid new : Crew S L J s l j) (message : batcher_message.Message) (now : ℕ) (stop : Stop) (outcome : Outcome) (out : StepOut)
-      → Tells old (λ parts. received parts.to_batcher) (Some message)
-      → Works old mid after_batcher_mail
-      → Works mid new (after_batcher (record { input = batcher_inputs.Mail message; now = now }) out)
-      → Ends mid (λ parts. cut_short stop (step_out parts.batcher parts.timed (record { input = batcher_inputs.Mail message; now = now }))) outcome out
-      → CrewTakes old new (λ made past. stepped made past sources.Batcher now stop)
+      → TellsAs told old (λ parts. received parts.to_batcher) (Some message)
+      → WorksAs told old mid after_batcher_mail
+      → WorksAs told mid new (after_batcher (record { input = batcher_inputs.Mail message; now = now }) out)
+      → EndsAs told mid (λ parts. cut_short stop (step_out parts.batcher parts.timed (record { input = batcher_inputs.Mail message; now = now }))) outcome out
+      → CrewTakesAs told old new (λ made past. stepped made past sources.Batcher now stop)
   unfolding CrewStands parts_of stepped by_batcher
   takes-batcher_mail old mid new message now stop outcome out tells takes works ends = λ made past h.
       let given : Timed = record { input = batcher_inputs.Mail message; now = now } in
@@ -170,10 +179,10 @@ module _ {S L J : Type 0} {s : scheme.Ghosts S} {l : elector.Ghosts L} {j : jour
       (rw (← gives) (works (after_batcher_mail (parts_of made past)) held)))
 
   pub gives-batcher_mail : (old mid : Crew S L J s l j) (message : batcher_message.Message) (now : ℕ) (stop : Stop) (outcome : Outcome) (out : StepOut)
-      → Tells old (λ parts. received parts.to_batcher) (Some message)
-      → Works old mid after_batcher_mail
-      → Ends mid (λ parts. cut_short stop (step_out parts.batcher parts.timed (record { input = batcher_inputs.Mail message; now = now }))) outcome out
-      → CrewGives old (λ made past. stepped made past sources.Batcher now stop) outcome out
+      → TellsAs told old (λ parts. received parts.to_batcher) (Some message)
+      → WorksAs told old mid after_batcher_mail
+      → EndsAs told mid (λ parts. cut_short stop (step_out parts.batcher parts.timed (record { input = batcher_inputs.Mail message; now = now }))) outcome out
+      → CrewGivesAs told old (λ made past. stepped made past sources.Batcher now stop) outcome out
   unfolding CrewStands parts_of stepped by_batcher
   gives-batcher_mail old mid message now stop outcome out tells takes ends = λ made past h.
       rw (← tells (parts_of made past) h) (ends (after_batcher_mail (parts_of made past)) (takes (parts_of made past) h))
@@ -181,34 +190,34 @@ module _ {S L J : Type 0} {s : scheme.Ghosts S} {l : elector.Ghosts L} {j : jour
   -- ---- what was taken from inside
 
   pub taken-timer : (old : Crew S L J s l j) (now : ℕ) (stop : Stop) (outcome : Outcome) (out : StepOut)
-      → Ends old (λ parts. ended (step_given parts.voter parts.given inputs.Timer now stop)) outcome out
-      → CrewAnswers old (λ made past. taken_inside made past (stepped made past sources.Timer now stop)) (unless_idle outcome (Some taken.Deadline))
+      → EndsAs told old (λ parts. ended (step_given parts.voter parts.given inputs.Timer now stop)) outcome out
+      → CrewAnswersAs told old (λ made past. taken_inside made past (stepped made past sources.Timer now stop)) (unless_idle outcome (Some taken.Deadline))
   unfolding CrewStands parts_of stepped taken_inside inside
   taken-timer old now stop outcome out ends = λ made past h. rw (ends (parts_of made past) h).0 refl
 
   taken-answer : (old : Crew S L J s l j) (source : StepSource) (input : VoterInput) (now : ℕ) (stop : Stop) (outcome : Outcome) (out : StepOut) (given : Option TakenInside)
       → ((st : Standing) → option_map answer_inside (next_answer st input) ≡ inside st (Took source None))
-      → Ends old (λ parts. ended (step_given parts.voter parts.given input now stop)) outcome out
-      → Tells old (λ parts. unless_idle outcome (option_map answer_inside (next_answer (place_of parts.voter parts.given).standing input))) given
-      → CrewAnswers old (λ made past. taken_inside made past (on_voter made past source input now stop)) given
+      → EndsAs told old (λ parts. ended (step_given parts.voter parts.given input now stop)) outcome out
+      → TellsAs told old (λ parts. unless_idle outcome (option_map answer_inside (next_answer (place_of parts.voter parts.given).standing input))) given
+      → CrewAnswersAs told old (λ made past. taken_inside made past (on_voter made past source input now stop)) given
   unfolding CrewStands parts_of taken_inside
   taken-answer old source input now stop outcome out given same ends tells = λ made past h.
       rw (tells (parts_of made past) h, (ends (parts_of made past) h).0, same) refl
 
   pub taken-voter_mail : (old mid : Crew S L J s l j) (message : voter_message.Message) (now : ℕ) (stop : Stop) (outcome : Outcome) (out : StepOut)
-      → Tells old (λ parts. received parts.to_voter) (Some message)
-      → Works old mid after_voter_mail
-      → Ends mid (λ parts. ended (step_given parts.voter parts.given (inputs.Mail message) now stop)) outcome out
-      → CrewAnswers old (λ made past. taken_inside made past (stepped made past sources.Voter now stop)) (unless_idle outcome (Some (taken.Message (handed.Voter message))))
+      → TellsAs told old (λ parts. received parts.to_voter) (Some message)
+      → WorksAs told old mid after_voter_mail
+      → EndsAs told mid (λ parts. ended (step_given parts.voter parts.given (inputs.Mail message) now stop)) outcome out
+      → CrewAnswersAs told old (λ made past. taken_inside made past (stepped made past sources.Voter now stop)) (unless_idle outcome (Some (taken.Message (handed.Voter message))))
   unfolding CrewStands parts_of stepped taken_inside inside
   taken-voter_mail old mid message now stop outcome out tells takes ends = λ made past h.
       rw (← tells (parts_of made past) h) (rw (ends (after_voter_mail (parts_of made past)) (takes (parts_of made past) h)).0 refl)
 
   pub taken-batcher_mail : (old mid : Crew S L J s l j) (message : batcher_message.Message) (now : ℕ) (stop : Stop) (outcome : Outcome) (out : StepOut)
-      → Tells old (λ parts. received parts.to_batcher) (Some message)
-      → Works old mid after_batcher_mail
-      → Ends mid (λ parts. cut_short stop (step_out parts.batcher parts.timed (record { input = batcher_inputs.Mail message; now = now }))) outcome out
-      → CrewAnswers old (λ made past. taken_inside made past (stepped made past sources.Batcher now stop)) (unless_idle outcome (Some (taken.Message (handed.Batcher message))))
+      → TellsAs told old (λ parts. received parts.to_batcher) (Some message)
+      → WorksAs told old mid after_batcher_mail
+      → EndsAs told mid (λ parts. cut_short stop (step_out parts.batcher parts.timed (record { input = batcher_inputs.Mail message; now = now }))) outcome out
+      → CrewAnswersAs told old (λ made past. taken_inside made past (stepped made past sources.Batcher now stop)) (unless_idle outcome (Some (taken.Message (handed.Batcher message))))
   unfolding CrewStands parts_of stepped by_batcher taken_inside inside
   taken-batcher_mail old mid message now stop outcome out tells takes ends = λ made past h.
       rw (← tells (parts_of made past) h) (rw (ends (after_batcher_mail (parts_of made past)) (takes (parts_of made past) h)).0 refl)
@@ -216,120 +225,120 @@ module _ {S L J : Type 0} {s : scheme.Ghosts S} {l : elector.Ghosts L} {j : jour
   -- ---- each source of an answer
 
   pub takes-timer : (old new : Crew S L J s l j) (now : ℕ) (stop : Stop) (outcome : Outcome) (out : StepOut)
-      → Works old new (after_voter (Stepped inputs.Timer now stop) out)
-      → Ends old (λ parts. ended (step_given parts.voter parts.given inputs.Timer now stop)) outcome out
-      → CrewTakes old new (λ made past. stepped made past sources.Timer now stop)
+      → WorksAs told old new (after_voter (Stepped inputs.Timer now stop) out)
+      → EndsAs told old (λ parts. ended (step_given parts.voter parts.given inputs.Timer now stop)) outcome out
+      → CrewTakesAs told old new (λ made past. stepped made past sources.Timer now stop)
   unfolding stepped
   takes-timer old new now stop outcome out works ends = takes-voter old new sources.Timer inputs.Timer now stop outcome out (λ made past p quiet. more-timer made past now stop p quiet) works ends
 
   pub takes-propose : (old new : Crew S L J s l j) (now : ℕ) (stop : Stop) (outcome : Outcome) (out : StepOut)
-      → Works old new (after_voter (Stepped inputs.Propose now stop) out)
-      → Ends old (λ parts. ended (step_given parts.voter parts.given inputs.Propose now stop)) outcome out
-      → CrewTakes old new (λ made past. stepped made past sources.Propose now stop)
+      → WorksAs told old new (after_voter (Stepped inputs.Propose now stop) out)
+      → EndsAs told old (λ parts. ended (step_given parts.voter parts.given inputs.Propose now stop)) outcome out
+      → CrewTakesAs told old new (λ made past. stepped made past sources.Propose now stop)
   unfolding stepped
   takes-propose old new now stop outcome out works ends = takes-voter old new sources.Propose inputs.Propose now stop outcome out (λ made past p quiet. more-propose made past now stop p quiet) works ends
 
   pub takes-verify : (old new : Crew S L J s l j) (now : ℕ) (stop : Stop) (outcome : Outcome) (out : StepOut)
-      → Works old new (after_voter (Stepped inputs.Verify now stop) out)
-      → Ends old (λ parts. ended (step_given parts.voter parts.given inputs.Verify now stop)) outcome out
-      → CrewTakes old new (λ made past. stepped made past sources.Verify now stop)
+      → WorksAs told old new (after_voter (Stepped inputs.Verify now stop) out)
+      → EndsAs told old (λ parts. ended (step_given parts.voter parts.given inputs.Verify now stop)) outcome out
+      → CrewTakesAs told old new (λ made past. stepped made past sources.Verify now stop)
   unfolding stepped
   takes-verify old new now stop outcome out works ends = takes-voter old new sources.Verify inputs.Verify now stop outcome out (λ made past p quiet. more-verify made past now stop p quiet) works ends
 
   pub takes-certify : (old new : Crew S L J s l j) (now : ℕ) (stop : Stop) (outcome : Outcome) (out : StepOut)
-      → Works old new (after_voter (Stepped inputs.Certify now stop) out)
-      → Ends old (λ parts. ended (step_given parts.voter parts.given inputs.Certify now stop)) outcome out
-      → CrewTakes old new (λ made past. stepped made past sources.Certify now stop)
+      → WorksAs told old new (after_voter (Stepped inputs.Certify now stop) out)
+      → EndsAs told old (λ parts. ended (step_given parts.voter parts.given inputs.Certify now stop)) outcome out
+      → CrewTakesAs told old new (λ made past. stepped made past sources.Certify now stop)
   unfolding stepped
   takes-certify old new now stop outcome out works ends = takes-voter old new sources.Certify inputs.Certify now stop outcome out (λ made past p quiet. more-certify made past now stop p quiet) works ends
 
   pub gives-timer : (old : Crew S L J s l j) (now : ℕ) (stop : Stop) (outcome : Outcome) (out : StepOut)
-      → Ends old (λ parts. ended (step_given parts.voter parts.given inputs.Timer now stop)) outcome out
-      → CrewGives old (λ made past. stepped made past sources.Timer now stop) outcome out
+      → EndsAs told old (λ parts. ended (step_given parts.voter parts.given inputs.Timer now stop)) outcome out
+      → CrewGivesAs told old (λ made past. stepped made past sources.Timer now stop) outcome out
   unfolding stepped
   gives-timer old now stop outcome out ends = gives-voter old sources.Timer inputs.Timer now stop outcome out ends
 
   pub gives-propose : (old : Crew S L J s l j) (now : ℕ) (stop : Stop) (outcome : Outcome) (out : StepOut)
-      → Ends old (λ parts. ended (step_given parts.voter parts.given inputs.Propose now stop)) outcome out
-      → CrewGives old (λ made past. stepped made past sources.Propose now stop) outcome out
+      → EndsAs told old (λ parts. ended (step_given parts.voter parts.given inputs.Propose now stop)) outcome out
+      → CrewGivesAs told old (λ made past. stepped made past sources.Propose now stop) outcome out
   unfolding stepped
   gives-propose old now stop outcome out ends = gives-voter old sources.Propose inputs.Propose now stop outcome out ends
 
   pub gives-verify : (old : Crew S L J s l j) (now : ℕ) (stop : Stop) (outcome : Outcome) (out : StepOut)
-      → Ends old (λ parts. ended (step_given parts.voter parts.given inputs.Verify now stop)) outcome out
-      → CrewGives old (λ made past. stepped made past sources.Verify now stop) outcome out
+      → EndsAs told old (λ parts. ended (step_given parts.voter parts.given inputs.Verify now stop)) outcome out
+      → CrewGivesAs told old (λ made past. stepped made past sources.Verify now stop) outcome out
   unfolding stepped
   gives-verify old now stop outcome out ends = gives-voter old sources.Verify inputs.Verify now stop outcome out ends
 
   pub gives-certify : (old : Crew S L J s l j) (now : ℕ) (stop : Stop) (outcome : Outcome) (out : StepOut)
-      → Ends old (λ parts. ended (step_given parts.voter parts.given inputs.Certify now stop)) outcome out
-      → CrewGives old (λ made past. stepped made past sources.Certify now stop) outcome out
+      → EndsAs told old (λ parts. ended (step_given parts.voter parts.given inputs.Certify now stop)) outcome out
+      → CrewGivesAs told old (λ made past. stepped made past sources.Certify now stop) outcome out
   unfolding stepped
   gives-certify old now stop outcome out ends = gives-voter old sources.Certify inputs.Certify now stop outcome out ends
 
   pub taken-propose : (old : Crew S L J s l j) (now : ℕ) (stop : Stop) (outcome : Outcome) (out : StepOut) (given : Option TakenInside)
-      → Ends old (λ parts. ended (step_given parts.voter parts.given inputs.Propose now stop)) outcome out
-      → Tells old (λ parts. unless_idle outcome (option_map answer_inside (next_answer (place_of parts.voter parts.given).standing inputs.Propose))) given
-      → CrewAnswers old (λ made past. taken_inside made past (stepped made past sources.Propose now stop)) given
+      → EndsAs told old (λ parts. ended (step_given parts.voter parts.given inputs.Propose now stop)) outcome out
+      → TellsAs told old (λ parts. unless_idle outcome (option_map answer_inside (next_answer (place_of parts.voter parts.given).standing inputs.Propose))) given
+      → CrewAnswersAs told old (λ made past. taken_inside made past (stepped made past sources.Propose now stop)) given
   unfolding stepped
   taken-propose old now stop outcome out given ends tells = taken-answer old sources.Propose inputs.Propose now stop outcome out given inside-propose ends tells
 
   pub taken-verify : (old : Crew S L J s l j) (now : ℕ) (stop : Stop) (outcome : Outcome) (out : StepOut) (given : Option TakenInside)
-      → Ends old (λ parts. ended (step_given parts.voter parts.given inputs.Verify now stop)) outcome out
-      → Tells old (λ parts. unless_idle outcome (option_map answer_inside (next_answer (place_of parts.voter parts.given).standing inputs.Verify))) given
-      → CrewAnswers old (λ made past. taken_inside made past (stepped made past sources.Verify now stop)) given
+      → EndsAs told old (λ parts. ended (step_given parts.voter parts.given inputs.Verify now stop)) outcome out
+      → TellsAs told old (λ parts. unless_idle outcome (option_map answer_inside (next_answer (place_of parts.voter parts.given).standing inputs.Verify))) given
+      → CrewAnswersAs told old (λ made past. taken_inside made past (stepped made past sources.Verify now stop)) given
   unfolding stepped
   taken-verify old now stop outcome out given ends tells = taken-answer old sources.Verify inputs.Verify now stop outcome out given inside-verify ends tells
 
   pub taken-certify : (old : Crew S L J s l j) (now : ℕ) (stop : Stop) (outcome : Outcome) (out : StepOut) (given : Option TakenInside)
-      → Ends old (λ parts. ended (step_given parts.voter parts.given inputs.Certify now stop)) outcome out
-      → Tells old (λ parts. unless_idle outcome (option_map answer_inside (next_answer (place_of parts.voter parts.given).standing inputs.Certify))) given
-      → CrewAnswers old (λ made past. taken_inside made past (stepped made past sources.Certify now stop)) given
+      → EndsAs told old (λ parts. ended (step_given parts.voter parts.given inputs.Certify now stop)) outcome out
+      → TellsAs told old (λ parts. unless_idle outcome (option_map answer_inside (next_answer (place_of parts.voter parts.given).standing inputs.Certify))) given
+      → CrewAnswersAs told old (λ made past. taken_inside made past (stepped made past sources.Certify now stop)) given
   unfolding stepped
   taken-certify old now stop outcome out given ends tells = taken-answer old sources.Certify inputs.Certify now stop outcome out given inside-certify ends tells
 
   -- ---- a mailbox that holds nothing
 
-  pub takes-no_voter_mail : (old new : Crew S L J s l j) (now : ℕ) (stop : Stop) → Tells old (λ parts. received parts.to_voter) None → Works old new (λ parts. parts)
-      → CrewTakes old new (λ made past. stepped made past sources.Voter now stop)
+  pub takes-no_voter_mail : (old new : Crew S L J s l j) (now : ℕ) (stop : Stop) → TellsAs told old (λ parts. received parts.to_voter) None → WorksAs told old new (λ parts. parts)
+      → CrewTakesAs told old new (λ made past. stepped made past sources.Voter now stop)
   unfolding CrewStands parts_of stepped
   takes-no_voter_mail old new now stop tells works = λ made past h.
       rw (← tells (parts_of made past) h) (rw (more-voter_idle made past now stop) (works (parts_of made past) h))
 
-  pub gives-no_voter_mail : (old : Crew S L J s l j) (now : ℕ) (stop : Stop) → Tells old (λ parts. received parts.to_voter) None
-      → CrewGives old (λ made past. stepped made past sources.Voter now stop) outcomes.Idle no_out
+  pub gives-no_voter_mail : (old : Crew S L J s l j) (now : ℕ) (stop : Stop) → TellsAs told old (λ parts. received parts.to_voter) None
+      → CrewGivesAs told old (λ made past. stepped made past sources.Voter now stop) outcomes.Idle no_out
   unfolding CrewStands parts_of stepped
   gives-no_voter_mail old now stop tells = λ made past h. rw (← tells (parts_of made past) h) (refl, refl)
 
-  pub taken-no_voter_mail : (old : Crew S L J s l j) (now : ℕ) (stop : Stop) → Tells old (λ parts. received parts.to_voter) None
-      → CrewAnswers old (λ made past. taken_inside made past (stepped made past sources.Voter now stop)) None
+  pub taken-no_voter_mail : (old : Crew S L J s l j) (now : ℕ) (stop : Stop) → TellsAs told old (λ parts. received parts.to_voter) None
+      → CrewAnswersAs told old (λ made past. taken_inside made past (stepped made past sources.Voter now stop)) None
   unfolding CrewStands parts_of stepped taken_inside
   taken-no_voter_mail old now stop tells = λ made past h. rw (← tells (parts_of made past) h) refl
 
-  pub takes-no_batcher_mail : (old new : Crew S L J s l j) (now : ℕ) (stop : Stop) → Tells old (λ parts. received parts.to_batcher) None → Works old new (λ parts. parts)
-      → CrewTakes old new (λ made past. stepped made past sources.Batcher now stop)
+  pub takes-no_batcher_mail : (old new : Crew S L J s l j) (now : ℕ) (stop : Stop) → TellsAs told old (λ parts. received parts.to_batcher) None → WorksAs told old new (λ parts. parts)
+      → CrewTakesAs told old new (λ made past. stepped made past sources.Batcher now stop)
   unfolding CrewStands parts_of stepped
   takes-no_batcher_mail old new now stop tells works = λ made past h.
       rw (← tells (parts_of made past) h) (rw (more-batcher_idle made past now stop) (works (parts_of made past) h))
 
-  pub gives-no_batcher_mail : (old : Crew S L J s l j) (now : ℕ) (stop : Stop) → Tells old (λ parts. received parts.to_batcher) None
-      → CrewGives old (λ made past. stepped made past sources.Batcher now stop) outcomes.Idle no_out
+  pub gives-no_batcher_mail : (old : Crew S L J s l j) (now : ℕ) (stop : Stop) → TellsAs told old (λ parts. received parts.to_batcher) None
+      → CrewGivesAs told old (λ made past. stepped made past sources.Batcher now stop) outcomes.Idle no_out
   unfolding CrewStands parts_of stepped
   gives-no_batcher_mail old now stop tells = λ made past h. rw (← tells (parts_of made past) h) (refl, refl)
 
-  pub taken-no_batcher_mail : (old : Crew S L J s l j) (now : ℕ) (stop : Stop) → Tells old (λ parts. received parts.to_batcher) None
-      → CrewAnswers old (λ made past. taken_inside made past (stepped made past sources.Batcher now stop)) None
+  pub taken-no_batcher_mail : (old : Crew S L J s l j) (now : ℕ) (stop : Stop) → TellsAs told old (λ parts. received parts.to_batcher) None
+      → CrewAnswersAs told old (λ made past. taken_inside made past (stepped made past sources.Batcher now stop)) None
   unfolding CrewStands parts_of stepped taken_inside
   taken-no_batcher_mail old now stop tells = λ made past h. rw (← tells (parts_of made past) h) refl
 
   -- ---- the resolver's sources
 
   pub takes-resolver_mail : (old mid new : Crew S L J s l j) (message : MailboxMessage) (now : ℕ) (stop : Stop) (outcome : Outcome) (out : StepOut)
-      → Tells old (λ parts. received parts.to_resolver) (Some message)
-      → Works old mid after_resolver_mail
-      → Works mid new (after_resolver (resolver.Stepped (resolver_inputs.Mail message) now) out)
-      → Ends mid (λ parts. cut_short stop (resolver.step_out parts.resolver parts.asked (resolver_inputs.Mail message) now)) outcome out
-      → CrewTakes old new (λ made past. stepped made past sources.Resolver now stop)
+      → TellsAs told old (λ parts. received parts.to_resolver) (Some message)
+      → WorksAs told old mid after_resolver_mail
+      → WorksAs told mid new (after_resolver (resolver.Stepped (resolver_inputs.Mail message) now) out)
+      → EndsAs told mid (λ parts. cut_short stop (resolver.step_out parts.resolver parts.asked (resolver_inputs.Mail message) now)) outcome out
+      → CrewTakesAs told old new (λ made past. stepped made past sources.Resolver now stop)
   unfolding CrewStands parts_of stepped by_resolver
   takes-resolver_mail old mid new message now stop outcome out tells takes works ends = λ made past h.
       let whole : StepOut = resolver.step_out made.resolver (resolver_past past) (resolver_inputs.Mail message) now in
@@ -340,45 +349,45 @@ module _ {S L J : Type 0} {s : scheme.Ghosts S} {l : elector.Ghosts L} {j : jour
       (rw (← gives) (works (after_resolver_mail (parts_of made past)) held)))
 
   pub gives-resolver_mail : (old mid : Crew S L J s l j) (message : MailboxMessage) (now : ℕ) (stop : Stop) (outcome : Outcome) (out : StepOut)
-      → Tells old (λ parts. received parts.to_resolver) (Some message)
-      → Works old mid after_resolver_mail
-      → Ends mid (λ parts. cut_short stop (resolver.step_out parts.resolver parts.asked (resolver_inputs.Mail message) now)) outcome out
-      → CrewGives old (λ made past. stepped made past sources.Resolver now stop) outcome out
+      → TellsAs told old (λ parts. received parts.to_resolver) (Some message)
+      → WorksAs told old mid after_resolver_mail
+      → EndsAs told mid (λ parts. cut_short stop (resolver.step_out parts.resolver parts.asked (resolver_inputs.Mail message) now)) outcome out
+      → CrewGivesAs told old (λ made past. stepped made past sources.Resolver now stop) outcome out
   unfolding CrewStands parts_of stepped by_resolver
   gives-resolver_mail old mid message now stop outcome out tells takes ends = λ made past h.
       rw (← tells (parts_of made past) h) (ends (after_resolver_mail (parts_of made past)) (takes (parts_of made past) h))
 
   pub taken-resolver_mail : (old mid : Crew S L J s l j) (message : MailboxMessage) (now : ℕ) (stop : Stop) (outcome : Outcome) (out : StepOut)
-      → Tells old (λ parts. received parts.to_resolver) (Some message)
-      → Works old mid after_resolver_mail
-      → Ends mid (λ parts. cut_short stop (resolver.step_out parts.resolver parts.asked (resolver_inputs.Mail message) now)) outcome out
-      → CrewAnswers old (λ made past. taken_inside made past (stepped made past sources.Resolver now stop)) (unless_idle outcome (Some (taken.Message (handed.Resolver message))))
+      → TellsAs told old (λ parts. received parts.to_resolver) (Some message)
+      → WorksAs told old mid after_resolver_mail
+      → EndsAs told mid (λ parts. cut_short stop (resolver.step_out parts.resolver parts.asked (resolver_inputs.Mail message) now)) outcome out
+      → CrewAnswersAs told old (λ made past. taken_inside made past (stepped made past sources.Resolver now stop)) (unless_idle outcome (Some (taken.Message (handed.Resolver message))))
   unfolding CrewStands parts_of stepped by_resolver taken_inside inside
   taken-resolver_mail old mid message now stop outcome out tells takes ends = λ made past h.
       rw (← tells (parts_of made past) h) (rw (ends (after_resolver_mail (parts_of made past)) (takes (parts_of made past) h)).0 refl)
 
-  pub takes-no_resolver_mail : (old new : Crew S L J s l j) (now : ℕ) (stop : Stop) → Tells old (λ parts. received parts.to_resolver) None → Works old new (λ parts. parts)
-      → CrewTakes old new (λ made past. stepped made past sources.Resolver now stop)
+  pub takes-no_resolver_mail : (old new : Crew S L J s l j) (now : ℕ) (stop : Stop) → TellsAs told old (λ parts. received parts.to_resolver) None → WorksAs told old new (λ parts. parts)
+      → CrewTakesAs told old new (λ made past. stepped made past sources.Resolver now stop)
   unfolding CrewStands parts_of stepped
   takes-no_resolver_mail old new now stop tells works = λ made past h.
       rw (← tells (parts_of made past) h) (rw (more-resolver_idle made past now stop) (works (parts_of made past) h))
 
-  pub gives-no_resolver_mail : (old : Crew S L J s l j) (now : ℕ) (stop : Stop) → Tells old (λ parts. received parts.to_resolver) None
-      → CrewGives old (λ made past. stepped made past sources.Resolver now stop) outcomes.Idle no_out
+  pub gives-no_resolver_mail : (old : Crew S L J s l j) (now : ℕ) (stop : Stop) → TellsAs told old (λ parts. received parts.to_resolver) None
+      → CrewGivesAs told old (λ made past. stepped made past sources.Resolver now stop) outcomes.Idle no_out
   unfolding CrewStands parts_of stepped
   gives-no_resolver_mail old now stop tells = λ made past h. rw (← tells (parts_of made past) h) (refl, refl)
 
-  pub taken-no_resolver_mail : (old : Crew S L J s l j) (now : ℕ) (stop : Stop) → Tells old (λ parts. received parts.to_resolver) None
-      → CrewAnswers old (λ made past. taken_inside made past (stepped made past sources.Resolver now stop)) None
+  pub taken-no_resolver_mail : (old : Crew S L J s l j) (now : ℕ) (stop : Stop) → TellsAs told old (λ parts. received parts.to_resolver) None
+      → CrewAnswersAs told old (λ made past. taken_inside made past (stepped made past sources.Resolver now stop)) None
   unfolding CrewStands parts_of stepped taken_inside
   taken-no_resolver_mail old now stop tells = λ made past h. rw (← tells (parts_of made past) h) refl
 
   pub takes-handler_mail : (old mid new : Crew S L J s l j) (message : HandlerMessage) (now : ℕ) (stop : Stop) (outcome : Outcome) (out : StepOut)
-      → Tells old (λ parts. resolver.handler_message parts.resolver parts.asked) (Some message)
-      → Works old mid after_handler_mail
-      → Works mid new (after_resolver (resolver.Stepped (resolver_inputs.Handler message) now) out)
-      → Ends mid (λ parts. cut_short stop (resolver.step_out parts.resolver parts.asked (resolver_inputs.Handler message) now)) outcome out
-      → CrewTakes old new (λ made past. stepped made past sources.Handler now stop)
+      → TellsAs told old (λ parts. resolver.handler_message parts.resolver parts.asked) (Some message)
+      → WorksAs told old mid after_handler_mail
+      → WorksAs told mid new (after_resolver (resolver.Stepped (resolver_inputs.Handler message) now) out)
+      → EndsAs told mid (λ parts. cut_short stop (resolver.step_out parts.resolver parts.asked (resolver_inputs.Handler message) now)) outcome out
+      → CrewTakesAs told old new (λ made past. stepped made past sources.Handler now stop)
   unfolding CrewStands parts_of stepped by_resolver
   takes-handler_mail old mid new message now stop outcome out tells takes works ends = λ made past h.
       let whole : StepOut = resolver.step_out made.resolver (resolver.HandlerTaken ∷ resolver_past past) (resolver_inputs.Handler message) now in
@@ -389,48 +398,44 @@ module _ {S L J : Type 0} {s : scheme.Ghosts S} {l : elector.Ghosts L} {j : jour
       (rw (← gives) (works (after_handler_mail (parts_of made past)) held)))
 
   pub gives-handler_mail : (old mid : Crew S L J s l j) (message : HandlerMessage) (now : ℕ) (stop : Stop) (outcome : Outcome) (out : StepOut)
-      → Tells old (λ parts. resolver.handler_message parts.resolver parts.asked) (Some message)
-      → Works old mid after_handler_mail
-      → Ends mid (λ parts. cut_short stop (resolver.step_out parts.resolver parts.asked (resolver_inputs.Handler message) now)) outcome out
-      → CrewGives old (λ made past. stepped made past sources.Handler now stop) outcome out
+      → TellsAs told old (λ parts. resolver.handler_message parts.resolver parts.asked) (Some message)
+      → WorksAs told old mid after_handler_mail
+      → EndsAs told mid (λ parts. cut_short stop (resolver.step_out parts.resolver parts.asked (resolver_inputs.Handler message) now)) outcome out
+      → CrewGivesAs told old (λ made past. stepped made past sources.Handler now stop) outcome out
   unfolding CrewStands parts_of stepped by_resolver
   gives-handler_mail old mid message now stop outcome out tells takes ends = λ made past h.
       rw (← tells (parts_of made past) h) (ends (after_handler_mail (parts_of made past)) (takes (parts_of made past) h))
 
   pub taken-handler_mail : (old mid : Crew S L J s l j) (message : HandlerMessage) (now : ℕ) (stop : Stop) (outcome : Outcome) (out : StepOut)
-      → Tells old (λ parts. resolver.handler_message parts.resolver parts.asked) (Some message)
-      → Works old mid after_handler_mail
-      → Ends mid (λ parts. cut_short stop (resolver.step_out parts.resolver parts.asked (resolver_inputs.Handler message) now)) outcome out
-      → CrewAnswers old (λ made past. taken_inside made past (stepped made past sources.Handler now stop)) (unless_idle outcome (Some (taken.Message (handed.Handler message))))
+      → TellsAs told old (λ parts. resolver.handler_message parts.resolver parts.asked) (Some message)
+      → WorksAs told old mid after_handler_mail
+      → EndsAs told mid (λ parts. cut_short stop (resolver.step_out parts.resolver parts.asked (resolver_inputs.Handler message) now)) outcome out
+      → CrewAnswersAs told old (λ made past. taken_inside made past (stepped made past sources.Handler now stop)) (unless_idle outcome (Some (taken.Message (handed.Handler message))))
   unfolding CrewStands parts_of stepped by_resolver taken_inside inside
   taken-handler_mail old mid message now stop outcome out tells takes ends = λ made past h.
       rw (← tells (parts_of made past) h) (rw (ends (after_handler_mail (parts_of made past)) (takes (parts_of made past) h)).0 refl)
 
-  pub takes-no_handler_mail : (old new : Crew S L J s l j) (now : ℕ) (stop : Stop) → Tells old (λ parts. resolver.handler_message parts.resolver parts.asked) None → Works old new (λ parts. parts)
-      → CrewTakes old new (λ made past. stepped made past sources.Handler now stop)
+  pub takes-no_handler_mail : (old new : Crew S L J s l j) (now : ℕ) (stop : Stop) → TellsAs told old (λ parts. resolver.handler_message parts.resolver parts.asked) None → WorksAs told old new (λ parts. parts)
+      → CrewTakesAs told old new (λ made past. stepped made past sources.Handler now stop)
   unfolding CrewStands parts_of stepped
   takes-no_handler_mail old new now stop tells works = λ made past h.
       rw (← tells (parts_of made past) h) (rw (more-handler_idle made past now stop) (works (parts_of made past) h))
 
-  pub gives-no_handler_mail : (old : Crew S L J s l j) (now : ℕ) (stop : Stop) → Tells old (λ parts. resolver.handler_message parts.resolver parts.asked) None
-      → CrewGives old (λ made past. stepped made past sources.Handler now stop) outcomes.Idle no_out
+  pub gives-no_handler_mail : (old : Crew S L J s l j) (now : ℕ) (stop : Stop) → TellsAs told old (λ parts. resolver.handler_message parts.resolver parts.asked) None
+      → CrewGivesAs told old (λ made past. stepped made past sources.Handler now stop) outcomes.Idle no_out
   unfolding CrewStands parts_of stepped
   gives-no_handler_mail old now stop tells = λ made past h. rw (← tells (parts_of made past) h) (refl, refl)
 
-  pub taken-no_handler_mail : (old : Crew S L J s l j) (now : ℕ) (stop : Stop) → Tells old (λ parts. resolver.handler_message parts.resolver parts.asked) None
-      → CrewAnswers old (λ made past. taken_inside made past (stepped made past sources.Handler now stop)) None
+  pub taken-no_handler_mail : (old : Crew S L J s l j) (now : ℕ) (stop : Stop) → TellsAs told old (λ parts. resolver.handler_message parts.resolver parts.asked) None
+      → CrewAnswersAs told old (λ made past. taken_inside made past (stepped made past sources.Handler now stop)) None
   unfolding CrewStands parts_of stepped taken_inside
   taken-no_handler_mail old now stop tells = λ made past h. rw (← tells (parts_of made past) h) refl
 
-  -- whether a deadline of the fetcher is reached
-  abbrev pub IsDue : Crew S L J s l j → ℕ → Bool → Type 0
-  IsDue crew now test = Tells crew (λ parts. is_reached now (resolver.deadline_after parts.resolver parts.asked)) test
-
   pub takes-fetch : (old new : Crew S L J s l j) (now : ℕ) (stop : Stop) (test : Bool) (outcome : Outcome) (out : StepOut)
-      → test ≡ true → IsDue old now test
-      → Works old new (after_resolver (resolver.Stepped resolver_inputs.Timer now) out)
-      → Ends old (λ parts. cut_short stop (resolver.step_out parts.resolver parts.asked resolver_inputs.Timer now)) outcome out
-      → CrewTakes old new (λ made past. stepped made past sources.Fetch now stop)
+      → test ≡ true → IsDue told old now test
+      → WorksAs told old new (after_resolver (resolver.Stepped resolver_inputs.Timer now) out)
+      → EndsAs told old (λ parts. cut_short stop (resolver.step_out parts.resolver parts.asked resolver_inputs.Timer now)) outcome out
+      → CrewTakesAs told old new (λ made past. stepped made past sources.Fetch now stop)
   unfolding CrewStands parts_of stepped by_resolver
   takes-fetch old new now stop test outcome out e due works ends = λ made past h.
       let whole : StepOut = resolver.step_out made.resolver (resolver_past past) resolver_inputs.Timer now in
@@ -440,42 +445,42 @@ module _ {S L J : Type 0} {s : scheme.Ghosts S} {l : elector.Ghosts L} {j : jour
       (rw (← gives) (works (parts_of made past) h)))
 
   pub gives-fetch : (old : Crew S L J s l j) (now : ℕ) (stop : Stop) (test : Bool) (outcome : Outcome) (out : StepOut)
-      → test ≡ true → IsDue old now test
-      → Ends old (λ parts. cut_short stop (resolver.step_out parts.resolver parts.asked resolver_inputs.Timer now)) outcome out
-      → CrewGives old (λ made past. stepped made past sources.Fetch now stop) outcome out
+      → test ≡ true → IsDue told old now test
+      → EndsAs told old (λ parts. cut_short stop (resolver.step_out parts.resolver parts.asked resolver_inputs.Timer now)) outcome out
+      → CrewGivesAs told old (λ made past. stepped made past sources.Fetch now stop) outcome out
   unfolding CrewStands parts_of stepped by_resolver
   gives-fetch old now stop test outcome out e due ends = λ made past h. rw (← due (parts_of made past) h, e) (ends (parts_of made past) h)
 
   pub taken-fetch : (old : Crew S L J s l j) (now : ℕ) (stop : Stop) (test : Bool) (outcome : Outcome) (out : StepOut)
-      → test ≡ true → IsDue old now test
-      → Ends old (λ parts. cut_short stop (resolver.step_out parts.resolver parts.asked resolver_inputs.Timer now)) outcome out
-      → CrewAnswers old (λ made past. taken_inside made past (stepped made past sources.Fetch now stop)) (unless_idle outcome (Some taken.Deadline))
+      → test ≡ true → IsDue told old now test
+      → EndsAs told old (λ parts. cut_short stop (resolver.step_out parts.resolver parts.asked resolver_inputs.Timer now)) outcome out
+      → CrewAnswersAs told old (λ made past. taken_inside made past (stepped made past sources.Fetch now stop)) (unless_idle outcome (Some taken.Deadline))
   unfolding CrewStands parts_of stepped by_resolver taken_inside inside
   taken-fetch old now stop test outcome out e due ends = λ made past h.
       rw (← due (parts_of made past) h, e) (rw (ends (parts_of made past) h).0 refl)
 
-  pub takes-no_fetch : (crew : Crew S L J s l j) (now : ℕ) (stop : Stop) (test : Bool) → test ≡ false → IsDue crew now test
-      → CrewTakes crew crew (λ made past. stepped made past sources.Fetch now stop)
+  pub takes-no_fetch : (crew : Crew S L J s l j) (now : ℕ) (stop : Stop) (test : Bool) → test ≡ false → IsDue told crew now test
+      → CrewTakesAs told crew crew (λ made past. stepped made past sources.Fetch now stop)
   unfolding CrewStands parts_of stepped
   takes-no_fetch crew now stop test e due = λ made past h.
       rw (← due (parts_of made past) h, e) (rw (more-fetch_idle made past now stop) h)
 
-  pub gives-no_fetch : (crew : Crew S L J s l j) (now : ℕ) (stop : Stop) (test : Bool) → test ≡ false → IsDue crew now test
-      → CrewGives crew (λ made past. stepped made past sources.Fetch now stop) outcomes.Idle no_out
+  pub gives-no_fetch : (crew : Crew S L J s l j) (now : ℕ) (stop : Stop) (test : Bool) → test ≡ false → IsDue told crew now test
+      → CrewGivesAs told crew (λ made past. stepped made past sources.Fetch now stop) outcomes.Idle no_out
   unfolding CrewStands parts_of stepped
   gives-no_fetch crew now stop test e due = λ made past h. rw (← due (parts_of made past) h, e) (refl, refl)
 
-  pub taken-no_fetch : (crew : Crew S L J s l j) (now : ℕ) (stop : Stop) (test : Bool) → test ≡ false → IsDue crew now test
-      → CrewAnswers crew (λ made past. taken_inside made past (stepped made past sources.Fetch now stop)) None
+  pub taken-no_fetch : (crew : Crew S L J s l j) (now : ℕ) (stop : Stop) (test : Bool) → test ≡ false → IsDue told crew now test
+      → CrewAnswersAs told crew (λ made past. taken_inside made past (stepped made past sources.Fetch now stop)) None
   unfolding CrewStands parts_of stepped taken_inside
   taken-no_fetch crew now stop test e due = λ made past h. rw (← due (parts_of made past) h, e) refl
 
   -- ---- packets and answers
 
   pub takes-vote : (old new : Crew S L J s l j) (sender : ℕ) (bytes : List ℕ) (now : ℕ) (outcome : Outcome) (out : StepOut)
-      → Works old new (after_batcher (record { input = batcher_inputs.Vote sender bytes; now = now }) out)
-      → Ends old (λ parts. cut_short stops.None (step_out parts.batcher parts.timed (record { input = batcher_inputs.Vote sender bytes; now = now }))) outcome out
-      → CrewTakes old new (λ made past. heard made past sender channels.Vote bytes now)
+      → WorksAs told old new (after_batcher (record { input = batcher_inputs.Vote sender bytes; now = now }) out)
+      → EndsAs told old (λ parts. cut_short stops.None (step_out parts.batcher parts.timed (record { input = batcher_inputs.Vote sender bytes; now = now }))) outcome out
+      → CrewTakesAs told old new (λ made past. heard made past sender channels.Vote bytes now)
   unfolding CrewStands parts_of heard by_batcher
   takes-vote old new sender bytes now outcome out works ends = λ made past h.
       let given : Timed = record { input = batcher_inputs.Vote sender bytes; now = now } in
@@ -483,15 +488,15 @@ module _ {S L J : Type 0} {s : scheme.Ghosts S} {l : elector.Ghosts L} {j : jour
       (rw (← (ends (parts_of made past) h).1) (works (parts_of made past) h))
 
   pub gives-vote : (old : Crew S L J s l j) (sender : ℕ) (bytes : List ℕ) (now : ℕ) (outcome : Outcome) (out : StepOut)
-      → Ends old (λ parts. cut_short stops.None (step_out parts.batcher parts.timed (record { input = batcher_inputs.Vote sender bytes; now = now }))) outcome out
-      → CrewGives old (λ made past. heard made past sender channels.Vote bytes now) outcome out
+      → EndsAs told old (λ parts. cut_short stops.None (step_out parts.batcher parts.timed (record { input = batcher_inputs.Vote sender bytes; now = now }))) outcome out
+      → CrewGivesAs told old (λ made past. heard made past sender channels.Vote bytes now) outcome out
   unfolding CrewStands parts_of heard by_batcher
   gives-vote old sender bytes now outcome out ends = λ made past h. ends (parts_of made past) h
 
   pub takes-certificate : (old new : Crew S L J s l j) (sender : ℕ) (bytes : List ℕ) (now : ℕ) (outcome : Outcome) (out : StepOut)
-      → Works old new (after_batcher (record { input = batcher_inputs.Certificate sender bytes; now = now }) out)
-      → Ends old (λ parts. cut_short stops.None (step_out parts.batcher parts.timed (record { input = batcher_inputs.Certificate sender bytes; now = now }))) outcome out
-      → CrewTakes old new (λ made past. heard made past sender channels.Certificate bytes now)
+      → WorksAs told old new (after_batcher (record { input = batcher_inputs.Certificate sender bytes; now = now }) out)
+      → EndsAs told old (λ parts. cut_short stops.None (step_out parts.batcher parts.timed (record { input = batcher_inputs.Certificate sender bytes; now = now }))) outcome out
+      → CrewTakesAs told old new (λ made past. heard made past sender channels.Certificate bytes now)
   unfolding CrewStands parts_of heard by_batcher
   takes-certificate old new sender bytes now outcome out works ends = λ made past h.
       let given : Timed = record { input = batcher_inputs.Certificate sender bytes; now = now } in
@@ -499,42 +504,38 @@ module _ {S L J : Type 0} {s : scheme.Ghosts S} {l : elector.Ghosts L} {j : jour
       (rw (← (ends (parts_of made past) h).1) (works (parts_of made past) h))
 
   pub gives-certificate : (old : Crew S L J s l j) (sender : ℕ) (bytes : List ℕ) (now : ℕ) (outcome : Outcome) (out : StepOut)
-      → Ends old (λ parts. cut_short stops.None (step_out parts.batcher parts.timed (record { input = batcher_inputs.Certificate sender bytes; now = now }))) outcome out
-      → CrewGives old (λ made past. heard made past sender channels.Certificate bytes now) outcome out
+      → EndsAs told old (λ parts. cut_short stops.None (step_out parts.batcher parts.timed (record { input = batcher_inputs.Certificate sender bytes; now = now }))) outcome out
+      → CrewGivesAs told old (λ made past. heard made past sender channels.Certificate bytes now) outcome out
   unfolding CrewStands parts_of heard by_batcher
   gives-certificate old sender bytes now outcome out ends = λ made past h. ends (parts_of made past) h
 
   pub takes-packet : (old new : Crew S L J s l j) (sender : ℕ) (bytes : List ℕ) (now : ℕ) (outcome : Outcome) (out : StepOut)
-      → Works old new (after_resolver (resolver.Stepped (resolver_inputs.Packet sender bytes) now) out)
-      → Ends old (λ parts. cut_short stops.None (resolver.step_out parts.resolver parts.asked (resolver_inputs.Packet sender bytes) now)) outcome out
-      → CrewTakes old new (λ made past. heard made past sender channels.Resolver bytes now)
+      → WorksAs told old new (after_resolver (resolver.Stepped (resolver_inputs.Packet sender bytes) now) out)
+      → EndsAs told old (λ parts. cut_short stops.None (resolver.step_out parts.resolver parts.asked (resolver_inputs.Packet sender bytes) now)) outcome out
+      → CrewTakesAs told old new (λ made past. heard made past sender channels.Resolver bytes now)
   unfolding CrewStands parts_of heard by_resolver
   takes-packet old new sender bytes now outcome out works ends = λ made past h.
       let whole : StepOut = resolver.step_out made.resolver (resolver_past past) (resolver_inputs.Packet sender bytes) now in
       rw (more-packet made past sender bytes now stops.None outcomes.Done whole (λ given. refl) (resolver-tells made.resolver (resolver_past past) _ now))
       (rw (← (ends (parts_of made past) h).1) (works (parts_of made past) h))
 
-  pub takes-answer : (old new : Crew S L J s l j) (number : ℕ) (answer : Answer) (now : ℕ) → Works old new (after_answer number answer)
-      → CrewTakes old new (λ made past. replied number answer now)
+  pub takes-answer : (old new : Crew S L J s l j) (number : ℕ) (answer : Answer) (now : ℕ) → WorksAs told old new (after_answer number answer)
+      → CrewTakesAs told old new (λ made past. replied number answer now)
   unfolding CrewStands
   takes-answer old new number answer now works = λ made past h. rw (more-replied made past number answer now) (works (parts_of made past) h)
 
   pub gives-packet : (old : Crew S L J s l j) (sender : ℕ) (bytes : List ℕ) (now : ℕ) (outcome : Outcome) (out : StepOut)
-      → Ends old (λ parts. cut_short stops.None (resolver.step_out parts.resolver parts.asked (resolver_inputs.Packet sender bytes) now)) outcome out
-      → CrewGives old (λ made past. heard made past sender channels.Resolver bytes now) outcome out
+      → EndsAs told old (λ parts. cut_short stops.None (resolver.step_out parts.resolver parts.asked (resolver_inputs.Packet sender bytes) now)) outcome out
+      → CrewGivesAs told old (λ made past. heard made past sender channels.Resolver bytes now) outcome out
   unfolding CrewStands parts_of heard by_resolver
   gives-packet old sender bytes now outcome out ends = λ made past h. ends (parts_of made past) h
 
-  pub taken-packet : (crew : Crew S L J s l j) (sender : ℕ) (channel : Channel) (bytes : List ℕ) (now : ℕ)
-      → CrewAnswers crew (λ made past. taken_inside made past (heard made past sender channel bytes now)) None
-  taken-packet crew sender channel bytes now = λ made past h. sym (taken-heard made past sender channel bytes now)
-
   pub answers-whether : (old : Crew S L J s l j) (number : ℕ) (answer : Answer) (result value : Bool) → result ≡ value
-      → Tells old (λ parts. takes_answer (place_of parts.voter parts.given).standing number answer) result
-      → CrewAnswers old (λ made past. takes_reply made past number answer) value
+      → TellsAs told old (λ parts. takes_answer (place_of parts.voter parts.given).standing number answer) result
+      → CrewAnswersAs told old (λ made past. takes_reply made past number answer) value
   unfolding CrewStands parts_of takes_reply
   answers-whether old number answer result value e tells = λ made past h. sym e ∙ tells (parts_of made past) h
 
-  pub stays-same : (old new : Crew S L J s l j) → Works old new (λ parts. parts) → CrewStays old new
+  pub stays-same : (old new : Crew S L J s l j) → WorksAs told old new (λ parts. parts) → CrewStaysAs told old new
   unfolding CrewStands
   stays-same old new works = λ made past h. works (parts_of made past) h

@@ -1,5 +1,5 @@
 -- What the sources of a crew's steps hold.
-use Rattle.std.proofs.Common.{◌≡◌, refl, ℕ, Bool}
+use Rattle.std.proofs.Common.{◌≡◌, refl, ℕ, Bool, List}
 use Rattle.std.specs.Prelude.{not}
 use Rattle.std.specs.Option.{is_some}
 use Rattle.simplex_wire.specs.declared.scheme.Scheme as scheme
@@ -13,66 +13,72 @@ use Rattle.simplex_resolving.specs.Views.{is_reached}
 use Rattle.simplex_resolving.specs.Resolver.{holds_handled, deadline_after}
 use Rattle.simplex_resolver.specs.Stands as resolver
 use Rattle.simplex_steps.specs.Voter.{acted}
-use Rattle.simplex_steps.specs.VoterLife.{place_of}
+use Rattle.simplex_steps.specs.VoterLife.{VoterMade, Given, place_of}
 use Rattle.simplex_voter.specs.Actor as voter
 use Rattle.simplex_engine.specs.declared.crew.Crew.{Crew}
 use Rattle.simplex_engine.specs.Holding.{holds}
 use Rattle.simplex_engine.specs.Parts.{parts_of}
-use Rattle.simplex_engine.specs.Stands.{CrewStands, CrewAnswers, Tells}
+use Rattle.simplex_engine.specs.Stands.{CrewStands, CrewAnswersAs, TellsAs}
+use Rattle.simplex_engine.proofs.Voters.{either-answers}
+
+-- whether the voter has something to do with an input that takes something
+abbrev pub acts_on : VoterInput → ℕ → VoterMade → List Given → Bool
+acts_on input now made past = is_some (acted made.rules now (place_of made past).standing input)
 
 module _ {S L J : Type 0} {s : scheme.Ghosts S} {l : elector.Ghosts L} {j : journal.Ghosts J} where
-  pub batcher-holds : (crew : Crew S L J s l j) (empty : Bool) (now : ℕ) → empty ≡ holds_nothing crew.boxes.batcher
-      → CrewAnswers crew (λ made past. holds made past sources.Batcher now) (not empty)
+  pub batcher-holds : (told : Bool) (crew : Crew S L J s l j) (empty : Bool) (now : ℕ) → empty ≡ holds_nothing crew.boxes.batcher
+      → CrewAnswersAs told crew (λ made past. holds made past sources.Batcher now) (not empty)
   unfolding CrewStands parts_of holds
-  batcher-holds crew empty now e = λ made past h. rw (e, h.to_batcher) refl
+  batcher-holds told crew empty now e = λ made past h. rw (e, h.to_batcher) refl
 
-  pub voter-holds : (crew : Crew S L J s l j) (empty : Bool) (now : ℕ) → empty ≡ holds_nothing crew.boxes.voter
-      → CrewAnswers crew (λ made past. holds made past sources.Voter now) (not empty)
+  pub voter-holds : (told : Bool) (crew : Crew S L J s l j) (empty : Bool) (now : ℕ) → empty ≡ holds_nothing crew.boxes.voter
+      → CrewAnswersAs told crew (λ made past. holds made past sources.Voter now) (not empty)
   unfolding CrewStands parts_of holds
-  voter-holds crew empty now e = λ made past h. rw (e, h.to_voter) refl
+  voter-holds told crew empty now e = λ made past h. rw (e, h.to_voter) refl
 
-  pub resolver-holds : (crew : Crew S L J s l j) (empty : Bool) (now : ℕ) → empty ≡ holds_nothing crew.boxes.resolver
-      → CrewAnswers crew (λ made past. holds made past sources.Resolver now) (not empty)
+  pub resolver-holds : (told : Bool) (crew : Crew S L J s l j) (empty : Bool) (now : ℕ) → empty ≡ holds_nothing crew.boxes.resolver
+      → CrewAnswersAs told crew (λ made past. holds made past sources.Resolver now) (not empty)
   unfolding CrewStands parts_of holds
-  resolver-holds crew empty now e = λ made past h. rw (e, h.to_resolver) refl
+  resolver-holds told crew empty now e = λ made past h. rw (e, h.to_resolver) refl
 
-  -- what the voter has to do with an input that takes something
+  -- what the voter tells of it
   abbrev pub VoterTells : Crew S L J s l j → VoterInput → ℕ → Bool → Type 0
   VoterTells crew input now held =
-      voter.Answers s.attests l.elects j.sections j.order crew.voter (λ made past. is_some (acted made.rules now (place_of made past).standing input)) held
+      voter.Answers s.attests l.elects j.sections j.order crew.voter (acts_on input now) held × voter.AnswersOver s.attests l.elects j.sections crew.voter (acts_on input now) held
 
-  acts : (crew : Crew S L J s l j) (input : VoterInput) (now : ℕ) (held : Bool) → VoterTells crew input now held
-      → Tells crew (λ parts. is_some (acted parts.voter.rules now (place_of parts.voter parts.given).standing input)) held
-  acts crew input now held tells = λ parts h. rw (← h.voter.place) (tells _ _ h.voter.stands)
+  acts : (told : Bool) (crew : Crew S L J s l j) (input : VoterInput) (now : ℕ) (held : Bool) → VoterTells crew input now held
+      → TellsAs told crew (λ parts. acts_on input now parts.voter parts.given) held
+  acts told crew input now held tells = λ parts h.
+      rw (← h.voter.place) (either-answers told crew (acts_on input now) held tells.0 tells.1 _ _ h.voter.stands)
 
-  pub timer-holds : (crew : Crew S L J s l j) (held : Bool) (now : ℕ) → VoterTells crew inputs.Timer now held
-      → CrewAnswers crew (λ made past. holds made past sources.Timer now) held
+  pub timer-holds : (told : Bool) (crew : Crew S L J s l j) (held : Bool) (now : ℕ) → VoterTells crew inputs.Timer now held
+      → CrewAnswersAs told crew (λ made past. holds made past sources.Timer now) held
   unfolding CrewStands parts_of holds
-  timer-holds crew held now tells = λ made past h. acts crew inputs.Timer now held tells (parts_of made past) h
+  timer-holds told crew held now tells = λ made past h. acts told crew inputs.Timer now held tells (parts_of made past) h
 
-  pub propose-holds : (crew : Crew S L J s l j) (held : Bool) (now : ℕ) → VoterTells crew inputs.Propose now held
-      → CrewAnswers crew (λ made past. holds made past sources.Propose now) held
+  pub propose-holds : (told : Bool) (crew : Crew S L J s l j) (held : Bool) (now : ℕ) → VoterTells crew inputs.Propose now held
+      → CrewAnswersAs told crew (λ made past. holds made past sources.Propose now) held
   unfolding CrewStands parts_of holds
-  propose-holds crew held now tells = λ made past h. acts crew inputs.Propose now held tells (parts_of made past) h
+  propose-holds told crew held now tells = λ made past h. acts told crew inputs.Propose now held tells (parts_of made past) h
 
-  pub verify-holds : (crew : Crew S L J s l j) (held : Bool) (now : ℕ) → VoterTells crew inputs.Verify now held
-      → CrewAnswers crew (λ made past. holds made past sources.Verify now) held
+  pub verify-holds : (told : Bool) (crew : Crew S L J s l j) (held : Bool) (now : ℕ) → VoterTells crew inputs.Verify now held
+      → CrewAnswersAs told crew (λ made past. holds made past sources.Verify now) held
   unfolding CrewStands parts_of holds
-  verify-holds crew held now tells = λ made past h. acts crew inputs.Verify now held tells (parts_of made past) h
+  verify-holds told crew held now tells = λ made past h. acts told crew inputs.Verify now held tells (parts_of made past) h
 
-  pub certify-holds : (crew : Crew S L J s l j) (held : Bool) (now : ℕ) → VoterTells crew inputs.Certify now held
-      → CrewAnswers crew (λ made past. holds made past sources.Certify now) held
+  pub certify-holds : (told : Bool) (crew : Crew S L J s l j) (held : Bool) (now : ℕ) → VoterTells crew inputs.Certify now held
+      → CrewAnswersAs told crew (λ made past. holds made past sources.Certify now) held
   unfolding CrewStands parts_of holds
-  certify-holds crew held now tells = λ made past h. acts crew inputs.Certify now held tells (parts_of made past) h
+  certify-holds told crew held now tells = λ made past h. acts told crew inputs.Certify now held tells (parts_of made past) h
 
-  pub handler-holds : (crew : Crew S L J s l j) (held : Bool) (now : ℕ)
+  pub handler-holds : (told : Bool) (crew : Crew S L J s l j) (held : Bool) (now : ℕ)
       → resolver.Answers s.verifies s.members s.member crew.resolver (λ made past. holds_handled made past) held
-      → CrewAnswers crew (λ made past. holds made past sources.Handler now) held
+      → CrewAnswersAs told crew (λ made past. holds made past sources.Handler now) held
   unfolding CrewStands parts_of holds
-  handler-holds crew held now tells = λ made past h. tells _ _ h.resolver
+  handler-holds told crew held now tells = λ made past h. tells _ _ h.resolver
 
-  pub fetch-holds : (crew : Crew S L J s l j) (held : Bool) (now : ℕ)
-      → Tells crew (λ parts. is_reached now (deadline_after parts.resolver parts.asked)) held
-      → CrewAnswers crew (λ made past. holds made past sources.Fetch now) held
+  pub fetch-holds : (told : Bool) (crew : Crew S L J s l j) (held : Bool) (now : ℕ)
+      → TellsAs told crew (λ parts. is_reached now (deadline_after parts.resolver parts.asked)) held
+      → CrewAnswersAs told crew (λ made past. holds made past sources.Fetch now) held
   unfolding CrewStands parts_of holds
-  fetch-holds crew held now tells = λ made past h. tells (parts_of made past) h
+  fetch-holds told crew held now tells = λ made past h. tells (parts_of made past) h

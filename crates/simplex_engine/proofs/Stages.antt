@@ -1,22 +1,26 @@
 -- How far an engine is, by how its steps ended.
 use Rattle.std.proofs.Common.{◌≡◌, refl, sym, ap, ℕ, Bool, true, false, List, [], ◌∷◌, Some, None, Result, Ok, Err}
 use Rattle.std.proofs.lemmas.Bool.{false≢true}
-use Rattle.std.specs.Prelude.{OnOk, IfOk, IfErr}
+use Rattle.std.specs.Prelude.{OnOk, IfOk, IfErr, not}
 use Rattle.simplex_wire.specs.declared.scheme.Scheme as scheme
 use Rattle.simplex_types.specs.declared.elector.Elector as elector
 use Rattle.simplex_journal.specs.declared.journal.Journal as journal
 use Rattle.simplex_journal.specs.Journal.{Section}
 use Rattle.simplex_messages.specs.declared.step.Outcome.{Outcome}
 use Rattle.simplex_messages.specs.declared.step.Outcome.TheVariants as outcomes
-use Rattle.simplex_steps.specs.Engine.{EngineMade, Did, runs, sections_of, voter_in, voter_past, started_at}
+use Rattle.simplex_messages.specs.declared.step.Stop.{Stop}
+use Rattle.simplex_steps.specs.Engine.{EngineMade, Did, begun, runs, is_whole, sections_of, voter_in, voter_past, started_at}
 use Rattle.simplex_rules.specs.Views.{current_of}
 use Rattle.simplex_transcript.specs.declared.event.StepSource.{StepSource}
 use Rattle.simplex_steps.specs.VoterLife.{VoterMade, place_of}
 use Rattle.simplex_voter.specs.Actor.{voter_made}
+use Rattle.simplex_voter.specs.Actor as voter
+use Rattle.simplex_voter.specs.Turned.{FaultsAt}
 use Rattle.simplex_engine.specs.declared.unstarted.Unstarted.{Unstarted}
 use Rattle.simplex_messages.specs.declared.step.StepOut.{StepOut}
 use Rattle.simplex_engine.specs.declared.crew.Crew.{Crew}
 use Rattle.simplex_engine.specs.declared.engine.Engine.{Engine}
+use Rattle.simplex_engine.specs.declared.stage.Stage.{Stage}
 use Rattle.simplex_engine.specs.declared.stage.Stage.TheVariants as stages
 use Rattle.simplex_engine.specs.declared.input.Input.{Input}
 use Rattle.simplex_engine.specs.declared.input.Polled.{Polled}
@@ -25,21 +29,21 @@ use Rattle.simplex_engine.specs.declared.error.PollError.TheVariants as errors
 use Rattle.simplex_engine.specs.Holding.{holds}
 use Rattle.simplex_engine.specs.Parts.{parts_of}
 use Rattle.simplex_engine.specs.Polled.{is_taken, refusal_of, is_memory, taken_inside}
-use Rattle.simplex_engine.specs.Stands.{CrewStands, Tells, CrewTakes, CrewGives, CrewAnswers, CrewRefuses, StageStands, StandsFor, Takes, Stays, Gives, Answers, Starts, GivesFirst, FailsAfter, has_begun, has_failed, is_failed, Waits, settled, settled_with}
+use Rattle.simplex_engine.specs.Stands.{CrewStands, TellsAs, CrewTakes, CrewGives, CrewAnswers, CrewAnswersAs, CrewRefuses, CrewFares, CrewStarts, Fresh, StageStands, StandsFor, Takes, Gives, Starts, GivesFirst, FailsAfter, has_begun, has_failed, is_failed, Waits, settled, settled_with, StandsOver, Fares, FaresFirst, journal_of, faults_in, faults_of, is_stopped, has_stopped}
 
 module _ {S L J : Type 0} {s : scheme.Ghosts S} {l : elector.Ghosts L} {j : journal.Ghosts J} where
-  pub stage-settled : (crew : Crew S L J s l j) (made : EngineMade) (past : List Did) (did : Did) (outcome : Outcome) → outcome ≡ did.outcome
-      → CrewStands crew made (did ∷ past) → StageStands (settled crew outcome) made (did ∷ past)
+  pub stage-settled : (told : Bool) (crew : Crew S L J s l j) (made : EngineMade) (past : List Did) (did : Did) (outcome : Outcome) → outcome ≡ did.outcome
+      → CrewStands told crew made (did ∷ past) → StageStands told (settled crew outcome) made (did ∷ past)
   unfolding runs
-  stage-settled crew made past did outcomes.Done e h = (rw (← e) refl, h)
-  stage-settled crew made past did outcomes.Idle e h = (rw (← e) refl, h)
-  stage-settled crew made past did outcomes.Journal e h = (rw (← e) refl, refl, h)
-  stage-settled crew made past did outcomes.Cut e h = (rw (← e) refl, refl, h)
+  stage-settled told crew made past did outcomes.Done e h = (rw (← e) refl, h)
+  stage-settled told crew made past did outcomes.Idle e h = (rw (← e) refl, h)
+  stage-settled told crew made past did outcomes.Journal e h = (rw (← e) refl, refl, h)
+  stage-settled told crew made past did outcomes.Cut e h = (rw (← e) refl, refl, h)
 
   -- before its start its journal is what its voter will read
-  pub waits-sections : (unstarted : Unstarted S L J s l j) (made : EngineMade) → Waits unstarted made → j.sections unstarted.journal ≡ sections_of made []
+  pub waits-sections : (told : Bool) (unstarted : Unstarted S L J s l j) (made : EngineMade) → Waits told unstarted made → j.sections unstarted.journal ≡ sections_of made []
   unfolding sections_of place_of voter_past started_at voter_made
-  waits-sections unstarted made waits = sym (ap (λ (voter : VoterMade). voter.sections) (waits.voter 0))
+  waits-sections told unstarted made waits = sym (ap (λ (voter : VoterMade). voter.sections) (waits.voter 0))
 
   pub settled-alive : (crew : Crew S L J s l j) (outcome : Outcome) → is_failed (settled crew outcome) ≡ false
   settled-alive crew outcomes.Done = refl
@@ -51,17 +55,17 @@ module _ {S L J : Type 0} {s : scheme.Ghosts S} {l : elector.Ghosts L} {j : jour
 
   pub start-stands : (old new : Engine S L J s l j) (unstarted : Unstarted S L J s l j) (after : Crew S L J s l j) (rule : EngineMade → Did) (outcome : Outcome) (out : StepOut)
       → old.stage ≡ stages.Waiting unstarted → new.stage ≡ settled after outcome
-      → ((made : EngineMade) → Waits unstarted made → CrewStands after made (rule made ∷ []))
-      → ((made : EngineMade) → Waits unstarted made → (outcome ≡ (rule made).outcome) × (out ≡ (rule made).out))
+      → ((made : EngineMade) → Waits true unstarted made → CrewStands true after made (rule made ∷ []))
+      → ((made : EngineMade) → Waits true unstarted made → (outcome ≡ (rule made).outcome) × (out ≡ (rule made).out))
       → Starts old new rule
   unfolding StandsFor
   start-stands old new unstarted after rule outcome out e f stands gives = λ made h.
       let held = rw e at h in
-      rw f (stage-settled after made [] (rule made) outcome (gives made held.1).0 (stands made held.1))
+      rw f (stage-settled true after made [] (rule made) outcome (gives made held.1).0 (stands made held.1))
 
   pub start-gives : (old : Engine S L J s l j) (unstarted : Unstarted S L J s l j) (rule : EngineMade → Did) (outcome : Outcome) (out : StepOut)
       → old.stage ≡ stages.Waiting unstarted
-      → ((made : EngineMade) → Waits unstarted made → (outcome ≡ (rule made).outcome) × (out ≡ (rule made).out))
+      → ((made : EngineMade) → Waits true unstarted made → (outcome ≡ (rule made).outcome) × (out ≡ (rule made).out))
       → GivesFirst old rule outcome out
   unfolding StandsFor
   start-gives old unstarted rule outcome out e gives = λ made h.
@@ -77,7 +81,7 @@ module _ {S L J : Type 0} {s : scheme.Ghosts S} {l : elector.Ghosts L} {j : jour
   unfolding StandsFor
   poll-stands old new before after (Ok given) rule out e f takes gives = λ made past h.
       let held = rw e at h in
-      rw f (stage-settled after made past (rule made past) given.outcome (gives made past held.1).0 (takes made past held.1))
+      rw f (stage-settled true after made past (rule made past) given.outcome (gives made past held.1).0 (takes made past held.1))
   poll-stands old new before after (Err error) rule out e f takes gives = tt
 
   pub poll-gives : (old : Engine S L J s l j) (before : Crew S L J s l j) (result : Result Polled PollError) (rule : EngineMade → List Did → Did) (out : StepOut)
@@ -91,41 +95,54 @@ module _ {S L J : Type 0} {s : scheme.Ghosts S} {l : elector.Ghosts L} {j : jour
       ((gives made past held.1).0, taken made past held.1, (gives made past held.1).1)
   poll-gives old before (Err error) rule out e gives taken = tt
 
-  pub poll-accepted : (old : Engine S L J s l j) (before : Crew S L J s l j) (result : Result Polled PollError) (input : Input)
-      → old.stage ≡ stages.Running before
-      → OnOk result (CrewAnswers before (λ made past. is_taken made past input) true)
-      → IfOk result (λ _. Answers old (λ made past. refusal_of made past input) None)
-  unfolding StandsFor refusal_of
-  poll-accepted old before (Ok given) input e accepted = λ made past h.
-      let held = rw e at h in
-      rw (held.0, ← accepted made past held.1) refl
-  poll-accepted old before (Err error) input e accepted = tt
+  -- whatever history the stage stands for, the answer is the rule's
+  abbrev pub StageAnswers : {R : Type 0} → Bool → Stage S L J s l j → (EngineMade → List Did → R) → R → Type 0
+  StageAnswers told stage rule answer = (made : EngineMade) (past : List Did) → StageStands told stage made past → answer ≡ rule made past
 
-  pub poll-refused : (old : Engine S L J s l j) (before after : Crew S L J s l j) (result : Result Polled PollError) (input : Input)
+  pub poll-accepted : (told : Bool) (old : Engine S L J s l j) (before : Crew S L J s l j) (result : Result Polled PollError) (input : Input)
+      → old.stage ≡ stages.Running before
+      → OnOk result ((told : Bool) → CrewAnswersAs told before (λ made past. is_taken made past input) true)
+      → IfOk result (λ _. StageAnswers told old.stage (λ made past. refusal_of made past input) None)
+  unfolding refusal_of
+  poll-accepted told old before (Ok given) input e accepted = λ made past h.
+      let held = rw e at h in
+      rw (held.0, ← accepted told made past held.1) refl
+  poll-accepted told old before (Err error) input e accepted = tt
+
+  pub poll-refused : (told : Bool) (old : Engine S L J s l j) (before after : Crew S L J s l j) (result : Result Polled PollError) (input : Input)
       → old.stage ≡ stages.Running before
       → IfErr result (CrewRefuses before after input)
-      → IfErr result (λ error. is_memory error ≡ false → Answers old (λ made past. refusal_of made past input) (Some error))
-  unfolding StandsFor refusal_of
-  poll-refused old before after (Ok given) input e refuses = tt
-  poll-refused old before after (Err errors.NotPending) input e refuses = λ _ made past h.
+      → IfErr result (λ error. is_memory error ≡ false → StageAnswers told old.stage (λ made past. refusal_of made past input) (Some error))
+  unfolding refusal_of
+  poll-refused told old before after (Ok given) input e refuses = tt
+  poll-refused told old before after (Err errors.NotPending) input e refuses = λ _ made past h.
       let held = rw e at h in
-      rw (held.0, ← refuses.0 made past held.1) refl
-  poll-refused old before after (Err errors.Memory) input e refuses = λ m. absurd (false≢true (sym m))
-  poll-refused old before after (Err errors.Failed) input e refuses = absurd refuses
-  poll-refused old before after (Err errors.Stopped) input e refuses = absurd refuses
+      rw (held.0, ← refuses.0 told made past held.1) refl
+  poll-refused told old before after (Err errors.Memory) input e refuses = λ m. absurd (false≢true (sym m))
+  poll-refused told old before after (Err errors.Failed) input e refuses = absurd refuses
+  poll-refused told old before after (Err errors.Stopped) input e refuses = absurd refuses
 
-  pub poll-stays : (old new : Engine S L J s l j) (before after : Crew S L J s l j) (result : Result Polled PollError) (input : Input)
+  pub poll-stays : (told : Bool) (old new : Engine S L J s l j) (before after : Crew S L J s l j) (result : Result Polled PollError) (input : Input)
       → old.stage ≡ stages.Running before → new.stage ≡ settled_with after result
       → IfErr result (CrewRefuses before after input)
-      → IfErr result (λ error. is_memory error ≡ false → Stays old new)
-  unfolding StandsFor
-  poll-stays old new before after (Ok given) input e f refuses = tt
-  poll-stays old new before after (Err errors.NotPending) input e f refuses = λ _ made past h.
+      → IfErr result (λ error. is_memory error ≡ false → (made : EngineMade) (past : List Did) → StageStands told old.stage made past → StageStands told new.stage made past)
+  poll-stays told old new before after (Ok given) input e f refuses = tt
+  poll-stays told old new before after (Err errors.NotPending) input e f refuses = λ _ made past h.
       let held = rw e at h in
-      rw f (held.0, refuses.1 made past held.1)
-  poll-stays old new before after (Err errors.Memory) input e f refuses = λ m. absurd (false≢true (sym m))
-  poll-stays old new before after (Err errors.Failed) input e f refuses = absurd refuses
-  poll-stays old new before after (Err errors.Stopped) input e f refuses = absurd refuses
+      rw f (held.0, refuses.1 told made past held.1)
+  poll-stays told old new before after (Err errors.Memory) input e f refuses = λ m. absurd (false≢true (sym m))
+  poll-stays told old new before after (Err errors.Failed) input e f refuses = absurd refuses
+  poll-stays told old new before after (Err errors.Stopped) input e f refuses = absurd refuses
+
+  pub poll-keeps : (old new : Engine S L J s l j) (before after : Crew S L J s l j) (result : Result Polled PollError) (input : Input)
+      → old.stage ≡ stages.Running before → new.stage ≡ settled_with after result
+      → IfErr result (CrewRefuses before after input)
+      → IfErr result (λ error. is_memory error ≡ false → journal_of new ≡ journal_of old)
+  poll-keeps old new before after (Ok given) input e f refuses = tt
+  poll-keeps old new before after (Err errors.NotPending) input e f refuses = λ _. rw (e, f, refuses.2) refl
+  poll-keeps old new before after (Err errors.Memory) input e f refuses = λ m. absurd (false≢true (sym m))
+  poll-keeps old new before after (Err errors.Failed) input e f refuses = absurd refuses
+  poll-keeps old new before after (Err errors.Stopped) input e f refuses = absurd refuses
 
   pub poll-fails : (old new : Engine S L J s l j) (before after : Crew S L J s l j) (result : Result Polled PollError) (input : Input)
       → old.stage ≡ stages.Running before → new.stage ≡ settled_with after result
@@ -142,27 +159,102 @@ module _ {S L J : Type 0} {s : scheme.Ghosts S} {l : elector.Ghosts L} {j : jour
   poll-alive new after (Ok given) f = rw f (settled-alive after given.outcome)
   poll-alive new after (Err error) f = tt
 
+  -- ---- what a start and a poll mean over any journal
+
+  pub settled-stops : (crew : Crew S L J s l j) (outcome : Outcome) → is_stopped (settled crew outcome) ≡ not (is_whole outcome)
+  settled-stops crew outcomes.Done = refl
+  settled-stops crew outcomes.Idle = refl
+  settled-stops crew outcomes.Journal = refl
+  settled-stops crew outcomes.Cut = refl
+
+  settled-journal : (engine : Engine S L J s l j) (crew : Crew S L J s l j) (outcome : Outcome) → engine.stage ≡ settled crew outcome → journal_of engine ≡ Some (voter.journal_of crew.voter)
+  settled-journal engine crew outcomes.Done e = rw e refl
+  settled-journal engine crew outcomes.Idle e = rw e refl
+  settled-journal engine crew outcomes.Journal e = rw e refl
+  settled-journal engine crew outcomes.Cut e = rw e refl
+
+  pub start-over : (old new : Engine S L J s l j) (unstarted : Unstarted S L J s l j) (before after : Crew S L J s l j) (now : ℕ) (stop : Stop) (outcome : Outcome) (out : StepOut)
+      → old.stage ≡ stages.Waiting unstarted → new.stage ≡ settled after outcome
+      → ((made : EngineMade) → Waits false unstarted made → Fresh false before made now)
+      → CrewStarts before after now stop outcome out
+      → FaresFirst old new now stop outcome out
+  unfolding StandsOver
+  start-over old new unstarted before after now stop outcome out e f fresh starts = record {
+    turned = starts.turned;
+    becomes = starts.becomes;
+    gives = λ made h. let held = rw e at h in starts.gives made (fresh made held.1);
+    leaves = λ made h.
+        let held = rw e at h in
+        rw (settled-journal new after outcome f) (ap Some (starts.leaves made (fresh made held.1)));
+    stands = λ going made h.
+        let held = rw e at h in
+        let start = fresh made held.1 in
+        rw f (stage-settled false after made [] (begun made now starts.turned) outcome (starts.gives made start).0 (starts.takes going made start));
+  }
+
+  pub start-faults : (old new : Engine S L J s l j) (unstarted : Unstarted S L J s l j) (before after : Crew S L J s l j) (now : ℕ) (stop : Stop) (outcome : Outcome) (out : StepOut)
+      → old.stage ≡ stages.Waiting unstarted → new.stage ≡ settled after outcome → CrewStarts before after now stop outcome out → voter.journal_of before.voter ≡ unstarted.journal
+      → FaultsAt outcome (faults_in before) (faults_in after) → FaultsAt outcome (faults_of old) (faults_of new)
+  start-faults old new unstarted before after now stop outcome out e f starts same faults = rw (e, settled-journal new after outcome f, ← same) faults
+
+  pub poll-over : (old new : Engine S L J s l j) (before after : Crew S L J s l j) (result : Result Polled PollError) (stop : Stop) (rule : Stop → EngineMade → List Did → Did) (out : StepOut)
+      → old.stage ≡ stages.Running before → new.stage ≡ settled_with after result
+      → IfOk result (λ given. CrewFares before after stop rule given.outcome given.taken out)
+      → IfOk result (λ given. Fares old new stop rule given.outcome given.taken out)
+  unfolding StandsOver
+  poll-over old new before after (Ok given) stop rule out e f fares = record {
+    turned = fares.turned;
+    becomes = fares.becomes;
+    gives = λ made past h.
+        let held = rw e at h in
+        ((fares.gives made past held.1).0, fares.takes_inside made past held.1, (fares.gives made past held.1).1);
+    leaves = λ made past h.
+        let held = rw e at h in
+        rw (settled-journal new after given.outcome f) (ap Some (fares.leaves made past held.1));
+    stands = λ going made past h.
+        let held = rw e at h in
+        rw f (stage-settled false after made past (rule fares.turned made past) given.outcome (fares.gives made past held.1).0 (fares.takes going made past held.1));
+  }
+  poll-over old new before after (Err error) stop rule out e f fares = tt
+
+  pub poll-faults : (old new : Engine S L J s l j) (before after : Crew S L J s l j) (result : Result Polled PollError)
+      → old.stage ≡ stages.Running before → new.stage ≡ settled_with after result
+      → IfOk result (λ given. FaultsAt given.outcome (faults_in before) (faults_in after))
+      → IfOk result (λ given. FaultsAt given.outcome (faults_of old) (faults_of new))
+  poll-faults old new before after (Ok given) e f faults = rw (e, settled-journal new after given.outcome f) faults
+  poll-faults old new before after (Err error) e f faults = tt
+
+  pub poll-stops : (new : Engine S L J s l j) (after : Crew S L J s l j) (result : Result Polled PollError) → new.stage ≡ settled_with after result
+      → IfOk result (λ given. has_stopped new ≡ not (is_whole given.outcome))
+  poll-stops new after (Ok given) f = rw f (settled-stops after given.outcome)
+  poll-stops new after (Err error) f = tt
+
   -- ---- an engine that was not started, or is stopped
 
-  pub waiting-refuses : (old : Engine S L J s l j) (unstarted : Unstarted S L J s l j) (input : Input) → old.stage ≡ stages.Waiting unstarted
-      → Answers old (λ made past. refusal_of made past input) (Some errors.Stopped)
-  unfolding StandsFor refusal_of runs
-  waiting-refuses old unstarted input e = λ made past h.
+  pub waiting-refuses : (told : Bool) (old : Engine S L J s l j) (unstarted : Unstarted S L J s l j) (input : Input) → old.stage ≡ stages.Waiting unstarted
+      → StageAnswers told old.stage (λ made past. refusal_of made past input) (Some errors.Stopped)
+  unfolding refusal_of runs
+  waiting-refuses told old unstarted input e = λ made past h.
       let held = rw e at h in
       rw held.0 refl
 
-  pub stopped-refuses : (old : Engine S L J s l j) (crew : Crew S L J s l j) (input : Input) → old.stage ≡ stages.Stopped crew
-      → Answers old (λ made past. refusal_of made past input) (Some errors.Stopped)
-  unfolding StandsFor refusal_of
-  stopped-refuses old crew input e = λ made past h.
+  pub stopped-refuses : (told : Bool) (old : Engine S L J s l j) (crew : Crew S L J s l j) (input : Input) → old.stage ≡ stages.Stopped crew
+      → StageAnswers told old.stage (λ made past. refusal_of made past input) (Some errors.Stopped)
+  unfolding refusal_of
+  stopped-refuses told old crew input e = λ made past h.
       let held = rw e at h in
       rw held.0 refl
 
-  pub running-started : (old : Engine S L J s l j) (crew : Crew S L J s l j) (made : EngineMade) → old.stage ≡ stages.Running crew → StandsFor old made [] → ⊥
-  unfolding StandsFor runs
-  running-started old crew made e h =
+  pub running-started : (told : Bool) (old : Engine S L J s l j) (crew : Crew S L J s l j) (made : EngineMade) → old.stage ≡ stages.Running crew → StageStands told old.stage made [] → ⊥
+  unfolding runs
+  running-started told old crew made e h =
       let held = rw e at h in
       false≢true held.0
+
+  pub stopped-started : (told : Bool) (old : Engine S L J s l j) (crew : Crew S L J s l j) (made : EngineMade) → old.stage ≡ stages.Stopped crew → StageStands told old.stage made [] → ⊥
+  stopped-started told old crew made e h =
+      let held = rw e at h in
+      false≢true held.1
 
   pub waiting-idle : (engine : Engine S L J s l j) (unstarted : Unstarted S L J s l j) (made : EngineMade) (past : List Did) → engine.stage ≡ stages.Waiting unstarted
       → StandsFor engine made past → runs past ≡ true → ⊥
@@ -171,56 +263,58 @@ module _ {S L J : Type 0} {s : scheme.Ghosts S} {l : elector.Ghosts L} {j : jour
       let held = rw e at h in
       false≢true (rw held.0 at r)
 
+  pub waiting-idle-over : (engine : Engine S L J s l j) (unstarted : Unstarted S L J s l j) (made : EngineMade) (past : List Did) → engine.stage ≡ stages.Waiting unstarted
+      → StandsOver engine made past → runs past ≡ true → ⊥
+  unfolding StandsOver runs
+  waiting-idle-over engine unstarted made past e h r =
+      let held = rw e at h in
+      false≢true (rw held.0 at r)
+
   -- an engine that waits for its start has not begun
-  pub waiting-fresh : (engine : Engine S L J s l j) (unstarted : Unstarted S L J s l j) (made : EngineMade) (past : List Did) → engine.stage ≡ stages.Waiting unstarted
-      → StandsFor engine made past → has_begun past ≡ true → ⊥
-  unfolding StandsFor
-  waiting-fresh engine unstarted made past e h r =
+  pub waiting-fresh : (told : Bool) (engine : Engine S L J s l j) (unstarted : Unstarted S L J s l j) (made : EngineMade) (past : List Did) → engine.stage ≡ stages.Waiting unstarted
+      → StageStands told engine.stage made past → has_begun past ≡ true → ⊥
+  waiting-fresh told engine unstarted made past e h r =
       let held = rw e at h in
       false≢true (rw held.0 at r)
 
   -- ---- what an engine tells
 
-  pub waiting-sections : (engine : Engine S L J s l j) (unstarted : Unstarted S L J s l j) → engine.stage ≡ stages.Waiting unstarted
-      → Answers engine (λ made past. sections_of made past) (j.sections unstarted.journal)
-  unfolding StandsFor
-  waiting-sections engine unstarted e = λ made past h.
+  pub waiting-sections : (told : Bool) (engine : Engine S L J s l j) (unstarted : Unstarted S L J s l j) → engine.stage ≡ stages.Waiting unstarted
+      → StageAnswers told engine.stage (λ made past. sections_of made past) (j.sections unstarted.journal)
+  waiting-sections told engine unstarted e = λ made past h.
       let held = rw e at h in
-      rw held.0 (waits-sections unstarted made held.1)
+      rw held.0 (waits-sections told unstarted made held.1)
 
-  sections-tell : (crew : Crew S L J s l j) (sections : List Section) → Tells crew (λ parts. (place_of parts.voter parts.given).sections) sections
-      → CrewAnswers crew (λ made past. sections_of made past) sections
+  sections-tell : (told : Bool) (crew : Crew S L J s l j) (sections : List Section) → TellsAs told crew (λ parts. (place_of parts.voter parts.given).sections) sections
+      → CrewAnswersAs told crew (λ made past. sections_of made past) sections
   unfolding CrewStands parts_of sections_of
-  sections-tell crew sections tells = λ made past h. tells (parts_of made past) h
+  sections-tell told crew sections tells = λ made past h. tells (parts_of made past) h
 
-  pub running-sections : (engine : Engine S L J s l j) (crew : Crew S L J s l j) (sections : List Section) → engine.stage ≡ stages.Running crew
-      → Tells crew (λ parts. (place_of parts.voter parts.given).sections) sections
-      → Answers engine (λ made past. sections_of made past) sections
-  unfolding StandsFor
-  running-sections engine crew sections e tells = λ made past h.
+  pub running-sections : (told : Bool) (engine : Engine S L J s l j) (crew : Crew S L J s l j) (sections : List Section) → engine.stage ≡ stages.Running crew
+      → ((told : Bool) → TellsAs told crew (λ parts. (place_of parts.voter parts.given).sections) sections)
+      → StageAnswers told engine.stage (λ made past. sections_of made past) sections
+  running-sections told engine crew sections e tells = λ made past h.
       let held = rw e at h in
-      sections-tell crew sections tells made past held.1
+      sections-tell told crew sections (tells told) made past held.1
 
-  pub stopped-sections : (engine : Engine S L J s l j) (crew : Crew S L J s l j) (sections : List Section) → engine.stage ≡ stages.Stopped crew
-      → Tells crew (λ parts. (place_of parts.voter parts.given).sections) sections
-      → Answers engine (λ made past. sections_of made past) sections
-  unfolding StandsFor
-  stopped-sections engine crew sections e tells = λ made past h.
+  pub stopped-sections : (told : Bool) (engine : Engine S L J s l j) (crew : Crew S L J s l j) (sections : List Section) → engine.stage ≡ stages.Stopped crew
+      → ((told : Bool) → TellsAs told crew (λ parts. (place_of parts.voter parts.given).sections) sections)
+      → StageAnswers told engine.stage (λ made past. sections_of made past) sections
+  stopped-sections told engine crew sections e tells = λ made past h.
       let held = rw e at h in
-      sections-tell crew sections tells made past held.2
+      sections-tell told crew sections (tells told) made past held.2
 
-  pub running-view : (engine : Engine S L J s l j) (crew : Crew S L J s l j) (view : ℕ) → engine.stage ≡ stages.Running crew
-      → Tells crew (λ parts. current_of parts.voter.rules (place_of parts.voter parts.given).standing.desk.known) view
-      → Answers engine (λ made past. current_of (voter_in made past).rules (place_of (voter_in made past) (voter_past past)).standing.desk.known) view
-  unfolding StandsFor CrewStands parts_of
-  running-view engine crew view e tells = λ made past h.
+  pub running-view : (told : Bool) (engine : Engine S L J s l j) (crew : Crew S L J s l j) (view : ℕ) → engine.stage ≡ stages.Running crew
+      → ((told : Bool) → TellsAs told crew (λ parts. current_of parts.voter.rules (place_of parts.voter parts.given).standing.desk.known) view)
+      → StageAnswers told engine.stage (λ made past. current_of (voter_in made past).rules (place_of (voter_in made past) (voter_past past)).standing.desk.known) view
+  unfolding CrewStands parts_of
+  running-view told engine crew view e tells = λ made past h.
       let held = rw e at h in
-      tells (parts_of made past) held.1
+      tells told (parts_of made past) held.1
 
-  pub running-holds : (engine : Engine S L J s l j) (crew : Crew S L J s l j) (held : Bool) (source : StepSource) (now : ℕ) → engine.stage ≡ stages.Running crew
-      → CrewAnswers crew (λ made past. holds made past source now) held
-      → Answers engine (λ made past. holds made past source now) held
-  unfolding StandsFor
-  running-holds engine crew held source now e tells = λ made past h.
+  pub running-holds : (told : Bool) (engine : Engine S L J s l j) (crew : Crew S L J s l j) (held : Bool) (source : StepSource) (now : ℕ) → engine.stage ≡ stages.Running crew
+      → ((told : Bool) → CrewAnswersAs told crew (λ made past. holds made past source now) held)
+      → StageAnswers told engine.stage (λ made past. holds made past source now) held
+  running-holds told engine crew held source now e tells = λ made past h.
       let is = rw e at h in
-      tells made past is.1
+      tells told made past is.1

@@ -7,9 +7,11 @@ use Rattle.simplex_messages.specs.declared.step.Outcome.TheVariants as outcomes
 use Rattle.simplex_messages.specs.declared.step.Stop.{Stop}
 use Rattle.simplex_transcript.specs.declared.event.StepSource.TheVariants as sources
 use Rattle.simplex_steps.specs.Voter.{Standing, answer_to, first_answered}
-use Rattle.simplex_steps.specs.VoterLife.{place_of}
+use Rattle.simplex_journal.specs.Journal.{Section}
+use Rattle.simplex_steps.specs.VoterLife.{Given, Stepped, place_of}
 use Rattle.simplex_steps.specs.Engine as engine
-use Rattle.simplex_steps.specs.Engine.{EngineMade, Did, Taken, heard, stepped, replied, runs, takes_reply, voter_in, voter_past}
+use Rattle.simplex_steps.specs.Engine.{EngineMade, Did, Taken, heard, stepped, replied, runs, takes_reply, voter_in, voter_past, given_to_voter, sections_of}
+use Rattle.simplex_voter.specs.Turned.{step_left}
 use Rattle.simplex_engine.specs.declared.input.Input.{Input}
 use Rattle.simplex_engine.specs.declared.input.Input.TheVariants as inputs
 use Rattle.simplex_engine.specs.declared.input.TakenInside.{TakenInside}
@@ -59,3 +61,12 @@ answer_inside given = taken.Answer given.0 given.1
 abbrev pub is_memory : PollError → Bool
 is_memory errors.Memory = true
 is_memory _ = false
+
+-- What the journal holds once the voter was given this, with a stop that became another. Only a step of the voter writes.
+abbrev pub left_given : EngineMade → List Did → Stop → Option Given → List Section
+left_given made past stop (Some (Stepped input now turned)) = step_left (voter_in made past) (voter_past past) input now stop turned
+left_given made past stop _ = sections_of made past
+
+-- what the journal holds behind one more item of the history, whose stop is what this one became
+unfoldable pub sections_left : EngineMade → List Did → Stop → Did → List Section
+sections_left made past stop did = left_given made past stop (given_to_voter did)

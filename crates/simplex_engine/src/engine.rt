@@ -1,16 +1,18 @@
 //! The engine.
-#![tactic(auto, unfolding(crate::specs::Stands::StandsFor))]
+#![tactic(auto, unfolding(crate::specs::Stands::StandsFor, crate::specs::Stands::StandsOver))]
 
-ghost use Rattle.std.specs.Prelude.{◌≡◌, ◌<◌, ◌≤◌, ◌^◌, List, [], true, false, Some, None, Err, OnOk, IfOk, IfErr, IfSome};
+ghost use Rattle.std.specs.Prelude.{◌≡◌, ◌<◌, ◌≤◌, ◌^◌, List, [], not, true, false, Some, None, Err, OnOk, IfOk, IfErr, IfSome};
 ghost use Rattle.simplex_rules.specs.Views.{current_of};
 ghost use Rattle.simplex_journal.specs.Order.{no_order};
 ghost use Rattle.simplex_messages.specs.Step.{no_out};
 ghost use Rattle.simplex_steps.specs.VoterLife.{place_of};
-ghost use Rattle.simplex_steps.specs.Engine.{EngineMade, Did, begun, runs, sections_of, voter_in, voter_past};
+ghost use Rattle.simplex_steps.specs.Engine.{EngineMade, Did, begun, runs, is_whole, sections_of, voter_in, voter_past};
 ghost use Rattle.simplex_engine.specs.Config.{engine_made, first_bad, Refused};
 ghost use Rattle.simplex_engine.specs.Holding.{holds};
 ghost use Rattle.simplex_engine.specs.Polled.{polled, refusal_of, is_memory};
+ghost use Rattle.simplex_voter.specs.Turned.{FaultsAt};
 ghost use Rattle.simplex_engine.specs.Stands.{StandsFor, Takes, Stays, Gives, Answers, Starts, GivesFirst, FailsAfter, has_begun, has_failed};
+ghost use Rattle.simplex_engine.specs.Stands.{StandsOver, StaysOver, AnswersOver, Fares, FaresFirst, journal_of, faults_of, has_stopped};
 
 use crate::boxes::Boxes;
 use crate::config::EngineConfig;
@@ -49,7 +51,8 @@ impl<S: Scheme + Drop, L: Elector + Drop, J: Journal + Drop> Drop for Engine<S, 
 }
 
 impl<S: Scheme + Keep + Drop, L: Elector + Drop, J: Journal + Drop> Engine<S, L, J> {
-    /// An engine that was not started, over what the journal holds.
+    /// An engine that was not started, over what the journal holds. Of a journal that tells which of its calls fails, and
+    /// names none, more is known than of any other.
     pub fn new(
         alloc: Global,
         config: EngineConfig<S, L>,
@@ -58,8 +61,9 @@ impl<S: Scheme + Keep + Drop, L: Elector + Drop, J: Journal + Drop> Engine<S, L,
         requires built { L.built_for config.elector ≡ S.members config.scheme }
         requires lookahead { (L.cuts config.elector).lookahead ≤ 2 ^ 32 }
         requires stall { IfSome (L.cuts config.elector).stall_timeout (λ stall. (config.certification_timeout < stall) × (stall ≤ 2 ^ 62)) }
-        requires order { J.order journal ≡ Some no_order }
-        ensures stands { IfOk result (λ engine. StandsFor engine (engine_made S.attests S.verifies S.recovers S.members S.member L.elects L.cuts config (J.sections journal)) []) }
+        ensures stands { IfOk result (λ engine. J.order journal ≡ Some no_order → StandsFor engine (engine_made S.attests S.verifies S.recovers S.members S.member L.elects L.cuts config (J.sections journal)) []) }
+        ensures over { IfOk result (λ engine. StandsOver engine (engine_made S.attests S.verifies S.recovers S.members S.member L.elects L.cuts config (J.sections journal)) []) }
+        ensures journal { IfOk result (λ engine. journal_of engine ≡ Some journal) }
         ensures alive { IfOk result (λ engine. has_failed engine ≡ false) }
         ensures allowed { IfOk result (λ _. first_bad config ≡ None) }
         ensures refused { IfErr result (λ error. Refused error (first_bad config)) }
@@ -80,8 +84,9 @@ impl<S: Scheme + Keep + Drop, L: Elector + Drop, J: Journal + Drop> Engine<S, L,
         requires built { L.built_for config.elector ≡ S.members config.scheme }
         requires lookahead { (L.cuts config.elector).lookahead ≤ 2 ^ 32 }
         requires stall { IfSome (L.cuts config.elector).stall_timeout (λ stall. (config.certification_timeout < stall) × (stall ≤ 2 ^ 62)) }
-        requires order { J.order journal ≡ Some no_order }
-        ensures stands { IfOk result (λ engine. StandsFor engine (engine_made S.attests S.verifies S.recovers S.members S.member L.elects L.cuts config (J.sections journal)) []) }
+        ensures stands { IfOk result (λ engine. J.order journal ≡ Some no_order → StandsFor engine (engine_made S.attests S.verifies S.recovers S.members S.member L.elects L.cuts config (J.sections journal)) []) }
+        ensures over { IfOk result (λ engine. StandsOver engine (engine_made S.attests S.verifies S.recovers S.members S.member L.elects L.cuts config (J.sections journal)) []) }
+        ensures journal { IfOk result (λ engine. journal_of engine ≡ Some journal) }
         ensures alive { IfOk result (λ engine. has_failed engine ≡ false) }
     {
         let boxes = Boxes::new(alloc, config.mailbox)?;
@@ -112,6 +117,13 @@ impl<S: Scheme + Drop, L: Elector + Drop, J: Journal + Drop> Engine<S, L, J> {
         ensures gives { IfOk result (λ outcome. GivesFirst self.old (λ made. begun made now stop.now) outcome out.new) }
         ensures refused { IfErr result (λ error. (made : EngineMade) → StandsFor self.old made [] → is_memory error ≡ true) }
         ensures again { (made : EngineMade) (past : List Did) → StandsFor self.old made past → has_begun past ≡ true → result ≡ Err PollError.Stopped }
+        ensures over { IfOk result (λ outcome. FaresFirst self.old self.new now stop.now outcome out.new) }
+        ensures faults { IfOk result (λ outcome. FaultsAt outcome (faults_of self.old) (faults_of self.new)) }
+        ensures stops { IfOk result (λ outcome. has_stopped self.new ≡ not (is_whole outcome)) }
+        ensures stopped { has_stopped self.old ≡ true → result ≡ Err PollError.Stopped }
+        ensures refused_over { IfErr result (λ error. (made : EngineMade) → StandsOver self.old made [] → is_memory error ≡ true) }
+        ensures again_over { (made : EngineMade) (past : List Did) → StandsOver self.old made past → has_begun past ≡ true → result ≡ Err PollError.Stopped }
+        ensures same { IfErr result (λ error. is_memory error ≡ false → self.new ≡ self.old) }
         ensures stays { IfErr result (λ error. is_memory error ≡ false → Stays self.old self.new) }
         ensures failed { IfErr result (FailsAfter self.old self.new) }
         ensures sound { OnOk result (has_failed self.old ≡ false) }
@@ -151,6 +163,14 @@ impl<S: Scheme + Drop, L: Elector + Drop, J: Journal + Drop> Engine<S, L, J> {
         ensures accepted { IfOk result (λ _. Answers self.old (λ made past. refusal_of made past input) None) }
         ensures refused { IfErr result (λ error. is_memory error ≡ false → Answers self.old (λ made past. refusal_of made past input) (Some error)) }
         ensures stays { IfErr result (λ error. is_memory error ≡ false → Stays self.old self.new) }
+        ensures over { IfOk result (λ given. Fares self.old self.new stop.now (λ turned made past. polled made past input now turned) given.outcome given.taken out.new) }
+        ensures faults { IfOk result (λ given. FaultsAt given.outcome (faults_of self.old) (faults_of self.new)) }
+        ensures stops { IfOk result (λ given. has_stopped self.new ≡ not (is_whole given.outcome)) }
+        ensures stopped { has_stopped self.old ≡ true → result ≡ Err PollError.Stopped }
+        ensures accepted_over { IfOk result (λ _. AnswersOver self.old (λ made past. refusal_of made past input) None) }
+        ensures refused_over { IfErr result (λ error. is_memory error ≡ false → AnswersOver self.old (λ made past. refusal_of made past input) (Some error)) }
+        ensures stays_over { IfErr result (λ error. is_memory error ≡ false → StaysOver self.old self.new) }
+        ensures journal { IfErr result (λ error. is_memory error ≡ false → journal_of self.new ≡ journal_of self.old) }
         ensures failed { IfErr result (FailsAfter self.old self.new) }
         ensures sound { OnOk result (has_failed self.old ≡ false) }
         ensures alive { OnOk result (has_failed self.new ≡ false) }
@@ -183,7 +203,9 @@ impl<S: Scheme + Drop, L: Elector + Drop, J: Journal + Drop> Engine<S, L, J> {
     /// The journal.
     pub fn journal(&self) -> &J
         requires { has_failed self.now ≡ false }
-        ensures { Answers self.now (λ made past. sections_of made past) (J.sections result.now) }
+        ensures told { Answers self.now (λ made past. sections_of made past) (J.sections result.now) }
+        ensures over { AnswersOver self.now (λ made past. sections_of made past) (J.sections result.now) }
+        ensures whole { journal_of self.now ≡ Some result.now }
     {
         match &self.stage {
             Stage::Waiting(unstarted) => &unstarted.journal,
@@ -196,7 +218,9 @@ impl<S: Scheme + Drop, L: Elector + Drop, J: Journal + Drop> Engine<S, L, J> {
     /// The journal, by itself.
     pub fn into_journal(mut self) -> J
         requires { has_failed self ≡ false }
-        ensures { Answers self (λ made past. sections_of made past) (J.sections result) }
+        ensures told { Answers self (λ made past. sections_of made past) (J.sections result) }
+        ensures over { AnswersOver self (λ made past. sections_of made past) (J.sections result) }
+        ensures whole { journal_of self ≡ Some result }
     {
         match mem::replace(&mut self.stage, Stage::Failed) {
             Stage::Waiting(Unstarted { journal, .. }) => journal,
@@ -206,9 +230,11 @@ impl<S: Scheme + Drop, L: Elector + Drop, J: Journal + Drop> Engine<S, L, J> {
         }
     }
 
-    /// The view that the voter is in, while the engine runs.
+    /// The view that the voter is in, while the engine runs; before its start 1.
     pub fn current_view(&self) -> View
-        ensures { (made : EngineMade) (past : List Did) → StandsFor self.now made past → runs past ≡ true → result ≡ current_of (voter_in made past).rules (place_of (voter_in made past) (voter_past past)).standing.desk.known }
+        ensures running { (made : EngineMade) (past : List Did) → StandsFor self.now made past → runs past ≡ true → result ≡ current_of (voter_in made past).rules (place_of (voter_in made past) (voter_past past)).standing.desk.known }
+        ensures running_over { (made : EngineMade) (past : List Did) → StandsOver self.now made past → runs past ≡ true → result ≡ current_of (voter_in made past).rules (place_of (voter_in made past) (voter_past past)).standing.desk.known }
+        ensures waiting { (made : EngineMade) → StandsOver self.now made [] → result ≡ 1 }
     {
         match &self.stage {
             Stage::Running(crew) => crew.current_view(),
@@ -220,7 +246,8 @@ impl<S: Scheme + Drop, L: Elector + Drop, J: Journal + Drop> Engine<S, L, J> {
 
     /// Whether the source of a step holds something at this clock, while the engine runs.
     pub fn holds(&self, source: StepSource, now: u64) -> bool
-        ensures { (made : EngineMade) (past : List Did) → StandsFor self.now made past → runs past ≡ true → result ≡ holds made past source now }
+        ensures running { (made : EngineMade) (past : List Did) → StandsFor self.now made past → runs past ≡ true → result ≡ holds made past source now }
+        ensures running_over { (made : EngineMade) (past : List Did) → StandsOver self.now made past → runs past ≡ true → result ≡ holds made past source now }
     {
         match &self.stage {
             Stage::Running(crew) => crew.holds(source, now),

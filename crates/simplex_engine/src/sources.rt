@@ -1,8 +1,9 @@
 //! What the sources of a crew's steps hold.
 #![tactic(auto, unfolding(crate::specs::Stands::CrewStands))]
 
+ghost use Rattle.std.specs.Prelude.{Bool};
 ghost use Rattle.simplex_engine.specs.Holding.{holds};
-ghost use Rattle.simplex_engine.specs.Stands.{CrewAnswers};
+ghost use Rattle.simplex_engine.specs.Stands.{CrewAnswersAs};
 
 use crate::crew::Crew;
 use simplex_journal::Journal;
@@ -14,7 +15,7 @@ use simplex_types::elector::Elector;
 impl<S: Scheme + Drop, L: Elector + Drop, J: Journal + Drop> Crew<S, L, J> {
     /// Whether the source holds something at this clock.
     pub(crate) fn holds(&self, source: StepSource, now: u64) -> bool
-        ensures { CrewAnswers self.now (λ made past. holds made past source now) result }
+        ensures { (told : Bool) → CrewAnswersAs told self.now (λ made past. holds made past source now) result }
     {
         match source {
             StepSource::Batcher => !self.boxes.batcher.is_empty(),

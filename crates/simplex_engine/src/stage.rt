@@ -1,9 +1,10 @@
 //! How far an engine is.
 #![tactic(auto, unfolding(crate::specs::Stands::CrewStands, simplex_steps::specs::Engine::runs))]
 
-ghost use Rattle.std.specs.Prelude.{◌≡◌, ◌<◌, ◌^◌, IfOk};
-ghost use Rattle.simplex_steps.specs.Engine.{EngineMade};
-ghost use Rattle.simplex_engine.specs.Stands.{CrewStands, Waits, Fresh, settled, settled_with};
+ghost use Rattle.std.specs.Prelude.{◌≡◌, ◌<◌, ◌^◌, ◌∷◌, Bool, List, IfOk};
+ghost use Rattle.simplex_steps.specs.Engine.{EngineMade, Did};
+ghost use Rattle.simplex_voter.specs.Actor.{journal_of};
+ghost use Rattle.simplex_engine.specs.Stands.{CrewStands, StageStands, Waits, Fresh, settled, settled_with};
 
 use crate::crew::Crew;
 use crate::error::PollError;
@@ -35,7 +36,8 @@ pub(crate) fn crew_of<S: Scheme + Drop, L: Elector + Drop, J: Journal + Drop>(
     now: u64,
 ) -> Result<Crew<S, L, J>, AllocError>
     requires clock { now < 2 ^ 63 }
-    ensures { IfOk result (λ crew. (made : EngineMade) → Waits unstarted made → Fresh crew made now) }
+    ensures fresh { IfOk result (λ crew. (told : Bool) (made : EngineMade) → Waits told unstarted made → Fresh told crew made now) }
+    ensures journal { IfOk result (λ crew. journal_of crew.voter ≡ unstarted.journal) }
 {
     let Unstarted {
         config,

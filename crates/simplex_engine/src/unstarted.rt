@@ -1,8 +1,6 @@
 //! An engine before its start.
 ghost use Rattle.std.proofs.Props.{props};
-ghost use Rattle.std.specs.Prelude.{◌≡◌, Some};
 ghost use Rattle.simplex_state.specs.Stands.{IsConfigured};
-ghost use Rattle.simplex_journal.specs.Order.{no_order};
 ghost use Rattle.simplex_voter.specs.Actor.{state_config};
 
 use crate::boxes::Boxes;
@@ -19,5 +17,4 @@ pub(crate) struct Unstarted<S: Scheme, L: Elector, J: Journal> {
     pub(crate) resolver: simplex_resolver::Actor<S>,
     pub(crate) boxes: Boxes,
     ghost limits: { IsConfigured S.members L.built_for L.cuts (state_config config) } by { Prim.hlevel props },
-    ghost order: { J.order journal ≡ Some no_order },
 }

@@ -1,7 +1,7 @@
 //! The steps of the actors, one by one.
 #![tactic(auto, unfolding(crate::specs::Stands::CrewStands))]
 
-ghost use Rattle.std.specs.Prelude.{◌≡◌, ◌<◌, ◌^◌, [], ◌∷◌, OnOk, IfOk, take, true, false, None};
+ghost use Rattle.std.specs.Prelude.{◌≡◌, ◌<◌, ◌^◌, [], ◌∷◌, OnOk, IfOk, take, Bool, true, false, None};
 ghost use Rattle.std.specs.Option.{option_map};
 ghost use Rattle.simplex_messages.specs.Step.{no_out};
 ghost use Rattle.simplex_messages.specs.declared.step.Outcome.TheVariants as outcomes;
@@ -11,10 +11,11 @@ ghost use Rattle.simplex_steps.specs.Voter.{takes_answer};
 ghost use Rattle.simplex_steps.specs.VoterLife.{Stepped, place_of, step_given};
 ghost use Rattle.simplex_steps.specs.Engine.{EngineMade, begun, cut_short};
 ghost use Rattle.simplex_resolving.specs.Resolver as resolving;
-ghost use Rattle.simplex_voter.specs.Actor.{next_answer};
+ghost use Rattle.simplex_voter.specs.Actor.{next_answer, journal_of};
+ghost use Rattle.simplex_voter.specs.Turned.{FaultsAt};
 ghost use Rattle.simplex_engine.specs.Parts.{after_voter, after_answer, after_batcher, after_resolver, ended};
 ghost use Rattle.simplex_engine.specs.Polled.{answer_inside, unless_idle};
-ghost use Rattle.simplex_engine.specs.Stands.{Fresh, CrewStands, Works, Ends, Tells};
+ghost use Rattle.simplex_engine.specs.Stands.{Fresh, CrewStands, CrewStarts, VoterFares, Works, WorksAs, Ends, EndsAs, TellsAs, faults_in};
 
 use crate::crew::Crew;
 use crate::held::Held;
@@ -39,8 +40,10 @@ impl<S: Scheme + Drop, L: Elector + Drop, J: Journal + Drop> Crew<S, L, J> {
     ) -> Result<Outcome, AllocError>
         requires clock { now < 2 ^ 63 }
         requires empty { out.old ≡ no_out }
-        ensures stands { OnOk result ((made : EngineMade) → Fresh self.old made now → CrewStands self.new made (begun made now stop.now ∷ [])) }
-        ensures gives { IfOk result (λ outcome. (made : EngineMade) → Fresh self.old made now → (outcome ≡ (begun made now stop.now).outcome) × (out.new ≡ (begun made now stop.now).out)) }
+        ensures stands { OnOk result ((made : EngineMade) → Fresh true self.old made now → CrewStands true self.new made (begun made now stop.now ∷ [])) }
+        ensures gives { IfOk result (λ outcome. (made : EngineMade) → Fresh true self.old made now → (outcome ≡ (begun made now stop.now).outcome) × (out.new ≡ (begun made now stop.now).out)) }
+        ensures over { IfOk result (λ outcome. CrewStarts self.old self.new now stop.now outcome out.new) }
+        ensures faults { IfOk result (λ outcome. FaultsAt outcome (faults_in self.old) (faults_in self.new)) }
     {
         posted_are_enqueued::<batcher::Message>();
         posted_are_enqueued::<resolver::MailboxMessage>();
@@ -63,6 +66,8 @@ impl<S: Scheme + Drop, L: Elector + Drop, J: Journal + Drop> Crew<S, L, J> {
         requires empty { out.old ≡ no_out }
         ensures stands { OnOk result (Works self.old self.new (after_voter (Stepped input now stop.now) out.new)) }
         ensures gives { IfOk result (λ outcome. Ends self.old (λ parts. ended (step_given parts.voter parts.given input now stop.now)) outcome out.new) }
+        ensures over { IfOk result (λ outcome. VoterFares self.old self.new stop.now input now outcome out.new) }
+        ensures faults { IfOk result (λ outcome. FaultsAt outcome (faults_in self.old) (faults_in self.new)) }
     {
         posted_are_enqueued::<batcher::Message>();
         posted_are_enqueued::<resolver::MailboxMessage>();
@@ -90,7 +95,9 @@ impl<S: Scheme + Drop, L: Elector + Drop, J: Journal + Drop> Crew<S, L, J> {
         requires empty { out.old ≡ no_out }
         ensures stands { OnOk result (Works self.old self.new (after_voter (Stepped input now stop.now) out.new)) }
         ensures gives { IfOk result (λ polled. Ends self.old (λ parts. ended (step_given parts.voter parts.given input now stop.now)) polled.outcome out.new) }
-        ensures taken { IfOk result (λ polled. Tells self.old (λ parts. unless_idle polled.outcome (option_map answer_inside (next_answer (place_of parts.voter parts.given).standing input))) polled.taken) }
+        ensures taken { IfOk result (λ polled. (told : Bool) → TellsAs told self.old (λ parts. unless_idle polled.outcome (option_map answer_inside (next_answer (place_of parts.voter parts.given).standing input))) polled.taken) }
+        ensures over { IfOk result (λ polled. VoterFares self.old self.new stop.now input now polled.outcome out.new) }
+        ensures faults { IfOk result (λ polled. FaultsAt polled.outcome (faults_in self.old) (faults_in self.new)) }
     {
         let taken = self.next_answer(&input);
         let outcome = self.step_voter(input, now, stop, out)?;
@@ -99,7 +106,7 @@ impl<S: Scheme + Drop, L: Elector + Drop, J: Journal + Drop> Crew<S, L, J> {
 
     /// The answer that a step of the voter on this input takes.
     fn next_answer(&self, input: &VoterInput) -> Option<TakenInside>
-        ensures { Tells self.now (λ parts. option_map answer_inside (next_answer (place_of parts.voter parts.given).standing input.now)) result }
+        ensures { (told : Bool) → TellsAs told self.now (λ parts. option_map answer_inside (next_answer (place_of parts.voter parts.given).standing input.now)) result }
     {
         let (request, answer) = self.voter.next_answer(input)?;
         Some(TakenInside::Answer { request, answer })
@@ -116,8 +123,10 @@ impl<S: Scheme + Drop, L: Elector + Drop, J: Journal + Drop> Crew<S, L, J> {
     ) -> Result<Outcome, AllocError>
         requires clock { now < 2 ^ 63 }
         requires empty { out.old ≡ no_out }
-        ensures stands { OnOk result (Works self.old self.new (after_batcher (record { input = input; now = now }) out.new)) }
-        ensures gives { IfOk result (λ outcome. Ends self.old (λ parts. cut_short stop.now (step_out parts.batcher parts.timed (record { input = input; now = now }))) outcome out.new) }
+        ensures stands { OnOk result ((told : Bool) → WorksAs told self.old self.new (after_batcher (record { input = input; now = now }) out.new)) }
+        ensures gives { IfOk result (λ outcome. (told : Bool) → EndsAs told self.old (λ parts. cut_short stop.now (step_out parts.batcher parts.timed (record { input = input; now = now }))) outcome out.new) }
+        ensures faults { IfOk result (λ outcome. FaultsAt outcome (faults_in self.old) (faults_in self.new)) }
+        ensures journal { OnOk result (journal_of self.new.voter ≡ journal_of self.old.voter) }
     {
         let mut held = Held::new(self.alloc);
         self.batcher.step(input, now, &mut held, out)?;
@@ -139,8 +148,10 @@ impl<S: Scheme + Drop, L: Elector + Drop, J: Journal + Drop> Crew<S, L, J> {
     ) -> Result<Outcome, AllocError>
         requires clock { now < 2 ^ 63 }
         requires empty { out.old ≡ no_out }
-        ensures stands { OnOk result (Works self.old self.new (after_resolver (resolving.Stepped input now) out.new)) }
-        ensures gives { IfOk result (λ outcome. Ends self.old (λ parts. cut_short stop.now (resolving.step_out parts.resolver parts.asked input now)) outcome out.new) }
+        ensures stands { OnOk result ((told : Bool) → WorksAs told self.old self.new (after_resolver (resolving.Stepped input now) out.new)) }
+        ensures gives { IfOk result (λ outcome. (told : Bool) → EndsAs told self.old (λ parts. cut_short stop.now (resolving.step_out parts.resolver parts.asked input now)) outcome out.new) }
+        ensures faults { IfOk result (λ outcome. FaultsAt outcome (faults_in self.old) (faults_in self.new)) }
+        ensures journal { OnOk result (journal_of self.new.voter ≡ journal_of self.old.voter) }
     {
         let mut held = Held::new(self.alloc);
         self.resolver.step(input, now, &mut held, out)?;
@@ -153,23 +164,26 @@ impl<S: Scheme + Drop, L: Elector + Drop, J: Journal + Drop> Crew<S, L, J> {
 
     /// Gives the voter an answer of the application. Tells whether it was taken.
     pub(crate) fn answer(&mut self, request: u64, answer: Answer) -> bool
-        ensures taken { Tells self.old (λ parts. takes_answer (place_of parts.voter parts.given).standing request answer) result }
-        ensures stands { result ≡ true → Works self.old self.new (after_answer request answer) }
-        ensures stays { result ≡ false → Works self.old self.new (λ parts. parts) }
+        ensures taken { (told : Bool) → TellsAs told self.old (λ parts. takes_answer (place_of parts.voter parts.given).standing request answer) result }
+        ensures stands { result ≡ true → (told : Bool) → WorksAs told self.old self.new (after_answer request answer) }
+        ensures stays { result ≡ false → (told : Bool) → WorksAs told self.old self.new (λ parts. parts) }
+        ensures journal { journal_of self.new.voter ≡ journal_of self.old.voter }
     {
         self.voter.answer(request, answer)
     }
 
     /// The journal.
     pub(crate) fn journal(&self) -> &J
-        ensures { Tells self.now (λ parts. (place_of parts.voter parts.given).sections) (J.sections result.now) }
+        ensures sections { (told : Bool) → TellsAs told self.now (λ parts. (place_of parts.voter parts.given).sections) (J.sections result.now) }
+        ensures whole { result.now ≡ journal_of self.now.voter }
     {
         self.voter.journal()
     }
 
     /// The journal, by itself.
     pub(crate) fn into_journal(self) -> J
-        ensures { Tells self (λ parts. (place_of parts.voter parts.given).sections) (J.sections result) }
+        ensures sections { (told : Bool) → TellsAs told self (λ parts. (place_of parts.voter parts.given).sections) (J.sections result) }
+        ensures whole { result ≡ journal_of self.voter }
     {
         let Crew {
             voter,
@@ -186,7 +200,7 @@ impl<S: Scheme + Drop, L: Elector + Drop, J: Journal + Drop> Crew<S, L, J> {
 
     /// The view that the voter is in.
     pub(crate) fn current_view(&self) -> View
-        ensures { Tells self.now (λ parts. current_of parts.voter.rules (place_of parts.voter parts.given).standing.desk.known) result }
+        ensures { (told : Bool) → TellsAs told self.now (λ parts. current_of parts.voter.rules (place_of parts.voter parts.given).standing.desk.known) result }
     {
         self.voter.current_view()
     }

@@ -1,4 +1,6 @@
+use Rattle.simplex_engine.proofs.Voters.{either-answers}
 use Rattle.simplex_engine.proofs.crew.Crew.current_view.Goals as goal
 
 pub returns : goal.returns
-returns g c = λ parts h. rw (← h.voter.place) (c.current_view.ensures.told _ _ h.voter.stands)
+returns g c = λ told parts h.
+    rw (← h.voter.place) (either-answers told c.args.self.now _ _ c.current_view.ensures.told c.current_view.ensures.over _ _ h.voter.stands)

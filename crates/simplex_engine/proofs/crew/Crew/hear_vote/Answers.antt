@@ -2,7 +2,10 @@ use Rattle.simplex_engine.proofs.Polls.{takes-vote, gives-vote}
 use Rattle.simplex_engine.proofs.crew.Crew.hear_vote.Goals as goal
 
 pub returns-clause-stands : goal.returns-clause-stands
-returns-clause-stands g c = takes-vote _ _ _ _ _ _ _ c.in_ok-outcome.ensures.stands c.in_ok-outcome.ensures.gives
+returns-clause-stands g c = λ told. takes-vote _ _ _ _ _ _ _ (c.in_ok-outcome.ensures.stands told) (c.in_ok-outcome.ensures.gives told)
 
 pub returns-clause-gives : goal.returns-clause-gives
-returns-clause-gives g c = rw c.polled.ensures (gives-vote _ _ _ _ _ _ c.in_ok-outcome.ensures.gives)
+returns-clause-gives g c = rw c.polled.ensures (λ told. gives-vote _ _ _ _ _ _ (c.in_ok-outcome.ensures.gives told))
+
+pub returns-clause-faults : goal.returns-clause-faults
+returns-clause-faults g c = rw c.polled.ensures c.in_ok-outcome.ensures.faults

@@ -1,4 +1,6 @@
+use Rattle.simplex_engine.proofs.Voters.{either-answers}
 use Rattle.simplex_engine.proofs.crew.Crew.into_journal.Goals as goal
 
-pub returns : goal.returns
-returns g c = λ parts h. rw (← h.voter.place) (c.into_journal.ensures.sections _ _ h.voter.stands)
+pub returns-clause-sections : goal.returns-clause-sections
+returns-clause-sections g c = λ told parts h.
+    rw (← h.voter.place) (either-answers told c.args.self _ _ c.into_journal.ensures.sections c.into_journal.ensures.over _ _ h.voter.stands)

@@ -25,3 +25,25 @@ returns-clause-stands g c = λ made h.
 pub returns-clause-gives : goal.returns-clause-gives
 unfolding begun
 returns-clause-gives g c = λ made h. c.in_ok-outcome.ensures.gives _ h.voter
+
+pub returns-clause-over : goal.returns-clause-over
+unfolding CrewStands begun
+returns-clause-over g c =
+    let o = c.in_ok-outcome.ensures.over in
+    let now = c.args.now in
+    record {
+      turned = o.turned;
+      becomes = o.becomes;
+      gives = λ made h. o.gives _ h.voter;
+      leaves = λ made h. o.leaves _ h.voter;
+      takes = λ going made h.
+          rw (more-begun made now o.turned (start_given (made.voter now) [] now o.turned) (start-quiet _ _ _ _))
+          (rw (← (o.gives _ h.voter).1) (record {
+            voter = record { given = Started now o.turned ∷ []; stands = o.stands going _ h.voter; place = refl };
+            batcher = h.batcher;
+            resolver = h.resolver;
+            to_batcher = rw (ap (λ (boxes : Boxes). boxes.batcher) h.boxes) at (c.posted_are_enqueued.ensures _ _ _ c.in_ok-outcome.ensures.batcher);
+            to_voter = ap (λ (boxes : Boxes). boxes.voter) h.boxes;
+            to_resolver = rw (ap (λ (boxes : Boxes). boxes.resolver) h.boxes) at (c.posted_are_enqueued-2.ensures _ _ _ c.in_ok-outcome.ensures.resolver);
+          }));
+    }

@@ -5,7 +5,7 @@ use Rattle.simplex_engine.proofs.crew.Crew.step_resolver.Goals as goal
 
 pub returns-then-cut_short-clause-stands : goal.returns-then-cut_short-clause-stands
 unfolding all_enqueued
-returns-then-cut_short-clause-stands g c = λ parts h. record {
+returns-then-cut_short-clause-stands g c = λ told parts h. record {
   voter = record { given = h.voter.given; stands = h.voter.stands; place = h.voter.place };
   batcher = h.batcher;
   resolver = c.in_ok-step.ensures.stands _ _ h.resolver;
@@ -15,12 +15,12 @@ returns-then-cut_short-clause-stands g c = λ parts h. record {
 }
 
 pub returns-then-cut_short-clause-gives : goal.returns-then-cut_short-clause-gives
-returns-then-cut_short-clause-gives g c = λ parts h.
+returns-then-cut_short-clause-gives g c = λ told parts h.
     let e = rw (c.in_ok-step.ensures.out _ _ h.resolver) at (c.cut_short.ensures.cut c.if-cut_short.true) in
     (ap (λ p. p.0) e, ap (λ p. p.1) e)
 
 pub returns-clause-stands : goal.returns-clause-stands
-returns-clause-stands g c = λ parts h.
+returns-clause-stands g c = λ told parts h.
     let held = rw c.new-held.ensures at (held-posted _ _ _ c.in_ok-step.ensures.voter) in
     record {
       voter = record { given = h.voter.given; stands = h.voter.stands; place = h.voter.place };
@@ -32,6 +32,6 @@ returns-clause-stands g c = λ parts h.
     }
 
 pub returns-clause-gives : goal.returns-clause-gives
-returns-clause-gives g c = λ parts h.
+returns-clause-gives g c = λ told parts h.
     let e = rw (c.in_ok-step.ensures.out _ _ h.resolver) at (c.cut_short.ensures.whole c.if-cut_short.false) in
     (ap (λ p. p.0) e, ap (λ p. p.1) e)

@@ -3,10 +3,10 @@ use Rattle.simplex_engine.proofs.Polls.{recv-none, if-none}
 use Rattle.simplex_engine.proofs.crew.Crew.take_resolver_mail.Goals as goal
 
 pub returns-clause-message : goal.returns-clause-message
-returns-clause-message g c = λ parts h. rw (← h.to_resolver) c.recv.ensures.message
+returns-clause-message g c = λ told parts h. rw (← h.to_resolver) c.recv.ensures.message
 
 pub returns-clause-takes : goal.returns-clause-takes
-returns-clause-takes g c = λ parts h. record {
+returns-clause-takes g c = λ told parts h. record {
   voter = record { given = h.voter.given; stands = h.voter.stands; place = h.voter.place };
   batcher = h.batcher;
   resolver = h.resolver;
@@ -16,7 +16,7 @@ returns-clause-takes g c = λ parts h. record {
 }
 
 pub returns-clause-none : goal.returns-clause-none
-returns-clause-none g c = if-none c.recv.result (λ e parts h. record {
+returns-clause-none g c = if-none c.recv.result (λ e told parts h. record {
   voter = record { given = h.voter.given; stands = h.voter.stands; place = h.voter.place };
   batcher = h.batcher;
   resolver = h.resolver;
