@@ -20,6 +20,7 @@ use Rattle.simplex_transcript.specs.declared.refusal.RunError.TheVariants as ref
 use Rattle.simplex_transcript.specs.declared.setup.Setup.{Setup}
 use Rattle.simplex_transcript.specs.declared.setup.MemberKind.{MemberKind}
 use Rattle.simplex_transcript.specs.declared.setup.MemberKind.TheVariants as kinds
+use Rattle.simplex_run.specs.Setting.{Setting}
 use Rattle.simplex_run.specs.Kinds.{is_faulty, is_faulty_member, has_engine, has_halves, is_twin, halves_of, runs_engine, is_honest, are_honest, members_of, is_node, node_of, nodes_at}
 use Rattle.simplex_run.specs.Twins.{round_at, elected}
 use Rattle.simplex_run.specs.Members.{kind_of}
@@ -134,9 +135,9 @@ unfolding unless_forged
 no_forgery setup before (Err e) h = refl
 no_forgery setup before (Ok noted) h = rw (none_forged setup before noted.entry h) refl
 
-pub entry_made : (setup : Setup) (before : List Noted) (event : Event) → are_honest setup ≡ true → entry_of setup before event ≡ made_of setup before event
+pub entry_made : (setting : Setting) (before : List Noted) (event : Event) → are_honest setting.setup ≡ true → entry_of setting before event ≡ made_of setting before event
 unfolding entry_of
-entry_made setup before event h = no_forgery setup before (made_of setup before event) h
+entry_made setting before event h = no_forgery setting.setup before (made_of setting before event) h
 
 -- whatever the members are: what is not refused was made
 by_first : (o : Option Signed) (n noted : Noted) (r : Result Noted RunError) → r ≡ Ok n → unless o n ≡ Ok noted → r ≡ Ok noted
@@ -148,9 +149,9 @@ unfolding unless_forged
 made_at setup before (Err e) noted h = h
 made_at setup before (Ok n) noted h = by_first (first_forged setup before n.entry) n noted (Ok n) refl h
 
-pub was_made : (setup : Setup) (before : List Noted) (event : Event) (noted : Noted) → entry_of setup before event ≡ Ok noted → made_of setup before event ≡ Ok noted
+pub was_made : (setting : Setting) (before : List Noted) (event : Event) (noted : Noted) → entry_of setting before event ≡ Ok noted → made_of setting before event ≡ Ok noted
 unfolding entry_of
-was_made setup before event noted h = made_at setup before (made_of setup before event) noted h
+was_made setting before event noted h = made_at setting.setup before (made_of setting before event) noted h
 
 -- ---- routing
 

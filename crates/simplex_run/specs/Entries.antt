@@ -34,6 +34,7 @@ use Rattle.simplex_steps.specs.Voter.{Standing, answer_to, first_answered}
 use Rattle.simplex_steps.specs.VoterLife.{place_of}
 use Rattle.simplex_steps.specs.Engine as engine
 use Rattle.simplex_steps.specs.Engine.{EngineMade, Did, Taken}
+use Rattle.simplex_run.specs.Setting.{Setting}
 use Rattle.simplex_run.specs.Kinds.{members_of, is_node, is_honest, runs_engine}
 pub use Rattle.simplex_run.specs.Kinds.{node_of}
 use Rattle.simplex_run.specs.Members.{kind_of, floor_of, engine_of}
@@ -167,13 +168,13 @@ is_own_floor setup before (Some f) = was_reported setup before f
 
 -- ---- one event. The refusals are tested in the order in which the cases nest
 
-abbrev pub on_start : Setup → List Noted → Node → Option Finalization → Stop → Life → Result Noted RunError
-on_start setup before node floor stop (Running made past) = Err refusals.NotStopped
-on_start setup before node floor stop (Stopped sections) =
-    if is_own_floor setup before floor
+abbrev pub on_start : Setting → List Noted → Node → Option Finalization → Stop → Life → Result Noted RunError
+on_start setting before node floor stop (Running made past) = Err refusals.NotStopped
+on_start setting before node floor stop (Stopped sections) =
+    if is_own_floor setting.setup before floor
     then (let now = clock_of before in
-    Ok (noted_with setup before (events.Start node floor stop) node (Some tooks.Floor)
-    (engine.begun (engine_of setup node.member (floor_of setup floor) sections) now stop)))
+    Ok (noted_with setting.setup before (events.Start node floor stop) node (Some tooks.Floor)
+    (engine.begun (engine_of setting node.member (floor_of setting.genesis floor) sections) now stop)))
     else Err refusals.ForeignFloor
 
 abbrev pub on_packet : Setup → List Noted → Node → Ref → Option Packet → EngineMade → List Did → Result Noted RunError
@@ -240,23 +241,23 @@ by_engine setup node with_engine without_engine =
     if_node setup node (if runs_engine setup node.member then with_engine else without_engine)
 
 -- what an event makes of the entries before it, but for what is forged
-unfoldable pub made_of : Setup → List Noted → Event → Result Noted RunError
-made_of setup before (events.Start node floor stop) =
-    by_engine setup node (on_start setup before node floor stop (life_in setup before node)) (Err refusals.NotStopped)
-made_of setup before (events.Tick ms) =
+unfoldable pub made_of : Setting → List Noted → Event → Result Noted RunError
+made_of setting before (events.Start node floor stop) =
+    by_engine setting.setup node (on_start setting before node floor stop (life_in setting before node)) (Err refusals.NotStopped)
+made_of setting before (events.Tick ms) =
     if nat_le (clock_of before + ms) (2 ^ 63 - 1) then Ok (noted_blank before (events.Tick ms) None) else Err refusals.ClockEnd
-made_of setup before (events.Deliver node at) =
-    by_engine setup node (on_deliver setup before node at (life_in setup before node)) (on_hearing setup before node at (packet_for before node at))
-made_of setup before (events.Step node source stop) =
-    by_engine setup node (on_step setup before node source stop (life_in setup before node)) (Ok (noted_idle before (events.Step node source stop) node))
-made_of setup before (events.Answer node at answer) =
-    by_engine setup node (on_answer setup before node at answer (life_in setup before node)) (Err refusals.NotPending)
-made_of setup before (events.Crash node) =
-    by_engine setup node (on_crash before node (life_in setup before node)) (Ok (noted_idle before (events.Crash node) node))
-made_of setup before (events.Inject member channel to bytes) =
-    if nat_lt member (members_of setup) && list_all (is_node setup) to then on_inject setup before member channel to bytes
+made_of setting before (events.Deliver node at) =
+    by_engine setting.setup node (on_deliver setting.setup before node at (life_in setting before node)) (on_hearing setting.setup before node at (packet_for before node at))
+made_of setting before (events.Step node source stop) =
+    by_engine setting.setup node (on_step setting.setup before node source stop (life_in setting before node)) (Ok (noted_idle before (events.Step node source stop) node))
+made_of setting before (events.Answer node at answer) =
+    by_engine setting.setup node (on_answer setting.setup before node at answer (life_in setting before node)) (Err refusals.NotPending)
+made_of setting before (events.Crash node) =
+    by_engine setting.setup node (on_crash before node (life_in setting before node)) (Ok (noted_idle before (events.Crash node) node))
+made_of setting before (events.Inject member channel to bytes) =
+    if nat_lt member (members_of setting.setup) && list_all (is_node setting.setup) to then on_inject setting.setup before member channel to bytes
     else Err refusals.NoMember
 
 -- what an event makes of the entries before it
-unfoldable pub entry_of : Setup → List Noted → Event → Result Noted RunError
-entry_of setup before event = unless_forged setup before (made_of setup before event)
+unfoldable pub entry_of : Setting → List Noted → Event → Result Noted RunError
+entry_of setting before event = unless_forged setting.setup before (made_of setting before event)

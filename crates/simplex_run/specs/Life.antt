@@ -5,8 +5,8 @@ use Rattle.simplex_transcript.specs.declared.event.Event.{Event}
 use Rattle.simplex_transcript.specs.declared.event.Event.TheVariants as events
 use Rattle.simplex_transcript.specs.declared.entry.Entry.{Entry}
 use Rattle.simplex_transcript.specs.declared.node.Node.{Node}
-use Rattle.simplex_transcript.specs.declared.setup.Setup.{Setup}
 use Rattle.simplex_steps.specs.Engine.{EngineMade, Did, runs, sections_of}
+use Rattle.simplex_run.specs.Setting.{Setting}
 use Rattle.simplex_run.specs.Members.{is_same_node, floor_of, engine_of}
 
 -- what an event did: its entry, and for a node that runs an engine what the engine did
@@ -52,15 +52,15 @@ went_on did (Stopped sections) = Stopped sections
 went_on did (Running made past) = going_on made (did ∷ past)
 
 -- what an event makes of the life of its node
-unfoldable pub after : Setup → Event → Option Did → Life → Life
-after setup (events.Start node floor stop) (Some did) life =
-    going_on (engine_of setup node.member (floor_of setup floor) (sections_in life)) (did ∷ [])
-after setup (events.Crash node) did life = Stopped (crashed 0 (sections_in life))
-after setup event (Some did) life = went_on did life
-after setup event None life = life
+unfoldable pub after : Setting → Event → Option Did → Life → Life
+after setting (events.Start node floor stop) (Some did) life =
+    going_on (engine_of setting node.member (floor_of setting.genesis floor) (sections_in life)) (did ∷ [])
+after setting (events.Crash node) did life = Stopped (crashed 0 (sections_in life))
+after setting event (Some did) life = went_on did life
+after setting event None life = life
 
-unfoldable pub life_in : Setup → List Noted → Node → Life
-life_in setup [] node = Stopped []
-life_in setup (noted ∷ before) node =
-    if is_of node noted.event then after setup noted.event noted.did (life_in setup before node)
-    else life_in setup before node
+unfoldable pub life_in : Setting → List Noted → Node → Life
+life_in setting [] node = Stopped []
+life_in setting (noted ∷ before) node =
+    if is_of node noted.event then after setting noted.event noted.did (life_in setting before node)
+    else life_in setting before node

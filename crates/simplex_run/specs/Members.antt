@@ -1,4 +1,4 @@
--- What a node's engine is made with, by the setup.
+-- What a node's engine is made with, by the setting.
 use Rattle.std.specs.Prelude.{ℕ, List, slice_get, unwrap_or, Option, Some, None}
 use Rattle.simplex_values.specs.declared.policy.SkipPolicy.{SkipPolicy}
 use Rattle.simplex_values.specs.declared.policy.SkipPolicy.TheVariants as skip
@@ -7,7 +7,6 @@ use Rattle.simplex_wire.specs.declared.certificate.Finalization.{Finalization}
 use Rattle.simplex_types.specs.declared.floor.Floor.{Floor}
 use Rattle.simplex_types.specs.declared.floor.Floor.TheVariants as floors
 use Rattle.simplex_types.specs.Keyed.{keyed_attests, keyed_verifies}
-use Rattle.simplex_types.specs.Genesis.{genesis_of}
 use Rattle.simplex_rules.specs.Known.{Made}
 use Rattle.simplex_round.specs.Assembly.{as_scheme}
 use Rattle.simplex_journal.specs.Journal.{Section}
@@ -17,6 +16,7 @@ use Rattle.simplex_transcript.specs.declared.setup.MemberKind.TheVariants as kin
 use Rattle.simplex_steps.specs.Batcher as batcher
 use Rattle.simplex_steps.specs.Engine.{EngineMade}
 use Rattle.simplex_resolving.specs.Resolver as resolver
+use Rattle.simplex_run.specs.Setting.{Setting}
 pub use Rattle.simplex_run.specs.Kinds.{members_of, is_node, is_same_node}
 use Rattle.simplex_run.specs.Twins.{elected}
 use Rattle.simplex_run.specs.Wrapped.{wrapped_attests, wrapped_recovers}
@@ -26,9 +26,9 @@ abbrev pub kind_of : Setup → ℕ → MemberKind
 kind_of setup member = unwrap_or (slice_get setup.members member) kinds.Honest
 
 -- where a start stands: at a finalization, or at genesis
-abbrev pub floor_of : Setup → Option Finalization → Floor
-floor_of setup None = floors.Genesis (genesis_of setup.epoch)
-floor_of setup (Some f) = floors.Finalized f
+abbrev pub floor_of : List ℕ → Option Finalization → Floor
+floor_of genesis None = floors.Genesis genesis
+floor_of genesis (Some f) = floors.Finalized f
 
 abbrev pub view_at : Floor → ℕ
 view_at (floors.Genesis payload) = 0
@@ -40,23 +40,23 @@ skip_budget setup skip.Disabled = 0
 skip_budget setup (skip.Enabled timeout budget) = budget_of budget (members_of setup)
 
 -- the rules of a member that starts at this clock
-unfoldable pub rules_of : Setup → ℕ → ℕ → Made
-rules_of setup member start =
+unfoldable pub rules_of : Setting → ℕ → ℕ → Made
+rules_of setting member start =
     record {
-      signs = wrapped_attests (kind_of setup member) (keyed_attests setup.key_base (Some member)) (keyed_verifies setup.key_base (members_of setup));
+      signs = wrapped_attests (kind_of setting.setup member) (keyed_attests setting.setup.key_base (Some member)) (keyed_verifies setting.setup.key_base (members_of setting.setup));
       me = Some member;
-      elects = elected setup;
-      epoch = setup.epoch;
-      genesis = genesis_of setup.epoch;
-      term_length = setup.term;
-      lookahead = setup.lookahead;
-      stall_timeout = setup.stall;
-      leader_timeout = setup.leader_timeout;
-      certification_timeout = setup.certification_timeout;
-      timeout_retry = setup.retry;
-      skip_budget = skip_budget setup setup.skip;
-      retention = setup.retention;
-      handoff = setup.handoff;
+      elects = elected setting.setup;
+      epoch = setting.setup.epoch;
+      genesis = setting.genesis;
+      term_length = setting.setup.term;
+      lookahead = setting.setup.lookahead;
+      stall_timeout = setting.setup.stall;
+      leader_timeout = setting.setup.leader_timeout;
+      certification_timeout = setting.setup.certification_timeout;
+      timeout_retry = setting.setup.retry;
+      skip_budget = skip_budget setting.setup setting.setup.skip;
+      retention = setting.setup.retention;
+      handoff = setting.setup.handoff;
       start = start;
     }
 
@@ -87,11 +87,11 @@ resolver_of setup member =
     }
 
 -- the engine of a node that starts at this floor, over what its journal holds
-unfoldable pub engine_of : Setup → ℕ → Floor → List Section → EngineMade
-engine_of setup member floor sections =
+unfoldable pub engine_of : Setting → ℕ → Floor → List Section → EngineMade
+engine_of setting member floor sections =
     record {
-      voter = λ start. record { rules = rules_of setup member start; floor = floor; sections = sections };
-      batcher = batcher_of setup member floor;
-      resolver = resolver_of setup member;
-      capacity = setup.mailbox;
+      voter = λ start. record { rules = rules_of setting member start; floor = floor; sections = sections };
+      batcher = batcher_of setting.setup member floor;
+      resolver = resolver_of setting.setup member;
+      capacity = setting.setup.mailbox;
     }

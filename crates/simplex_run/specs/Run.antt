@@ -1,4 +1,4 @@
--- A run: the one transcript that a setup and events make, or the one refusal.
+-- A run: the one transcript that a setting and events make, or the one refusal.
 use Rattle.std.specs.Prelude.{ℕ, ◌+◌, ◌*◌, ◌^◌, ◌&&◌, nat_le, Bool, not, List, [], ◌∷◌, length, map, reverse, Option, Some, None, Result, Ok, Err, if◌then◌else◌}
 use Rattle.simplex_transcript.specs.declared.event.Event.{Event}
 use Rattle.simplex_transcript.specs.declared.entry.Entry.{Entry}
@@ -8,6 +8,7 @@ use Rattle.simplex_transcript.specs.declared.setup.Setup.{Setup}
 use Rattle.simplex_transcript.specs.declared.refusal.RunError.{RunError}
 use Rattle.simplex_transcript.specs.declared.refusal.RunError.TheVariants as refusals
 use Rattle.simplex_transcript.specs.declared.refusal.Refusal.{Refusal}
+use Rattle.simplex_run.specs.Setting.{Setting, at_epoch_genesis}
 use Rattle.simplex_run.specs.Kinds.{members_of}
 use Rattle.simplex_run.specs.Setups.{first_bad}
 use Rattle.simplex_run.specs.Life.{Noted}
@@ -28,10 +29,10 @@ unless_refused number (Err error) next = Err (refused error number)
 unless_refused number (Ok noted) next = next noted
 
 -- the entries behind those, the newest first
-unfoldable pub run : Setup → List Noted → List Event → Result (List Noted) Refusal
-run setup before [] = Ok before
-run setup before (event ∷ events) =
-    unless_refused (length before + 1) (entry_of setup before event) (λ noted. run setup (noted ∷ before) events)
+unfoldable pub run : Setting → List Noted → List Event → Result (List Noted) Refusal
+run setting before [] = Ok before
+run setting before (event ∷ events) =
+    unless_refused (length before + 1) (entry_of setting before event) (λ noted. run setting (noted ∷ before) events)
 
 -- in order of events
 abbrev pub transcript_of : Result (List Noted) Refusal → Result (List Entry) Refusal
@@ -43,8 +44,12 @@ abbrev pub unless_bad : Option Field → Result (List Entry) Refusal → Result 
 unless_bad (Some field) ran = Err (refused (refusals.BadSetup field) 0)
 unless_bad None ran = ran
 
--- the transcript of a setup and events, or the first refusal
-unfoldable pub Run : Setup → List Event → Result (List Entry) Refusal
-Run setup events =
-    if not (are_few setup events) then Err (refused (refusals.BadSetup fields.Events) 0)
-    else unless_bad (first_bad setup) (transcript_of (run setup [] events))
+-- the transcript of a setting and events, or the first refusal
+unfoldable pub RunFrom : Setting → List Event → Result (List Entry) Refusal
+RunFrom setting events =
+    if not (are_few setting.setup events) then Err (refused (refusals.BadSetup fields.Events) 0)
+    else unless_bad (first_bad setting.setup) (transcript_of (run setting [] events))
+
+-- the same of a setup and events, where the epoch's own genesis digest is the payload of view 0
+abbrev pub Run : Setup → List Event → Result (List Entry) Refusal
+Run setup events = RunFrom (at_epoch_genesis setup) events
