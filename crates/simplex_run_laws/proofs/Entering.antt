@@ -14,12 +14,13 @@ use Rattle.simplex_transcript.specs.declared.node.Ref.{Ref}
 use Rattle.simplex_transcript.specs.declared.setup.Setup.{Setup}
 use Rattle.simplex_transcript.specs.declared.refusal.RunError.{RunError}
 use Rattle.simplex_steps.specs.Engine.{EngineMade, Did}
+use Rattle.simplex_run.specs.Setting.{Setting}
 use Rattle.simplex_run.specs.Life.{Noted, Life, Stopped, Running, life_in}
 use Rattle.simplex_run.specs.Requests.{request_number, packet_for}
 use Rattle.simplex_run.specs.Entries.{on_start, on_packet, on_deliver, on_step, on_request, on_answer, on_crash, on_hearing, on_inject, by_engine, made_of, entry_of}
 use Rattle.simplex_run.specs.Forged.{Signed, first_forged, unless, unless_forged}
 use Rattle.simplex_run.specs.Kinds.{is_node, is_honest, runs_engine}
-use Rattle.simplex_run.specs.Run.{unless_refused, run, Run}
+use Rattle.simplex_run.specs.Run.{unless_refused, run, RunFrom}
 use Rattle.simplex_run_laws.specs.Complete.{IsEntryOf, AreEach, IsOneEach}
 use Rattle.simplex_run_laws.proofs.Whole.{noted_in, parts, as_long}
 
@@ -34,10 +35,10 @@ either : (before : List Noted) (event : Event) (b : Bool) (r s : Result Noted Ru
 either before event true r s p q = p
 either before event false r s p q = q
 
-start_enters : (setup : Setup) (before : List Noted) (node : Node) (floor : Option Finalization) (stop : Stop) (life : Life)
-    → Enters before (events.Start node floor stop) (on_start setup before node floor stop life)
-start_enters setup before node floor stop (Running made past) = tt
-start_enters setup before node floor stop (Stopped sections) =
+start_enters : (setting : Setting) (before : List Noted) (node : Node) (floor : Option Finalization) (stop : Stop) (life : Life)
+    → Enters before (events.Start node floor stop) (on_start setting before node floor stop life)
+start_enters setting before node floor stop (Running made past) = tt
+start_enters setting before node floor stop (Stopped sections) =
     either before (events.Start node floor stop) _ (Ok _) (Err _) (record { counted = refl; who = refl }) tt
 
 packet_enters : (setup : Setup) (before : List Noted) (node : Node) (at : Ref) (o : Option Packet) (made : EngineMade) (past : List Did)
@@ -83,27 +84,27 @@ hearing_enters : (setup : Setup) (before : List Noted) (node : Node) (at : Ref) 
 hearing_enters setup before node at None = tt
 hearing_enters setup before node at (Some packet) = record { counted = refl; who = refl }
 
-made_enters : (setup : Setup) (before : List Noted) (event : Event) → Enters before event (made_of setup before event)
+made_enters : (setting : Setting) (before : List Noted) (event : Event) → Enters before event (made_of setting before event)
 unfolding made_of
-made_enters setup before (events.Start node floor stop) =
-    of_node setup before node (events.Start node floor stop) (on_start setup before node floor stop (life_in setup before node)) (Err _)
-    (start_enters setup before node floor stop (life_in setup before node)) tt
-made_enters setup before (events.Tick ms) = either before (events.Tick ms) _ (Ok _) (Err _) (record { counted = refl; who = refl }) tt
-made_enters setup before (events.Deliver node at) =
-    of_node setup before node (events.Deliver node at) (on_deliver setup before node at (life_in setup before node)) (on_hearing setup before node at (packet_for before node at))
-    (deliver_enters setup before node at (life_in setup before node)) (hearing_enters setup before node at (packet_for before node at))
-made_enters setup before (events.Step node source stop) =
-    of_node setup before node (events.Step node source stop) (on_step setup before node source stop (life_in setup before node)) (Ok _)
-    (step_enters setup before node source stop (life_in setup before node)) (record { counted = refl; who = refl })
-made_enters setup before (events.Answer node at answer) =
-    of_node setup before node (events.Answer node at answer) (on_answer setup before node at answer (life_in setup before node)) (Err _)
-    (answer_enters setup before node at answer (life_in setup before node)) tt
-made_enters setup before (events.Crash node) =
-    of_node setup before node (events.Crash node) (on_crash before node (life_in setup before node)) (Ok _)
-    (crash_enters before node (life_in setup before node)) (record { counted = refl; who = refl })
-made_enters setup before (events.Inject member channel to bytes) =
-    either before (events.Inject member channel to bytes) _ (on_inject setup before member channel to bytes) (Err _)
-    (either before (events.Inject member channel to bytes) (is_honest setup member) (Err _) (Ok _) tt (record { counted = refl; who = refl })) tt
+made_enters setting before (events.Start node floor stop) =
+    of_node setting.setup before node (events.Start node floor stop) (on_start setting before node floor stop (life_in setting before node)) (Err _)
+    (start_enters setting before node floor stop (life_in setting before node)) tt
+made_enters setting before (events.Tick ms) = either before (events.Tick ms) _ (Ok _) (Err _) (record { counted = refl; who = refl }) tt
+made_enters setting before (events.Deliver node at) =
+    of_node setting.setup before node (events.Deliver node at) (on_deliver setting.setup before node at (life_in setting before node)) (on_hearing setting.setup before node at (packet_for before node at))
+    (deliver_enters setting.setup before node at (life_in setting before node)) (hearing_enters setting.setup before node at (packet_for before node at))
+made_enters setting before (events.Step node source stop) =
+    of_node setting.setup before node (events.Step node source stop) (on_step setting.setup before node source stop (life_in setting before node)) (Ok _)
+    (step_enters setting.setup before node source stop (life_in setting before node)) (record { counted = refl; who = refl })
+made_enters setting before (events.Answer node at answer) =
+    of_node setting.setup before node (events.Answer node at answer) (on_answer setting.setup before node at answer (life_in setting before node)) (Err _)
+    (answer_enters setting.setup before node at answer (life_in setting before node)) tt
+made_enters setting before (events.Crash node) =
+    of_node setting.setup before node (events.Crash node) (on_crash before node (life_in setting before node)) (Ok _)
+    (crash_enters before node (life_in setting before node)) (record { counted = refl; who = refl })
+made_enters setting before (events.Inject member channel to bytes) =
+    either before (events.Inject member channel to bytes) _ (on_inject setting.setup before member channel to bytes) (Err _)
+    (either before (events.Inject member channel to bytes) (is_honest setting.setup member) (Err _) (Ok _) tt (record { counted = refl; who = refl })) tt
 
 -- where what is forged is refused
 unless_enters : (before : List Noted) (event : Event) (o : Option Signed) (noted : Noted) → IsEntryOf (length before + 1) event noted.entry → Enters before event (unless o noted)
@@ -115,9 +116,9 @@ unfolding unless_forged
 unforged_enters setup before event (Err error) p = tt
 unforged_enters setup before event (Ok noted) p = unless_enters before event (first_forged setup before noted.entry) noted p
 
-enters : (setup : Setup) (before : List Noted) (event : Event) → Enters before event (entry_of setup before event)
+enters : (setting : Setting) (before : List Noted) (event : Event) → Enters before event (entry_of setting before event)
 unfolding entry_of
-enters setup before event = unforged_enters setup before event (made_of setup before event) (made_enters setup before event)
+enters setting before event = unforged_enters setting.setup before event (made_of setting before event) (made_enters setting before event)
 
 -- ---- all of them
 
@@ -134,16 +135,16 @@ record Goes (before noted : List Noted) (events : List Event) : Type 0 where
   behind : in_order noted ≡ in_order before ++ news
   each : AreEach (length before + 1) events news
 
-run_goes : (setup : Setup) (before : List Noted) (events : List Event) (noted : List Noted) → run setup before events ≡ Ok noted → Goes before noted events
+run_goes : (setting : Setting) (before : List Noted) (events : List Event) (noted : List Noted) → run setting before events ≡ Ok noted → Goes before noted events
 unfolding run unless_refused AreEach
-run_goes setup before [] noted e =
+run_goes setting before [] noted e =
     let same : before ≡ noted = cc in
     record { news = []; behind = ap in_order (sym same) ∙ sym (append-nil (in_order before)); each = tt }
-run_goes setup before (event ∷ events) noted e =
-    by (entry_of setup before event) (enters setup before event) e (λ n. run_goes setup (n ∷ before) events noted)
+run_goes setting before (event ∷ events) noted e =
+    by (entry_of setting before event) (enters setting before event) e (λ n. run_goes setting (n ∷ before) events noted)
   where
-    by : (r : Result Noted RunError) → Enters before event r → unless_refused (length before + 1) r (λ n. run setup (n ∷ before) events) ≡ Ok noted
-        → ((n : Noted) → run setup (n ∷ before) events ≡ Ok noted → Goes (n ∷ before) noted events) → Goes before noted (event ∷ events)
+    by : (r : Result Noted RunError) → Enters before event r → unless_refused (length before + 1) r (λ n. run setting (n ∷ before) events) ≡ Ok noted
+        → ((n : Noted) → run setting (n ∷ before) events ≡ Ok noted → Goes (n ∷ before) noted events) → Goes before noted (event ∷ events)
     by (Err error) enter h old = cc
     by (Ok n) enter h old =
         let goes = old n h in
@@ -153,8 +154,8 @@ run_goes setup before (event ∷ events) noted e =
           each = (enter, subst (λ number. AreEach (number + 1) events goes.news) (sym (add-one (length before))) goes.each);
         }
 
-pub one_each : (setup : Setup) (events : List Event) (entries : List Entry) → Run setup events ≡ Ok entries → IsOneEach entries events
-one_each setup events entries e =
-    let noted = noted_in (run setup [] events) entries (parts setup events entries e).ran in
-    let goes = run_goes setup [] events noted.0 noted.1 in
-    record { count = as_long setup events entries e; each = subst (AreEach 1 events) (sym (noted.2 ∙ goes.behind)) goes.each }
+pub one_each : (setting : Setting) (events : List Event) (entries : List Entry) → RunFrom setting events ≡ Ok entries → IsOneEach entries events
+one_each setting events entries e =
+    let noted = noted_in (run setting [] events) entries (parts setting events entries e).ran in
+    let goes = run_goes setting [] events noted.0 noted.1 in
+    record { count = as_long setting events entries e; each = subst (AreEach 1 events) (sym (noted.2 ∙ goes.behind)) goes.each }

@@ -16,6 +16,7 @@ use Rattle.simplex_transcript.specs.declared.setup.Setup.{Setup}
 use Rattle.simplex_transcript.specs.declared.refusal.RunError.{RunError}
 use Rattle.simplex_transcript.specs.declared.refusal.RunError.TheVariants as refusals
 use Rattle.simplex_steps.specs.Engine.{EngineMade, Did, takes_reply}
+use Rattle.simplex_run.specs.Setting.{Setting}
 use Rattle.simplex_run.specs.Life.{Noted, Life, Stopped, Running, clock_of, life_in}
 use Rattle.simplex_run.specs.Kinds.{members_of, is_node, is_honest, is_faulty_member, runs_engine}
 use Rattle.simplex_run.specs.Requests.{request_number, packet_for}
@@ -66,48 +67,48 @@ ok_engine setup node run error e =
 
 -- ---- a start
 
-start_ok : (setup : Setup) (before : List Noted) (node : Node) (floor : Option Finalization) (stop : Stop) (sections : List Section) (life : Life)
-    → life ≡ Stopped sections → is_own_floor setup before floor ≡ true → is_ok (on_start setup before node floor stop life) ≡ true
-start_ok setup before node floor stop sections (Running made past) is own = cc
-start_ok setup before node floor stop sections (Stopped held) is own = ok_if (is_own_floor setup before floor) (Ok _) refusals.ForeignFloor own refl
+start_ok : (setting : Setting) (before : List Noted) (node : Node) (floor : Option Finalization) (stop : Stop) (sections : List Section) (life : Life)
+    → life ≡ Stopped sections → is_own_floor setting.setup before floor ≡ true → is_ok (on_start setting before node floor stop life) ≡ true
+start_ok setting before node floor stop sections (Running made past) is own = cc
+start_ok setting before node floor stop sections (Stopped held) is own = ok_if (is_own_floor setting.setup before floor) (Ok _) refusals.ForeignFloor own refl
 
-may_start : (setup : Setup) (before : List Noted) (node : Node) (floor : Option Finalization) (stop : Stop) → MayStart setup before node floor
-    → is_ok (made_of setup before (events.Start node floor stop)) ≡ true
+may_start : (setting : Setting) (before : List Noted) (node : Node) (floor : Option Finalization) (stop : Stop) → MayStart setting before node floor
+    → is_ok (made_of setting before (events.Start node floor stop)) ≡ true
 unfolding made_of
-may_start setup before node floor stop m =
-    engine_ok setup node (on_start setup before node floor stop (life_in setup before node)) refusals.NotStopped m.there m.engine
-    (start_ok setup before node floor stop m.sections (life_in setup before node) m.stopped (own_floor setup before floor m.reported))
+may_start setting before node floor stop m =
+    engine_ok setting.setup node (on_start setting before node floor stop (life_in setting before node)) refusals.NotStopped m.there m.engine
+    (start_ok setting before node floor stop m.sections (life_in setting before node) m.stopped (own_floor setting.setup before floor m.reported))
 
-ok_start : (setup : Setup) (before : List Noted) (node : Node) (floor : Option Finalization) (stop : Stop) (life : Life)
-    → is_ok (on_start setup before node floor stop life) ≡ true → ((sections : List Section) × (life ≡ Stopped sections)) × (is_own_floor setup before floor ≡ true)
-ok_start setup before node floor stop (Running made past) h = cc
-ok_start setup before node floor stop (Stopped held) h = ((held, refl), (if_ok (is_own_floor setup before floor) (Ok _) refusals.ForeignFloor h).0)
+ok_start : (setting : Setting) (before : List Noted) (node : Node) (floor : Option Finalization) (stop : Stop) (life : Life)
+    → is_ok (on_start setting before node floor stop life) ≡ true → ((sections : List Section) × (life ≡ Stopped sections)) × (is_own_floor setting.setup before floor ≡ true)
+ok_start setting before node floor stop (Running made past) h = cc
+ok_start setting before node floor stop (Stopped held) h = ((held, refl), (if_ok (is_own_floor setting.setup before floor) (Ok _) refusals.ForeignFloor h).0)
 
-did_start : (setup : Setup) (before : List Noted) (node : Node) (floor : Option Finalization) (stop : Stop)
-    → is_ok (made_of setup before (events.Start node floor stop)) ≡ true → MayStart setup before node floor
+did_start : (setting : Setting) (before : List Noted) (node : Node) (floor : Option Finalization) (stop : Stop)
+    → is_ok (made_of setting before (events.Start node floor stop)) ≡ true → MayStart setting before node floor
 unfolding made_of
-did_start setup before node floor stop e =
-    let outer = ok_engine setup node (on_start setup before node floor stop (life_in setup before node)) refusals.NotStopped e in
-    let inner = ok_start setup before node floor stop (life_in setup before node) outer.2 in
+did_start setting before node floor stop e =
+    let outer = ok_engine setting.setup node (on_start setting before node floor stop (life_in setting before node)) refusals.NotStopped e in
+    let inner = ok_start setting before node floor stop (life_in setting before node) outer.2 in
     record {
       there = outer.0;
       engine = outer.1;
       sections = inner.0.0;
       stopped = inner.0.1;
-      reported = floor_reported setup before floor inner.1;
+      reported = floor_reported setting.setup before floor inner.1;
     }
 
 -- ---- a tick
 
-may_tick : (setup : Setup) (before : List Noted) (ms : ℕ) → MayTick before ms → is_ok (made_of setup before (events.Tick ms)) ≡ true
+may_tick : (setting : Setting) (before : List Noted) (ms : ℕ) → MayTick before ms → is_ok (made_of setting before (events.Tick ms)) ≡ true
 unfolding made_of
-may_tick setup before ms m =
+may_tick setting before ms m =
     ok_if (nat_le (clock_of before + ms) (2 ^ 63 - 1)) (Ok (noted_blank before (events.Tick ms) None)) refusals.ClockEnd
     (is_within (clock_of before + ms) (2 ^ 63 - 1) (omega (arith, m.early))) refl
 
-did_tick : (setup : Setup) (before : List Noted) (ms : ℕ) → is_ok (made_of setup before (events.Tick ms)) ≡ true → MayTick before ms
+did_tick : (setting : Setting) (before : List Noted) (ms : ℕ) → is_ok (made_of setting before (events.Tick ms)) ≡ true → MayTick before ms
 unfolding made_of
-did_tick setup before ms h =
+did_tick setting before ms h =
     let inner = if_ok (nat_le (clock_of before + ms) (2 ^ 63 - 1)) (Ok (noted_blank before (events.Tick ms) None)) refusals.ClockEnd h in
     let le = within (clock_of before + ms) (2 ^ 63 - 1) inner.0 in
     record { early = omega (arith, le) }
@@ -132,14 +133,14 @@ hearing_ok : (setup : Setup) (before : List Noted) (node : Node) (at : Ref) (pac
 hearing_ok setup before node at packet None is = cc
 hearing_ok setup before node at packet (Some p) is = refl
 
-may_deliver : (setup : Setup) (before : List Noted) (node : Node) (at : Ref) → MayDeliver setup before node at → is_ok (made_of setup before (events.Deliver node at)) ≡ true
+may_deliver : (setting : Setting) (before : List Noted) (node : Node) (at : Ref) → MayDeliver setting before node at → is_ok (made_of setting before (events.Deliver node at)) ≡ true
 unfolding made_of
-may_deliver setup before node at m =
-    by_ok setup node (on_deliver setup before node at (life_in setup before node)) (on_hearing setup before node at (packet_for before node at)) m.there
+may_deliver setting before node at m =
+    by_ok setting.setup node (on_deliver setting.setup before node at (life_in setting before node)) (on_hearing setting.setup before node at (packet_for before node at)) m.there
     (λ engine.
     let ready = m.ready engine in
-    deliver_ok setup before node at m.packet ready.made ready.past (life_in setup before node) ready.up (packet_sent before node at m.packet m.sent) ready.room)
-    (hearing_ok setup before node at m.packet (packet_for before node at) (packet_sent before node at m.packet m.sent))
+    deliver_ok setting.setup before node at m.packet ready.made ready.past (life_in setting before node) ready.up (packet_sent before node at m.packet m.sent) ready.room)
+    (hearing_ok setting.setup before node at m.packet (packet_for before node at) (packet_sent before node at m.packet m.sent))
 
 ok_packet : (setup : Setup) (before : List Noted) (node : Node) (at : Ref) (made : EngineMade) (past : List Did) (o : Option Packet)
     → is_ok (on_packet setup before node at o made past) ≡ true → ((packet : Packet) × (o ≡ Some packet)) × HasRoom setup made past
@@ -161,17 +162,17 @@ ok_hearing : (setup : Setup) (before : List Noted) (node : Node) (at : Ref) (o :
 ok_hearing setup before node at None h = cc
 ok_hearing setup before node at (Some packet) h = (packet, refl)
 
-did_deliver : (setup : Setup) (before : List Noted) (node : Node) (at : Ref) → is_ok (made_of setup before (events.Deliver node at)) ≡ true → MayDeliver setup before node at
+did_deliver : (setting : Setting) (before : List Noted) (node : Node) (at : Ref) → is_ok (made_of setting before (events.Deliver node at)) ≡ true → MayDeliver setting before node at
 unfolding made_of
-did_deliver setup before node at e =
-    let outer = ok_by setup node (on_deliver setup before node at (life_in setup before node)) (on_hearing setup before node at (packet_for before node at)) e in
-    by (runs_engine setup node.member) refl outer.0 outer.1 outer.2
+did_deliver setting before node at e =
+    let outer = ok_by setting.setup node (on_deliver setting.setup before node at (life_in setting before node)) (on_hearing setting.setup before node at (packet_for before node at)) e in
+    by (runs_engine setting.setup node.member) refl outer.0 outer.1 outer.2
   where
-    by : (b : Bool) → runs_engine setup node.member ≡ b → IsNode setup node → (HasEngine setup node → is_ok (on_deliver setup before node at (life_in setup before node)) ≡ true)
-        → (runs_engine setup node.member ≡ false → is_ok (on_hearing setup before node at (packet_for before node at)) ≡ true) → MayDeliver setup before node at
+    by : (b : Bool) → runs_engine setting.setup node.member ≡ b → IsNode setting.setup node → (HasEngine setting.setup node → is_ok (on_deliver setting.setup before node at (life_in setting before node)) ≡ true)
+        → (runs_engine setting.setup node.member ≡ false → is_ok (on_hearing setting.setup before node at (packet_for before node at)) ≡ true) → MayDeliver setting before node at
     by true b there p q =
-        let run = ok_deliver setup before node at (life_in setup before node) (p b) in
-        let inner = ok_packet setup before node at run.0 run.1 (packet_for before node at) run.3 in
+        let run = ok_deliver setting.setup before node at (life_in setting before node) (p b) in
+        let inner = ok_packet setting.setup before node at run.0 run.1 (packet_for before node at) run.3 in
         record {
           there = there;
           packet = inner.0.0;
@@ -179,7 +180,7 @@ did_deliver setup before node at e =
           ready = λ _. record { made = run.0; past = run.1; up = run.2; room = inner.1 };
         }
     by false b there p q =
-        let found = ok_hearing setup before node at (packet_for before node at) (q b) in
+        let found = ok_hearing setting.setup before node at (packet_for before node at) (q b) in
         record { there = there; packet = found.0; sent = sent_packet before node at found.0 found.1; ready = λ engine. absurd (cc (b, engine)) }
 
 -- ---- a step
@@ -192,14 +193,14 @@ step_ok setup before node source stop made past (Running m p) is room =
     let is_past : past ≡ p = cc in
     ok_unless (is_at_end setup m p) (Ok _) refusals.ViewEnd (room_is setup m p (rw (is_made, is_past) at room)) refl
 
-may_step : (setup : Setup) (before : List Noted) (node : Node) (source : StepSource) (stop : Stop) → MayStep setup before node
-    → is_ok (made_of setup before (events.Step node source stop)) ≡ true
+may_step : (setting : Setting) (before : List Noted) (node : Node) (source : StepSource) (stop : Stop) → MayStep setting before node
+    → is_ok (made_of setting before (events.Step node source stop)) ≡ true
 unfolding made_of
-may_step setup before node source stop m =
-    by_ok setup node (on_step setup before node source stop (life_in setup before node)) (Ok (noted_idle before (events.Step node source stop) node)) m.there
+may_step setting before node source stop m =
+    by_ok setting.setup node (on_step setting.setup before node source stop (life_in setting before node)) (Ok (noted_idle before (events.Step node source stop) node)) m.there
     (λ engine.
     let ready = m.ready engine in
-    step_ok setup before node source stop ready.made ready.past (life_in setup before node) ready.up ready.room) refl
+    step_ok setting.setup before node source stop ready.made ready.past (life_in setting before node) ready.up ready.room) refl
 
 ok_step : (setup : Setup) (before : List Noted) (node : Node) (source : StepSource) (stop : Stop) (life : Life) → is_ok (on_step setup before node source stop life) ≡ true
     → Running_with life (HasRoom setup)
@@ -207,15 +208,15 @@ ok_step setup before node source stop (Stopped held) h = cc
 ok_step setup before node source stop (Running made past) h =
     (made, past, refl, has_room setup made past (unless_ok (is_at_end setup made past) (Ok _) refusals.ViewEnd h).0)
 
-did_step : (setup : Setup) (before : List Noted) (node : Node) (source : StepSource) (stop : Stop) → is_ok (made_of setup before (events.Step node source stop)) ≡ true
-    → MayStep setup before node
+did_step : (setting : Setting) (before : List Noted) (node : Node) (source : StepSource) (stop : Stop) → is_ok (made_of setting before (events.Step node source stop)) ≡ true
+    → MayStep setting before node
 unfolding made_of
-did_step setup before node source stop e =
-    let outer = ok_by setup node (on_step setup before node source stop (life_in setup before node)) (Ok (noted_idle before (events.Step node source stop) node)) e in
+did_step setting before node source stop e =
+    let outer = ok_by setting.setup node (on_step setting.setup before node source stop (life_in setting before node)) (Ok (noted_idle before (events.Step node source stop) node)) e in
     record {
       there = outer.0;
       ready = λ engine.
-          let run = ok_step setup before node source stop (life_in setup before node) (outer.1 engine) in
+          let run = ok_step setting.setup before node source stop (life_in setting before node) (outer.1 engine) in
           record { made = run.0; past = run.1; up = run.2; room = run.3 };
     }
 
@@ -236,12 +237,12 @@ answer_ok setup before node at answer number made past (Running m p) is found ta
     let is_past : past ≡ p = cc in
     request_ok setup before node at answer number m p (request_number before node at) found (rw (is_made, is_past) at takes)
 
-may_answer : (setup : Setup) (before : List Noted) (node : Node) (at : Ref) (answer : Answer) → MayAnswer setup before node at answer
-    → is_ok (made_of setup before (events.Answer node at answer)) ≡ true
+may_answer : (setting : Setting) (before : List Noted) (node : Node) (at : Ref) (answer : Answer) → MayAnswer setting before node at answer
+    → is_ok (made_of setting before (events.Answer node at answer)) ≡ true
 unfolding made_of
-may_answer setup before node at answer m =
-    engine_ok setup node (on_answer setup before node at answer (life_in setup before node)) refusals.NotPending m.there m.engine
-    (answer_ok setup before node at answer m.number m.made m.past (life_in setup before node) m.up (number_asked before node at m.number m.asked) m.pending)
+may_answer setting before node at answer m =
+    engine_ok setting.setup node (on_answer setting.setup before node at answer (life_in setting before node)) refusals.NotPending m.there m.engine
+    (answer_ok setting.setup before node at answer m.number m.made m.past (life_in setting before node) m.up (number_asked before node at m.number m.asked) m.pending)
 
 ok_request : (setup : Setup) (before : List Noted) (node : Node) (at : Ref) (answer : Answer) (made : EngineMade) (past : List Did) (o : Option ℕ)
     → is_ok (on_request setup before node at answer o made past) ≡ true → (number : ℕ) × (o ≡ Some number) × (takes_reply made past number answer ≡ true)
@@ -254,13 +255,13 @@ ok_answer : (setup : Setup) (before : List Noted) (node : Node) (at : Ref) (answ
 ok_answer setup before node at answer (Stopped held) h = cc
 ok_answer setup before node at answer (Running made past) h = (made, past, refl, h)
 
-did_answer : (setup : Setup) (before : List Noted) (node : Node) (at : Ref) (answer : Answer) → is_ok (made_of setup before (events.Answer node at answer)) ≡ true
-    → MayAnswer setup before node at answer
+did_answer : (setting : Setting) (before : List Noted) (node : Node) (at : Ref) (answer : Answer) → is_ok (made_of setting before (events.Answer node at answer)) ≡ true
+    → MayAnswer setting before node at answer
 unfolding made_of
-did_answer setup before node at answer e =
-    let outer = ok_engine setup node (on_answer setup before node at answer (life_in setup before node)) refusals.NotPending e in
-    let run = ok_answer setup before node at answer (life_in setup before node) outer.2 in
-    let inner = ok_request setup before node at answer run.0 run.1 (request_number before node at) run.3 in
+did_answer setting before node at answer e =
+    let outer = ok_engine setting.setup node (on_answer setting.setup before node at answer (life_in setting before node)) refusals.NotPending e in
+    let run = ok_answer setting.setup before node at answer (life_in setting before node) outer.2 in
+    let inner = ok_request setting.setup before node at answer run.0 run.1 (request_number before node at) run.3 in
     record {
       there = outer.0;
       engine = outer.1;
@@ -278,24 +279,24 @@ crash_ok : (before : List Noted) (node : Node) (made : EngineMade) (past : List 
 crash_ok before node made past (Stopped held) is = cc
 crash_ok before node made past (Running m p) is = refl
 
-may_crash : (setup : Setup) (before : List Noted) (node : Node) → MayCrash setup before node → is_ok (made_of setup before (events.Crash node)) ≡ true
+may_crash : (setting : Setting) (before : List Noted) (node : Node) → MayCrash setting before node → is_ok (made_of setting before (events.Crash node)) ≡ true
 unfolding made_of
-may_crash setup before node m =
-    by_ok setup node (on_crash before node (life_in setup before node)) (Ok (noted_idle before (events.Crash node) node)) m.there
-    (λ engine. let run = m.running engine in crash_ok before node run.made run.past (life_in setup before node) run.up) refl
+may_crash setting before node m =
+    by_ok setting.setup node (on_crash before node (life_in setting before node)) (Ok (noted_idle before (events.Crash node) node)) m.there
+    (λ engine. let run = m.running engine in crash_ok before node run.made run.past (life_in setting before node) run.up) refl
 
 ok_crash : (before : List Noted) (node : Node) (life : Life) → is_ok (on_crash before node life) ≡ true → Running_with life (λ made past. Unit {0})
 ok_crash before node (Stopped held) h = cc
 ok_crash before node (Running made past) h = (made, past, refl, tt)
 
-did_crash : (setup : Setup) (before : List Noted) (node : Node) → is_ok (made_of setup before (events.Crash node)) ≡ true → MayCrash setup before node
+did_crash : (setting : Setting) (before : List Noted) (node : Node) → is_ok (made_of setting before (events.Crash node)) ≡ true → MayCrash setting before node
 unfolding made_of
-did_crash setup before node e =
-    let outer = ok_by setup node (on_crash before node (life_in setup before node)) (Ok (noted_idle before (events.Crash node) node)) e in
+did_crash setting before node e =
+    let outer = ok_by setting.setup node (on_crash before node (life_in setting before node)) (Ok (noted_idle before (events.Crash node) node)) e in
     record {
       there = outer.0;
       running = λ engine.
-          let run = ok_crash before node (life_in setup before node) (outer.1 engine) in
+          let run = ok_crash before node (life_in setting before node) (outer.1 engine) in
           record { made = run.0; past = run.1; up = run.2 };
     }
 
@@ -304,56 +305,56 @@ did_crash setup before node e =
 inject_ok : (setup : Setup) (member : ℕ) (noted : Noted) → is_faulty_member setup member ≡ true → is_ok {T = Noted} (if is_honest setup member then Err refusals.NotFaulty else Ok noted) ≡ true
 inject_ok setup member noted faulty = ok_unless (is_honest setup member) (Ok noted) refusals.NotFaulty (not_honest setup member faulty) refl
 
-may_inject : (setup : Setup) (before : List Noted) (member : ℕ) (channel : Channel) (to : List Node) (bytes : List ℕ) → MayInject setup member to
-    → is_ok (made_of setup before (events.Inject member channel to bytes)) ≡ true
+may_inject : (setting : Setting) (before : List Noted) (member : ℕ) (channel : Channel) (to : List Node) (bytes : List ℕ) → MayInject setting.setup member to
+    → is_ok (made_of setting before (events.Inject member channel to bytes)) ≡ true
 unfolding made_of
-may_inject setup before member channel to bytes m =
-    ok_if (nat_lt member (members_of setup) && list_all (is_node setup) to) (on_inject setup before member channel to bytes) refusals.NoMember
-    (and_true (nat_lt member (members_of setup)) (list_all (is_node setup) to) (is_below member (members_of setup) m.there) (nodes_are setup to m.nodes))
-    (inject_ok setup member _ m.faulty)
+may_inject setting before member channel to bytes m =
+    ok_if (nat_lt member (members_of setting.setup) && list_all (is_node setting.setup) to) (on_inject setting.setup before member channel to bytes) refusals.NoMember
+    (and_true (nat_lt member (members_of setting.setup)) (list_all (is_node setting.setup) to) (is_below member (members_of setting.setup) m.there) (nodes_are setting.setup to m.nodes))
+    (inject_ok setting.setup member _ m.faulty)
 
-did_inject : (setup : Setup) (before : List Noted) (member : ℕ) (channel : Channel) (to : List Node) (bytes : List ℕ)
-    → is_ok (made_of setup before (events.Inject member channel to bytes)) ≡ true → MayInject setup member to
+did_inject : (setting : Setting) (before : List Noted) (member : ℕ) (channel : Channel) (to : List Node) (bytes : List ℕ)
+    → is_ok (made_of setting before (events.Inject member channel to bytes)) ≡ true → MayInject setting.setup member to
 unfolding made_of
-did_inject setup before member channel to bytes e =
-    let outer = if_ok (nat_lt member (members_of setup) && list_all (is_node setup) to) (on_inject setup before member channel to bytes) refusals.NoMember e in
-    let parts = both (nat_lt member (members_of setup)) (list_all (is_node setup) to) outer.0 in
+did_inject setting before member channel to bytes e =
+    let outer = if_ok (nat_lt member (members_of setting.setup) && list_all (is_node setting.setup) to) (on_inject setting.setup before member channel to bytes) refusals.NoMember e in
+    let parts = both (nat_lt member (members_of setting.setup)) (list_all (is_node setting.setup) to) outer.0 in
     record {
-      there = below member (members_of setup) parts.0;
-      faulty = not_faultless setup member parts.0 (unless_ok (is_honest setup member) (Ok _) refusals.NotFaulty outer.1).0;
-      nodes = are_there setup to parts.1;
+      there = below member (members_of setting.setup) parts.0;
+      faulty = not_faultless setting.setup member parts.0 (unless_ok (is_honest setting.setup member) (Ok _) refusals.NotFaulty outer.1).0;
+      nodes = are_there setting.setup to parts.1;
     }
 
 -- ---- any event
 
-may_made : (setup : Setup) (before : List Noted) (event : Event) → May setup before event → is_ok (made_of setup before event) ≡ true
+may_made : (setting : Setting) (before : List Noted) (event : Event) → May setting before event → is_ok (made_of setting before event) ≡ true
 unfolding May
-may_made setup before (events.Start node floor stop) m = may_start setup before node floor stop m
-may_made setup before (events.Tick ms) m = may_tick setup before ms m
-may_made setup before (events.Deliver node at) m = may_deliver setup before node at m
-may_made setup before (events.Step node source stop) m = may_step setup before node source stop m
-may_made setup before (events.Answer node at answer) m = may_answer setup before node at answer m
-may_made setup before (events.Crash node) m = may_crash setup before node m
-may_made setup before (events.Inject member channel to bytes) m = may_inject setup before member channel to bytes m
+may_made setting before (events.Start node floor stop) m = may_start setting before node floor stop m
+may_made setting before (events.Tick ms) m = may_tick setting before ms m
+may_made setting before (events.Deliver node at) m = may_deliver setting before node at m
+may_made setting before (events.Step node source stop) m = may_step setting before node source stop m
+may_made setting before (events.Answer node at answer) m = may_answer setting before node at answer m
+may_made setting before (events.Crash node) m = may_crash setting before node m
+may_made setting before (events.Inject member channel to bytes) m = may_inject setting before member channel to bytes m
 
-made_may : (setup : Setup) (before : List Noted) (event : Event) → is_ok (made_of setup before event) ≡ true → May setup before event
+made_may : (setting : Setting) (before : List Noted) (event : Event) → is_ok (made_of setting before event) ≡ true → May setting before event
 unfolding May made_of
-made_may setup before (events.Start node floor stop) e = did_start setup before node floor stop e
-made_may setup before (events.Tick ms) e = did_tick setup before ms e
-made_may setup before (events.Deliver node at) e = did_deliver setup before node at e
-made_may setup before (events.Step node source stop) e = did_step setup before node source stop e
-made_may setup before (events.Answer node at answer) e = did_answer setup before node at answer e
-made_may setup before (events.Crash node) e = did_crash setup before node e
-made_may setup before (events.Inject member channel to bytes) e = did_inject setup before member channel to bytes e
+made_may setting before (events.Start node floor stop) e = did_start setting before node floor stop e
+made_may setting before (events.Tick ms) e = did_tick setting before ms e
+made_may setting before (events.Deliver node at) e = did_deliver setting before node at e
+made_may setting before (events.Step node source stop) e = did_step setting before node source stop e
+made_may setting before (events.Answer node at answer) e = did_answer setting before node at answer e
+made_may setting before (events.Crash node) e = did_crash setting before node e
+made_may setting before (events.Inject member channel to bytes) e = did_inject setting before member channel to bytes e
 
-pub meets_ok : (setup : Setup) (before : List Noted) (event : Event) → Meets setup before event → IsOk (entry_of setup before event)
+pub meets_ok : (setting : Setting) (before : List Noted) (event : Event) → Meets setting before event → IsOk (entry_of setting before event)
 unfolding entry_of
-meets_ok setup before event m = unforged_ok setup before (made_of setup before event) (may_made setup before event m.may) m.genuine
+meets_ok setting before event m = unforged_ok setting.setup before (made_of setting before event) (may_made setting before event m.may) m.genuine
 
-pub ok_meets : (setup : Setup) (before : List Noted) (event : Event) → IsOk (entry_of setup before event) → Meets setup before event
+pub ok_meets : (setting : Setting) (before : List Noted) (event : Event) → IsOk (entry_of setting before event) → Meets setting before event
 unfolding entry_of
-ok_meets setup before event e =
-    let parts = ok_unforged setup before (made_of setup before event) e in record { may = made_may setup before event parts.0; genuine = parts.1 }
+ok_meets setting before event e =
+    let parts = ok_unforged setting.setup before (made_of setting before event) e in record { may = made_may setting before event parts.0; genuine = parts.1 }
 
-pub exact : (setup : Setup) (before : List Noted) (event : Event) → IsOk (entry_of setup before event) ↔ Meets setup before event
-exact setup before event = (ok_meets setup before event, meets_ok setup before event)
+pub exact : (setting : Setting) (before : List Noted) (event : Event) → IsOk (entry_of setting before event) ↔ Meets setting before event
+exact setting before event = (ok_meets setting before event, meets_ok setting before event)

@@ -5,10 +5,11 @@ use Rattle.simplex_transcript.specs.declared.event.Event.{Event}
 use Rattle.simplex_transcript.specs.declared.event.Event.TheVariants as events
 use Rattle.simplex_transcript.specs.declared.node.Node.{Node}
 use Rattle.simplex_transcript.specs.declared.setup.Setup.{Setup}
+use Rattle.simplex_run.specs.Setting.{Setting}
 use Rattle.simplex_run.specs.Life.{Noted}
 use Rattle.simplex_run.specs.Entries.{node_of}
 use Rattle.simplex_run.specs.Setups.{first_bad}
-use Rattle.simplex_run.specs.Run.{are_few, run, Run}
+use Rattle.simplex_run.specs.Run.{are_few, run, RunFrom}
 use Rattle.simplex_run_laws.specs.Conditions.{Meets}
 
 -- the node that an event names
@@ -43,16 +44,16 @@ pub record IsValid (setup : Setup) (events : List Event) : Type 0 where
   pub good : IsNone (first_bad setup)
 
 -- wherever the first of the events make entries, the next one meets its conditions on them
-unfoldable pub MeetAll : Setup → List Event → Type 0
-MeetAll setup events =
+unfoldable pub MeetAll : Setting → List Event → Type 0
+MeetAll setting events =
     (first : List Event) (next : Event) (rest : List Event) (before : List Noted)
-    → events ≡ first ++ next ∷ rest → run setup [] first ≡ Ok before → Meets setup before next
+    → events ≡ first ++ next ∷ rest → run setting [] first ≡ Ok before → Meets setting before next
 
 -- the setup is valid, and each event meets its conditions
-pub record IsPossible (setup : Setup) (events : List Event) : Type 0 where
-  pub valid : IsValid setup events
-  pub met : MeetAll setup events
+pub record IsPossible (setting : Setting) (events : List Event) : Type 0 where
+  pub valid : IsValid setting.setup events
+  pub met : MeetAll setting events
 
 -- they have a run: it is not refused
-abbrev pub HasRun : Setup → List Event → Type 0
-HasRun setup events = (entries : List Entry) × (Run setup events ≡ Ok entries)
+abbrev pub HasRun : Setting → List Event → Type 0
+HasRun setting events = (entries : List Entry) × (RunFrom setting events ≡ Ok entries)

@@ -2,7 +2,7 @@
 ghost use Rattle.std.specs.Prelude.{◌≡◌, ◌↔◌, List, Ok, IsOk};
 ghost use Rattle.simplex_transcript.specs.declared.entry.Entry.{Entry};
 ghost use Rattle.simplex_transcript.specs.declared.event.Event.{Event};
-ghost use Rattle.simplex_transcript.specs.declared.setup.Setup.{Setup};
+ghost use Rattle.simplex_run.specs.Setting.{Setting};
 ghost use Rattle.simplex_run.specs.Entries.{entry_of};
 ghost use Rattle.simplex_run.specs.Life.{Noted};
 ghost use Rattle.simplex_run.specs.Run as runs;
@@ -11,15 +11,15 @@ ghost use Rattle.simplex_run_laws.specs.Complete.{HasRun, IsPossible};
 
 /// An event is not refused exactly where it meets its conditions.
 pub fn conditions_are_exact()
-    ensures { (setup : Setup) (before : List Noted) (event : Event) → IsOk (entry_of setup before event) ↔ Meets setup before event }
+    ensures { (setting : Setting) (before : List Noted) (event : Event) → IsOk (entry_of setting before event) ↔ Meets setting before event }
 {}
 
 /// A valid setup, and events that each meet their conditions, have a run.
 pub fn possible_events_run()
-    ensures { (setup : Setup) (events : List Event) → IsPossible setup events → HasRun setup events }
+    ensures { (setting : Setting) (events : List Event) → IsPossible setting events → HasRun setting events }
 {}
 
 /// What has a run is a valid setup, and events that each meet their conditions.
 pub fn runs_are_possible()
-    ensures { (setup : Setup) (events : List Event) (entries : List Entry) → runs.Run setup events ≡ Ok entries → IsPossible setup events }
+    ensures { (setting : Setting) (events : List Event) (entries : List Entry) → runs.RunFrom setting events ≡ Ok entries → IsPossible setting events }
 {}

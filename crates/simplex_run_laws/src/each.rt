@@ -2,11 +2,11 @@
 ghost use Rattle.std.specs.Prelude.{◌≡◌, List, Ok};
 ghost use Rattle.simplex_transcript.specs.declared.entry.Entry.{Entry};
 ghost use Rattle.simplex_transcript.specs.declared.event.Event.{Event};
-ghost use Rattle.simplex_transcript.specs.declared.setup.Setup.{Setup};
+ghost use Rattle.simplex_run.specs.Setting.{Setting};
 ghost use Rattle.simplex_run.specs.Run as runs;
 ghost use Rattle.simplex_run_laws.specs.Complete.{IsOneEach};
 
 /// A run has one entry for each event.
 pub fn runs_have_one_entry_each()
-    ensures { (setup : Setup) (events : List Event) (entries : List Entry) → runs.Run setup events ≡ Ok entries → IsOneEach entries events }
+    ensures { (setting : Setting) (events : List Event) (entries : List Entry) → runs.RunFrom setting events ≡ Ok entries → IsOneEach entries events }
 {}
