@@ -1,7 +1,7 @@
 -- A node of a run is a member that no batcher blames.
 use Rattle.std.proofs.Common.{◌≡◌, ◌<◌, Bool, true, false, List, [], ◌∷◌, ◌++◌, refl, if◌then◌else◌}
 use Rattle.simplex_transcript.specs.declared.node.Node.{Node}
-use Rattle.simplex_transcript.specs.declared.setup.Setup.{Setup}
+use Rattle.simplex_run.specs.Setting.{Setting}
 use Rattle.simplex_run.specs.Life.{Noted, is_of}
 use Rattle.simplex_agreement.specs.World.{Sent}
 use Rattle.simplex_lives.specs.Member.{newborn, run}
@@ -24,13 +24,13 @@ handed_sent node (noted ∷ before) sent h = at (is_of node noted.event) refl (h
     at true e rest = AreVotesSent-append sent (handed_of node before) noted.entry.handed rest (h.0 e)
     at false e rest = rest
 
-pub node_spared : (setup : Setup) (noted : List Noted) (node : Node) → 0 < setup.term → IsLivedBy setup noted node → IsNotBlamed noted node
-node_spared setup noted node pos lived =
+pub node_spared : (setting : Setting) (noted : List Noted) (node : Node) → 0 < setting.setup.term → IsLivedBy setting noted node → IsNotBlamed noted node
+node_spared setting noted node pos lived =
     let sent : List Sent = (run newborn lived.calls).sent in
     record {
       sent = sent;
       packets = lived.votes;
       spared = λ fits made past given own.
-          not_blamed made past given node.member setup.term sent (sent_in_order setup.term pos lived.calls lived.legal)
+          not_blamed made past given node.member setting.setup.term sent (sent_in_order setting.setup.term pos lived.calls lived.legal)
           (authentic node.member (calls_of node noted) (handed_of node noted) sent fits lived.votes (handed_sent node noted sent lived.constructed) (given ∷ past) own);
     }

@@ -26,7 +26,6 @@ use Rattle.simplex_messages.specs.declared.step.StepOut.{StepOut}
 use Rattle.simplex_messages.specs.Step.{no_out}
 use Rattle.simplex_transcript.specs.declared.event.Event.TheVariants as events
 use Rattle.simplex_transcript.specs.declared.node.Node.{Node}
-use Rattle.simplex_transcript.specs.declared.setup.Setup.{Setup}
 use Rattle.simplex_steps.specs.Desk.{Doing}
 use Rattle.simplex_steps.specs.Performed.{Performed, stop_place, stop_outcome, whole, broken, performed}
 use Rattle.simplex_steps.specs.Voter as voter
@@ -34,6 +33,7 @@ use Rattle.simplex_steps.specs.VoterLife.{VoterMade, Given, Started, Stepped, An
 use Rattle.simplex_steps.specs.Batcher as batcher
 use Rattle.simplex_steps.specs.Engine as engine
 use Rattle.simplex_steps.specs.Engine.{EngineMade, Taken, Began, Did, voter_in, voter_past, given_to_voter, started_at, is_start, sections_of, runs, is_whole, by_voter, by_batcher, cut_short, did_of}
+use Rattle.simplex_run.specs.Setting.{Setting}
 use Rattle.simplex_run.specs.Life.{Noted, Life, Stopped, Running, going_on}
 use Rattle.simplex_run.specs.Members.{floor_of, rules_of, engine_of}
 use Rattle.simplex_lives.specs.Journal as kept
@@ -142,54 +142,54 @@ unfolding place_of
 start_sections made now stop = refl
 
 -- the engine of a start, and what it did
-abbrev pub engine_at : Setup → Node → Option Finalization → List Section → EngineMade
-engine_at setup node floor js = engine_of setup node.member (floor_of setup floor) js
+abbrev pub engine_at : Setting → Node → Option Finalization → List Section → EngineMade
+engine_at setting node floor js = engine_of setting node.member (floor_of setting.genesis floor) js
 
-engine_rules : (setup : Setup) (node : Node) (floor : Option Finalization) (js : List Section) (start : ℕ) → ((engine_at setup node floor js).voter start).rules ≡ rules_of setup node.member start
+engine_rules : (setting : Setting) (node : Node) (floor : Option Finalization) (js : List Section) (start : ℕ) → ((engine_at setting node floor js).voter start).rules ≡ rules_of setting node.member start
 unfolding engine_of
-engine_rules setup node floor js start = refl
+engine_rules setting node floor js start = refl
 
 -- what the start gives, by its rules
-abbrev pub given_start : Setup → Node → Option Finalization → List Section → ℕ → Stop → Performed
-given_start setup node floor js now stop =
-    start_performed stop (floor_of setup floor) (voter.started (rules_of setup node.member now) now (floor_of setup floor) (replayed js)) js
+abbrev pub given_start : Setting → Node → Option Finalization → List Section → ℕ → Stop → Performed
+given_start setting node floor js now stop =
+    start_performed stop (floor_of setting.genesis floor) (voter.started (rules_of setting node.member now) now (floor_of setting.genesis floor) (replayed js)) js
 
-pub begun_gives : (setup : Setup) (node : Node) (floor : Option Finalization) (js : List Section) (now : ℕ) (stop : Stop)
-    → engine.begun (engine_at setup node floor js) now stop ≡ by_voter Began now stop (given_start setup node floor js now stop)
+pub begun_gives : (setting : Setting) (node : Node) (floor : Option Finalization) (js : List Section) (now : ℕ) (stop : Stop)
+    → engine.begun (engine_at setting node floor js) now stop ≡ by_voter Began now stop (given_start setting node floor js now stop)
 unfolding engine.begun engine_of start_given place_of
-begun_gives setup node floor js now stop = refl
+begun_gives setting node floor js now stop = refl
 
-start_known : Setup → Node → Option Finalization → List Section → ℕ → List Fact
-start_known setup node floor js now = (voter.started (rules_of setup node.member now) now (floor_of setup floor) (replayed js)).desk.known
+start_known : Setting → Node → Option Finalization → List Section → ℕ → List Fact
+start_known setting node floor js now = (voter.started (rules_of setting node.member now) now (floor_of setting.genesis floor) (replayed js)).desk.known
 
 -- where the node is behind a start that was made so
-start_leaves : (setup : Setup) (node : Node) (floor : Option Finalization) (js : List Section) (now : ℕ) (stop : Stop) (m : Member) (o : Outcome)
-    → (given_start setup node floor js now stop).outcome ≡ o
-    → IsLeft (rules_of setup node.member now) (start_known setup node floor js now) o (given_start setup node floor js now stop).sections m
-    → IsAt setup node (if is_whole o then Running (engine_at setup node floor js) (by_voter Began now stop (given_start setup node floor js now stop) ∷ [])
-    else Stopped (sections_of (engine_at setup node floor js) (by_voter Began now stop (given_start setup node floor js now stop) ∷ []))) m
+start_leaves : (setting : Setting) (node : Node) (floor : Option Finalization) (js : List Section) (now : ℕ) (stop : Stop) (m : Member) (o : Outcome)
+    → (given_start setting node floor js now stop).outcome ≡ o
+    → IsLeft (rules_of setting node.member now) (start_known setting node floor js now) o (given_start setting node floor js now stop).sections m
+    → IsAt setting node (if is_whole o then Running (engine_at setting node floor js) (by_voter Began now stop (given_start setting node floor js now stop) ∷ [])
+    else Stopped (sections_of (engine_at setting node floor js) (by_voter Began now stop (given_start setting node floor js now stop) ∷ []))) m
 unfolding IsAt engine_of started_at voter_past start_known sections_of
-start_leaves setup node floor js now stop m outcomes.Done e l =
-    let made = (engine_at setup node floor js).voter now in (
-      engine_rules setup node floor js,
-      subst (λ known. IsRunning (rules_of setup node.member now) known (place_of made (Started now stop ∷ [])).sections m)
-          (sym (start_place made now stop (start_reads stop (floor_of setup floor) (start_at made now js) js e)))
-          (subst (λ sections. IsRunning (rules_of setup node.member now) (start_at made now js).desk.known sections m) (sym (start_sections made now stop)) l),
+start_leaves setting node floor js now stop m outcomes.Done e l =
+    let made = (engine_at setting node floor js).voter now in (
+      engine_rules setting node floor js,
+      subst (λ known. IsRunning (rules_of setting node.member now) known (place_of made (Started now stop ∷ [])).sections m)
+          (sym (start_place made now stop (start_reads stop (floor_of setting.genesis floor) (start_at made now js) js e)))
+          (subst (λ sections. IsRunning (rules_of setting node.member now) (start_at made now js).desk.known sections m) (sym (start_sections made now stop)) l),
     )
-start_leaves setup node floor js now stop m outcomes.Idle e l =
-    absurd (start_never_idle stop (floor_of setup floor) (voter.started (rules_of setup node.member now) now (floor_of setup floor) (replayed js)) js e)
-start_leaves setup node floor js now stop m outcomes.Cut e l =
-    let made = (engine_at setup node floor js).voter now in
-    stopped_any setup node.member now 0 _ m (subst (λ sections. IsStopped (rules_of setup node.member now) sections m) (sym (start_sections made now stop)) l)
-start_leaves setup node floor js now stop m outcomes.Journal e l =
-    let made = (engine_at setup node floor js).voter now in
-    stopped_any setup node.member now 0 _ m (subst (λ sections. IsStopped (rules_of setup node.member now) sections m) (sym (start_sections made now stop)) l)
+start_leaves setting node floor js now stop m outcomes.Idle e l =
+    absurd (start_never_idle stop (floor_of setting.genesis floor) (voter.started (rules_of setting node.member now) now (floor_of setting.genesis floor) (replayed js)) js e)
+start_leaves setting node floor js now stop m outcomes.Cut e l =
+    let made = (engine_at setting node floor js).voter now in
+    stopped_any setting node.member now 0 _ m (subst (λ sections. IsStopped (rules_of setting node.member now) sections m) (sym (start_sections made now stop)) l)
+start_leaves setting node floor js now stop m outcomes.Journal e l =
+    let made = (engine_at setting node floor js).voter now in
+    stopped_any setting node.member now 0 _ m (subst (λ sections. IsStopped (rules_of setting node.member now) sections m) (sym (start_sections made now stop)) l)
 
 -- what the member lives in a start
-in_floor : (setup : Setup) (node : Node) (floor : Option Finalization) (stop : Stop) (c : agreement.Certificate)
-    → Contains (floor_statement (floor_of setup floor)) c → Contains (floor_in node (events.Start node floor stop)) c
-in_floor setup node None stop c k = absurd (not_in_empty c k)
-in_floor setup node (Some f) stop c k =
+in_floor : (setting : Setting) (node : Node) (floor : Option Finalization) (stop : Stop) (c : agreement.Certificate)
+    → Contains (floor_statement (floor_of setting.genesis floor)) c → Contains (floor_in node (events.Start node floor stop)) c
+in_floor setting node None stop c k = absurd (not_in_empty c k)
+in_floor setting node (Some f) stop c k =
     subst (λ b. Contains (if b then statement_of (certificates.Finalization f) ∷ [] else []) c) (sym (same_self node)) k
 
 -- a start hands on no constructed vote: it sends none
@@ -227,40 +227,40 @@ any_floor : (f : Floor) → InFloor nothing_bad f
 any_floor (floors.Genesis payload) = tt
 any_floor (floors.Finalized f) = tt
 
-start_silent : (setup : Setup) (node : Node) (floor : Option Finalization) (js : List Section) (now : ℕ) (stop : Stop)
-    → AreSent (given_start setup node floor js now stop).out.calls [] → AreSilent (given_start setup node floor js now stop).out.handed
-start_silent setup node floor js now stop h =
-    let f = floor_of setup floor in
-    let rules = rules_of setup node.member now in
+start_silent : (setting : Setting) (node : Node) (floor : Option Finalization) (js : List Section) (now : ℕ) (stop : Stop)
+    → AreSent (given_start setting node floor js now stop).out.calls [] → AreSilent (given_start setting node floor js now stop).out.handed
+start_silent setting node floor js now stop h =
+    let f = floor_of setting.genesis floor in
+    let rules = rules_of setting node.member now in
     let said = said_at_start nothing_bad stop f (voter.started rules now f (replayed js)) js
     (started_says nothing_bad rules now f (replayed js) (any_floor f) (λ a k. any_record a)) in
-    unsent_silent (given_start setup node floor js now stop).out.calls (given_start setup node floor js now stop).out.handed h said.handed
+    unsent_silent (given_start setting node floor js now stop).out.calls (given_start setting node floor js now stop).out.handed h said.handed
 
-pub start_further : (setup : Setup) (node : Node) (floor : Option Finalization) (stop : Stop) (js : List Section) (now : ℕ) (m : Member) (noted : Noted)
-    → IsFloor (floor_of setup floor) → IsAt setup node (Stopped js) m
-    → (noted.entry.calls ≡ (engine.begun (engine_at setup node floor js) now stop).out.calls) × (noted.entry.handed ≡ (engine.begun (engine_at setup node floor js) now stop).out.handed) → noted.event ≡ events.Start node floor stop
-    → Further setup noted node (going_on (engine_at setup node floor js) (engine.begun (engine_at setup node floor js) now stop ∷ [])) m
+pub start_further : (setting : Setting) (node : Node) (floor : Option Finalization) (stop : Stop) (js : List Section) (now : ℕ) (m : Member) (noted : Noted)
+    → IsFloor (floor_of setting.genesis floor) → IsAt setting node (Stopped js) m
+    → (noted.entry.calls ≡ (engine.begun (engine_at setting node floor js) now stop).out.calls) × (noted.entry.handed ≡ (engine.begun (engine_at setting node floor js) now stop).out.handed) → noted.event ≡ events.Start node floor stop
+    → Further setting noted node (going_on (engine_at setting node floor js) (engine.begun (engine_at setting node floor js) now stop ∷ [])) m
 unfolding IsAt rules_of runs start_known
-start_further setup node floor stop js now m noted good s calls_is event_is =
-    let x = start_lived (rules_of setup node.member now) now (floor_of setup floor) stop js m good (stopped_any setup node.member 0 now js m s) in
-    let did = by_voter Began now stop (given_start setup node floor js now stop) in
-    let same = begun_gives setup node floor js now stop in
+start_further setting node floor stop js now m noted good s calls_is event_is =
+    let x = start_lived (rules_of setting node.member now) now (floor_of setting.genesis floor) stop js m good (stopped_any setting node.member 0 now js m s) in
+    let did = by_voter Began now stop (given_start setting node floor js now stop) in
+    let same = begun_gives setting node floor js now stop in
     record {
       calls = x.calls;
       sent = [];
       legal = x.legal;
-      brought = λ c k. inr (subst (λ e. Contains (floor_in node e) c) (sym event_is) (in_floor setup node floor stop c (elim x.brought [
+      brought = λ c k. inr (subst (λ e. Contains (floor_in node e) c) (sym event_is) (in_floor setting node floor stop c (elim x.brought [
         | inl none ↦ absurd (not_in_empty c (subst (λ xs. Contains xs c) none k))
         | inr one ↦ subst (λ xs. Contains xs c) one k
       ])));
       sends = x.sends ∙ sym (append-nil m.sent);
       votes = subst (λ cs. AreSent cs []) (sym (calls_is.0 ∙ ap (λ (d : Did). d.out.calls) same)) x.votes;
-      at = subst (λ d. IsAt setup node (going_on (engine_at setup node floor js) (d ∷ [])) (run m x.calls)) (sym same)
-          (start_leaves setup node floor js now stop (run m x.calls) (given_start setup node floor js now stop).outcome refl x.left);
-      first = voteless_first (IsEarlier m) (IsOwn (rules_of setup node.member 0)) noted.entry.calls (subst (λ cs. AreSent cs []) (sym (calls_is.0 ∙ ap (λ (d : Did). d.out.calls) same)) x.votes);
+      at = subst (λ d. IsAt setting node (going_on (engine_at setting node floor js) (d ∷ [])) (run m x.calls)) (sym same)
+          (start_leaves setting node floor js now stop (run m x.calls) (given_start setting node floor js now stop).outcome refl x.left);
+      first = voteless_first (IsEarlier m) (IsOwn (rules_of setting node.member 0)) noted.entry.calls (subst (λ cs. AreSent cs []) (sym (calls_is.0 ∙ ap (λ (d : Did). d.out.calls) same)) x.votes);
       own = λ s k. absurd (not_in_empty s k);
       constructed = all_silent (run m x.calls).sent noted.entry.handed
-          (subst AreSilent (sym (calls_is.1 ∙ ap (λ (d : Did). d.out.handed) same)) (start_silent setup node floor js now stop x.votes));
+          (subst AreSilent (sym (calls_is.1 ∙ ap (λ (d : Did). d.out.handed) same)) (start_silent setting node floor js now stop x.votes));
     }
 
 -- ---- events that the voter does not see
@@ -274,10 +274,10 @@ place_same made did past e f =
     filter_none : (did : Did) (past : List Did) → given_to_voter did ≡ None → filter_map given_to_voter (did ∷ past) ≡ filter_map given_to_voter past
     filter_none did past e = grind (arith, common_steps, e)
 
-quiet_at : (setup : Setup) (node : Node) (made : EngineMade) (did : Did) (past : List Did) (m : Member) → given_to_voter did ≡ None → is_start did.taken ≡ false
-    → IsAt setup node (Running made past) m → IsAt setup node (Running made (did ∷ past)) m
+quiet_at : (setting : Setting) (node : Node) (made : EngineMade) (did : Did) (past : List Did) (m : Member) → given_to_voter did ≡ None → is_start did.taken ≡ false
+    → IsAt setting node (Running made past) m → IsAt setting node (Running made (did ∷ past)) m
 unfolding IsAt
-quiet_at setup node made did past m e f a =
+quiet_at setting node made did past m e f a =
     let p = place_same made did past e f in (
       a.0,
       subst (λ v. IsRunning v.rules (place_of v (voter_past (did ∷ past))).standing.desk.known (place_of v (voter_past (did ∷ past))).sections m) (sym p.0)
@@ -290,21 +290,21 @@ rest_stopped made facts js m r =
     subst (λ x. IsStopped made x (happens m (life.Crash (λ view. 0)))) (crashed-rested 0 js (at_rest js (ap kept.waiting (sym r.journal) ∙ r.stored)))
     (crash_lived made 0 facts js m r)
 
-quiet_stopped : (setup : Setup) (node : Node) (made : EngineMade) (did : Did) (past : List Did) (m : Member) → given_to_voter did ≡ None → is_start did.taken ≡ false
-    → IsAt setup node (Running made past) m → IsAt setup node (Stopped (sections_of made (did ∷ past))) (happens m (life.Crash (λ view. 0)))
+quiet_stopped : (setting : Setting) (node : Node) (made : EngineMade) (did : Did) (past : List Did) (m : Member) → given_to_voter did ≡ None → is_start did.taken ≡ false
+    → IsAt setting node (Running made past) m → IsAt setting node (Stopped (sections_of made (did ∷ past))) (happens m (life.Crash (λ view. 0)))
 unfolding IsAt sections_of
-quiet_stopped setup node made did past m e f a =
+quiet_stopped setting node made did past m e f a =
     let p = place_same made did past e f in
     let place = place_of (voter_in made past) (voter_past past) in
-    let stopped : IsStopped (rules_of setup node.member (started_at past)) place.sections (happens m (life.Crash (λ view. 0))) =
+    let stopped : IsStopped (rules_of setting node.member (started_at past)) place.sections (happens m (life.Crash (λ view. 0))) =
     subst (λ r. IsStopped r place.sections (happens m (life.Crash (λ view. 0)))) (a.0 (started_at past)) (rest_stopped (voter_in made past).rules place.standing.desk.known place.sections m a.1) in
-    subst (λ v. IsStopped (rules_of setup node.member 0) (place_of v (voter_past (did ∷ past))).sections (happens m (life.Crash (λ view. 0)))) (sym p.0)
-    (subst (λ given. IsStopped (rules_of setup node.member 0) (place_of (voter_in made past) given).sections (happens m (life.Crash (λ view. 0)))) (sym p.1)
-    (stopped_any setup node.member (started_at past) 0 place.sections (happens m (life.Crash (λ view. 0))) stopped))
+    subst (λ v. IsStopped (rules_of setting node.member 0) (place_of v (voter_past (did ∷ past))).sections (happens m (life.Crash (λ view. 0)))) (sym p.0)
+    (subst (λ given. IsStopped (rules_of setting node.member 0) (place_of (voter_in made past) given).sections (happens m (life.Crash (λ view. 0)))) (sym p.1)
+    (stopped_any setting node.member (started_at past) 0 place.sections (happens m (life.Crash (λ view. 0))) stopped))
 
 -- the member does nothing, or stops
-quiet_on : (setup : Setup) (node : Node) (noted : Noted) (later : Life) (m : Member) → Voteless noted.entry.calls → AreSilent noted.entry.handed → IsAt setup node later m → Further setup noted node later m
-quiet_on setup node noted later m voteless silent a =
+quiet_on : (setting : Setting) (node : Node) (noted : Noted) (later : Life) (m : Member) → Voteless noted.entry.calls → AreSilent noted.entry.handed → IsAt setting node later m → Further setting noted node later m
+quiet_on setting node noted later m voteless silent a =
     record {
       calls = [];
       sent = [];
@@ -313,14 +313,14 @@ quiet_on setup node noted later m voteless silent a =
       sends = sym (append-nil m.sent);
       votes = none_sent noted.entry.calls voteless;
       at = a;
-      first = voteless_first (IsEarlier m) (IsOwn (rules_of setup node.member 0)) noted.entry.calls (none_sent noted.entry.calls voteless);
+      first = voteless_first (IsEarlier m) (IsOwn (rules_of setting node.member 0)) noted.entry.calls (none_sent noted.entry.calls voteless);
       constructed = all_silent m.sent noted.entry.handed silent;
       own = λ s k. absurd (not_in_empty s k);
     }
 
-quiet_off : (setup : Setup) (node : Node) (noted : Noted) (later : Life) (m : Member) → Voteless noted.entry.calls → AreSilent noted.entry.handed → IsAt setup node later (happens m (life.Crash (λ view. 0)))
-    → Further setup noted node later m
-quiet_off setup node noted later m voteless silent a =
+quiet_off : (setting : Setting) (node : Node) (noted : Noted) (later : Life) (m : Member) → Voteless noted.entry.calls → AreSilent noted.entry.handed → IsAt setting node later (happens m (life.Crash (λ view. 0)))
+    → Further setting noted node later m
+quiet_off setting node noted later m voteless silent a =
     record {
       calls = life.Crash (λ view. 0) ∷ [];
       sent = [];
@@ -329,7 +329,7 @@ quiet_off setup node noted later m voteless silent a =
       sends = sym (append-nil m.sent);
       votes = none_sent noted.entry.calls voteless;
       at = a;
-      first = voteless_first (IsEarlier m) (IsOwn (rules_of setup node.member 0)) noted.entry.calls (none_sent noted.entry.calls voteless);
+      first = voteless_first (IsEarlier m) (IsOwn (rules_of setting node.member 0)) noted.entry.calls (none_sent noted.entry.calls voteless);
       constructed = all_silent m.sent noted.entry.handed silent;
       own = λ s k. absurd (not_in_empty s k);
     }
@@ -343,18 +343,18 @@ plain_take (suc n) (x ∷ xs) p = (p.0, plain_take n xs p.1)
 abbrev pub IsUnseen : Taken → Type 0
 IsUnseen taken = ((now : ℕ) (stop : Stop) (outcome : Outcome) (out : StepOut) → given_to_voter (did_of taken now stop outcome out) ≡ None) × (is_start taken ≡ false)
 
-unseen_further : (setup : Setup) (node : Node) (made : EngineMade) (past : List Did) (m : Member) (noted : Noted) (taken : Taken) (now : ℕ) (stop : Stop) (o : Outcome) (out : StepOut)
-    → IsUnseen taken → Voteless out.calls → AreSilent out.handed → (noted.entry.calls ≡ out.calls) × (noted.entry.handed ≡ out.handed) → IsAt setup node (Running made past) m
-    → Further setup noted node (going_on made (did_of taken now stop o out ∷ past)) m
+unseen_further : (setting : Setting) (node : Node) (made : EngineMade) (past : List Did) (m : Member) (noted : Noted) (taken : Taken) (now : ℕ) (stop : Stop) (o : Outcome) (out : StepOut)
+    → IsUnseen taken → Voteless out.calls → AreSilent out.handed → (noted.entry.calls ≡ out.calls) × (noted.entry.handed ≡ out.handed) → IsAt setting node (Running made past) m
+    → Further setting noted node (going_on made (did_of taken now stop o out ∷ past)) m
 unfolding runs
-unseen_further setup node made past m noted taken now stop outcomes.Done out u voteless silent same a =
-    quiet_on setup node noted _ m (subst Voteless (sym same.0) voteless) (subst AreSilent (sym same.1) silent) (quiet_at setup node made (did_of taken now stop outcomes.Done out) past m (u.0 now stop outcomes.Done out) u.1 a)
-unseen_further setup node made past m noted taken now stop outcomes.Idle out u voteless silent same a =
-    quiet_on setup node noted _ m (subst Voteless (sym same.0) voteless) (subst AreSilent (sym same.1) silent) (quiet_at setup node made (did_of taken now stop outcomes.Idle out) past m (u.0 now stop outcomes.Idle out) u.1 a)
-unseen_further setup node made past m noted taken now stop outcomes.Journal out u voteless silent same a =
-    quiet_off setup node noted _ m (subst Voteless (sym same.0) voteless) (subst AreSilent (sym same.1) silent) (quiet_stopped setup node made (did_of taken now stop outcomes.Journal out) past m (u.0 now stop outcomes.Journal out) u.1 a)
-unseen_further setup node made past m noted taken now stop outcomes.Cut out u voteless silent same a =
-    quiet_off setup node noted _ m (subst Voteless (sym same.0) voteless) (subst AreSilent (sym same.1) silent) (quiet_stopped setup node made (did_of taken now stop outcomes.Cut out) past m (u.0 now stop outcomes.Cut out) u.1 a)
+unseen_further setting node made past m noted taken now stop outcomes.Done out u voteless silent same a =
+    quiet_on setting node noted _ m (subst Voteless (sym same.0) voteless) (subst AreSilent (sym same.1) silent) (quiet_at setting node made (did_of taken now stop outcomes.Done out) past m (u.0 now stop outcomes.Done out) u.1 a)
+unseen_further setting node made past m noted taken now stop outcomes.Idle out u voteless silent same a =
+    quiet_on setting node noted _ m (subst Voteless (sym same.0) voteless) (subst AreSilent (sym same.1) silent) (quiet_at setting node made (did_of taken now stop outcomes.Idle out) past m (u.0 now stop outcomes.Idle out) u.1 a)
+unseen_further setting node made past m noted taken now stop outcomes.Journal out u voteless silent same a =
+    quiet_off setting node noted _ m (subst Voteless (sym same.0) voteless) (subst AreSilent (sym same.1) silent) (quiet_stopped setting node made (did_of taken now stop outcomes.Journal out) past m (u.0 now stop outcomes.Journal out) u.1 a)
+unseen_further setting node made past m noted taken now stop outcomes.Cut out u voteless silent same a =
+    quiet_off setting node noted _ m (subst Voteless (sym same.0) voteless) (subst AreSilent (sym same.1) silent) (quiet_stopped setting node made (did_of taken now stop outcomes.Cut out) past m (u.0 now stop outcomes.Cut out) u.1 a)
 
 -- what a batcher did
 cut_plain : (stop : Stop) (out : StepOut) → AllPlain out.calls → AllPlain (cut_short stop out).1.calls
@@ -381,20 +381,20 @@ cut_silent (stops.Cut call keep) out p = at (nat_lt 0 call && nat_le call (lengt
     at true = tt
     at false = p
 
-pub batcher_further : (setup : Setup) (node : Node) (made : EngineMade) (past : List Did) (m : Member) (noted : Noted) (taken : Taken) (input : BatcherInput) (now : ℕ) (stop : Stop)
-    → IsUnseen taken → (noted.entry.calls ≡ (by_batcher made past taken input now stop).out.calls) × (noted.entry.handed ≡ (by_batcher made past taken input now stop).out.handed) → IsAt setup node (Running made past) m
-    → Further setup noted node (going_on made (by_batcher made past taken input now stop ∷ past)) m
+pub batcher_further : (setting : Setting) (node : Node) (made : EngineMade) (past : List Did) (m : Member) (noted : Noted) (taken : Taken) (input : BatcherInput) (now : ℕ) (stop : Stop)
+    → IsUnseen taken → (noted.entry.calls ≡ (by_batcher made past taken input now stop).out.calls) × (noted.entry.handed ≡ (by_batcher made past taken input now stop).out.handed) → IsAt setting node (Running made past) m
+    → Further setting noted node (going_on made (by_batcher made past taken input now stop ∷ past)) m
 unfolding by_batcher
-batcher_further setup node made past m noted taken input now stop u same a =
+batcher_further setting node made past m noted taken input now stop u same a =
     let given : batcher.Timed = record { input = input; now = now } in
     let out = batcher.step_out made.batcher (engine.batcher_past past) given in
     let cut = cut_short stop out in
-    unseen_further setup node made past m noted taken now stop cut.0 cut.1 u (plain_voteless cut.1.calls (cut_plain stop out (batcher_plain made.batcher (engine.batcher_past past) given)))
+    unseen_further setting node made past m noted taken now stop cut.0 cut.1 u (plain_voteless cut.1.calls (cut_plain stop out (batcher_plain made.batcher (engine.batcher_past past) given)))
     (cut_silent stop out (for_voter_silent out.handed (batcher_hush made.batcher (engine.batcher_past past) given).1)) same a
 
-pub nothing_further : (setup : Setup) (node : Node) (made : EngineMade) (past : List Did) (m : Member) (noted : Noted) (taken : Taken) (now : ℕ) (stop : Stop) (o : Outcome)
-    → IsUnseen taken → (noted.entry.calls ≡ []) × (noted.entry.handed ≡ []) → IsAt setup node (Running made past) m → Further setup noted node (going_on made (did_of taken now stop o no_out ∷ past)) m
-nothing_further setup node made past m noted taken now stop o u same a = unseen_further setup node made past m noted taken now stop o no_out u tt tt same a
+pub nothing_further : (setting : Setting) (node : Node) (made : EngineMade) (past : List Did) (m : Member) (noted : Noted) (taken : Taken) (now : ℕ) (stop : Stop) (o : Outcome)
+    → IsUnseen taken → (noted.entry.calls ≡ []) × (noted.entry.handed ≡ []) → IsAt setting node (Running made past) m → Further setting noted node (going_on made (did_of taken now stop o no_out ∷ past)) m
+nothing_further setting node made past m noted taken now stop o u same a = unseen_further setting node made past m noted taken now stop o no_out u tt tt same a
 
 -- what a resolver did
 resolver_voteless : (cs : List Call) → list_all is_call_of_resolver cs ≡ true → Voteless cs
@@ -418,11 +418,11 @@ resolver_silent (handed.Voter (voter_message.Timeout round reason) ∷ hs) e = c
 resolver_silent (handed.Batcher message ∷ hs) e = cc
 resolver_silent (handed.Resolver message ∷ hs) e = cc
 
-pub resolver_further : (setup : Setup) (node : Node) (made : EngineMade) (past : List Did) (m : Member) (noted : Noted) (did : Did)
-    → IsOfResolver did.out → IsApart did → is_start did.taken ≡ false → (noted.entry.calls ≡ did.out.calls) × (noted.entry.handed ≡ did.out.handed) → IsAt setup node (Running made past) m
-    → Further setup noted node (going_on made (did ∷ past)) m
+pub resolver_further : (setting : Setting) (node : Node) (made : EngineMade) (past : List Did) (m : Member) (noted : Noted) (did : Did)
+    → IsOfResolver did.out → IsApart did → is_start did.taken ≡ false → (noted.entry.calls ≡ did.out.calls) × (noted.entry.handed ≡ did.out.handed) → IsAt setting node (Running made past) m
+    → Further setting noted node (going_on made (did ∷ past)) m
 unfolding runs
-resolver_further setup node made past m noted did r apart start same a = at did.outcome
+resolver_further setting node made past m noted did r apart start same a = at did.outcome
   where
     voteless : Voteless noted.entry.calls
     voteless = subst Voteless (sym same.0) (resolver_voteless did.out.calls r.calls)
@@ -430,41 +430,41 @@ resolver_further setup node made past m noted did r apart start same a = at did.
     silent : AreSilent noted.entry.handed
     silent = subst AreSilent (sym same.1) (resolver_silent did.out.handed r.handed)
 
-    at : (o : Outcome) → Further setup noted node (if is_whole o then Running made (did ∷ past) else Stopped (sections_of made (did ∷ past))) m
-    at outcomes.Done = quiet_on setup node noted _ m voteless silent (quiet_at setup node made did past m apart.voter start a)
-    at outcomes.Idle = quiet_on setup node noted _ m voteless silent (quiet_at setup node made did past m apart.voter start a)
-    at outcomes.Journal = quiet_off setup node noted _ m voteless silent (quiet_stopped setup node made did past m apart.voter start a)
-    at outcomes.Cut = quiet_off setup node noted _ m voteless silent (quiet_stopped setup node made did past m apart.voter start a)
+    at : (o : Outcome) → Further setting noted node (if is_whole o then Running made (did ∷ past) else Stopped (sections_of made (did ∷ past))) m
+    at outcomes.Done = quiet_on setting node noted _ m voteless silent (quiet_at setting node made did past m apart.voter start a)
+    at outcomes.Idle = quiet_on setting node noted _ m voteless silent (quiet_at setting node made did past m apart.voter start a)
+    at outcomes.Journal = quiet_off setting node noted _ m voteless silent (quiet_stopped setting node made did past m apart.voter start a)
+    at outcomes.Cut = quiet_off setting node noted _ m voteless silent (quiet_stopped setting node made did past m apart.voter start a)
 
 -- ---- a step of the voter
 
 -- where the node is behind a step that was made so
-step_leaves : (setup : Setup) (node : Node) (made : EngineMade) (past : List Did) (did : Did) (place : Place) (input : VoterInput) (now : ℕ) (stop : Stop) (d : Doing) (m : Member) (o : Outcome)
-    → ((start : ℕ) → (made.voter start).rules ≡ rules_of setup node.member start)
+step_leaves : (setting : Setting) (node : Node) (made : EngineMade) (past : List Did) (did : Did) (place : Place) (input : VoterInput) (now : ℕ) (stop : Stop) (d : Doing) (m : Member) (o : Outcome)
+    → ((start : ℕ) → (made.voter start).rules ≡ rules_of setting node.member start)
     → place_of (voter_in made (did ∷ past)) (voter_past (did ∷ past)) ≡ place → voter_in made (did ∷ past) ≡ voter_in made past
     → (performed stop d (place_of (voter_in made past) (voter_past past)).sections).outcome ≡ o
     → place.standing.desk.known ≡ d.desk.known → place.sections ≡ (performed stop d (place_of (voter_in made past) (voter_past past)).sections).sections
     → IsLeft (voter_in made past).rules d.desk.known o (performed stop d (place_of (voter_in made past) (voter_past past)).sections).sections m
-    → IsAt setup node (if is_whole o then Running made (did ∷ past) else Stopped (sections_of made (did ∷ past))) m
+    → IsAt setting node (if is_whole o then Running made (did ∷ past) else Stopped (sections_of made (did ∷ past))) m
 unfolding IsAt sections_of
-step_leaves setup node made past did place input now stop d m outcomes.Done rules at same e known sections l = (
+step_leaves setting node made past did place input now stop d m outcomes.Done rules at same e known sections l = (
   rules,
   subst (λ (v : VoterMade). IsRunning v.rules (place_of (voter_in made (did ∷ past)) (voter_past (did ∷ past))).standing.desk.known (place_of (voter_in made (did ∷ past)) (voter_past (did ∷ past))).sections m) (sym same)
       (subst (λ (p : Place). IsRunning (voter_in made past).rules p.standing.desk.known p.sections m) (sym at)
       (subst (λ k. IsRunning (voter_in made past).rules k place.sections m) (sym known)
       (subst (λ x. IsRunning (voter_in made past).rules d.desk.known x m) (sym sections) l))),
 )
-step_leaves setup node made past did place input now stop d m outcomes.Idle rules at same e known sections l = absurd (never_idle stop d (place_of (voter_in made past) (voter_past past)).sections e)
-step_leaves setup node made past did place input now stop d m outcomes.Journal rules at same e known sections l =
+step_leaves setting node made past did place input now stop d m outcomes.Idle rules at same e known sections l = absurd (never_idle stop d (place_of (voter_in made past) (voter_past past)).sections e)
+step_leaves setting node made past did place input now stop d m outcomes.Journal rules at same e known sections l =
     let js = (performed stop d (place_of (voter_in made past) (voter_past past)).sections).sections in
-    subst (λ (p : Place). IsStopped (rules_of setup node.member 0) p.sections m) (sym at)
-    (subst (λ x. IsStopped (rules_of setup node.member 0) x m) (sym sections)
-    (stopped_any setup node.member (started_at past) 0 js m (subst (λ r. IsStopped r js m) (rules (started_at past)) l)))
-step_leaves setup node made past did place input now stop d m outcomes.Cut rules at same e known sections l =
+    subst (λ (p : Place). IsStopped (rules_of setting node.member 0) p.sections m) (sym at)
+    (subst (λ x. IsStopped (rules_of setting node.member 0) x m) (sym sections)
+    (stopped_any setting node.member (started_at past) 0 js m (subst (λ r. IsStopped r js m) (rules (started_at past)) l)))
+step_leaves setting node made past did place input now stop d m outcomes.Cut rules at same e known sections l =
     let js = (performed stop d (place_of (voter_in made past) (voter_past past)).sections).sections in
-    subst (λ (p : Place). IsStopped (rules_of setup node.member 0) p.sections m) (sym at)
-    (subst (λ x. IsStopped (rules_of setup node.member 0) x m) (sym sections)
-    (stopped_any setup node.member (started_at past) 0 js m (subst (λ r. IsStopped r js m) (rules (started_at past)) l)))
+    subst (λ (p : Place). IsStopped (rules_of setting node.member 0) p.sections m) (sym at)
+    (subst (λ x. IsStopped (rules_of setting node.member 0) x m) (sym sections)
+    (stopped_any setting node.member (started_at past) 0 js m (subst (λ r. IsStopped r js m) (rules (started_at past)) l)))
 
 -- the voter was given this step
 abbrev pub IsStep : Taken → VoterInput → Type 0
@@ -495,35 +495,35 @@ pub step_gives : (made : VoterMade) (given : List Given) (input : VoterInput) (n
 unfolding step_given
 step_gives made given input now stop o e = ap (λ o. option_map_or (λ doing. performed stop doing (place_of made given).sections) o (idle (place_of made given).sections)) e
 
-same_place : (setup : Setup) (node : Node) (made : EngineMade) (did : Did) (past : List Did) (m : Member) → voter_in made (did ∷ past) ≡ voter_in made past
+same_place : (setting : Setting) (node : Node) (made : EngineMade) (did : Did) (past : List Did) (m : Member) → voter_in made (did ∷ past) ≡ voter_in made past
     → place_of (voter_in made (did ∷ past)) (voter_past (did ∷ past)) ≡ place_of (voter_in made past) (voter_past past)
-    → IsAt setup node (Running made past) m → IsAt setup node (Running made (did ∷ past)) m
+    → IsAt setting node (Running made past) m → IsAt setting node (Running made (did ∷ past)) m
 unfolding IsAt
-same_place setup node made did past m v p a = (
+same_place setting node made did past m v p a = (
   a.0,
   subst (λ (w : VoterMade). IsRunning w.rules (place_of (voter_in made (did ∷ past)) (voter_past (did ∷ past))).standing.desk.known (place_of (voter_in made (did ∷ past)) (voter_past (did ∷ past))).sections m) (sym v)
       (subst (λ (q : Place). IsRunning (voter_in made past).rules q.standing.desk.known q.sections m) (sym p) a.1),
 )
 
-voter_idles : (setup : Setup) (node : Node) (made : EngineMade) (past : List Did) (m : Member) (noted : Noted) (taken : Taken) (input : VoterInput) (now : ℕ) (stop : Stop)
+voter_idles : (setting : Setting) (node : Node) (made : EngineMade) (past : List Did) (m : Member) (noted : Noted) (taken : Taken) (input : VoterInput) (now : ℕ) (stop : Stop)
     → IsStep taken input → voter.stepped (voter_in made past).rules now (place_of (voter_in made past) (voter_past past)).standing input ≡ None → (noted.entry.calls ≡ []) × (noted.entry.handed ≡ [])
-    → IsAt setup node (Running made past) m → Further setup noted node (going_on made (did_of taken now stop outcomes.Idle no_out ∷ past)) m
+    → IsAt setting node (Running made past) m → Further setting noted node (going_on made (did_of taken now stop outcomes.Idle no_out ∷ past)) m
 unfolding runs
-voter_idles setup node made past m noted taken input now stop step e same a =
+voter_idles setting node made past m noted taken input now stop step e same a =
     let did = did_of taken now stop outcomes.Idle no_out in
     let p = place_then made did past (Stepped input now stop) (step.0 now stop outcomes.Idle no_out) step.1 in
-    quiet_on setup node noted (Running made (did ∷ past)) m (subst Voteless (sym same.0) tt) (subst AreSilent (sym same.1) tt)
-    (same_place setup node made did past m p.0
+    quiet_on setting node noted (Running made (did ∷ past)) m (subst Voteless (sym same.0) tt) (subst AreSilent (sym same.1) tt)
+    (same_place setting node made did past m p.0
     (ap (λ v. place_of v (voter_past (did ∷ past))) p.0 ∙ ap (place_of (voter_in made past)) p.1 ∙ idle_place (voter_in made past) (voter_past past) input now stop e) a)
 
-voter_steps : (setup : Setup) (node : Node) (made : EngineMade) (past : List Did) (m : Member) (noted : Noted) (taken : Taken) (input : VoterInput) (now : ℕ) (stop : Stop) (d : Doing)
+voter_steps : (setting : Setting) (node : Node) (made : EngineMade) (past : List Did) (m : Member) (noted : Noted) (taken : Taken) (input : VoterInput) (now : ℕ) (stop : Stop) (d : Doing)
     → IsStep taken input → current_of (voter_in made past).rules (place_of (voter_in made past) (voter_past past)).standing.desk.known < greatest_view
     → voter.stepped (voter_in made past).rules now (place_of (voter_in made past) (voter_past past)).standing input ≡ Some d
     → (noted.entry.calls ≡ (performed stop d (place_of (voter_in made past) (voter_past past)).sections).out.calls) × (noted.entry.handed ≡ (performed stop d (place_of (voter_in made past) (voter_past past)).sections).out.handed)
-    → IsAt setup node (Running made past) m
-    → Further setup noted node (going_on made (by_voter taken now stop (performed stop d (place_of (voter_in made past) (voter_past past)).sections) ∷ past)) m
+    → IsAt setting node (Running made past) m
+    → Further setting noted node (going_on made (by_voter taken now stop (performed stop d (place_of (voter_in made past) (voter_past past)).sections) ∷ past)) m
 unfolding IsAt runs rules_of
-voter_steps setup node made past m noted taken input now stop d step low e same a =
+voter_steps setting node made past m noted taken input now stop d step low e same a =
     let v = voter_in made past in
     let place = place_of v (voter_past past) in
     let given = performed stop d place.sections in
@@ -538,11 +538,11 @@ voter_steps setup node made past m noted taken input now stop d step low e same 
       brought = λ c k. inl (subst (λ cs. Contains (conduct.taken cs) c) (sym same.0) (subst (λ xs. Contains xs c) x.brought k));
       sends = x.sends;
       votes = subst (λ cs. AreSent cs (subjects_of x.sent)) (sym same.0) x.votes;
-      at = step_leaves setup node made past did later input now stop d (run m x.calls) given.outcome a.0
+      at = step_leaves setting node made past did later input now stop d (run m x.calls) given.outcome a.0
           (ap (λ w. place_of w (voter_past (did ∷ past))) p.0 ∙ ap (place_of v) p.1 ∙ step_place v (voter_past past) input now stop d e) p.0 refl refl refl x.left;
-      first = subst (AreStoredFirst (IsEarlier m) (IsOwn (rules_of setup node.member 0))) (sym same.0)
-          (first_own (IsEarlier m) (IsOwn (voter_in made past).rules) (IsOwn (rules_of setup node.member 0)) given.out.calls
-          (λ w o. own_any setup node.member (started_at past) 0 w (subst (λ r. IsOwn r w) (a.0 (started_at past)) o)) x.first);
+      first = subst (AreStoredFirst (IsEarlier m) (IsOwn (rules_of setting node.member 0))) (sym same.0)
+          (first_own (IsEarlier m) (IsOwn (voter_in made past).rules) (IsOwn (rules_of setting node.member 0)) given.out.calls
+          (λ w o. own_any setting node.member (started_at past) 0 w (subst (λ r. IsOwn r w) (a.0 (started_at past)) o)) x.first);
       constructed = subst (AreVotesSent (run m x.calls).sent) (sym same.1) x.constructed;
       own = λ s k. elim (x.own s k) [
         | inl t ↦ inl (subst (λ cs. Contains (conduct.voted cs) s) (sym same.0) t)
@@ -550,24 +550,24 @@ voter_steps setup node made past m noted taken input now stop d step low e same 
       ];
     }
 
-pub voter_further : (setup : Setup) (node : Node) (made : EngineMade) (past : List Did) (m : Member) (noted : Noted) (taken : Taken) (input : VoterInput) (now : ℕ) (stop : Stop)
+pub voter_further : (setting : Setting) (node : Node) (made : EngineMade) (past : List Did) (m : Member) (noted : Noted) (taken : Taken) (input : VoterInput) (now : ℕ) (stop : Stop)
     → IsStep taken input → current_of (voter_in made past).rules (place_of (voter_in made past) (voter_past past)).standing.desk.known < greatest_view
     → (noted.entry.calls ≡ (by_voter taken now stop (step_given (voter_in made past) (voter_past past) input now stop)).out.calls) × (noted.entry.handed ≡ (by_voter taken now stop (step_given (voter_in made past) (voter_past past) input now stop)).out.handed)
-    → IsAt setup node (Running made past) m
-    → Further setup noted node (going_on made (by_voter taken now stop (step_given (voter_in made past) (voter_past past) input now stop) ∷ past)) m
-voter_further setup node made past m noted taken input now stop step low same a =
+    → IsAt setting node (Running made past) m
+    → Further setting noted node (going_on made (by_voter taken now stop (step_given (voter_in made past) (voter_past past) input now stop) ∷ past)) m
+voter_further setting node made past m noted taken input now stop step low same a =
     at (voter.stepped (voter_in made past).rules now (place_of (voter_in made past) (voter_past past)).standing input) refl
   where
     at : (o : Option Doing) → voter.stepped (voter_in made past).rules now (place_of (voter_in made past) (voter_past past)).standing input ≡ o
-        → Further setup noted node (going_on made (by_voter taken now stop (step_given (voter_in made past) (voter_past past) input now stop) ∷ past)) m
+        → Further setting noted node (going_on made (by_voter taken now stop (step_given (voter_in made past) (voter_past past) input now stop) ∷ past)) m
     at None e =
         let g = step_gives (voter_in made past) (voter_past past) input now stop None e in
-        subst (λ x. Further setup noted node (going_on made (by_voter taken now stop x ∷ past)) m) (sym g)
-        (voter_idles setup node made past m noted taken input now stop step e (same.0 ∙ ap (λ (x : Performed). x.out.calls) g, same.1 ∙ ap (λ (x : Performed). x.out.handed) g) a)
+        subst (λ x. Further setting noted node (going_on made (by_voter taken now stop x ∷ past)) m) (sym g)
+        (voter_idles setting node made past m noted taken input now stop step e (same.0 ∙ ap (λ (x : Performed). x.out.calls) g, same.1 ∙ ap (λ (x : Performed). x.out.handed) g) a)
     at (Some d) e =
         let g = step_gives (voter_in made past) (voter_past past) input now stop (Some d) e in
-        subst (λ x. Further setup noted node (going_on made (by_voter taken now stop x ∷ past)) m) (sym g)
-        (voter_steps setup node made past m noted taken input now stop d step low e (same.0 ∙ ap (λ (x : Performed). x.out.calls) g, same.1 ∙ ap (λ (x : Performed). x.out.handed) g) a)
+        subst (λ x. Further setting noted node (going_on made (by_voter taken now stop x ∷ past)) m) (sym g)
+        (voter_steps setting node made past m noted taken input now stop d step low e (same.0 ∙ ap (λ (x : Performed). x.out.calls) g, same.1 ∙ ap (λ (x : Performed). x.out.handed) g) a)
 
 -- ---- an answer
 
@@ -584,10 +584,10 @@ answered_known number answer s = at (voter.takes_answer s number answer)
     at true = refl
     at false = refl
 
-answered_at : (setup : Setup) (node : Node) (made : EngineMade) (did : Did) (past : List Did) (number : ℕ) (answer : Answer) (m : Member) → given_to_voter did ≡ Some (Answered number answer)
-    → is_start did.taken ≡ false → IsAt setup node (Running made past) m → IsAt setup node (Running made (did ∷ past)) m
+answered_at : (setting : Setting) (node : Node) (made : EngineMade) (did : Did) (past : List Did) (number : ℕ) (answer : Answer) (m : Member) → given_to_voter did ≡ Some (Answered number answer)
+    → is_start did.taken ≡ false → IsAt setting node (Running made past) m → IsAt setting node (Running made (did ∷ past)) m
 unfolding IsAt place_of
-answered_at setup node made did past number answer m e f a =
+answered_at setting node made did past number answer m e f a =
     let p = place_then made did past (Answered number answer) e f in
     let place = place_of (voter_in made past) (voter_past past) in (
       a.0,
@@ -596,21 +596,21 @@ answered_at setup node made did past number answer m e f a =
           (subst (λ k. IsRunning (voter_in made past).rules k place.sections m) (sym (answered_known number answer place.standing)) a.1)),
     )
 
-pub answer_further : (setup : Setup) (node : Node) (made : EngineMade) (past : List Did) (m : Member) (noted : Noted) (number : ℕ) (answer : Answer) (now : ℕ)
-    → (noted.entry.calls ≡ []) × (noted.entry.handed ≡ []) → IsAt setup node (Running made past) m → Further setup noted node (going_on made (engine.replied number answer now ∷ past)) m
+pub answer_further : (setting : Setting) (node : Node) (made : EngineMade) (past : List Did) (m : Member) (noted : Noted) (number : ℕ) (answer : Answer) (now : ℕ)
+    → (noted.entry.calls ≡ []) × (noted.entry.handed ≡ []) → IsAt setting node (Running made past) m → Further setting noted node (going_on made (engine.replied number answer now ∷ past)) m
 unfolding runs
-answer_further setup node made past m noted number answer now same a =
-    quiet_on setup node noted (Running made (engine.replied number answer now ∷ past)) m (subst Voteless (sym same.0) tt) (subst AreSilent (sym same.1) tt)
-    (answered_at setup node made (engine.replied number answer now) past number answer m refl refl a)
+answer_further setting node made past m noted number answer now same a =
+    quiet_on setting node noted (Running made (engine.replied number answer now ∷ past)) m (subst Voteless (sym same.0) tt) (subst AreSilent (sym same.1) tt)
+    (answered_at setting node made (engine.replied number answer now) past number answer m refl refl a)
 
 -- ---- a crash
 
-pub crash_further : (setup : Setup) (node : Node) (made : EngineMade) (past : List Did) (m : Member) (noted : Noted) → (noted.entry.calls ≡ []) × (noted.entry.handed ≡ []) → IsAt setup node (Running made past) m
-    → Further setup noted node (Stopped (crashed 0 (sections_of made past))) m
+pub crash_further : (setting : Setting) (node : Node) (made : EngineMade) (past : List Did) (m : Member) (noted : Noted) → (noted.entry.calls ≡ []) × (noted.entry.handed ≡ []) → IsAt setting node (Running made past) m
+    → Further setting noted node (Stopped (crashed 0 (sections_of made past))) m
 unfolding IsAt sections_of
-crash_further setup node made past m noted same a =
+crash_further setting node made past m noted same a =
     let place = place_of (voter_in made past) (voter_past past) in
     let after = happens m (life.Crash (λ view. 0)) in
-    quiet_off setup node noted (Stopped (crashed 0 place.sections)) m (subst Voteless (sym same.0) tt) (subst AreSilent (sym same.1) tt)
-    (stopped_any setup node.member (started_at past) 0 (crashed 0 place.sections) after
+    quiet_off setting node noted (Stopped (crashed 0 place.sections)) m (subst Voteless (sym same.0) tt) (subst AreSilent (sym same.1) tt)
+    (stopped_any setting node.member (started_at past) 0 (crashed 0 place.sections) after
     (subst (λ r. IsStopped r (crashed 0 place.sections) after) (a.0 (started_at past)) (crash_lived (voter_in made past).rules 0 place.standing.desk.known place.sections m a.1)))

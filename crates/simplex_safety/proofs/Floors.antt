@@ -7,6 +7,7 @@ use Rattle.simplex_values.specs.declared.round.Round.{Round}
 use Rattle.simplex_values.specs.Proposal.{is_same_round, is_same_proposal}
 use Rattle.simplex_wire.specs.declared.attestation.Attestation.{Attestation}
 use Rattle.simplex_wire.specs.declared.certificate.Finalization.{Finalization}
+use Rattle.simplex_run.specs.Setting.{Setting}
 use Rattle.simplex_run.specs.Entries.{is_same_attestation, are_same_attestations, was_reported, is_own_floor, entry_of}
 use Rattle.simplex_safety.specs.Saying.{InStart}
 use Rattle.simplex_rules.specs.Known.{view_of}
@@ -80,9 +81,9 @@ no_start (events.Answer at ref answer) h = tt
 no_start (events.Crash at) h = tt
 no_start (events.Inject who channel to bytes) h = tt
 
-pub start_above : (setup : Setup) (before : List Noted) (event : Event) (noted : Noted) → IsReportedAbove setup before → entry_of setup before event ≡ Ok noted → IsStartAbove noted.event
-start_above setup before event noted above e = elim (entry_turn setup before event noted e) [
-  | inl b ↦ subst (λ (n : Noted). IsStartAbove n.event) b.is (floor_above setup before b.at b.floor b.stop above b.own)
+pub start_above : (setting : Setting) (before : List Noted) (event : Event) (noted : Noted) → IsReportedAbove setting.setup before → entry_of setting before event ≡ Ok noted → IsStartAbove noted.event
+start_above setting before event noted above e = elim (entry_turn setting before event noted e) [
+  | inl b ↦ subst (λ (n : Noted). IsStartAbove n.event) b.is (floor_above setting.setup before b.at b.floor b.stop above b.own)
   | inr other ↦ elim other [
     | inl g ↦ subst (λ (n : Noted). IsStartAbove n.event) g.is (no_start event g.start)
     | inr rest ↦ elim rest [

@@ -1,4 +1,5 @@
 -- One more event of a node, and what its member lives in it.
+use Rattle.simplex_run.specs.Setting.{Setting}
 use Rattle.simplex_run.specs.Life.{Stopped, Running, sections_in, Noted, Life, is_of, after, life_in}
 use Rattle.simplex_steps.specs.VoterLife.{place_of}
 use Rattle.simplex_steps.specs.Engine.{voter_in, voter_past, sections_of}
@@ -16,7 +17,6 @@ use Rattle.simplex_values.specs.declared.proposal.Subject.{Subject}
 use Rattle.simplex_values.specs.declared.proposal.Subject.TheVariants as subjects
 use Rattle.simplex_values.specs.declared.round.Round.{Round}
 use Rattle.simplex_transcript.specs.declared.node.Node.{Node}
-use Rattle.simplex_transcript.specs.declared.setup.Setup.{Setup}
 use Rattle.simplex_messages.specs.declared.call.Call.{Call}
 use Rattle.simplex_messages.specs.declared.call.Call.TheVariants as calls
 use Rattle.simplex_run.specs.Members.{is_same_node, rules_of}
@@ -51,31 +51,31 @@ same_node a b e =
     let p = and_parts (a.member == b.member) (a.half == b.half) e in
     ap (λ n. record { member = n; half = a.half }) (eqb-true a.member b.member p.0) ∙ ap (λ n. record { member = b.member; half = n }) (eqb-true a.half b.half p.1)
 
-pub own_any : (setup : Setup) (member a b : ℕ) (v : Vote) → IsOwn (rules_of setup member a) v → IsOwn (rules_of setup member b) v
+pub own_any : (setting : Setting) (member a b : ℕ) (v : Vote) → IsOwn (rules_of setting member a) v → IsOwn (rules_of setting member b) v
 unfolding rules_of
-own_any setup member a b (votes.Notarize v) o = o
-own_any setup member a b (votes.Nullify v) o = o
-own_any setup member a b (votes.Finalize v) o = o
+own_any setting member a b (votes.Notarize v) o = o
+own_any setting member a b (votes.Nullify v) o = o
+own_any setting member a b (votes.Finalize v) o = o
 
 -- where votes are own ones by one account, they are by a weaker one
 pub first_own : (Earlier : Nullify → Type 0) (P Q : Vote → Type 0) (cs : List Call) → ((v : Vote) → P v → Q v) → AreStoredFirst Earlier P cs → AreStoredFirst Earlier Q cs
 first_own Earlier P Q cs f first before behind to bytes e = (let x = first before behind to bytes e in (x.0, x.1, x.2, f x.0 x.3))
 
-pub stopped_any : (setup : Setup) (member a b : ℕ) (js : List Section) (m : Member) → IsStopped (rules_of setup member a) js m → IsStopped (rules_of setup member b) js m
+pub stopped_any : (setting : Setting) (member a b : ℕ) (js : List Section) (m : Member) → IsStopped (rules_of setting member a) js m → IsStopped (rules_of setting member b) js m
 unfolding rules_of
-stopped_any setup member a b js m s = record { up = s.up; blank = s.blank; journal = s.journal; stored = s.stored; rising = s.rising; own = s.own }
+stopped_any setting member a b js m s = record { up = s.up; blank = s.blank; journal = s.journal; stored = s.stored; rising = s.rising; own = s.own }
 
 -- ---- one more event
 
-pub life_then : (setup : Setup) (noted : Noted) (before : List Noted) (node : Node) → is_of node noted.event ≡ true
-    → life_in setup (noted ∷ before) node ≡ after setup noted.event noted.did (life_in setup before node)
+pub life_then : (setting : Setting) (noted : Noted) (before : List Noted) (node : Node) → is_of node noted.event ≡ true
+    → life_in setting (noted ∷ before) node ≡ after setting noted.event noted.did (life_in setting before node)
 unfolding life_in
-life_then setup noted before node e = ap (λ b. if b then after setup noted.event noted.did (life_in setup before node) else life_in setup before node) e
+life_then setting noted before node e = ap (λ b. if b then after setting noted.event noted.did (life_in setting before node) else life_in setting before node) e
 
-pub life_still : (setup : Setup) (noted : Noted) (before : List Noted) (node : Node) → is_of node noted.event ≡ false
-    → life_in setup (noted ∷ before) node ≡ life_in setup before node
+pub life_still : (setting : Setting) (noted : Noted) (before : List Noted) (node : Node) → is_of node noted.event ≡ false
+    → life_in setting (noted ∷ before) node ≡ life_in setting before node
 unfolding life_in
-life_still setup noted before node e = ap (λ b. if b then after setup noted.event noted.did (life_in setup before node) else life_in setup before node) e
+life_still setting noted before node e = ap (λ b. if b then after setting noted.event noted.did (life_in setting before node) else life_in setting before node) e
 
 calls_then : (noted : Noted) (before : List Noted) (node : Node) → is_of node noted.event ≡ true → calls_of node (noted ∷ before) ≡ calls_of node before ++ noted.entry.calls
 unfolding calls_of
@@ -125,17 +125,17 @@ abbrev pub subjects_of : List Sent → List Subject
 subjects_of sent = map (λ (s : Sent). s.subject) sent
 
 -- what the member lives in the event
-pub record Further (setup : Setup) (noted : Noted) (node : Node) (later : Life) (m : Member) : Type 0 where
+pub record Further (setting : Setting) (noted : Noted) (node : Node) (later : Life) (m : Member) : Type 0 where
   pub calls : List life.Call
   pub sent : List Sent
-  pub legal : IsLegal setup.term m calls
+  pub legal : IsLegal setting.setup.term m calls
   pub brought : (c : agreement.Certificate) → Contains (life.brought calls) c → Contains (taken noted.entry.calls) c ⊎ Contains (floor_in node noted.event) c
   pub sends : (run m calls).sent ≡ m.sent ++ sent
   pub votes : AreSent noted.entry.calls (subjects_of sent)
-  pub at : IsAt setup node later (run m calls)
-  pub first : AreStoredFirst (IsEarlier m) (IsOwn (rules_of setup node.member 0)) noted.entry.calls
+  pub at : IsAt setting node later (run m calls)
+  pub first : AreStoredFirst (IsEarlier m) (IsOwn (rules_of setting node.member 0)) noted.entry.calls
   pub constructed : AreVotesSent (run m calls).sent noted.entry.handed
-  pub own : (s : Subject) → Contains (subjects_of sent) s → Contains (voted noted.entry.calls) s ⊎ IsEpochNullify setup s
+  pub own : (s : Subject) → Contains (subjects_of sent) s → Contains (voted noted.entry.calls) s ⊎ IsEpochNullify setting.setup s
 
 floors_then : (noted : Noted) (before : List Noted) (node : Node) → floors_of node (noted ∷ before) ≡ floors_of node before ++ floor_in node noted.event
 unfolding floors_of
@@ -194,16 +194,16 @@ repeated_weaker P Q f (votes.Notarize v) h = absurd h
 repeated_weaker P Q f (votes.Finalize v) h = absurd h
 
 -- a member that is down knows nothing that it made
-first_held : (setup : Setup) (node : Node) (l : Life) (m : Member) (length : ℕ) (cs : List Call) → Lives length m → IsAt setup node l m → AreStoredFirst (IsEarlier m) (IsOwn (rules_of setup node.member 0)) cs
-    → AreStoredFirst (IsHeld (sections_in l)) (IsOwn (rules_of setup node.member 0)) cs
+first_held : (setting : Setting) (node : Node) (l : Life) (m : Member) (length : ℕ) (cs : List Call) → Lives length m → IsAt setting node l m → AreStoredFirst (IsEarlier m) (IsOwn (rules_of setting node.member 0)) cs
+    → AreStoredFirst (IsHeld (sections_in l)) (IsOwn (rules_of setting node.member 0)) cs
 unfolding IsAt sections_of
-first_held setup node (Stopped sections) m length cs lives at first before behind to bytes e =
+first_held setting node (Stopped sections) m length cs lives at first before behind to bytes e =
     let x = first before behind to bytes e in
     (x.0, x.1, elim x.2 [ inl s ↦ inl s | inr k ↦ inr (repeated_weaker (IsEarlier m) (IsHeld sections) nothing x.0 k) ], x.3)
   where
     nothing : (v : Nullify) → IsEarlier m v → IsHeld sections v
     nothing v k = absurd (not_in_empty _ (subst (λ xs. Contains xs (member.Own (subjects.Nullify v.round))) at.blank k.0))
-first_held setup node (Running made past) m length cs lives at first before behind to bytes e =
+first_held setting node (Running made past) m length cs lives at first before behind to bytes e =
     let js = (place_of (voter_in made past) (voter_past past)).sections in
     let x = first before behind to bytes e in (
       x.0,
@@ -215,14 +215,14 @@ first_held setup node (Running made past) m length cs lives at first before behi
       x.3,
     )
 
-stored_then : (setup : Setup) (noted : Noted) (before : List Noted) (node : Node) → AreStoredFirst (IsHeld (sections_in (life_in setup before node))) (IsOwn (rules_of setup node.member 0)) noted.entry.calls
-    → AreStored setup node before → AreStored setup node (noted ∷ before)
+stored_then : (setting : Setting) (noted : Noted) (before : List Noted) (node : Node) → AreStoredFirst (IsHeld (sections_in (life_in setting before node))) (IsOwn (rules_of setting node.member 0)) noted.entry.calls
+    → AreStored setting node before → AreStored setting node (noted ∷ before)
 unfolding AreStored
-stored_then setup noted before node f s = (λ e. f, s)
+stored_then setting noted before node f s = (λ e. f, s)
 
-stored_still : (setup : Setup) (noted : Noted) (before : List Noted) (node : Node) → is_of node noted.event ≡ false → AreStored setup node before → AreStored setup node (noted ∷ before)
+stored_still : (setting : Setting) (noted : Noted) (before : List Noted) (node : Node) → is_of node noted.event ≡ false → AreStored setting node before → AreStored setting node (noted ∷ before)
 unfolding AreStored
-stored_still setup noted before node e s = (λ t. absurd (cc (e, t)), s)
+stored_still setting noted before node e s = (λ t. absurd (cc (e, t)), s)
 
 constructed_more : (node : Node) (before : List Noted) (sent more : List Sent) → AreConstructed node before sent → AreConstructed node before (sent ++ more)
 unfolding AreConstructed
@@ -239,9 +239,9 @@ constructed_still : (node : Node) (noted : Noted) (before : List Noted) (sent : 
 unfolding AreConstructed
 constructed_still node noted before sent e h = (λ t. absurd (cc (e, t)), h)
 
-pub go_further : (setup : Setup) (noted : Noted) (before : List Noted) (node : Node) → 0 < setup.term → is_of node noted.event ≡ true → (b : IsLivedBy setup before node)
-    → Further setup noted node (after setup noted.event noted.did (life_in setup before node)) (run newborn b.calls) → IsLivedBy setup (noted ∷ before) node
-go_further setup noted before node pos e b f =
+pub go_further : (setting : Setting) (noted : Noted) (before : List Noted) (node : Node) → 0 < setting.setup.term → is_of node noted.event ≡ true → (b : IsLivedBy setting before node)
+    → Further setting noted node (after setting noted.event noted.did (life_in setting before node)) (run newborn b.calls) → IsLivedBy setting (noted ∷ before) node
+go_further setting noted before node pos e b f =
     let joined = run-append newborn b.calls f.calls in
     let m = run newborn b.calls in
     let calls_is = calls_then noted before node e in
@@ -264,7 +264,7 @@ go_further setup noted before node pos e b f =
         ]
       ];
       calls = b.calls ++ f.calls;
-      legal = IsLegal-append setup.term newborn b.calls f.calls b.legal f.legal;
+      legal = IsLegal-append setting.setup.term newborn b.calls f.calls b.legal f.legal;
       brought = λ c k. elim (Contains-append_cases (life.brought b.calls) (life.brought f.calls) c (subst (λ xs. Contains xs c) (brought-append b.calls f.calls) k)) [
         | inl old ↦ elim (b.brought c old) [
           | inl t ↦ inl (subst (λ xs. Contains xs c) (sym taken_is) (Contains-append_left (taken (calls_of node before)) (taken noted.entry.calls) c t))
@@ -278,17 +278,17 @@ go_further setup noted before node pos e b f =
       votes = subst (λ cs. AreSent cs (subjects_of (run newborn (b.calls ++ f.calls)).sent)) (sym calls_is)
           (subst (AreSent (calls_of node before ++ noted.entry.calls)) (sym (ap (λ (n : Member). subjects_of n.sent) joined ∙ ap subjects_of f.sends ∙ map-append _ m.sent f.sent))
           (AreSent-append (calls_of node before) noted.entry.calls (subjects_of m.sent) (subjects_of f.sent) b.votes f.votes));
-      at = subst (λ x. IsAt setup node x (run newborn (b.calls ++ f.calls))) (sym (life_then setup noted before node e))
-          (subst (IsAt setup node (after setup noted.event noted.did (life_in setup before node))) (sym joined) f.at);
-      stored = stored_then setup noted before node
-          (first_held setup node (life_in setup before node) m setup.term noted.entry.calls (Lives-run setup.term pos newborn b.calls b.legal (Lives-newborn setup.term)) b.at f.first) b.stored;
+      at = subst (λ x. IsAt setting node x (run newborn (b.calls ++ f.calls))) (sym (life_then setting noted before node e))
+          (subst (IsAt setting node (after setting noted.event noted.did (life_in setting before node))) (sym joined) f.at);
+      stored = stored_then setting noted before node
+          (first_held setting node (life_in setting before node) m setting.setup.term noted.entry.calls (Lives-run setting.setup.term pos newborn b.calls b.legal (Lives-newborn setting.setup.term)) b.at f.first) b.stored;
       constructed = constructed_then node noted before (run newborn (b.calls ++ f.calls)).sent
           (subst (λ (n : Member). AreVotesSent n.sent noted.entry.handed) (sym joined) f.constructed)
           (subst (AreConstructed node before) (sym (ap (λ (n : Member). n.sent) joined ∙ f.sends)) (constructed_more node before m.sent f.sent b.constructed));
     }
 
-pub stay : (setup : Setup) (noted : Noted) (before : List Noted) (node : Node) → is_of node noted.event ≡ false → (b : IsLivedBy setup before node) → IsLivedBy setup (noted ∷ before) node
-stay setup noted before node e b =
+pub stay : (setting : Setting) (noted : Noted) (before : List Noted) (node : Node) → is_of node noted.event ≡ false → (b : IsLivedBy setting before node) → IsLivedBy setting (noted ∷ before) node
+stay setting noted before node e b =
     record {
       calls = b.calls;
       legal = b.legal;
@@ -297,8 +297,8 @@ stay setup noted before node e b =
         | inr t ↦ inr (subst (λ xs. Contains xs c) (sym (floors_then noted before node)) (Contains-append_left (floors_of node before) (floor_in node noted.event) c t))
       ];
       votes = subst (λ cs. AreSent cs (subjects_of (run newborn b.calls).sent)) (sym (calls_still noted before node e)) b.votes;
-      at = subst (λ x. IsAt setup node x (run newborn b.calls)) (sym (life_still setup noted before node e)) b.at;
-      stored = stored_still setup noted before node e b.stored;
+      at = subst (λ x. IsAt setting node x (run newborn b.calls)) (sym (life_still setting noted before node e)) b.at;
+      stored = stored_still setting noted before node e b.stored;
       constructed = constructed_still node noted before (run newborn b.calls).sent e b.constructed;
-      own = subst (λ (cs : List Call). (s : Subject) → Contains (subjects_of (run newborn b.calls).sent) s → Contains (voted cs) s ⊎ IsEpochNullify setup s) (sym (calls_still noted before node e)) b.own;
+      own = subst (λ (cs : List Call). (s : Subject) → Contains (subjects_of (run newborn b.calls).sent) s → Contains (voted cs) s ⊎ IsEpochNullify setting.setup s) (sym (calls_still noted before node e)) b.own;
     }

@@ -11,7 +11,7 @@ use Rattle.simplex_messages.specs.declared.call.Call.TheVariants as calls
 use Rattle.simplex_transcript.specs.declared.event.Event.{Event}
 use Rattle.simplex_transcript.specs.declared.event.Event.TheVariants as events
 use Rattle.simplex_transcript.specs.declared.node.Node.{Node}
-use Rattle.simplex_transcript.specs.declared.setup.Setup.{Setup}
+use Rattle.simplex_run.specs.Setting.{Setting}
 use Rattle.simplex_run.specs.Life.{Noted, is_of}
 use Rattle.simplex_run.specs.Members.{is_same_node}
 use Rattle.simplex_agreement.specs.World as agreement
@@ -84,8 +84,8 @@ module _ (Good : agreement.Certificate → Type 0) where
       ]
 
   -- so all that came to the member
-  pub brought_good : (setup : Setup) (noted : List Noted) (node : Node) (b : IsLivedBy setup noted node) → Each (InNoted States) noted → All Good (life.brought b.calls)
-  brought_good setup noted node b g =
+  pub brought_good : (setting : Setting) (noted : List Noted) (node : Node) (b : IsLivedBy setting noted node) → Each (InNoted States) noted → All Good (life.brought b.calls)
+  brought_good setting noted node b g =
       All-weaker (Contains (life.brought b.calls)) Good (λ c k. elim (b.brought c k) [
         | inl t ↦ taken_good (calls_of node noted) c (calls_said node noted g) t
         | inr f ↦ floors_good node noted c g f

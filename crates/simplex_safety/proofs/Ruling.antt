@@ -38,6 +38,7 @@ use Rattle.simplex_steps.specs.VoterLife.{VoterMade, Place, Stepped, place_of, u
 use Rattle.simplex_steps.specs.Batcher as batcher
 use Rattle.simplex_steps.specs.Engine as engine
 use Rattle.simplex_steps.specs.Engine.{EngineMade, Did, Taken, voter_in, voter_past, given_to_voter, is_whole, by_voter, by_batcher, cut_short}
+use Rattle.simplex_run.specs.Setting.{Setting}
 use Rattle.simplex_run.specs.Life.{Noted, Life, clock_of, is_of, life_in}
 use Rattle.simplex_run.specs.Members.{is_same_node, floor_of, rules_of, engine_of}
 use Rattle.simplex_run.specs.Entries.{noted_with, noted_blank, entry_of}
@@ -231,13 +232,13 @@ start_unsent (stops.Fail call keep) floor d js h = at (call == 1)
     at true = Each-take NoVote (before_reading floor) d.calls h
     at false = performed_unsent (stops.Fail (call - 1) keep) d js h
 
-begun_unsent : (setup : Setup) (node : Node) (floor : Option Finalization) (js : List Section) (now : ℕ) (stop : Stop) → vote_packets (engine.begun (engine_at setup node floor js) now stop).out.calls ≡ []
-begun_unsent setup node floor js now stop =
-    let f = floor_of setup floor in
-    let rules = rules_of setup node.member now in
+begun_unsent : (setting : Setting) (node : Node) (floor : Option Finalization) (js : List Section) (now : ℕ) (stop : Stop) → vote_packets (engine.begun (engine_at setting node floor js) now stop).out.calls ≡ []
+begun_unsent setting node floor js now stop =
+    let f = floor_of setting.genesis floor in
+    let rules = rules_of setting node.member now in
     let sound = start_sound rules now f (replayed js) in
-    ap (λ (d : Did). vote_packets d.out.calls) (begun_gives setup node floor js now stop)
-    ∙ no_packets (given_start setup node floor js now stop).out.calls (start_unsent stop f (voter.started rules now f (replayed js)) js (unsent (voter.started rules now f (replayed js)).calls sound.silent))
+    ap (λ (d : Did). vote_packets d.out.calls) (begun_gives setting node floor js now stop)
+    ∙ no_packets (given_start setting node floor js now stop).out.calls (start_unsent stop f (voter.started rules now f (replayed js)) js (unsent (voter.started rules now f (replayed js)).calls sound.silent))
 
 -- ---- an event
 
@@ -245,12 +246,12 @@ abbrev IsByRule : Life → Noted → Type 0
 IsByRule l noted = is_whole noted.entry.outcome ≡ true → vote_packets noted.entry.calls ≡ map packet_of (votes_due l noted.did)
 
 -- an event of the node, by its rule there
-record Ruling (setup : Setup) (before : List Noted) (at : Node) (noted : Noted) : Type 0 where
+record Ruling (setting : Setting) (before : List Noted) (at : Node) (noted : Noted) : Type 0 where
   pub of : (node : Node) → is_of node noted.event ≡ is_same_node at node
-  pub ruled : IsByRule (life_in setup before at) noted
+  pub ruled : IsByRule (life_in setting before at) noted
 
-by_ruling : (setup : Setup) (before : List Noted) (at node : Node) (noted : Noted) → Ruling setup before at noted → is_of node noted.event ≡ true → IsByRule (life_in setup before node) noted
-by_ruling setup before at node noted r e = subst (λ n. IsByRule (life_in setup before n) noted) (same_node at node (sym (r.of node) ∙ e)) r.ruled
+by_ruling : (setting : Setting) (before : List Noted) (at node : Node) (noted : Noted) → Ruling setting before at noted → is_of node noted.event ≡ true → IsByRule (life_in setting before node) noted
+by_ruling setting before at node noted r e = subst (λ n. IsByRule (life_in setting before n) noted) (same_node at node (sym (r.of node) ∙ e)) r.ruled
 
 taken_ruled : (setup : Setup) (before : List Noted) (at : Node) (made : EngineMade) (past : List Did) (did : Did) → IsTaken setup before at made past did → IsRuled made past did
 taken_ruled setup before at made past did t = elim t [
@@ -261,31 +262,31 @@ taken_ruled setup before at made past did t = elim t [
   ]
 ]
 
-beginning_ruled : (setup : Setup) (before : List Noted) (event : Event) (noted : Noted) → (b : IsBeginning setup before event noted) → Ruling setup before b.at noted
-beginning_ruled setup before event noted b =
-    let did = engine.begun (engine_of setup b.at.member (floor_of setup b.floor) b.sections) (clock_of before) b.stop in
-    let new = noted_with setup before (events.Start b.at b.floor b.stop) b.at (Some tooks.Floor) did in
-    subst (Ruling setup before b.at) b.is
-    (record { of = λ node. refl; ruled = subst (λ l. IsByRule l new) (sym b.stopped) (λ t. begun_unsent setup b.at b.floor b.sections (clock_of before) b.stop) })
+beginning_ruled : (setting : Setting) (before : List Noted) (event : Event) (noted : Noted) → (b : IsBeginning setting before event noted) → Ruling setting before b.at noted
+beginning_ruled setting before event noted b =
+    let did = engine.begun (engine_of setting b.at.member (floor_of setting.genesis b.floor) b.sections) (clock_of before) b.stop in
+    let new = noted_with setting.setup before (events.Start b.at b.floor b.stop) b.at (Some tooks.Floor) did in
+    subst (Ruling setting before b.at) b.is
+    (record { of = λ node. refl; ruled = subst (λ l. IsByRule l new) (sym b.stopped) (λ t. begun_unsent setting b.at b.floor b.sections (clock_of before) b.stop) })
 
-going_ruled : (setup : Setup) (before : List Noted) (event : Event) (noted : Noted) → (g : IsGoing setup before event noted) → Ruling setup before g.at noted
-going_ruled setup before event noted g =
-    let new = noted_with setup before event g.at g.took g.did in
-    subst (Ruling setup before g.at) g.is
-    (record { of = g.of; ruled = subst (λ l. IsByRule l new) (sym g.running) (taken_ruled setup before g.at g.made g.past g.did g.taken) })
+going_ruled : (setting : Setting) (before : List Noted) (event : Event) (noted : Noted) → (g : IsGoing setting before event noted) → Ruling setting before g.at noted
+going_ruled setting before event noted g =
+    let new = noted_with setting.setup before event g.at g.took g.did in
+    subst (Ruling setting before g.at) g.is
+    (record { of = g.of; ruled = subst (λ l. IsByRule l new) (sym g.running) (taken_ruled setting.setup before g.at g.made g.past g.did g.taken) })
 
-crash_ruled : (setup : Setup) (before : List Noted) (event : Event) (noted : Noted) → (c : IsCrash setup before event noted) → Ruling setup before c.at noted
-crash_ruled setup before event noted c =
+crash_ruled : (setting : Setting) (before : List Noted) (event : Event) (noted : Noted) → (c : IsCrash setting before event noted) → Ruling setting before c.at noted
+crash_ruled setting before event noted c =
     let new = noted_blank before (events.Crash c.at) (Some c.at) in
-    subst (Ruling setup before c.at) c.is (record { of = λ node. refl; ruled = subst (λ l. IsByRule l new) (sym c.running) (λ t. refl) })
+    subst (Ruling setting before c.at) c.is (record { of = λ node. refl; ruled = subst (λ l. IsByRule l new) (sym c.running) (λ t. refl) })
 
-pub event_ruled : (setup : Setup) (before : List Noted) (event : Event) (noted : Noted) (node : Node) → ¬ (Contains (faulty_of setup) node.member) → entry_of setup before event ≡ Ok noted → is_of node noted.event ≡ true → IsByRule (life_in setup before node) noted
-event_ruled setup before event noted node honest e of = elim (entry_turn setup before event noted e) [
-  | inl b ↦ by_ruling setup before b.at node noted (beginning_ruled setup before event noted b) of
+pub event_ruled : (setting : Setting) (before : List Noted) (event : Event) (noted : Noted) (node : Node) → ¬ (Contains (faulty_of setting.setup) node.member) → entry_of setting before event ≡ Ok noted → is_of node noted.event ≡ true → IsByRule (life_in setting before node) noted
+event_ruled setting before event noted node honest e of = elim (entry_turn setting before event noted e) [
+  | inl b ↦ by_ruling setting before b.at node noted (beginning_ruled setting before event noted b) of
   | inr other ↦ elim other [
-    | inl g ↦ by_ruling setup before g.at node noted (going_ruled setup before event noted g) of
+    | inl g ↦ by_ruling setting before g.at node noted (going_ruled setting before event noted g) of
     | inr rest ↦ elim rest [
-      | inl c ↦ by_ruling setup before c.at node noted (crash_ruled setup before event noted c) of
+      | inl c ↦ by_ruling setting before c.at node noted (crash_ruled setting before event noted c) of
       | inr last ↦ elim last [
         | inl t ↦ (let never : is_of node (events.Tick t.ms) ≡ true = subst (λ (n : Noted). is_of node n.event ≡ true) (sym t.is) of in cc)
         | inr a ↦ absurd (both_ways (sym (a.honest node honest) ∙ of))
@@ -297,7 +298,7 @@ event_ruled setup before event noted node honest e of = elim (entry_turn setup b
     both_ways : false ≡ true → ⊥
     both_ways h = cc
 
-pub run_by_rule : (setup : Setup) (noted : List Noted) (node : Node) → ¬ (Contains (faulty_of setup) node.member) → IsRun setup noted → AreByRule setup node noted
+pub run_by_rule : (setting : Setting) (noted : List Noted) (node : Node) → ¬ (Contains (faulty_of setting.setup) node.member) → IsRun setting noted → AreByRule setting node noted
 unfolding IsRun AreByRule
-run_by_rule setup [] node honest ran = tt
-run_by_rule setup (noted ∷ before) node honest ran = (event_ruled setup before ran.0 noted node honest ran.1, run_by_rule setup before node honest ran.2)
+run_by_rule setting [] node honest ran = tt
+run_by_rule setting (noted ∷ before) node honest ran = (event_ruled setting before ran.0 noted node honest ran.1, run_by_rule setting before node honest ran.2)

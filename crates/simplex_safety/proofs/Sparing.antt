@@ -14,13 +14,13 @@ use Rattle.simplex_messages.specs.declared.step.Stop.TheVariants as stops
 use Rattle.simplex_messages.specs.declared.step.StepOut.{StepOut}
 use Rattle.simplex_messages.specs.Step.{no_out}
 use Rattle.simplex_transcript.specs.declared.node.Node.{Node}
-use Rattle.simplex_transcript.specs.declared.setup.Setup.{Setup}
 use Rattle.simplex_steps.specs.Desk.{Doing}
 use Rattle.simplex_steps.specs.Performed.{Performed, stop_place, whole, broken, performed}
 use Rattle.simplex_steps.specs.Voter as voter
 use Rattle.simplex_steps.specs.VoterLife.{VoterMade, Place, place_of, unread, before_reading, start_performed, step_given}
 use Rattle.simplex_steps.specs.Engine as engine
 use Rattle.simplex_steps.specs.Engine.{EngineMade, Did, voter_in, voter_past, cut_short}
+use Rattle.simplex_run.specs.Setting.{Setting}
 use Rattle.simplex_run.specs.Life.{Noted}
 use Rattle.simplex_run.specs.Members.{floor_of, rules_of}
 use Rattle.simplex_voter_laws.proofs.Stepping.{step_tells}
@@ -61,11 +61,11 @@ module _ (member : ℕ) where
       at true = first (before_reading floor) d.calls h
       at false = performed_spares (stops.Fail (call - 1) keep) d js h
 
-  pub begun_spares : (setup : Setup) (node : Node) (floor : Option Finalization) (js : List Section) (now : ℕ) (stop : Stop) → Spares (engine.begun (engine_at setup node floor js) now stop).out.calls
-  begun_spares setup node floor js now stop =
-      let f = floor_of setup floor in
-      let rules = rules_of setup node.member now in
-      subst (λ (d : Did). Spares d.out.calls) (sym (begun_gives setup node floor js now stop))
+  pub begun_spares : (setting : Setting) (node : Node) (floor : Option Finalization) (js : List Section) (now : ℕ) (stop : Stop) → Spares (engine.begun (engine_at setting node floor js) now stop).out.calls
+  begun_spares setting node floor js now stop =
+      let f = floor_of setting.genesis floor in
+      let rules = rules_of setting node.member now in
+      subst (λ (d : Did). Spares d.out.calls) (sym (begun_gives setting node floor js now stop))
       (start_spares stop f (voter.started rules now f (replayed js)) js (start_blames_not member rules now f (replayed js)))
 
   pub voter_spares : (made : EngineMade) (past : List Did) (input : VoterInput) (now : ℕ) (stop : Stop) → Spares (step_given (voter_in made past) (voter_past past) input now stop).out.calls

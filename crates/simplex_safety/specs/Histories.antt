@@ -17,6 +17,7 @@ use Rattle.simplex_steps.specs.Engine.{voter_in, voter_past}
 use Rattle.simplex_journal.specs.Journal.{Section}
 use Rattle.simplex_journal.specs.Contents as journal
 use Rattle.simplex_rules.specs.Known.{view_of}
+use Rattle.simplex_run.specs.Setting.{Setting}
 use Rattle.simplex_run.specs.Life.{Noted, Life, Stopped, Running, is_of, life_in, sections_in}
 use Rattle.simplex_run.specs.Members.{is_same_node, rules_of}
 use Rattle.simplex_run.specs.Entries.{entry_of}
@@ -28,9 +29,9 @@ use Rattle.simplex_conduct.specs.Life.{statement_of, taken, voted, AreSent, AreV
 use Rattle.simplex_conduct.specs.Storing.{IsOwn, AreStoredFirst}
 
 -- entries of a run, the newest first: each is what its event makes of those before it
-unfoldable pub IsRun : Setup → List Noted → Type 0
-IsRun setup [] = Unit {0}
-IsRun setup (noted ∷ before) = (event : Event) × (entry_of setup before event ≡ Ok noted) × IsRun setup before
+unfoldable pub IsRun : Setting → List Noted → Type 0
+IsRun setting [] = Unit {0}
+IsRun setting (noted ∷ before) = (event : Event) × (entry_of setting before event ≡ Ok noted) × IsRun setting before
 
 -- no start is at the finalization of view 0
 abbrev pub IsStartAbove : Event → Type 0
@@ -60,10 +61,10 @@ floors_of node [] = []
 floors_of node (noted ∷ before) = floors_of node before ++ floor_in node noted.event
 
 -- the member is where the life of its node is, whose engine keeps the setup's rules
-unfoldable pub IsAt : Setup → Node → Life → Member → Type 0
-IsAt setup node (Stopped sections) m = IsStopped (rules_of setup node.member 0) sections m
-IsAt setup node (Running made past) m =
-    ((start : ℕ) → (made.voter start).rules ≡ rules_of setup node.member start)
+unfoldable pub IsAt : Setting → Node → Life → Member → Type 0
+IsAt setting node (Stopped sections) m = IsStopped (rules_of setting node.member 0) sections m
+IsAt setting node (Running made past) m =
+    ((start : ℕ) → (made.voter start).rules ≡ rules_of setting node.member start)
     × IsRunning (voter_in made past).rules (place_of (voter_in made past) (voter_past past)).standing.desk.known (place_of (voter_in made past) (voter_past past)).sections m
 
 -- a nullify of this round stands in the journal, synced
@@ -73,11 +74,11 @@ IsHeld sections v = (w : Nullify) × (w.round ≡ v.round) × Contains (journal.
 -- In each event of the node whatever went out on the vote channel is an own vote of its member, as the setup's rules sign
 -- it, that was appended and synced before it in this event, or a nullify again: one of its round stood in the node's
 -- journal, synced, before the event
-unfoldable pub AreStored : Setup → Node → List Noted → Type 0
-AreStored setup node [] = Unit {0}
-AreStored setup node (noted ∷ before) =
-    (is_of node noted.event ≡ true → AreStoredFirst (IsHeld (sections_in (life_in setup before node))) (IsOwn (rules_of setup node.member 0)) noted.entry.calls)
-    × AreStored setup node before
+unfoldable pub AreStored : Setting → Node → List Noted → Type 0
+AreStored setting node [] = Unit {0}
+AreStored setting node (noted ∷ before) =
+    (is_of node noted.event ≡ true → AreStoredFirst (IsHeld (sections_in (life_in setting before node))) (IsOwn (rules_of setting node.member 0)) noted.entry.calls)
+    × AreStored setting node before
 
 -- each vote that the node's voter handed to its batcher as constructed is on a subject of these votes
 unfoldable pub AreConstructed : Node → List Noted → List Sent → Type 0
@@ -88,12 +89,12 @@ AreConstructed node (noted ∷ before) sent = (is_of node noted.event ≡ true �
 -- the node appended or as floors of its starts, it sent the votes that went out of the node, and it is where the node is. Each vote
 -- was stored before it was sent, and each that the batcher was handed was sent. Each is on the subject of a record that the
 -- node appended, or a nullify again
-pub record IsLivedBy (setup : Setup) (noted : List Noted) (node : Node) : Type 0 where
+pub record IsLivedBy (setting : Setting) (noted : List Noted) (node : Node) : Type 0 where
   pub calls : List life.Call
-  pub legal : life.IsLegal setup.term newborn calls
+  pub legal : life.IsLegal setting.setup.term newborn calls
   pub brought : (c : agreement.Certificate) → Contains (life.brought calls) c → Contains (taken (calls_of node noted)) c ⊎ Contains (floors_of node noted) c
   pub votes : AreSent (calls_of node noted) (map (λ (s : Sent). s.subject) (life.run newborn calls).sent)
-  pub at : IsAt setup node (life_in setup noted node) (life.run newborn calls)
-  pub stored : AreStored setup node noted
+  pub at : IsAt setting node (life_in setting noted node) (life.run newborn calls)
+  pub stored : AreStored setting node noted
   pub constructed : AreConstructed node noted (life.run newborn calls).sent
-  pub own : (s : Subject) → Contains (map (λ (x : Sent). x.subject) (life.run newborn calls).sent) s → Contains (voted (calls_of node noted)) s ⊎ IsEpochNullify setup s
+  pub own : (s : Subject) → Contains (map (λ (x : Sent). x.subject) (life.run newborn calls).sent) s → Contains (voted (calls_of node noted)) s ⊎ IsEpochNullify setting.setup s

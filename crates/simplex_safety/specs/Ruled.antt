@@ -2,9 +2,9 @@
 use Rattle.std.specs.Prelude.{◌≡◌, true, List, [], ◌∷◌, map, Option, Some}
 use Rattle.simplex_wire.specs.declared.vote.Vote.{Vote}
 use Rattle.simplex_transcript.specs.declared.node.Node.{Node}
-use Rattle.simplex_transcript.specs.declared.setup.Setup.{Setup}
 use Rattle.simplex_steps.specs.VoterLife.{Given, Stepped, place_of}
 use Rattle.simplex_steps.specs.Engine.{EngineMade, Did, voter_in, voter_past, given_to_voter, is_whole}
+use Rattle.simplex_run.specs.Setting.{Setting}
 use Rattle.simplex_run.specs.Life.{Noted, Life, Running, is_of, life_in}
 use Rattle.simplex_voter_laws.specs.Votes.{vote_packets, packet_of, votes_by_rule}
 
@@ -21,8 +21,8 @@ votes_due _ _ = []
 
 -- In each event of the node that no stop broke, what went out on the vote channel are the votes that the rules give
 -- for what its voter knew and took in the event, in this order and each to all; where its voter took nothing, none
-unfoldable pub AreByRule : Setup → Node → List Noted → Type 0
-AreByRule setup node [] = Unit {0}
-AreByRule setup node (noted ∷ before) =
-    (is_of node noted.event ≡ true → is_whole noted.entry.outcome ≡ true → vote_packets noted.entry.calls ≡ map packet_of (votes_due (life_in setup before node) noted.did))
-    × AreByRule setup node before
+unfoldable pub AreByRule : Setting → Node → List Noted → Type 0
+AreByRule setting node [] = Unit {0}
+AreByRule setting node (noted ∷ before) =
+    (is_of node noted.event ≡ true → is_whole noted.entry.outcome ≡ true → vote_packets noted.entry.calls ≡ map packet_of (votes_due (life_in setting before node) noted.did))
+    × AreByRule setting node before
