@@ -88,8 +88,8 @@ few_bytes (certificates.Finalization c) fits few =
     joined_long ((varint p.round.epoch ++ varint p.round.view) ++ (varint p.parent ++ p.payload)) (format.signatures.spelling c.certificate) 2 (length c.certificate)
     (let raw = fits.0.1.1 in proposal_long p.round.epoch p.round.view p.parent p.payload raw.len) (signatures_long c.certificate fits.1.1) few
 
-good_few : (backers : Backers) (c : Certificate) → IsSized backers.setup → IsGood backers c → length (format.certificate.spelling c) < 2 ^ 32
-good_few backers c sized g = few_bytes c g.fits (below (length (certificate_signatures c)) (members_of backers.setup) (signatures_few backers.setup c g.verifies) sized.fewer)
+good_few : (backers : Backers) (c : Certificate) → IsSized backers.setting.setup → IsGood backers c → length (format.certificate.spelling c) < 2 ^ 32
+good_few backers c sized g = few_bytes c g.fits (below (length (certificate_signatures c)) (members_of backers.setting.setup) (signatures_few backers.setting.setup c g.verifies) sized.fewer)
   where
     below : (k n : ℕ) → k ≤ n → n < 2 ^ 16 → k < 2 ^ 16
     below k n le lt = omega (arith, le, lt)
@@ -102,7 +102,7 @@ after_id a b xs ys e = ap (drop 8) e
 rest_bytes : (xs ys : List ℕ) → IsBytes (xs ++ ys) → IsBytes ys
 rest_bytes xs ys h = subst IsBytes (drop_at xs ys (length xs) refl) (IsBytes-drop (length xs) (xs ++ ys) h)
 
-module _ (backers : Backers) (sized : IsSized backers.setup) (c : Certificate) where
+module _ (backers : Backers) (sized : IsSized backers.setting.setup) (c : Certificate) where
   -- a certificate that is read of a good one's bytes is that one
   read_good : (d : Certificate) → IsGood backers d → Contains (read_certificate (whole format.certificate (format.certificate.spelling d))) c → IsGood backers c
   read_good d g k =

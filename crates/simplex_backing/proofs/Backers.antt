@@ -2,7 +2,7 @@
 use Rattle.std.proofs.Common.{ℕ, List, All, Contains, ◌⊎◌}
 use Rattle.simplex_values.specs.declared.proposal.Subject.{Subject}
 use Rattle.simplex_wire.specs.declared.certificate.Certificate.{Certificate}
-use Rattle.simplex_transcript.specs.declared.setup.Setup.{Setup}
+use Rattle.simplex_run.specs.Setting.{Setting}
 use Rattle.simplex_run.specs.Life.{Noted}
 use Rattle.simplex_wire.specs.declared.attestation.Attestation.{Attestation}
 use Rattle.simplex_wire.specs.Fields.{certificate_subject, certificate_signatures}
@@ -11,12 +11,12 @@ use Rattle.simplex_backing.specs.Voting.{HasVoted}
 
 -- the votes of all of a run
 pub record Backers : Type 0 where
-  pub setup : Setup
+  pub setting : Setting
   pub noted : List Noted
 
 -- the member is faulty, or sent a vote on the subject
 abbrev pub Counts : Backers → ℕ → Subject → Type 0
-Counts backers member subject = Contains (faulty_of backers.setup) member ⊎ HasVoted backers.noted member subject
+Counts backers member subject = Contains (faulty_of backers.setting.setup) member ⊎ HasVoted backers.noted member subject
 
 -- each signer counts
 abbrev pub IsBackedIn : Backers → Certificate → Type 0

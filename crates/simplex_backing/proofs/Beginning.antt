@@ -87,15 +87,15 @@ start_performed_silent (stops.Fail call keep) floor d js n = at (call == 1)
     at true = tt
     at false = performed_silent (stops.Fail (call - 1) keep) d js n
 
-in_floor : (backers : Backers) (floor : Option Finalization) (at : Node) (stop : Stop) → InStart (IsGood backers) (events.Start at floor stop) → InFloor (IsGood backers) (floor_of backers.setup floor)
+in_floor : (backers : Backers) (floor : Option Finalization) (at : Node) (stop : Stop) → InStart (IsGood backers) (events.Start at floor stop) → InFloor (IsGood backers) (floor_of backers.setting.genesis floor)
 in_floor backers None at stop g = tt
 in_floor backers (Some f) at stop g = g
 
 -- what the start does
 start_says : (backers : Backers) (at : Node) (floor : Option Finalization) (stop : Stop) (js : List Section) (now : ℕ) → InStart (IsGood backers) (events.Start at floor stop) → InJournal (InRecord (IsGood backers)) js
-    → SaysGood (IsGood backers) (voter.started (rules_of backers.setup at.member now) now (floor_of backers.setup floor) (replayed js))
+    → SaysGood (IsGood backers) (voter.started (rules_of backers.setting at.member now) now (floor_of backers.setting.genesis floor) (replayed js))
 start_says backers at floor stop js now g records =
-    started_says (IsGood backers) (rules_of backers.setup at.member now) now (floor_of backers.setup floor) (replayed js) (in_floor backers floor at stop g) records
+    started_says (IsGood backers) (rules_of backers.setting at.member now) now (floor_of backers.setting.genesis floor) (replayed js) (in_floor backers floor at stop g) records
 
 start_place_fine : (backers : Backers) (made : VoterMade) (now : ℕ) (stop : Stop) → SaysGood (IsGood backers) (start_at made now made.sections) → InJournal (InRecord (IsGood backers)) made.sections
     → IsPlaceFine backers (place_of made (Started now stop ∷ []))
@@ -111,58 +111,58 @@ start_place_fine backers made now stop says records =
     at false = says.in_known
 
 start_engine : (backers : Backers) (at : Node) (floor : Option Finalization) (stop : Stop) (js : List Section) (now : ℕ) → InStart (IsGood backers) (events.Start at floor stop) → InJournal (InRecord (IsGood backers)) js
-    → IsPlaceFine backers (place_in (engine_at backers.setup at floor js) (by_voter Began now stop (given_start backers.setup at floor js now stop) ∷ []))
+    → IsPlaceFine backers (place_in (engine_at backers.setting at floor js) (by_voter Began now stop (given_start backers.setting at floor js now stop) ∷ []))
 unfolding started_at voter_past engine_of
 start_engine backers at floor stop js now g records =
-    start_place_fine backers ((engine_at backers.setup at floor js).voter now) now stop (start_says backers at floor stop js now g records) records
+    start_place_fine backers ((engine_at backers.setting at floor js).voter now) now stop (start_says backers at floor stop js now g records) records
 
 start_handed : (backers : Backers) (at : Node) (floor : Option Finalization) (stop : Stop) (js : List Section) (now : ℕ) → InStart (IsGood backers) (events.Start at floor stop) → InJournal (InRecord (IsGood backers)) js
-    → Each (IsFine backers) (given_start backers.setup at floor js now stop).out.handed
+    → Each (IsFine backers) (given_start backers.setting at floor js now stop).out.handed
 start_handed backers at floor stop js now g records =
-    let rules = rules_of backers.setup at.member now in
-    let f = floor_of backers.setup floor in
+    let rules = rules_of backers.setting at.member now in
+    let f = floor_of backers.setting.genesis floor in
     let d = voter.started rules now f (replayed js) in
     let says = start_says backers at floor stop js now g records in
     let all = said_at_start (IsGood backers) stop f d js says in
     let sound = start_sound rules now f (replayed js) in
-    silent_fine backers (given_start backers.setup at floor js now stop).out.calls (given_start backers.setup at floor js now stop).out.handed all.handed
+    silent_fine backers (given_start backers.setting at floor js now stop).out.calls (given_start backers.setting at floor js now stop).out.handed all.handed
     (start_performed_silent stop f d js (no_own (IsGood backers) d.calls d.handed sound.silent says.in_messages))
 
 -- a start says backed certificates alone
 pub begun_said : (backers : Backers) (at : Node) (floor : Option Finalization) (stop : Stop) (js : List Section) (now : ℕ) → InStart (IsGood backers) (events.Start at floor stop) → InJournal (InRecord (IsGood backers)) js
-    → AllSaid (IsGood backers) (engine.begun (engine_at backers.setup at floor js) now stop).out
+    → AllSaid (IsGood backers) (engine.begun (engine_at backers.setting at floor js) now stop).out
 begun_said backers at floor stop js now g records =
-    let setup = backers.setup in
-    let d = voter.started (rules_of setup at.member now) now (floor_of setup floor) (replayed js) in
-    subst (λ (did : Did). AllSaid (IsGood backers) did.out) (sym (begun_gives setup at floor js now stop))
-    (said_at_start (IsGood backers) stop (floor_of setup floor) d js (start_says backers at floor stop js now g records))
+    let setting = backers.setting in
+    let d = voter.started (rules_of setting at.member now) now (floor_of setting.genesis floor) (replayed js) in
+    subst (λ (did : Did). AllSaid (IsGood backers) did.out) (sym (begun_gives setting at floor js now stop))
+    (said_at_start (IsGood backers) stop (floor_of setting.genesis floor) d js (start_says backers at floor stop js now g records))
 
-pub begin_fine : (backers : Backers) (before : List Noted) (event : Event) (noted : Noted) → IsSized backers.setup → (b : IsBeginning backers.setup before event noted)
+pub begin_fine : (backers : Backers) (before : List Noted) (event : Event) (noted : Noted) → IsSized backers.setting.setup → (b : IsBeginning backers.setting before event noted)
     → IsTold backers noted → IsFineRun backers before → IsFineRun backers (noted ∷ before)
 unfolding after
 begin_fine backers before event noted sized b told fine =
-    let setup = backers.setup in
+    let setting = backers.setting in
     let at = b.at in
     let floor = b.floor in
     let stop = b.stop in
     let js = b.sections in
     let now = clock_of before in
-    let made = engine_at setup at floor js in
+    let made = engine_at setting at floor js in
     let did = engine.begun made now stop in
-    let half = first_half setup at b.node in
+    let half = first_half setting.setup at b.node in
     let g = floor_good backers before floor at stop b.own fine.said in
-    let by : Did = by_voter Began now stop (given_start setup at floor js now stop) in
-    let same : did ≡ by = begun_gives setup at floor js now stop in
+    let by : Did = by_voter Began now stop (given_start setting at floor js now stop) in
+    let same : did ≡ by = begun_gives setting at floor js now stop in
     let records : InJournal (InRecord (IsGood backers)) js = subst (IsLifeFine backers at.member) b.stopped (fine.lives at b.runs) in
     let all = begun_said backers at floor stop js now g records in
     subst (λ n. IsTold backers n → IsFineRun backers (n ∷ before)) b.is
     (λ t. advance backers before (events.Start at floor stop) at (Some tooks.Floor) did (λ node. refl) half.1 sized g all t
-    (subst (λ l. IsLifeFine backers at.member (going_on (engine_of setup at.member (floor_of setup floor) (sections_in l)) (did ∷ []))) (sym b.stopped)
+    (subst (λ l. IsLifeFine backers at.member (going_on (engine_of setting at.member (floor_of setting.genesis floor) (sections_in l)) (did ∷ []))) (sym b.stopped)
     (lives_on backers at.member made (did ∷ []) (record {
       batcher = engine_batcher backers at floor js;
       resolver = engine_resolver backers at floor js;
-      signs = engine_own setup at floor js half.0 sized;
-      given = subst (λ (d : Did). Each (InGiven made.resolver (IsGood backers)) (engine.resolver_past (d ∷ []))) (sym same) (start_given (InGiven made.resolver (IsGood backers)) now stop (given_start setup at floor js now stop).outcome (given_start setup at floor js now stop).out);
+      signs = engine_own setting at floor js half.0 sized;
+      given = subst (λ (d : Did). Each (InGiven made.resolver (IsGood backers)) (engine.resolver_past (d ∷ []))) (sym same) (start_given (InGiven made.resolver (IsGood backers)) now stop (given_start setting at floor js now stop).outcome (given_start setting at floor js now stop).out);
       history = (
         record {
           handed = subst (λ (d : Did). Each (IsFine backers) d.out.handed) (sym same) (start_handed backers at floor stop js now g records);

@@ -17,10 +17,10 @@ use Rattle.simplex_transcript.specs.declared.event.Event.{Event}
 use Rattle.simplex_transcript.specs.declared.event.StepSource.{StepSource}
 use Rattle.simplex_transcript.specs.declared.event.StepSource.TheVariants as sources
 use Rattle.simplex_transcript.specs.declared.node.Node.{Node}
-use Rattle.simplex_transcript.specs.declared.setup.Setup.{Setup}
 use Rattle.simplex_steps.specs.Batcher as batcher
 use Rattle.simplex_steps.specs.Engine as engine
 use Rattle.simplex_steps.specs.Engine.{EngineMade, Did, Taken, by_batcher}
+use Rattle.simplex_run.specs.Setting.{Setting}
 use Rattle.simplex_run.specs.Life.{Noted, clock_of}
 use Rattle.simplex_agreement.specs.World.{Sent}
 use Rattle.simplex_lives.specs.Member.{run}
@@ -54,11 +54,11 @@ use Rattle.simplex_safety.specs.Faulty.{faulty_of}
 use Rattle.simplex_safety.specs.Histories.{IsRun}
 
 -- an honest member, and what it sent in its life
-module _ (backers : Backers) (member term : ℕ) (sent : List Sent) (honest : ¬ (Contains (faulty_of backers.setup) member)) (order : AreInOrder term sent)
+module _ (backers : Backers) (member term : ℕ) (sent : List Sent) (honest : ¬ (Contains (faulty_of backers.setting.setup) member)) (order : AreInOrder term sent)
     (voted : (s : Subject) → HasVoted backers.noted member s → Contains (subjects_of sent) s) where
   came_authentic : (given : List batcher.Timed) → Each (IsFineTimed backers) given → IsAuthentic member given sent
   came_authentic given fine vote came is = elim (came_counted backers given vote fine came).0 [
-    | inl f ↦ absurd (honest (subst (Contains (faulty_of backers.setup)) is f))
+    | inl f ↦ absurd (honest (subst (Contains (faulty_of backers.setting.setup)) is f))
     | inr h ↦ voted (vote_subject vote) (subst (λ n. HasVoted backers.noted n (vote_subject vote)) is h)
   ]
 
@@ -114,7 +114,7 @@ module _ (backers : Backers) (member term : ℕ) (sent : List Sent) (honest : ¬
   heard_spares made past sender channels.Certificate bytes now f fine = batcher_spares made past (engine.Heard sender channels.Certificate bytes) (batcher_inputs.Certificate sender bytes) now stops.None fine f
   heard_spares made past sender channels.Resolver bytes now f fine = (let r = heard_by_resolver made past sender bytes now in resolver_spares (engine.heard made past sender channels.Resolver bytes now).out.calls r.calls)
 
-  taken_spares : (before : List Noted) (at : Node) (made : EngineMade) (past : List Did) (did : Did) → IsTaken backers.setup before at made past did → IsFineRun backers before → Each (IsFineDid backers) past
+  taken_spares : (before : List Noted) (at : Node) (made : EngineMade) (past : List Did) (did : Did) → IsTaken backers.setting.setup before at made past did → IsFineRun backers before → Each (IsFineDid backers) past
       → Spares member did.out.calls
   taken_spares before at made past did t run fine = elim t [
     | inl h ↦ subst (λ (d : Did). Spares member d.out.calls) (sym h.is)
@@ -125,9 +125,9 @@ module _ (backers : Backers) (member term : ℕ) (sent : List Sent) (honest : ¬
     ]
   ]
 
-  turn_spares : (before : List Noted) (event : Event) (noted : Noted) → IsTurn backers.setup before event noted → IsFineRun backers before → BlameNot member noted.entry.calls
+  turn_spares : (before : List Noted) (event : Event) (noted : Noted) → IsTurn backers.setting before event noted → IsFineRun backers before → BlameNot member noted.entry.calls
   turn_spares before event noted t fine = elim t [
-    | inl b ↦ subst (λ (n : Noted). BlameNot member n.entry.calls) b.is (begun_spares member backers.setup b.at b.floor b.sections (clock_of before) b.stop)
+    | inl b ↦ subst (λ (n : Noted). BlameNot member n.entry.calls) b.is (begun_spares member backers.setting b.at b.floor b.sections (clock_of before) b.stop)
     | inr other ↦ elim other [
       | inl g ↦
           let lived : IsFineEngine backers g.at.member g.made g.past = subst (IsLifeFine backers g.at.member) g.running (fine.lives g.at g.runs) in
@@ -143,22 +143,22 @@ module _ (backers : Backers) (member term : ℕ) (sent : List Sent) (honest : ¬
   ]
 
 -- each entry, for all honest members
-blameless : (backers : Backers) (term : ℕ) (later noted : List Noted) → IsSized backers.setup → backers.noted ≡ later ++ noted → IsRun backers.setup noted → AreTyped noted
-    → ((member : ℕ) → ¬ (Contains (faulty_of backers.setup) member) → (sent : List Sent) × AreInOrder term sent × ((s : Subject) → HasVoted backers.noted member s → Contains (subjects_of sent) s))
-    → AreBlameless backers.setup noted
+blameless : (backers : Backers) (term : ℕ) (later noted : List Noted) → IsSized backers.setting.setup → backers.noted ≡ later ++ noted → IsRun backers.setting noted → AreTyped noted
+    → ((member : ℕ) → ¬ (Contains (faulty_of backers.setting.setup) member) → (sent : List Sent) × AreInOrder term sent × ((s : Subject) → HasVoted backers.noted member s → Contains (subjects_of sent) s))
+    → AreBlameless backers.setting.setup noted
 unfolding IsRun AreBlameless
 blameless backers term later [] sized whole_is ran typed lives = tt
 blameless backers term later (noted ∷ before) sized whole_is ran typed lives =
     let shifted = whole_is ∙ sym (append_assoc later (noted ∷ []) before) in
     let fine = run_fine backers (later ++ noted ∷ []) before sized shifted ran.2 typed.1 in (
-      (λ member honest. (let l = lives member honest in turn_spares backers member term l.0 honest l.1 l.2 before ran.0 noted (entry_turn backers.setup before ran.0 noted ran.1) fine)),
+      (λ member honest. (let l = lives member honest in turn_spares backers member term l.0 honest l.1 l.2 before ran.0 noted (entry_turn backers.setting before ran.0 noted ran.1) fine)),
       blameless backers term (later ++ noted ∷ []) before sized shifted ran.2 typed.1 lives,
     )
 
-pub run_blameless : (setup : Setup) (noted : List Noted) → IsMostlyHonest setup noted → AreBlameless setup noted
-run_blameless setup noted o =
-    let p = people_of setup noted o (floors_hold setup noted o) in
-    blameless (backers_of setup noted) setup.term [] noted (sized_of setup noted o) refl o.ran o.typed
+pub run_blameless : (setting : Setting) (noted : List Noted) → IsMostlyHonest setting noted → AreBlameless setting.setup noted
+run_blameless setting noted o =
+    let p = people_of setting noted o (floors_hold setting noted o) in
+    blameless (backers_of setting noted) setting.setup.term [] noted (sized_of setting noted o) refl o.ran o.typed
     (λ member honest. (let l = p.lived member honest in
     let lived = l.0.lived in
-    (p.history member, subst (AreInOrder setup.term) (sym l.1) (sent_in_order setup.term o.term lived.calls lived.legal), λ s h. voted_lived setup noted o.ran p member s honest h)))
+    (p.history member, subst (AreInOrder setting.setup.term) (sym l.1) (sent_in_order setting.setup.term o.term lived.calls lived.legal), λ s h. voted_lived setting noted o.ran p member s honest h)))

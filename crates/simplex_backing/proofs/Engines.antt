@@ -49,8 +49,8 @@ pub record IsPlaceFine (backers : Backers) (place : Place) : Type 0 where
 
 -- the resolver is one of the members'
 pub record IsResolverOf (backers : Backers) (made : resolver.Made) : Type 0 where
-  pub verifies : made.verifies ≡ keyed_verifies backers.setup.key_base (members_of backers.setup)
-  pub members : made.members ≡ members_of backers.setup
+  pub verifies : made.verifies ≡ keyed_verifies backers.setting.setup.key_base (members_of backers.setting.setup)
+  pub members : made.members ≡ members_of backers.setting.setup
 
 pub record IsFineEngine (backers : Backers) (member : ℕ) (made : EngineMade) (past : List Did) : Type 0 where
   pub batcher : IsMade backers made.batcher
@@ -72,7 +72,7 @@ life_records backers member (Running made past) h = h.place.records
 pub record IsFineRun (backers : Backers) (noted : List Noted) : Type 0 where
   pub said : Each (InNoted (IsGood backers)) noted
   pub packets : Each (λ (n : Noted). Each (IsFinePacket backers) n.entry.packets) noted
-  pub lives : (node : Node) → runs_engine backers.setup node.member ≡ true → IsLifeFine backers node.member (life_in backers.setup noted node)
+  pub lives : (node : Node) → runs_engine backers.setting.setup node.member ≡ true → IsLifeFine backers node.member (life_in backers.setting noted node)
 
 -- ---- what is given about the next entry
 
@@ -111,33 +111,33 @@ lives_on backers member made past h = at (runs past)
 
 -- the lives of all, where the one of the event goes on
 pub lives_then : (backers : Backers) (noted : Noted) (before : List Noted) (at : Node) → ((node : Node) → is_of node noted.event ≡ is_same_node at node)
-    → IsLifeFine backers at.member (after backers.setup noted.event noted.did (life_in backers.setup before at))
-    → ((node : Node) → runs_engine backers.setup node.member ≡ true → IsLifeFine backers node.member (life_in backers.setup before node))
-    → (node : Node) → runs_engine backers.setup node.member ≡ true → IsLifeFine backers node.member (life_in backers.setup (noted ∷ before) node)
+    → IsLifeFine backers at.member (after backers.setting noted.event noted.did (life_in backers.setting before at))
+    → ((node : Node) → runs_engine backers.setting.setup node.member ≡ true → IsLifeFine backers node.member (life_in backers.setting before node))
+    → (node : Node) → runs_engine backers.setting.setup node.member ≡ true → IsLifeFine backers node.member (life_in backers.setting (noted ∷ before) node)
 lives_then backers noted before at of life old node good = cases (is_same_node at node) refl
   where
-    cases : (t : Bool) → is_same_node at node ≡ t → IsLifeFine backers node.member (life_in backers.setup (noted ∷ before) node)
+    cases : (t : Bool) → is_same_node at node ≡ t → IsLifeFine backers node.member (life_in backers.setting (noted ∷ before) node)
     cases true e =
-        subst (λ (n : Node). IsLifeFine backers n.member (life_in backers.setup (noted ∷ before) n)) (same_node at node e)
-        (subst (IsLifeFine backers at.member) (sym (life_then backers.setup noted before at (of at ∙ same_self at))) life)
-    cases false e = subst (IsLifeFine backers node.member) (sym (life_still backers.setup noted before node (of node ∙ e))) (old node good)
+        subst (λ (n : Node). IsLifeFine backers n.member (life_in backers.setting (noted ∷ before) n)) (same_node at node e)
+        (subst (IsLifeFine backers at.member) (sym (life_then backers.setting noted before at (of at ∙ same_self at))) life)
+    cases false e = subst (IsLifeFine backers node.member) (sym (life_still backers.setting noted before node (of node ∙ e))) (old node good)
 
 -- each vote of a faulty member counts
-faulty_spoken : (backers : Backers) (sender : ℕ) (channel : Channel) (bytes : List ℕ) → Contains (faulty_of backers.setup) sender → SpokenOn backers sender channel bytes
+faulty_spoken : (backers : Backers) (sender : ℕ) (channel : Channel) (bytes : List ℕ) → Contains (faulty_of backers.setting.setup) sender → SpokenOn backers sender channel bytes
 faulty_spoken backers sender channels.Vote bytes f = λ v e. inl f
 faulty_spoken backers sender channels.Certificate bytes f = tt
 faulty_spoken backers sender channels.Resolver bytes f = tt
 
 -- the packets of the entry are fine
-pub entry_packets : (backers : Backers) (before : List Noted) (event : Event) (at : Node) (took : Option Took) (did : Did) → SpeaksFor backers.setup at
-    → IsTold backers (noted_with backers.setup before event at took did) → Each (IsSpoken backers) (packets_of backers.setup at did.out.calls)
+pub entry_packets : (backers : Backers) (before : List Noted) (event : Event) (at : Node) (took : Option Took) (did : Did) → SpeaksFor backers.setting.setup at
+    → IsTold backers (noted_with backers.setting.setup before event at took did) → Each (IsSpoken backers) (packets_of backers.setting.setup at did.out.calls)
 entry_packets backers before event at took did speaks told =
-    let ps = packets_of backers.setup at did.out.calls in
+    let ps = packets_of backers.setting.setup at did.out.calls in
     each_contained (IsSpoken backers) ps (λ p k.
-    let from : p.from ≡ at = one_from ps p (from_at backers.setup at did.out.calls) k in
+    let from : p.from ≡ at = one_from ps p (from_at backers.setting.setup at did.out.calls) k in
     elim speaks [
       | inl half ↦ told.spoken p k (subst (λ (n : Node). is_same_node (node_of n.member) n ≡ true) (sym from) half)
-      | inr f ↦ faulty_spoken backers p.from.member p.channel p.bytes (subst (λ (n : Node). Contains (faulty_of backers.setup) n.member) (sym from) f)
+      | inr f ↦ faulty_spoken backers p.from.member p.channel p.bytes (subst (λ (n : Node). Contains (faulty_of backers.setting.setup) n.member) (sym from) f)
     ])
   where
     one_from : (ps : List Packet) (p : Packet) → Each (IsFrom at) ps → Contains ps p → IsFrom at p
@@ -147,12 +147,12 @@ entry_packets backers before event at took did speaks told =
         contained P [] x h c = absurd (not_in_empty x c)
         contained P (y ∷ xs) x h c = elim (Contains-cons_cases y xs x c) [ inl e ↦ subst P e h.0 | inr r ↦ contained P xs x h.1 r ]
 
-pub advance : (backers : Backers) (before : List Noted) (event : Event) (at : Node) (took : Option Took) (did : Did) → ((node : Node) → is_of node event ≡ is_same_node at node) → SpeaksFor backers.setup at
-    → IsSized backers.setup → InStart (IsGood backers) event → AllSaid (IsGood backers) did.out → IsTold backers (noted_with backers.setup before event at took did)
-    → IsLifeFine backers at.member (after backers.setup event (Some did) (life_in backers.setup before at))
-    → IsFineRun backers before → IsFineRun backers (noted_with backers.setup before event at took did ∷ before)
+pub advance : (backers : Backers) (before : List Noted) (event : Event) (at : Node) (took : Option Took) (did : Did) → ((node : Node) → is_of node event ≡ is_same_node at node) → SpeaksFor backers.setting.setup at
+    → IsSized backers.setting.setup → InStart (IsGood backers) event → AllSaid (IsGood backers) did.out → IsTold backers (noted_with backers.setting.setup before event at took did)
+    → IsLifeFine backers at.member (after backers.setting event (Some did) (life_in backers.setting before at))
+    → IsFineRun backers before → IsFineRun backers (noted_with backers.setting.setup before event at took did ∷ before)
 advance backers before event at took did of speaks sized floor said told life fine =
-    let noted = noted_with backers.setup before event at took did in
+    let noted = noted_with backers.setting.setup before event at took did in
     record {
       said = (record { floor = floor; added = said.added; handed = said.handed; calls = said.calls }, fine.said);
       packets = (packets_fine backers at did.out.calls sized said.calls told.bytes (entry_packets backers before event at took did speaks told), fine.packets);
@@ -161,15 +161,15 @@ advance backers before event at took did of speaks sized floor said told life fi
 
 -- ---- a new engine
 
-pub engine_batcher : (backers : Backers) (at : Node) (floor : Option Finalization) (js : List Section) → IsMade backers (engine_at backers.setup at floor js).batcher
+pub engine_batcher : (backers : Backers) (at : Node) (floor : Option Finalization) (js : List Section) → IsMade backers (engine_at backers.setting at floor js).batcher
 unfolding engine_of batcher_of
 engine_batcher backers at floor js =
     record {
-      scheme = keyed_fits (engine_at backers.setup at floor js).batcher backers.setup.key_base (wrapped_recovers (kind_of backers.setup at.member)) refl;
+      scheme = keyed_fits (engine_at backers.setting at floor js).batcher backers.setting.setup.key_base (wrapped_recovers (kind_of backers.setting.setup at.member)) refl;
       verifies = refl;
       members = refl;
     }
 
-pub engine_resolver : (backers : Backers) (at : Node) (floor : Option Finalization) (js : List Section) → IsResolverOf backers (engine_at backers.setup at floor js).resolver
+pub engine_resolver : (backers : Backers) (at : Node) (floor : Option Finalization) (js : List Section) → IsResolverOf backers (engine_at backers.setting at floor js).resolver
 unfolding engine_of resolver_of
 engine_resolver backers at floor js = record { verifies = refl; members = refl }

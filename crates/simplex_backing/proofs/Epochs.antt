@@ -50,6 +50,7 @@ use Rattle.simplex_steps.specs.VoterLife.{VoterMade, Place, Started, Stepped, An
 use Rattle.simplex_steps.specs.Batcher as batcher
 use Rattle.simplex_steps.specs.Engine as engine
 use Rattle.simplex_steps.specs.Engine.{EngineMade, Did, Began, started_at, is_start, given_to_voter, given_to_batcher, voter_in, voter_past, batcher_past, input_of_batcher, by_voter, runs, sections_of, cut_short}
+use Rattle.simplex_run.specs.Setting.{Setting}
 use Rattle.simplex_run.specs.Life.{Noted, Life, Stopped, Running, clock_of, is_of, going_on, sections_in, after, life_in}
 use Rattle.simplex_run.specs.Members.{is_same_node, floor_of, rules_of, batcher_of, engine_of}
 use Rattle.simplex_run.specs.Entries.{noted_with, noted_blank, is_own_floor}
@@ -119,9 +120,9 @@ unfolding sections_of
 life_records e (Stopped sections) h = h
 life_records e (Running made past) h = h.place.records
 
-record IsNamedRun (setup : Setup) (noted : List Noted) : Type 0 where
-  pub own : OwnName setup noted
-  pub lives : (node : Node) → runs_engine setup node.member ≡ true → IsLifeNamed setup.epoch (life_in setup noted node)
+record IsNamedRun (setting : Setting) (noted : List Noted) : Type 0 where
+  pub own : OwnName setting.setup noted
+  pub lives : (node : Node) → runs_engine setting.setup node.member ≡ true → IsLifeNamed setting.setup.epoch (life_in setting noted node)
 
 all_handed : (e : ℕ) (past : List Did) → Each (IsNamedDid e) past → Each (λ (did : Did). Each (HandedNames e) did.out.handed) past
 all_handed e [] h = tt
@@ -488,23 +489,23 @@ taken_step setup before e Good at made past did t h = elim t [
 
 -- ---- a start
 
-pub rules_epoch : (setup : Setup) (member start : ℕ) → (rules_of setup member start).epoch ≡ setup.epoch
+pub rules_epoch : (setting : Setting) (member start : ℕ) → (rules_of setting member start).epoch ≡ setting.setup.epoch
 unfolding rules_of
-rules_epoch setup member start = refl
+rules_epoch setting member start = refl
 
-engine_rules : (setup : Setup) (at : Node) (floor : Option Finalization) (js : List Section) (start : ℕ) → ((engine_at setup at floor js).voter start).rules.epoch ≡ setup.epoch
+engine_rules : (setting : Setting) (at : Node) (floor : Option Finalization) (js : List Section) (start : ℕ) → ((engine_at setting at floor js).voter start).rules.epoch ≡ setting.setup.epoch
 unfolding engine_of
-engine_rules setup at floor js start = rules_epoch setup at.member start
+engine_rules setting at floor js start = rules_epoch setting at.member start
 
-engine_batcher : (setup : Setup) (at : Node) (floor : Option Finalization) (js : List Section) → (engine_at setup at floor js).batcher.epoch ≡ setup.epoch
+engine_batcher : (setting : Setting) (at : Node) (floor : Option Finalization) (js : List Section) → (engine_at setting at floor js).batcher.epoch ≡ setting.setup.epoch
 unfolding engine_of batcher_of
-engine_batcher setup at floor js = refl
+engine_batcher setting at floor js = refl
 
-start_names : (setup : Setup) (member now : ℕ) (floor : Floor) (records : List Artifact) → NamesFloor setup.epoch floor → ((r : Artifact) → Contains records r → NamesRecord setup.epoch r)
-    → AllNamed setup.epoch (voter.started (rules_of setup member now) now floor records)
-start_names setup member now floor records f r =
-    let rules = rules_of setup member now in
-    let same = rules_epoch setup member now in
+start_names : (setting : Setting) (member now : ℕ) (floor : Floor) (records : List Artifact) → NamesFloor setting.setup.epoch floor → ((r : Artifact) → Contains records r → NamesRecord setting.setup.epoch r)
+    → AllNamed setting.setup.epoch (voter.started (rules_of setting member now) now floor records)
+start_names setting member now floor records f r =
+    let rules = rules_of setting member now in
+    let same = rules_epoch setting member now in
     subst (λ n. AllNamed n (voter.started rules now floor records)) same
     (start_named rules now floor records (subst (λ n. NamesFloor n floor) (sym same) f) (λ a k. subst (λ n. NamesRecord n a) (sym same) (r a k)))
 
@@ -520,11 +521,11 @@ start_place e made now stop named records =
     at true = record { known = tt; pending = tt }
     at false = record { known = named.in_known; pending = named.in_pending }
 
-start_engine : (setup : Setup) (at : Node) (floor : Option Finalization) (stop : Stop) (js : List Section) (now : ℕ) → NamesFloor setup.epoch (floor_of setup floor) → InJournal (NamesRecord setup.epoch) js
-    → IsPlaceNamed setup.epoch (place_in (engine_at setup at floor js) (by_voter Began now stop (given_start setup at floor js now stop) ∷ []))
+start_engine : (setting : Setting) (at : Node) (floor : Option Finalization) (stop : Stop) (js : List Section) (now : ℕ) → NamesFloor setting.setup.epoch (floor_of setting.genesis floor) → InJournal (NamesRecord setting.setup.epoch) js
+    → IsPlaceNamed setting.setup.epoch (place_in (engine_at setting at floor js) (by_voter Began now stop (given_start setting at floor js now stop) ∷ []))
 unfolding started_at voter_past engine_of
-start_engine setup at floor stop js now f records =
-    start_place setup.epoch ((engine_at setup at floor js).voter now) now stop (start_names setup at.member now (floor_of setup floor) (replayed js) f records) records
+start_engine setting at floor stop js now f records =
+    start_place setting.setup.epoch ((engine_at setting at floor js).voter now) now stop (start_names setting at.member now (floor_of setting.genesis floor) (replayed js) f records) records
 
 -- ---- the lives
 
@@ -536,131 +537,131 @@ lives_on e made past h = at (runs past)
     at true = h
     at false = h.place.records
 
-lives_then : (setup : Setup) (noted : Noted) (before : List Noted) (at : Node) → ((node : Node) → is_of node noted.event ≡ is_same_node at node)
-    → IsLifeNamed setup.epoch (after setup noted.event noted.did (life_in setup before at)) → ((node : Node) → runs_engine setup node.member ≡ true → IsLifeNamed setup.epoch (life_in setup before node))
-    → (node : Node) → runs_engine setup node.member ≡ true → IsLifeNamed setup.epoch (life_in setup (noted ∷ before) node)
-lives_then setup noted before at of life old node good = each (is_same_node at node) refl
+lives_then : (setting : Setting) (noted : Noted) (before : List Noted) (at : Node) → ((node : Node) → is_of node noted.event ≡ is_same_node at node)
+    → IsLifeNamed setting.setup.epoch (after setting noted.event noted.did (life_in setting before at)) → ((node : Node) → runs_engine setting.setup node.member ≡ true → IsLifeNamed setting.setup.epoch (life_in setting before node))
+    → (node : Node) → runs_engine setting.setup node.member ≡ true → IsLifeNamed setting.setup.epoch (life_in setting (noted ∷ before) node)
+lives_then setting noted before at of life old node good = each (is_same_node at node) refl
   where
-    each : (t : Bool) → is_same_node at node ≡ t → IsLifeNamed setup.epoch (life_in setup (noted ∷ before) node)
+    each : (t : Bool) → is_same_node at node ≡ t → IsLifeNamed setting.setup.epoch (life_in setting (noted ∷ before) node)
     each true e =
-        subst (λ (n : Node). IsLifeNamed setup.epoch (life_in setup (noted ∷ before) n)) (same_node at node e)
-        (subst (IsLifeNamed setup.epoch) (sym (life_then setup noted before at (of at ∙ same_self at))) life)
-    each false e = subst (IsLifeNamed setup.epoch) (sym (life_still setup noted before node (of node ∙ e))) (old node good)
+        subst (λ (n : Node). IsLifeNamed setting.setup.epoch (life_in setting (noted ∷ before) n)) (same_node at node e)
+        (subst (IsLifeNamed setting.setup.epoch) (sym (life_then setting noted before at (of at ∙ same_self at))) life)
+    each false e = subst (IsLifeNamed setting.setup.epoch) (sym (life_still setting noted before node (of node ∙ e))) (old node good)
 
-unmoved : (setup : Setup) (noted : Noted) (before : List Noted) → ((node : Node) → runs_engine setup node.member ≡ true → is_of node noted.event ≡ false)
-    → ((node : Node) → runs_engine setup node.member ≡ true → IsLifeNamed setup.epoch (life_in setup before node))
-    → (node : Node) → runs_engine setup node.member ≡ true → IsLifeNamed setup.epoch (life_in setup (noted ∷ before) node)
-unmoved setup noted before apart old node runs_one = subst (IsLifeNamed setup.epoch) (sym (life_still setup noted before node (apart node runs_one))) (old node runs_one)
+unmoved : (setting : Setting) (noted : Noted) (before : List Noted) → ((node : Node) → runs_engine setting.setup node.member ≡ true → is_of node noted.event ≡ false)
+    → ((node : Node) → runs_engine setting.setup node.member ≡ true → IsLifeNamed setting.setup.epoch (life_in setting before node))
+    → (node : Node) → runs_engine setting.setup node.member ≡ true → IsLifeNamed setting.setup.epoch (life_in setting (noted ∷ before) node)
+unmoved setting noted before apart old node runs_one = subst (IsLifeNamed setting.setup.epoch) (sym (life_still setting noted before node (apart node runs_one))) (old node runs_one)
 
 -- ---- the run
 
-good_names : (setup : Setup) (noted : List Noted) → IsMostlyHonest setup noted → OwnName setup noted → (c : Certificate) → IsGood (backers_of setup noted) c
-    → Names setup.epoch (certificate_subject c)
-good_names setup noted o own c good =
-    let p = people_of setup noted o (floors_hold setup noted o) in
-    backed_names setup noted p (statement_of c) o.some o.few own (good_backed setup noted o.ran p c good)
+good_names : (setting : Setting) (noted : List Noted) → IsMostlyHonest setting noted → OwnName setting.setup noted → (c : Certificate) → IsGood (backers_of setting noted) c
+    → Names setting.setup.epoch (certificate_subject c)
+good_names setting noted o own c good =
+    let p = people_of setting noted o (floors_hold setting noted o) in
+    backed_names setting noted p (statement_of c) o.some o.few own (good_backed setting noted o.ran p c good)
 
-floor_names : (setup : Setup) (before : List Noted) (floor : Option Finalization) → IsMostlyHonest setup before → OwnName setup before → is_own_floor setup before floor ≡ true
-    → NamesFloor setup.epoch (floor_of setup floor)
-floor_names setup before None o own e = tt
-floor_names setup before (Some f) o own e =
-    let fine = fine_of setup before o in
-    good_names setup before o own (certificates.Finalization f) (reported_good (backers_of setup before) f before e fine.said)
+floor_names : (setting : Setting) (before : List Noted) (floor : Option Finalization) → IsMostlyHonest setting before → OwnName setting.setup before → is_own_floor setting.setup before floor ≡ true
+    → NamesFloor setting.setup.epoch (floor_of setting.genesis floor)
+floor_names setting before None o own e = tt
+floor_names setting before (Some f) o own e =
+    let fine = fine_of setting before o in
+    good_names setting before o own (certificates.Finalization f) (reported_good (backers_of setting before) f before e fine.said)
 
-begin_at : (setup : Setup) (before : List Noted) (at : Node) (floor : Option Finalization) (stop : Stop) (js : List Section) → life_in setup before at ≡ Stopped js → runs_engine setup at.member ≡ true
-    → NamesFloor setup.epoch (floor_of setup floor) → IsNamedRun setup before
-    → IsNamedRun setup (noted_with setup before (events.Start at floor stop) at (Some tooks.Floor) (engine.begun (engine_at setup at floor js) (clock_of before) stop) ∷ before)
+begin_at : (setting : Setting) (before : List Noted) (at : Node) (floor : Option Finalization) (stop : Stop) (js : List Section) → life_in setting before at ≡ Stopped js → runs_engine setting.setup at.member ≡ true
+    → NamesFloor setting.setup.epoch (floor_of setting.genesis floor) → IsNamedRun setting before
+    → IsNamedRun setting (noted_with setting.setup before (events.Start at floor stop) at (Some tooks.Floor) (engine.begun (engine_at setting at floor js) (clock_of before) stop) ∷ before)
 unfolding after
-begin_at setup before at floor stop js stopped runs_one f old =
-    let e = setup.epoch in
+begin_at setting before at floor stop js stopped runs_one f old =
+    let e = setting.setup.epoch in
     let now = clock_of before in
-    let made = engine_at setup at floor js in
+    let made = engine_at setting at floor js in
     let did = engine.begun made now stop in
-    let by : Did = by_voter Began now stop (given_start setup at floor js now stop) in
-    let same : did ≡ by = begun_gives setup at floor js now stop in
+    let by : Did = by_voter Began now stop (given_start setting at floor js now stop) in
+    let same : did ≡ by = begun_gives setting at floor js now stop in
     let records : InJournal (NamesRecord e) js = subst (IsLifeNamed e) stopped (old.lives at runs_one) in
-    let d = voter.started (rules_of setup at.member now) now (floor_of setup floor) (replayed js) in
-    let named = start_names setup at.member now (floor_of setup floor) (replayed js) f records in
-    let noted = noted_with setup before (events.Start at floor stop) at (Some tooks.Floor) did in
+    let d = voter.started (rules_of setting at.member now) now (floor_of setting.genesis floor) (replayed js) in
+    let named = start_names setting at.member now (floor_of setting.genesis floor) (replayed js) f records in
+    let noted = noted_with setting.setup before (events.Start at floor stop) at (Some tooks.Floor) did in
     record {
-      own = (subst (λ (x : Did). Each (CallNames e) x.out.calls) (sym same) (own_calls e by.out.calls (start_calls e stop (floor_of setup floor) d js named.in_calls)), old.own);
-      lives = lives_then setup noted before at (λ node. refl)
-          (subst (λ l. IsLifeNamed e (going_on (engine_of setup at.member (floor_of setup floor) (sections_in l)) (did ∷ []))) (sym stopped)
+      own = (subst (λ (x : Did). Each (CallNames e) x.out.calls) (sym same) (own_calls e by.out.calls (start_calls e stop (floor_of setting.genesis floor) d js named.in_calls)), old.own);
+      lives = lives_then setting noted before at (λ node. refl)
+          (subst (λ l. IsLifeNamed e (going_on (engine_of setting at.member (floor_of setting.genesis floor) (sections_in l)) (did ∷ []))) (sym stopped)
           (lives_on e made (did ∷ []) (record {
-            batcher = engine_batcher setup at floor js;
-            rules = engine_rules setup at floor js;
+            batcher = engine_batcher setting at floor js;
+            rules = engine_rules setting at floor js;
             history = (
               record {
-                handed = subst (λ (x : Did). Each (HandedNames e) x.out.handed) (sym same) (voter_handed e by.out.handed (start_handed e stop (floor_of setup floor) d js named.in_handed));
+                handed = subst (λ (x : Did). Each (HandedNames e) x.out.handed) (sym same) (voter_handed e by.out.handed (start_handed e stop (floor_of setting.genesis floor) d js named.in_handed));
                 taken = λ input t. (let k : input_of_batcher Began ≡ Some input = subst (λ (x : Did). input_of_batcher x.taken ≡ Some input) same t in cc);
               },
               tt,
             );
-            place = subst (λ (x : Did). IsPlaceNamed e (place_in made (x ∷ []))) (sym same) (start_engine setup at floor stop js now f records);
+            place = subst (λ (x : Did). IsPlaceNamed e (place_in made (x ∷ []))) (sym same) (start_engine setting at floor stop js now f records);
           }))) old.lives;
     }
 
-going_at : (setup : Setup) (before : List Noted) (event : Event) (at : Node) (took : Option Took) (did : Did) (made : EngineMade) (past : List Did)
-    → ((node : Node) → is_of node event ≡ is_same_node at node) → life_in setup before at ≡ Running made past → after setup event (Some did) (Running made past) ≡ going_on made (did ∷ past)
-    → IsTaken setup before at made past did → runs_engine setup at.member ≡ true → IsMostlyHonest setup (noted_with setup before event at took did ∷ before) → IsNamedRun setup before
-    → IsNamedRun setup (noted_with setup before event at took did ∷ before)
-going_at setup before event at took did made past of running goes taken runs_one o old =
-    let e = setup.epoch in
-    let noted = noted_with setup before event at took did in
+going_at : (setting : Setting) (before : List Noted) (event : Event) (at : Node) (took : Option Took) (did : Did) (made : EngineMade) (past : List Did)
+    → ((node : Node) → is_of node event ≡ is_same_node at node) → life_in setting before at ≡ Running made past → after setting event (Some did) (Running made past) ≡ going_on made (did ∷ past)
+    → IsTaken setting.setup before at made past did → runs_engine setting.setup at.member ≡ true → IsMostlyHonest setting (noted_with setting.setup before event at took did ∷ before) → IsNamedRun setting before
+    → IsNamedRun setting (noted_with setting.setup before event at took did ∷ before)
+going_at setting before event at took did made past of running goes taken runs_one o old =
+    let e = setting.setup.epoch in
+    let noted = noted_with setting.setup before event at took did in
     let h : IsNamedEngine e made past = subst (IsLifeNamed e) running (old.lives at runs_one) in
-    let s = taken_step setup before e (IsGood (backers_of setup (noted ∷ before))) at made past did taken h in
-    let own : OwnName setup (noted ∷ before) = (s.calls, old.own) in
-    let fine = fine_of setup (noted ∷ before) o in
+    let s = taken_step setting.setup before e (IsGood (backers_of setting (noted ∷ before))) at made past did taken h in
+    let own : OwnName setting.setup (noted ∷ before) = (s.calls, old.own) in
+    let fine = fine_of setting (noted ∷ before) o in
     let said = fine.said.0 in
-    let hs = s.handed (good_names setup (noted ∷ before) o own) said.handed in
+    let hs = s.handed (good_names setting (noted ∷ before) o own) said.handed in
     record {
       own = own;
-      lives = lives_then setup noted before at of
-          (subst (λ l. IsLifeNamed e (after setup event (Some did) l)) (sym running)
+      lives = lives_then setting noted before at of
+          (subst (λ l. IsLifeNamed e (after setting event (Some did) l)) (sym running)
           (subst (IsLifeNamed e) (sym goes)
           (lives_on e made (did ∷ past) (record { batcher = h.batcher; rules = h.rules; history = (record { handed = hs; taken = s.taken }, h.history); place = s.place })))) old.lives;
     }
 
-crash_at : (setup : Setup) (before : List Noted) (at : Node) → runs_engine setup at.member ≡ true → IsNamedRun setup before → IsNamedRun setup (noted_blank before (events.Crash at) (Some at) ∷ before)
+crash_at : (setting : Setting) (before : List Noted) (at : Node) → runs_engine setting.setup at.member ≡ true → IsNamedRun setting before → IsNamedRun setting (noted_blank before (events.Crash at) (Some at) ∷ before)
 unfolding after
-crash_at setup before at runs_one old =
+crash_at setting before at runs_one old =
     record {
       own = (tt, old.own);
-      lives = lives_then setup (noted_blank before (events.Crash at) (Some at)) before at (λ node. refl)
-          (crash_keeps (NamesRecord setup.epoch) 0 (sections_in (life_in setup before at)) (life_records setup.epoch (life_in setup before at) (old.lives at runs_one))) old.lives;
+      lives = lives_then setting (noted_blank before (events.Crash at) (Some at)) before at (λ node. refl)
+          (crash_keeps (NamesRecord setting.setup.epoch) 0 (sections_in (life_in setting before at)) (life_records setting.setup.epoch (life_in setting before at) (old.lives at runs_one))) old.lives;
     }
 
-tick_at : (setup : Setup) (before : List Noted) (ms : ℕ) → IsNamedRun setup before → IsNamedRun setup (noted_blank before (events.Tick ms) None ∷ before)
-tick_at setup before ms old =
-    record { own = (tt, old.own); lives = unmoved setup (noted_blank before (events.Tick ms) None) before (λ node runs_one. refl) old.lives }
+tick_at : (setting : Setting) (before : List Noted) (ms : ℕ) → IsNamedRun setting before → IsNamedRun setting (noted_blank before (events.Tick ms) None ∷ before)
+tick_at setting before ms old =
+    record { own = (tt, old.own); lives = unmoved setting (noted_blank before (events.Tick ms) None) before (λ node runs_one. refl) old.lives }
 
-turn_named : (setup : Setup) (before : List Noted) (event : Event) (noted : Noted) → IsTurn setup before event noted → IsMostlyHonest setup (noted ∷ before)
-    → IsNamedRun setup before → IsNamedRun setup (noted ∷ before)
-turn_named setup before event noted t o old = elim t [
-  | inl b ↦ subst (λ n. IsNamedRun setup (n ∷ before)) b.is
-      (begin_at setup before b.at b.floor b.stop b.sections b.stopped b.runs
-      (floor_names setup before b.floor (earlier setup noted before o) old.own b.own) old)
+turn_named : (setting : Setting) (before : List Noted) (event : Event) (noted : Noted) → IsTurn setting before event noted → IsMostlyHonest setting (noted ∷ before)
+    → IsNamedRun setting before → IsNamedRun setting (noted ∷ before)
+turn_named setting before event noted t o old = elim t [
+  | inl b ↦ subst (λ n. IsNamedRun setting (n ∷ before)) b.is
+      (begin_at setting before b.at b.floor b.stop b.sections b.stopped b.runs
+      (floor_names setting before b.floor (earlier setting noted before o) old.own b.own) old)
   | inr other ↦ elim other [
-    | inl g ↦ subst (λ n. IsMostlyHonest setup (n ∷ before) → IsNamedRun setup (n ∷ before)) g.is
-        (λ k. going_at setup before event g.at g.took g.did g.made g.past g.of g.running g.goes g.taken g.runs k old) o
+    | inl g ↦ subst (λ n. IsMostlyHonest setting (n ∷ before) → IsNamedRun setting (n ∷ before)) g.is
+        (λ k. going_at setting before event g.at g.took g.did g.made g.past g.of g.running g.goes g.taken g.runs k old) o
     | inr rest ↦ elim rest [
-      | inl c ↦ subst (λ n. IsNamedRun setup (n ∷ before)) c.is (crash_at setup before c.at c.runs old)
+      | inl c ↦ subst (λ n. IsNamedRun setting (n ∷ before)) c.is (crash_at setting before c.at c.runs old)
       | inr last ↦ elim last [
-        | inl k ↦ subst (λ n. IsNamedRun setup (n ∷ before)) k.is (tick_at setup before k.ms old)
-        | inr a ↦ record { own = (subst (Each (CallNames setup.epoch)) (sym a.calls) tt, old.own); lives = unmoved setup noted before a.engines old.lives }
+        | inl k ↦ subst (λ n. IsNamedRun setting (n ∷ before)) k.is (tick_at setting before k.ms old)
+        | inr a ↦ record { own = (subst (Each (CallNames setting.setup.epoch)) (sym a.calls) tt, old.own); lives = unmoved setting noted before a.engines old.lives }
       ]
     ]
   ]
 ]
 
-run_named : (setup : Setup) (noted : List Noted) → IsMostlyHonest setup noted → IsNamedRun setup noted
+run_named : (setting : Setting) (noted : List Noted) → IsMostlyHonest setting noted → IsNamedRun setting noted
 unfolding IsRun life_in replayed
-run_named setup [] o = record { own = tt; lives = λ node runs_one a c. absurd (not_in_empty a c) }
-run_named setup (noted ∷ before) o =
-    turn_named setup before o.ran.0 noted (entry_turn setup before o.ran.0 noted o.ran.1) o (run_named setup before (earlier setup noted before o))
+run_named setting [] o = record { own = tt; lives = λ node runs_one a c. absurd (not_in_empty a c) }
+run_named setting (noted ∷ before) o =
+    turn_named setting before o.ran.0 noted (entry_turn setting before o.ran.0 noted o.ran.1) o (run_named setting before (earlier setting noted before o))
 
 -- each certificate of the run names the setup's epoch
-pub run_names : (setup : Setup) (noted : List Noted) → IsMostlyHonest setup noted → AllName setup noted
-run_names setup noted o =
-    let r = run_named setup noted o in
-    backers_named setup noted o r.own
+pub run_names : (setting : Setting) (noted : List Noted) → IsMostlyHonest setting noted → AllName setting.setup noted
+run_names setting noted o =
+    let r = run_named setting noted o in
+    backers_named setting noted o r.own

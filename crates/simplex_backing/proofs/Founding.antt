@@ -7,7 +7,7 @@ use Rattle.simplex_values.specs.declared.proposal.Subject.TheVariants as subject
 use Rattle.simplex_values.specs.declared.round.Round.{Round}
 use Rattle.simplex_wire.specs.declared.certificate.Certificate.{Certificate}
 use Rattle.simplex_wire.specs.Fields.{certificate_subject}
-use Rattle.simplex_transcript.specs.declared.setup.Setup.{Setup}
+use Rattle.simplex_run.specs.Setting.{Setting}
 use Rattle.simplex_run.specs.Life.{Noted}
 use Rattle.simplex_run.specs.Members.{members_of}
 use Rattle.simplex_agreement.specs.World as agreement
@@ -32,18 +32,18 @@ record Sender (w : World) (s : Subject) : Type 0 where
   pub honest : ¬ (Contains w.faulty member)
   pub sent : HasSent w member s
 
-module _ (setup : Setup) (noted : List Noted) (o : IsMostlyHonest setup noted) (p : IsPeopled setup noted) where
+module _ (setting : Setting) (noted : List Noted) (o : IsMostlyHonest setting noted) (p : IsPeopled setting noted) where
   abbrev w : World
-  w = world_of setup noted p
+  w = world_of setting noted p
 
   -- a quorum has an honest member
   sender : (c : agreement.Certificate) → IsBacked w c → Sender w c.subject
   sender c b =
-      let m = quorums_meet (members_of setup) (faulty_of setup) c.signers c.signers o.some o.few b.quorum b.quorum in
-      let S = λ (i : ℕ). Contains (faulty_of setup) i ⊎ HasSent w i c.subject in
+      let m = quorums_meet (members_of setting.setup) (faulty_of setting.setup) c.signers c.signers o.some o.few b.quorum b.quorum in
+      let S = λ (i : ℕ). Contains (faulty_of setting.setup) i ⊎ HasSent w i c.subject in
       elim (All-contains S c.signers m.member b.signed m.first) [
         | inl bad ↦ absurd (m.good bad)
-        | inr h ↦ record { member = m.member; below = All-contains (λ i. i < members_of setup) c.signers m.member b.quorum.members m.first; honest = m.good; sent = h }
+        | inr h ↦ record { member = m.member; below = All-contains (λ i. i < members_of setting.setup) c.signers m.member b.quorum.members m.first; honest = m.good; sent = h }
       ]
 
   -- who finalizes knew the notarization, which is backed likewise
@@ -52,15 +52,15 @@ module _ (setup : Setup) (noted : List Noted) (o : IsMostlyHonest setup noted) (
   notarizer s q (inr e) f =
       let known = f.sent.0 in
       let vote : Sent = record { subject = s; known = known } in
-      let law = (lawful setup noted o p).honest f.member f.below f.honest in
-      let may : MayStand setup.term s known = All-contains (λ (x : Sent). MayStand setup.term x.subject x.known) (p.history f.member) vote law.alone f.sent.1 in
-      let knows : Knows known (subjects.Notarize q) = subst (λ (x : Subject). MayStand setup.term x known) e may in
+      let law = (lawful setting noted o p).honest f.member f.below f.honest in
+      let may : MayStand setting.setup.term s known = All-contains (λ (x : Sent). MayStand setting.setup.term x.subject x.known) (p.history f.member) vote law.alone f.sent.1 in
+      let knows : Knows known (subjects.Notarize q) = subst (λ (x : Subject). MayStand setting.setup.term x known) e may in
       let backed : All (IsBacked w) known = All-contains (λ (x : Sent). All (IsBacked w) x.known) (p.history f.member) vote law.backed f.sent.1 in
       let c : agreement.Certificate = record { subject = subjects.Notarize q; signers = knows.0 } in
       sender c (All-contains (IsBacked w) known c backed knows.1)
 
   -- what it sent in its life it had appended
-  appended : (q : Proposal) → Sender w (subjects.Notarize q) → IsNotarized setup noted q
+  appended : (q : Proposal) → Sender w (subjects.Notarize q) → IsNotarized setting.setup noted q
   appended q f =
       let l = p.lived f.member f.honest in
       let lived = l.0.lived in
@@ -75,16 +75,16 @@ module _ (setup : Setup) (noted : List Noted) (o : IsMostlyHonest setup noted) (
           | inl v ↦ v
           | inr n ↦ absurd (never n.0 n.1)
         ];
-        sent = lived_voted setup noted f.member (subjects.Notarize q) o f.below f.honest l.0 on;
+        sent = lived_voted setting noted f.member (subjects.Notarize q) o f.below f.honest l.0 on;
       }
     where
       never : (r : Round) → subjects.Notarize q ≡ subjects.Nullify r → ⊥
       never r e = cc
 
-pub run_founded : (setup : Setup) (noted : List Noted) (c : Certificate) (q : Proposal) → IsMostlyHonest setup noted → Stands setup noted c → IsOn (certificate_subject c) q → IsNotarized setup noted q
-run_founded setup noted c q o stands on =
-    let p = people_of setup noted o (floors_hold setup noted o) in
-    let backers = backers_of setup noted in
-    let fine = fine_of setup noted o in
-    let back = good_backed setup noted o.ran p c (stands_good backers noted c fine.said fine.packets stands.0 stands.1) in
-    appended setup noted o p q (notarizer setup noted o p (certificate_subject c) q on (sender setup noted o p (statement_of c) back))
+pub run_founded : (setting : Setting) (noted : List Noted) (c : Certificate) (q : Proposal) → IsMostlyHonest setting noted → Stands setting.setup noted c → IsOn (certificate_subject c) q → IsNotarized setting.setup noted q
+run_founded setting noted c q o stands on =
+    let p = people_of setting noted o (floors_hold setting noted o) in
+    let backers = backers_of setting noted in
+    let fine = fine_of setting noted o in
+    let back = good_backed setting noted o.ran p c (stands_good backers noted c fine.said fine.packets stands.0 stands.1) in
+    appended setting noted o p q (notarizer setting noted o p (certificate_subject c) q on (sender setting noted o p (statement_of c) back))

@@ -33,7 +33,7 @@ use Rattle.simplex_backing.proofs.Backers.{IsBackedIn}
 
 -- the certificate verifies, its numbers keep to their types, and it is backed
 pub record IsGood (backers : Backers) (c : Certificate) : Type 0 where
-  pub verifies : IsVerifying backers.setup c
+  pub verifies : IsVerifying backers.setting.setup c
   pub fits : FitsCertificate c
   pub backed : IsBackedIn backers c
 

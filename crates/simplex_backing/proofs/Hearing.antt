@@ -67,7 +67,7 @@ IsFine backers = InHanded (InOwnMail backers) (InVoterMail backers) (IsGood back
 -- What the batcher takes: a vote from its signer counts, a certificate that verifies is good
 abbrev pub IsFineInput : Backers → BatcherInput → Type 0
 IsFineInput backers (inputs.Vote sender bytes) = (v : Vote) → whole format.vote bytes ≡ Ok v → sender ≡ vote_signer v → IsCounted backers v
-IsFineInput backers (inputs.Certificate sender bytes) = (c : Certificate) → whole format.certificate bytes ≡ Ok c → IsVerifying backers.setup c → IsGood backers c
+IsFineInput backers (inputs.Certificate sender bytes) = (c : Certificate) → whole format.certificate bytes ≡ Ok c → IsVerifying backers.setting.setup c → IsGood backers c
 IsFineInput backers (inputs.Mail message) = InOwnMail backers message
 
 pub record IsFineDid (backers : Backers) (did : Did) : Type 0 where
@@ -115,10 +115,10 @@ came_counted backers (given ∷ past) v f c = elim c [ inl b ↦ brings_counted 
 -- the batcher of one of the members
 pub record IsMade (backers : Backers) (made : batcher.Made) : Type 0 where
   pub scheme : IsSchemeOfMembers made
-  pub verifies : made.scheme.verifies ≡ keyed_verifies backers.setup.key_base (members_of backers.setup)
-  pub members : made.members ≡ members_of backers.setup
+  pub verifies : made.scheme.verifies ≡ keyed_verifies backers.setting.setup.key_base (members_of backers.setting.setup)
+  pub members : made.members ≡ members_of backers.setting.setup
 
-brings_good : (backers : Backers) (standing : batcher.Standing) (input : BatcherInput) (c : Certificate) → IsFineInput backers input → BringsNew standing input c → IsVerifying backers.setup c → IsGood backers c
+brings_good : (backers : Backers) (standing : batcher.Standing) (input : BatcherInput) (c : Certificate) → IsFineInput backers input → BringsNew standing input c → IsVerifying backers.setting.setup c → IsGood backers c
 brings_good backers standing (inputs.Certificate sender bytes) c f b v = f c b.0 v
 brings_good backers standing (inputs.Vote sender bytes) c f b v = absurd b
 brings_good backers standing (inputs.Mail message) c f b v = absurd b
@@ -133,7 +133,7 @@ some_vote made accepted subject (a ∷ rest) some each =
 quorum_some : (n k : ℕ) → 0 < n → quorum_of n ≤ k → 0 < k
 quorum_some n k some le = omega (arith, some, le)
 
-made_good : (backers : Backers) (made : batcher.Made) (past : List batcher.Timed) (c : Certificate) → IsSized backers.setup → IsMade backers made → Each (IsFineTimed backers) past → IsVerifying backers.setup c
+made_good : (backers : Backers) (made : batcher.Made) (past : List batcher.Timed) (c : Certificate) → IsSized backers.setting.setup → IsMade backers made → Each (IsFineTimed backers) past → IsVerifying backers.setting.setup c
     → quorum_of made.members ≤ length (certificate_signatures c) → All (IsVoteOn made (Accepted made past) (certificate_subject c)) (certificate_signatures c) → IsGood backers c
 made_good backers made past c sized m f v quorum each =
     let subject = certificate_subject c in
@@ -142,26 +142,26 @@ made_good backers made past c sized m f v quorum each =
     let first = came_counted backers past some.0 f (accepted_came made past some.0 some.1) in
     record {
       verifies = v;
-      fits = verified_fits backers.setup c sized v (subst Fits some.2 first.1);
+      fits = verified_fits backers.setting.setup c sized v (subst Fits some.2 first.1);
       backed = All-weaker (IsVoteOn made (Accepted made past) subject) (λ (a : Attestation). Counts backers a.signer subject) (λ a on.
           subst (λ (x : Attestation). Counts backers x.signer subject) on.signature
           (subst (Counts backers (vote_signer on.vote)) on.on (came_counted backers past on.vote f (accepted_came made past on.vote on.was_accepted)).0)) list each;
     }
 
-founded_good : (backers : Backers) (made : batcher.Made) (past : List batcher.Timed) (given : batcher.Timed) (c : Certificate) → IsSized backers.setup → IsMade backers made → Each (IsFineTimed backers) (given ∷ past)
+founded_good : (backers : Backers) (made : batcher.Made) (past : List batcher.Timed) (given : batcher.Timed) (c : Certificate) → IsSized backers.setting.setup → IsMade backers made → Each (IsFineTimed backers) (given ∷ past)
     → IsFoundedCertificate made (Accepted made (given ∷ past)) (BringsNew (batcher.standing_after made past) given.input) c → IsGood backers c
 founded_good backers made past given c sized m f founded =
     let subject = certificate_subject c in
     let list = certificate_signatures c in
-    let with_members : is_certified (made.scheme.verifies subject) (members_of backers.setup) list ≡ true =
+    let with_members : is_certified (made.scheme.verifies subject) (members_of backers.setting.setup) list ≡ true =
     subst (λ n. is_certified (made.scheme.verifies subject) n list ≡ true) m.members founded.verifies in
-    let v : IsVerifying backers.setup c = subst (λ (g : Subject → Attestation → Bool). is_certified (g subject) (members_of backers.setup) list ≡ true) m.verifies with_members in
+    let v : IsVerifying backers.setting.setup c = subst (λ (g : Subject → Attestation → Bool). is_certified (g subject) (members_of backers.setting.setup) list ≡ true) m.verifies with_members in
     elim founded.source [
       | inl new ↦ brings_good backers (batcher.standing_after made past) given.input c f.0 new v
       | inr made_of ↦ made_good backers made (given ∷ past) c sized m f v made_of.quorum made_of.each
     ]
 
-messages_good : (backers : Backers) (made : batcher.Made) (past : List batcher.Timed) (given : batcher.Timed) (cs : List Call) (hs : List Handed) → IsSized backers.setup → IsMade backers made → Each (IsFineTimed backers) (given ∷ past)
+messages_good : (backers : Backers) (made : batcher.Made) (past : List batcher.Timed) (given : batcher.Timed) (cs : List Call) (hs : List Handed) → IsSized backers.setting.setup → IsMade backers made → Each (IsFineTimed backers) (given ∷ past)
     → AllForVoter hs → All (IsFoundedMessage made (Accepted made (given ∷ past)) (BringsNew (batcher.standing_after made past) given.input)) hs
     → Each (InMessage (IsGood backers) cs) hs
 messages_good backers made past given cs [] sized m f voter founded = tt
@@ -199,7 +199,7 @@ calls_good Good accepted came (calls.Sync n ∷ rest) hush founded = absurd hush
 calls_good Good accepted came (calls.Prune n ∷ rest) hush founded = absurd hush.0
 calls_good Good accepted came (calls.Send channel to bytes ∷ rest) hush founded = absurd hush.0
 
-step_said : (backers : Backers) (made : batcher.Made) (past : List batcher.Timed) (given : batcher.Timed) → IsSized backers.setup → IsMade backers made → Each (IsFineTimed backers) (given ∷ past)
+step_said : (backers : Backers) (made : batcher.Made) (past : List batcher.Timed) (given : batcher.Timed) → IsSized backers.setting.setup → IsMade backers made → Each (IsFineTimed backers) (given ∷ past)
     → AllSaid (IsGood backers) (batcher.step_out made past given)
 unfolding batcher.step_out
 step_said backers made past given sized m f =
@@ -223,7 +223,7 @@ cut_said Good (stops.Cut call keep) out s = at (nat_lt 0 call && nat_le call (le
     at true = record { calls = Each-take (InCall Good) (call - 1) out.calls s.calls; handed = tt; added = tt }
     at false = s
 
-pub batcher_said : (backers : Backers) (made : EngineMade) (past : List Did) (taken : Taken) (input : BatcherInput) (now : ℕ) (stop : Stop) → IsSized backers.setup → IsMade backers made.batcher
+pub batcher_said : (backers : Backers) (made : EngineMade) (past : List Did) (taken : Taken) (input : BatcherInput) (now : ℕ) (stop : Stop) → IsSized backers.setting.setup → IsMade backers made.batcher
     → Each (IsFineDid backers) past → IsFineInput backers input → AllSaid (IsGood backers) (by_batcher made past taken input now stop).out
 unfolding by_batcher
 batcher_said backers made past taken input now stop sized m h f =
@@ -253,7 +253,7 @@ cut_fine backers (stops.Cut call keep) out h = at (nat_lt 0 call && nat_le call 
     at true = tt
     at false = h
 
-pub batcher_fine : (backers : Backers) (made : EngineMade) (past : List Did) (taken : Taken) (input : BatcherInput) (now : ℕ) (stop : Stop) → IsSized backers.setup → IsMade backers made.batcher
+pub batcher_fine : (backers : Backers) (made : EngineMade) (past : List Did) (taken : Taken) (input : BatcherInput) (now : ℕ) (stop : Stop) → IsSized backers.setting.setup → IsMade backers made.batcher
     → Each (IsFineDid backers) past → IsFineInput backers input → Each (IsFine backers) (by_batcher made past taken input now stop).out.handed
 unfolding by_batcher
 batcher_fine backers made past taken input now stop sized m h f =

@@ -15,6 +15,7 @@ use Rattle.simplex_transcript.specs.declared.entry.Packet.{Packet}
 use Rattle.simplex_transcript.specs.declared.event.Event.{Event}
 use Rattle.simplex_transcript.specs.declared.node.Node.{Node}
 use Rattle.simplex_transcript.specs.declared.setup.Setup.{Setup}
+use Rattle.simplex_run.specs.Setting.{Setting}
 use Rattle.simplex_run.specs.Kinds.{is_faulty_member}
 use Rattle.simplex_run.specs.Life.{Noted, is_of}
 use Rattle.simplex_run.specs.Members.{members_of, is_same_node}
@@ -135,28 +136,28 @@ nothing_reads member noted p c =
     by true = refl
     by false = refl
 
-entry_reads : (setup : Setup) (before : List Noted) (event : Event) (noted : Noted) (member : ℕ) → ¬ (Contains (faulty_of setup) member) → entry_of setup before event ≡ Ok noted → IsReadOf member noted
-entry_reads setup before event noted member honest e = elim (entry_turn setup before event noted e) [
-  | inl b ↦ sent_reads setup member noted (subst (IsSentBy setup) b.is (record { at = b.at; of = λ node. refl; packets = refl }))
+entry_reads : (setting : Setting) (before : List Noted) (event : Event) (noted : Noted) (member : ℕ) → ¬ (Contains (faulty_of setting.setup) member) → entry_of setting before event ≡ Ok noted → IsReadOf member noted
+entry_reads setting before event noted member honest e = elim (entry_turn setting before event noted e) [
+  | inl b ↦ sent_reads setting.setup member noted (subst (IsSentBy setting.setup) b.is (record { at = b.at; of = λ node. refl; packets = refl }))
   | inr other ↦ elim other [
-    | inl g ↦ sent_reads setup member noted (subst (IsSentBy setup) g.is (record { at = g.at; of = g.of; packets = refl }))
+    | inl g ↦ sent_reads setting.setup member noted (subst (IsSentBy setting.setup) g.is (record { at = g.at; of = g.of; packets = refl }))
     | inr rest ↦ elim rest [
       | inl c ↦ nothing_reads member noted (subst (λ (n : Noted). n.entry.packets ≡ []) c.is refl) (subst (λ (n : Noted). n.entry.calls ≡ []) c.is refl)
       | inr last ↦ elim last [
         | inl t ↦ nothing_reads member noted (subst (λ (n : Noted). n.entry.packets ≡ []) t.is refl) (subst (λ (n : Noted). n.entry.calls ≡ []) t.is refl)
         | inr a ↦
-            none_of_faulty setup member noted.entry.packets honest a.packets ∙ sym (ap (λ (b : Bool). if b then reads noted.entry.calls else []) (a.honest (node_of member) honest))
+            none_of_faulty setting.setup member noted.entry.packets honest a.packets ∙ sym (ap (λ (b : Bool). if b then reads noted.entry.calls else []) (a.honest (node_of member) honest))
       ]
     ]
   ]
 ]
 
-run_reads : (setup : Setup) (noted : List Noted) (member : ℕ) → ¬ (Contains (faulty_of setup) member) → IsRun setup noted → sent_votes noted member ≡ reads (calls_of (node_of member) noted)
+run_reads : (setting : Setting) (noted : List Noted) (member : ℕ) → ¬ (Contains (faulty_of setting.setup) member) → IsRun setting noted → sent_votes noted member ≡ reads (calls_of (node_of member) noted)
 unfolding IsRun sent_votes calls_of reads
-run_reads setup [] member honest ran = refl
-run_reads setup (noted ∷ before) member honest ran =
-    ap (λ xs. xs ++ flat_map (vote_in member) noted.entry.packets) (run_reads setup before member honest ran.2)
-    ∙ ap (λ xs. reads (calls_of (node_of member) before) ++ xs) (entry_reads setup before ran.0 noted member honest ran.1)
+run_reads setting [] member honest ran = refl
+run_reads setting (noted ∷ before) member honest ran =
+    ap (λ xs. xs ++ flat_map (vote_in member) noted.entry.packets) (run_reads setting before member honest ran.2)
+    ∙ ap (λ xs. reads (calls_of (node_of member) before) ++ xs) (entry_reads setting before ran.0 noted member honest ran.1)
     ∙ by (is_of (node_of member) noted.event)
   where
     old : List Call
@@ -200,14 +201,14 @@ read_on (calls.Block who ∷ rest) list sent fits h = read_on rest list sent fit
 -- ---- the law
 
 -- the votes of a life that the member's node lives are on the subjects of what it sent
-pub life_sent : (setup : Setup) (noted : List Noted) (member : ℕ) → IsMostlyHonest setup noted → member < members_of setup → ¬ (Contains (faulty_of setup) member)
-    → (f : IsFitLife setup noted (node_of member)) → subjects_of (run newborn f.lived.calls).sent ≡ map vote_subject (sent_votes noted member)
-life_sent setup noted member o below honest f =
+pub life_sent : (setting : Setting) (noted : List Noted) (member : ℕ) → IsMostlyHonest setting noted → member < members_of setting.setup → ¬ (Contains (faulty_of setting.setup) member)
+    → (f : IsFitLife setting noted (node_of member)) → subjects_of (run newborn f.lived.calls).sent ≡ map vote_subject (sent_votes noted member)
+life_sent setting noted member o below honest f =
     let node = node_of member in
     let lived = f.lived in
-    let few = wider (members_of setup) o.not_many in
-    let read : AreRead (calls_of node noted) = λ to bytes k. (let s = went_own setup node noted to bytes o.epoch lived.stored o.typed k in (s.vote, read_of setup member below few honest bytes s)) in
-    read_on (calls_of node noted) (subjects_of (run newborn lived.calls).sent) lived.votes f.fits read ∙ ap (map vote_subject) (sym (run_reads setup noted member honest o.ran))
+    let few = wider (members_of setting.setup) o.not_many in
+    let read : AreRead (calls_of node noted) = λ to bytes k. (let s = went_own setting node noted to bytes o.epoch lived.stored o.typed k in (s.vote, read_of setting member below few honest bytes s)) in
+    read_on (calls_of node noted) (subjects_of (run newborn lived.calls).sent) lived.votes f.fits read ∙ ap (map vote_subject) (sym (run_reads setting noted member honest o.ran))
   where
     wider : (n : ℕ) → n < 2 ^ 16 → n < 2 ^ 32
     wider n h = omega (arith, h)
@@ -220,21 +221,21 @@ voted_of (v ∷ votes) s k = elim (Contains-cons_cases (vote_subject v) (map vot
 ]
 
 -- what it sent in its life went out
-pub lived_voted : (setup : Setup) (noted : List Noted) (member : ℕ) (s : Subject) → IsMostlyHonest setup noted → member < members_of setup → ¬ (Contains (faulty_of setup) member)
-    → (f : IsFitLife setup noted (node_of member)) → Contains (subjects_of (run newborn f.lived.calls).sent) s → HasVoted noted member s
-lived_voted setup noted member s o below honest f k =
-    voted_of (sent_votes noted member) s (subst (λ (list : List Subject). Contains list s) (life_sent setup noted member o below honest f) k)
+pub lived_voted : (setting : Setting) (noted : List Noted) (member : ℕ) (s : Subject) → IsMostlyHonest setting noted → member < members_of setting.setup → ¬ (Contains (faulty_of setting.setup) member)
+    → (f : IsFitLife setting noted (node_of member)) → Contains (subjects_of (run newborn f.lived.calls).sent) s → HasVoted noted member s
+lived_voted setting noted member s o below honest f k =
+    voted_of (sent_votes noted member) s (subst (λ (list : List Subject). Contains list s) (life_sent setting noted member o below honest f) k)
 
-pub run_well_sent : (setup : Setup) (noted : List Noted) (member : ℕ) → IsMostlyHonest setup noted → member < members_of setup → ¬ (Contains (faulty_of setup) member) → AreWellSent setup noted member
-run_well_sent setup noted member o below honest =
+pub run_well_sent : (setting : Setting) (noted : List Noted) (member : ℕ) → IsMostlyHonest setting noted → member < members_of setting.setup → ¬ (Contains (faulty_of setting.setup) member) → AreWellSent setting.setup noted member
+run_well_sent setting noted member o below honest =
     let node = node_of member in
-    let f = fit_life setup noted node o.epoch o.typed (node_lives setup noted node o.term honest o.ran (floors_hold setup noted o)) in
+    let f = fit_life setting noted node o.epoch o.typed (node_lives setting noted node o.term honest o.ran (floors_hold setting noted o)) in
     let lived = f.lived in
     record {
       votes = (run newborn lived.calls).sent;
-      same = life_sent setup noted member o below honest f;
+      same = life_sent setting noted member o below honest f;
       came = good_sent (Came noted node) lived.calls
           (All-weaker (Contains (brought lived.calls)) (Came noted node) lived.brought (brought lived.calls) (All-contains_itself (brought lived.calls)));
-      alone = sent_alone setup.term o.term lived.calls lived.legal;
-      order = sent_in_order setup.term o.term lived.calls lived.legal;
+      alone = sent_alone setting.setup.term o.term lived.calls lived.legal;
+      order = sent_in_order setting.setup.term o.term lived.calls lived.legal;
     }

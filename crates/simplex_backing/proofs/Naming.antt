@@ -10,6 +10,7 @@ use Rattle.simplex_messages.specs.declared.call.Call.{Call}
 use Rattle.simplex_messages.specs.declared.call.Call.TheVariants as calls
 use Rattle.simplex_transcript.specs.declared.node.Node.{Node}
 use Rattle.simplex_transcript.specs.declared.setup.Setup.{Setup}
+use Rattle.simplex_run.specs.Setting.{Setting}
 use Rattle.simplex_run.specs.Life.{Noted, is_of}
 use Rattle.simplex_run.specs.Members.{members_of}
 use Rattle.simplex_run.specs.Entries.{node_of}
@@ -69,12 +70,12 @@ in_map g (y ∷ xs) x k = elim (Contains-cons_cases y xs x k) [
 ]
 
 -- a certificate that is backed has an honest signer, whose vote names the epoch
-pub backed_names : (setup : Setup) (noted : List Noted) (p : IsPeopled setup noted) (c : agreement.Certificate) → 0 < members_of setup → length (faulty_of setup) ≤ max_faulty (members_of setup)
-    → OwnName setup noted → IsBacked (world_of setup noted p) c → Names setup.epoch c.subject
-backed_names setup noted p c some few own b =
-    let w = world_of setup noted p in
-    let m = quorums_meet (members_of setup) (faulty_of setup) c.signers c.signers some few b.quorum b.quorum in
-    let S = λ (i : ℕ). Contains (faulty_of setup) i ⊎ agreement.HasSent w i c.subject in
+pub backed_names : (setting : Setting) (noted : List Noted) (p : IsPeopled setting noted) (c : agreement.Certificate) → 0 < members_of setting.setup → length (faulty_of setting.setup) ≤ max_faulty (members_of setting.setup)
+    → OwnName setting.setup noted → IsBacked (world_of setting noted p) c → Names setting.setup.epoch c.subject
+backed_names setting noted p c some few own b =
+    let w = world_of setting noted p in
+    let m = quorums_meet (members_of setting.setup) (faulty_of setting.setup) c.signers c.signers some few b.quorum b.quorum in
+    let S = λ (i : ℕ). Contains (faulty_of setting.setup) i ⊎ agreement.HasSent w i c.subject in
     elim (All-contains S c.signers m.member b.signed m.first) [
       | inl bad ↦ absurd (m.good bad)
       | inr h ↦ (let l = p.lived m.member m.good in
@@ -82,14 +83,14 @@ backed_names setup noted p c some few own b =
           let sent = (run newborn lived.calls).sent in
           let there : Contains sent (record { subject = c.subject; known = h.0 }) = subst (λ xs. Contains xs (record { subject = c.subject; known = h.0 })) l.1 h.1 in
           elim (lived.own c.subject (in_map (λ (s : Sent). s.subject) sent _ there)) [
-            | inl v ↦ calls_name setup.epoch (calls_of (node_of m.member) noted) c.subject (node_names setup (node_of m.member) noted own) v
-            | inr n ↦ subst (Names setup.epoch) (sym n.1) n.2
+            | inl v ↦ calls_name setting.setup.epoch (calls_of (node_of m.member) noted) c.subject (node_names setting.setup (node_of m.member) noted own) v
+            | inr n ↦ subst (Names setting.setup.epoch) (sym n.1) n.2
           ])
     ]
 
-pub backers_named : (setup : Setup) (noted : List Noted) → IsMostlyHonest setup noted → OwnName setup noted → AllName setup noted
-backers_named setup noted o own c stands =
-    let p = people_of setup noted o (floors_hold setup noted o) in
-    let backers = backers_of setup noted in
-    let fine = fine_of setup noted o in
-    backed_names setup noted p (statement_of c) o.some o.few own (good_backed setup noted o.ran p c (stands_good backers noted c fine.said fine.packets stands.0 stands.1))
+pub backers_named : (setting : Setting) (noted : List Noted) → IsMostlyHonest setting noted → OwnName setting.setup noted → AllName setting.setup noted
+backers_named setting noted o own c stands =
+    let p = people_of setting noted o (floors_hold setting noted o) in
+    let backers = backers_of setting noted in
+    let fine = fine_of setting noted o in
+    backed_names setting noted p (statement_of c) o.some o.few own (good_backed setting noted o.ran p c (stands_good backers noted c fine.said fine.packets stands.0 stands.1))

@@ -50,7 +50,7 @@ use Rattle.simplex_safety.specs.Faulty.{faulty_of}
 abbrev pub FineOn : Backers → ℕ → Channel → List ℕ → Type 0
 FineOn backers sender channels.Vote bytes = IsFineInput backers (inputs.Vote sender bytes)
 FineOn backers sender channels.Certificate bytes = IsFineInput backers (inputs.Certificate sender bytes)
-FineOn backers sender channels.Resolver bytes = (c : Certificate) → Contains (certificate_on channels.Resolver bytes) c → IsVerifying backers.setup c → IsGood backers c
+FineOn backers sender channels.Resolver bytes = (c : Certificate) → Contains (certificate_on channels.Resolver bytes) c → IsVerifying backers.setting.setup c → IsGood backers c
 
 -- its votes count where they are from their signer, and its certificates are good where they verify
 abbrev pub IsFinePacket : Backers → Packet → Type 0
@@ -99,8 +99,8 @@ from_at setup at (calls.Block who ∷ rest) = from_at setup at rest
 certificate_good : (backers : Backers) (bytes : List ℕ) (c : Certificate) → bytes ≡ format.certificate.spelling c → IsGood backers c → (x : Certificate) → whole format.certificate bytes ≡ Ok x → IsGood backers x
 certificate_good backers bytes c s g x e = good_again backers c x g (ap (whole format.certificate) (sym s) ∙ e)
 
-pub packets_fine : (backers : Backers) (at : Node) (cs : List Call) → IsSized backers.setup → Each (InCall (IsGood backers)) cs → Each (λ (p : Packet). IsBytes p.bytes) (packets_of backers.setup at cs) → Each (IsSpoken backers) (packets_of backers.setup at cs)
-    → Each (IsFinePacket backers) (packets_of backers.setup at cs)
+pub packets_fine : (backers : Backers) (at : Node) (cs : List Call) → IsSized backers.setting.setup → Each (InCall (IsGood backers)) cs → Each (λ (p : Packet). IsBytes p.bytes) (packets_of backers.setting.setup at cs) → Each (IsSpoken backers) (packets_of backers.setting.setup at cs)
+    → Each (IsFinePacket backers) (packets_of backers.setting.setup at cs)
 packets_fine backers at [] sized g b s = tt
 packets_fine backers at (calls.Send channels.Vote to bytes ∷ rest) sized g b s = (spoken_counts backers at.member bytes b.0 s.0, packets_fine backers at rest sized g.1 b.1 s.1)
 packets_fine backers at (calls.Send channels.Certificate to bytes ∷ rest) sized g b s =
@@ -122,7 +122,7 @@ module _ (backers : Backers) (at : Node) (to : Recipients) (bytes : List ℕ) wh
   behind : (c : Call) (rest : List Call) → (c ≡ sends → ⊥) → Contains (c ∷ rest) sends → Contains rest sends
   behind c rest other h = elim (Contains-cons_cases c rest sends h) [ inl here ↦ absurd (other here) | inr there ↦ there ]
 
-  pub sent_spoken : (cs : List Call) → Each (IsSpoken backers) (packets_of backers.setup at cs) → Contains cs sends → SpokenOn backers at.member channels.Vote bytes
+  pub sent_spoken : (cs : List Call) → Each (IsSpoken backers) (packets_of backers.setting.setup at cs) → Contains cs sends → SpokenOn backers at.member channels.Vote bytes
   sent_spoken [] s k = absurd (not_in_empty sends k)
   sent_spoken (calls.Send channels.Vote t b ∷ rest) s k =
       elim (Contains-cons_cases (calls.Send channels.Vote t b) rest sends k) [
@@ -178,13 +178,13 @@ each_contained P (x ∷ xs) h = (h x (Contains-here x xs), each_contained P xs (
 -- ---- the packets of a faulty member
 
 genuine_counts : (backers : Backers) (later before : List Noted) (subject : Subject) (list : List Attestation) → backers.noted ≡ later ++ before
-    → All (IsGenuine backers.setup before subject) list
-    → All (λ (a : Attestation). (a.signer < members_of backers.setup) × (keyed_verifies backers.setup.key_base (members_of backers.setup) subject a ≡ true)) list
+    → All (IsGenuine backers.setting.setup before subject) list
+    → All (λ (a : Attestation). (a.signer < members_of backers.setting.setup) × (keyed_verifies backers.setting.setup.key_base (members_of backers.setting.setup) subject a ≡ true)) list
     → All (λ (a : Attestation). Counts backers a.signer subject) list
 genuine_counts backers later before subject [] whole_is g v = All-nil (λ (a : Attestation). Counts backers a.signer subject)
 genuine_counts backers later before subject (a ∷ list) whole_is g v =
-    let G = IsGenuine backers.setup before subject in
-    let V = λ (x : Attestation). (x.signer < members_of backers.setup) × (keyed_verifies backers.setup.key_base (members_of backers.setup) subject x ≡ true) in
+    let G = IsGenuine backers.setting.setup before subject in
+    let V = λ (x : Attestation). (x.signer < members_of backers.setting.setup) × (keyed_verifies backers.setting.setup.key_base (members_of backers.setting.setup) subject x ≡ true) in
     let here : Counts backers a.signer subject = elim (All-head G a list g (All-head V a list v).1) [
       | inl f ↦ inl f
       | inr h ↦ inr (subst (λ xs. HasVoted xs a.signer subject) (sym whole_is) (voted_later later before a.signer subject h))
@@ -212,12 +212,12 @@ response_fits bytes c b k = at (whole resolver_message bytes) refl k
     at (Ok m) e h = carried m.body (whole_takes resolver_message FitsResolverMessage resolver_message_is bytes m b e).1.1 h
     at (Err error) e h = absurd (not_in_empty c h)
 
-tested_on : (backers : Backers) (later before : List Noted) (sender : ℕ) (channel : Channel) (bytes : List ℕ) → backers.noted ≡ later ++ before → Contains (faulty_of backers.setup) sender → IsBytes bytes
-    → PassesOn backers.setup before channel bytes → FineOn backers sender channel bytes
-tested_on backers later before sender channels.Vote bytes whole_is f b t = λ v e is. (inl (subst (Contains (faulty_of backers.setup)) is f), read_fits bytes v b e)
+tested_on : (backers : Backers) (later before : List Noted) (sender : ℕ) (channel : Channel) (bytes : List ℕ) → backers.noted ≡ later ++ before → Contains (faulty_of backers.setting.setup) sender → IsBytes bytes
+    → PassesOn backers.setting.setup before channel bytes → FineOn backers sender channel bytes
+tested_on backers later before sender channels.Vote bytes whole_is f b t = λ v e is. (inl (subst (Contains (faulty_of backers.setting.setup)) is f), read_fits bytes v b e)
 tested_on backers later before sender channels.Certificate bytes whole_is f b t = λ c e v.
-    let n = members_of backers.setup in
-    let verifies = keyed_verifies backers.setup.key_base n (certificate_subject c) in
+    let n = members_of backers.setting.setup in
+    let verifies = keyed_verifies backers.setting.setup.key_base n (certificate_subject c) in
     let list = certificate_signatures c in
     let parts = certified_parts verifies n list v in
     record {
@@ -226,8 +226,8 @@ tested_on backers later before sender channels.Certificate bytes whole_is f b t 
       backed = genuine_counts backers later before (certificate_subject c) list whole_is (t c e) (each_verifies verifies n list parts.each);
     }
 tested_on backers later before sender channels.Resolver bytes whole_is f b t = λ c k v.
-    let n = members_of backers.setup in
-    let verifies = keyed_verifies backers.setup.key_base n (certificate_subject c) in
+    let n = members_of backers.setting.setup in
+    let verifies = keyed_verifies backers.setting.setup.key_base n (certificate_subject c) in
     let list = certificate_signatures c in
     let parts = certified_parts verifies n list v in
     record {
@@ -236,7 +236,7 @@ tested_on backers later before sender channels.Resolver bytes whole_is f b t = �
       backed = genuine_counts backers later before (certificate_subject c) list whole_is (t c k) (each_verifies verifies n list parts.each);
     }
 
-pub tested_fine : (backers : Backers) (later before : List Noted) (ps : List Packet) → backers.noted ≡ later ++ before → Each (λ (p : Packet). IsBytes p.bytes) ps → Each (IsTested backers.setup before) ps
+pub tested_fine : (backers : Backers) (later before : List Noted) (ps : List Packet) → backers.noted ≡ later ++ before → Each (λ (p : Packet). IsBytes p.bytes) ps → Each (IsTested backers.setting.setup before) ps
     → Each (IsFinePacket backers) ps
 tested_fine backers later before [] whole_is b t = tt
 tested_fine backers later before (p ∷ ps) whole_is b t =

@@ -11,11 +11,12 @@ use Rattle.simplex_transcript.specs.declared.setup.Setup.{Setup}
 use Rattle.simplex_transcript.specs.declared.refusal.Refusal.{Refusal}
 use Rattle.simplex_transcript.specs.declared.refusal.RunError.{RunError}
 use Rattle.simplex_transcript.specs.declared.refusal.RunError.TheVariants as refusals
+use Rattle.simplex_run.specs.Setting.{Setting}
 use Rattle.simplex_run.specs.Life.{Noted}
 use Rattle.simplex_run.specs.Members.{members_of}
 use Rattle.simplex_run.specs.Setups.{faulty_in, first_bad}
 use Rattle.simplex_run.specs.Entries.{entry_of}
-use Rattle.simplex_run.specs.Run.{refused, are_few, unless_refused, run, transcript_of, unless_bad, Run}
+use Rattle.simplex_run.specs.Run.{refused, are_few, unless_refused, run, transcript_of, unless_bad, RunFrom}
 use Rattle.simplex_safety.specs.Histories.{IsRun}
 use Rattle.simplex_safety.specs.Sayings.{Each}
 use Rattle.simplex_backing.specs.Fitting.{IsTyped, AreTyped}
@@ -28,14 +29,14 @@ ok_is : {E A : Type 0} (a b : A) → ◌≡◌ {A = Result A E} (Ok a) (Ok b) �
 ok_is a b e = cc
 
 -- what a run makes of entries of a run are entries of a run
-pub run_is_run : (setup : Setup) (before : List Noted) (events : List Event) (noted : List Noted) → IsRun setup before → run setup before events ≡ Ok noted → IsRun setup noted
+pub run_is_run : (setting : Setting) (before : List Noted) (events : List Event) (noted : List Noted) → IsRun setting before → run setting before events ≡ Ok noted → IsRun setting noted
 unfolding run unless_refused IsRun
-run_is_run setup before [] noted ran e = subst (IsRun setup) (ok_is before noted e) ran
-run_is_run setup before (event ∷ events) noted ran e =
-    at (entry_of setup before event) refl e (λ n f h. run_is_run setup (n ∷ before) events noted (event, f, ran) h)
+run_is_run setting before [] noted ran e = subst (IsRun setting) (ok_is before noted e) ran
+run_is_run setting before (event ∷ events) noted ran e =
+    at (entry_of setting before event) refl e (λ n f h. run_is_run setting (n ∷ before) events noted (event, f, ran) h)
   where
-    at : (r : Result Noted RunError) → entry_of setup before event ≡ r → unless_refused (length before + 1) r (λ n. run setup (n ∷ before) events) ≡ Ok noted
-        → ((n : Noted) → entry_of setup before event ≡ Ok n → run setup (n ∷ before) events ≡ Ok noted → IsRun setup noted) → IsRun setup noted
+    at : (r : Result Noted RunError) → entry_of setting before event ≡ r → unless_refused (length before + 1) r (λ n. run setting (n ∷ before) events) ≡ Ok noted
+        → ((n : Noted) → entry_of setting before event ≡ Ok n → run setting (n ∷ before) events ≡ Ok noted → IsRun setting noted) → IsRun setting noted
     at (Err error) f h k = cc
     at (Ok n) f h k = k n f h
 
@@ -107,14 +108,14 @@ entries_typed : (noted : List Noted) (entries : List Entry) → reverse (map (λ
 entries_typed noted entries e h =
     each_of noted (each_turned IsTyped (map (λ (n : Noted). n.entry) noted) [] (subst (Each IsTyped) (sym e) h)).0
 
-pub mostly_honest : (setup : Setup) (noted : List Noted) → IsLimited setup → IsRun setup noted → AreTyped noted → IsMostlyHonest setup noted
-mostly_honest setup noted l ran typed =
+pub mostly_honest : (setting : Setting) (noted : List Noted) → IsLimited setting.setup → IsRun setting noted → AreTyped noted → IsMostlyHonest setting noted
+mostly_honest setting noted l ran typed =
     record {
       some = l.some;
-      not_many = fewer (members_of setup) l.most;
+      not_many = fewer (members_of setting.setup) l.most;
       term = l.term;
       epoch = l.epoch;
-      few = subst (λ n. n ≤ max_faulty (members_of setup)) (sym (faulty_counted 0 setup.members)) l.few;
+      few = subst (λ n. n ≤ max_faulty (members_of setting.setup)) (sym (faulty_counted 0 setting.setup.members)) l.few;
       ran = ran;
       typed = typed;
     }
@@ -122,14 +123,14 @@ mostly_honest setup noted l ran typed =
     fewer : (n : ℕ) → n ≤ 256 → n < 2 ^ 16
     fewer n h = omega (arith, h)
 
-limited_is_safe : (setup : Setup) (noted : List Noted) → IsLimited setup → IsRun setup noted → AreTyped noted → IsSafe setup noted
-limited_is_safe setup noted l ran typed = mostly_honest_is_safe setup noted (mostly_honest setup noted l ran typed)
+limited_is_safe : (setting : Setting) (noted : List Noted) → IsLimited setting.setup → IsRun setting noted → AreTyped noted → IsSafe setting noted
+limited_is_safe setting noted l ran typed = mostly_honest_is_safe setting noted (mostly_honest setting noted l ran typed)
 
 -- the whole run of any setup
-pub runs_safely : (setup : Setup) (events : List Event) (entries : List Entry) → Run setup events ≡ Ok entries → Each IsTyped entries → RunsSafely setup events
-unfolding Run IsRun
-runs_safely setup events entries e typed noted ran =
-    let few = not_refused (are_few setup events) (refused (refusals.BadSetup fields.Events) 0) _ entries e in
-    let parts = unbad (first_bad setup) (transcript_of (run setup [] events)) entries few.1 in
+pub runs_safely : (setting : Setting) (events : List Event) (entries : List Entry) → RunFrom setting events ≡ Ok entries → Each IsTyped entries → RunsSafely setting events
+unfolding RunFrom IsRun
+runs_safely setting events entries e typed noted ran =
+    let few = not_refused (are_few setting.setup events) (refused (refusals.BadSetup fields.Events) 0) _ entries e in
+    let parts = unbad (first_bad setting.setup) (transcript_of (run setting [] events)) entries few.1 in
     let made : transcript_of (Ok noted) ≡ Ok entries = subst (λ r. transcript_of r ≡ Ok entries) ran parts.1 in
-    limited_is_safe setup noted (limited setup parts.0) (run_is_run setup [] events noted tt ran) (entries_typed noted entries (ok_is _ entries made) typed)
+    limited_is_safe setting noted (limited setting.setup parts.0) (run_is_run setting [] events noted tt ran) (entries_typed noted entries (ok_is _ entries made) typed)

@@ -45,18 +45,18 @@ calls_report backers f (c ∷ rest) e good = at (reports f c) refl (calls_report
     at true h old = call_reports backers f c h good.0
     at false h old = old (subst (λ b. (b || list_any (reports f) rest) ≡ true) h e) good.1
 
-pub reported_good : (backers : Backers) (f : Finalization) (before : List Noted) → was_reported backers.setup before f ≡ true → Each (InNoted (IsGood backers)) before → IsGood backers (certificates.Finalization f)
+pub reported_good : (backers : Backers) (f : Finalization) (before : List Noted) → was_reported backers.setting.setup before f ≡ true → Each (InNoted (IsGood backers)) before → IsGood backers (certificates.Finalization f)
 unfolding was_reported
 reported_good backers f [] e good = cc
-reported_good backers f (noted ∷ before) e good = at (is_of_honest backers.setup noted.entry.who) (list_any (reports f) noted.entry.calls) refl e (reported_good backers f before)
+reported_good backers f (noted ∷ before) e good = at (is_of_honest backers.setting.setup noted.entry.who) (list_any (reports f) noted.entry.calls) refl e (reported_good backers f before)
   where
-    at : (a b : Bool) → list_any (reports f) noted.entry.calls ≡ b → ((a && b) || was_reported backers.setup before f) ≡ true
-        → (was_reported backers.setup before f ≡ true → Each (InNoted (IsGood backers)) before → IsGood backers (certificates.Finalization f)) → IsGood backers (certificates.Finalization f)
+    at : (a b : Bool) → list_any (reports f) noted.entry.calls ≡ b → ((a && b) || was_reported backers.setting.setup before f) ≡ true
+        → (was_reported backers.setting.setup before f ≡ true → Each (InNoted (IsGood backers)) before → IsGood backers (certificates.Finalization f)) → IsGood backers (certificates.Finalization f)
     at true true h k old = (let new = good.0 in calls_report backers f noted.entry.calls h new.calls)
     at true false h k old = old k good.1
     at false b h k old = old k good.1
 
-pub floor_good : (backers : Backers) (before : List Noted) (floor : Option Finalization) (node : Node) (stop : Stop) → is_own_floor backers.setup before floor ≡ true → Each (InNoted (IsGood backers)) before
+pub floor_good : (backers : Backers) (before : List Noted) (floor : Option Finalization) (node : Node) (stop : Stop) → is_own_floor backers.setting.setup before floor ≡ true → Each (InNoted (IsGood backers)) before
     → InStart (IsGood backers) (events.Start node floor stop)
 floor_good backers before None node stop e good = tt
 floor_good backers before (Some f) node stop e good = reported_good backers f before e good

@@ -44,11 +44,11 @@ no_start backers (events.Crash at) h = tt
 no_start backers (events.Inject who channel to bytes) h = tt
 
 -- an engine goes on
-going_fine : (backers : Backers) (before : List Noted) (event : Event) (noted : Noted) → IsSized backers.setup → (g : IsGoing backers.setup before event noted)
+going_fine : (backers : Backers) (before : List Noted) (event : Event) (noted : Noted) → IsSized backers.setting.setup → (g : IsGoing backers.setting before event noted)
     → IsTold backers noted → IsFineRun backers before → IsFineRun backers (noted ∷ before)
 going_fine backers before event noted sized g told fine =
     let at = g.at in
-    let half = first_half backers.setup at g.node in
+    let half = first_half backers.setting.setup at g.node in
     let old : IsFineEngine backers at.member g.made g.past = subst (IsLifeFine backers at.member) g.running (fine.lives at g.runs) in
     let s = taken_fine backers before at g.made g.past g.did sized g.taken fine old in
     subst (λ n. IsTold backers n → IsFineRun backers (n ∷ before)) g.is
@@ -56,7 +56,7 @@ going_fine backers before event noted sized g told fine =
     let spoken = entry_packets backers before event at g.took g.did half.1 t in
     let hs = s.fine (λ v k. sent_spoken backers at recipients.All (format.vote.spelling v) g.did.out.calls spoken k) t.own in
     advance backers before event at g.took g.did g.of half.1 sized (no_start backers event g.start) s.said t
-    (subst (λ l. IsLifeFine backers at.member (after backers.setup event (Some g.did) l)) (sym g.running)
+    (subst (λ l. IsLifeFine backers at.member (after backers.setting event (Some g.did) l)) (sym g.running)
     (subst (IsLifeFine backers at.member) (sym g.goes)
     (lives_on backers at.member g.made (g.did ∷ g.past) (record {
       batcher = old.batcher;
@@ -69,21 +69,21 @@ going_fine backers before event noted sized g told fine =
 
 -- ---- a crash, and what moves no engine
 
-crash_fine : (backers : Backers) (before : List Noted) (at : Node) → runs_engine backers.setup at.member ≡ true → IsFineRun backers before → IsFineRun backers (noted_blank before (events.Crash at) (Some at) ∷ before)
+crash_fine : (backers : Backers) (before : List Noted) (at : Node) → runs_engine backers.setting.setup at.member ≡ true → IsFineRun backers before → IsFineRun backers (noted_blank before (events.Crash at) (Some at) ∷ before)
 unfolding after
 crash_fine backers before at runs_one fine =
     record {
       said = (record { floor = tt; added = tt; handed = tt; calls = tt }, fine.said);
       packets = (tt, fine.packets);
       lives = lives_then backers (noted_blank before (events.Crash at) (Some at)) before at (λ node. refl)
-          (crash_keeps (InRecord (IsGood backers)) 0 (sections_in (life_in backers.setup before at)) (life_records backers at.member (life_in backers.setup before at) (fine.lives at runs_one))) fine.lives;
+          (crash_keeps (InRecord (IsGood backers)) 0 (sections_in (life_in backers.setting before at)) (life_records backers at.member (life_in backers.setting before at) (fine.lives at runs_one))) fine.lives;
     }
 
 -- an event that is of no engine
-unmoved : (backers : Backers) (noted : Noted) (before : List Noted) → ((node : Node) → runs_engine backers.setup node.member ≡ true → is_of node noted.event ≡ false)
-    → ((node : Node) → runs_engine backers.setup node.member ≡ true → IsLifeFine backers node.member (life_in backers.setup before node))
-    → (node : Node) → runs_engine backers.setup node.member ≡ true → IsLifeFine backers node.member (life_in backers.setup (noted ∷ before) node)
-unmoved backers noted before apart old node runs_one = subst (IsLifeFine backers node.member) (sym (life_still backers.setup noted before node (apart node runs_one))) (old node runs_one)
+unmoved : (backers : Backers) (noted : Noted) (before : List Noted) → ((node : Node) → runs_engine backers.setting.setup node.member ≡ true → is_of node noted.event ≡ false)
+    → ((node : Node) → runs_engine backers.setting.setup node.member ≡ true → IsLifeFine backers node.member (life_in backers.setting before node))
+    → (node : Node) → runs_engine backers.setting.setup node.member ≡ true → IsLifeFine backers node.member (life_in backers.setting (noted ∷ before) node)
+unmoved backers noted before apart old node runs_one = subst (IsLifeFine backers node.member) (sym (life_still backers.setting noted before node (apart node runs_one))) (old node runs_one)
 
 tick_fine : (backers : Backers) (before : List Noted) (ms : ℕ) → IsFineRun backers before → IsFineRun backers (noted_blank before (events.Tick ms) None ∷ before)
 tick_fine backers before ms fine =
@@ -95,7 +95,7 @@ tick_fine backers before ms fine =
 
 -- ---- faulty members without an engine
 
-engineless_fine : (backers : Backers) (later before : List Noted) (noted : Noted) → backers.noted ≡ later ++ before → IsEngineless backers.setup noted → Each (IsTested backers.setup before) noted.entry.packets
+engineless_fine : (backers : Backers) (later before : List Noted) (noted : Noted) → backers.noted ≡ later ++ before → IsEngineless backers.setting.setup noted → Each (IsTested backers.setting.setup before) noted.entry.packets
     → Each (λ (p : Packet). IsBytes p.bytes) noted.entry.packets → IsFineRun backers before → IsFineRun backers (noted ∷ before)
 engineless_fine backers later before noted whole_is f tested bytes fine =
     record {
@@ -112,9 +112,9 @@ engineless_fine backers later before noted whole_is f tested bytes fine =
       lives = unmoved backers noted before f.engines fine.lives;
     }
 
-turn_fine : (backers : Backers) (later before : List Noted) (event : Event) (noted : Noted) → IsSized backers.setup → backers.noted ≡ later ++ before → entry_of backers.setup before event ≡ Ok noted
+turn_fine : (backers : Backers) (later before : List Noted) (event : Event) (noted : Noted) → IsSized backers.setting.setup → backers.noted ≡ later ++ before → entry_of backers.setting before event ≡ Ok noted
     → IsTold backers noted → IsFineRun backers before → IsFineRun backers (noted ∷ before)
-turn_fine backers later before event noted sized whole_is e told fine = elim (entry_turn backers.setup before event noted e) [
+turn_fine backers later before event noted sized whole_is e told fine = elim (entry_turn backers.setting before event noted e) [
   | inl b ↦ begin_fine backers before event noted sized b told fine
   | inr other ↦ elim other [
     | inl g ↦ going_fine backers before event noted sized g told fine
@@ -122,7 +122,7 @@ turn_fine backers later before event noted sized whole_is e told fine = elim (en
       | inl c ↦ subst (λ n. IsFineRun backers (n ∷ before)) c.is (crash_fine backers before c.at c.runs fine)
       | inr last ↦ elim last [
         | inl k ↦ subst (λ n. IsFineRun backers (n ∷ before)) k.is (tick_fine backers before k.ms fine)
-        | inr a ↦ engineless_fine backers later before noted whole_is a (entry_tested backers.setup before event noted e a.packets) told.bytes fine
+        | inr a ↦ engineless_fine backers later before noted whole_is a (entry_tested backers.setting before event noted e a.packets) told.bytes fine
       ]
     ]
   ]
@@ -130,7 +130,7 @@ turn_fine backers later before event noted sized whole_is e told fine = elim (en
 
 -- ---- every run, by what was sent in all of it
 
-pub run_fine : (backers : Backers) (later noted : List Noted) → IsSized backers.setup → backers.noted ≡ later ++ noted → IsRun backers.setup noted → AreTyped noted → IsFineRun backers noted
+pub run_fine : (backers : Backers) (later noted : List Noted) → IsSized backers.setting.setup → backers.noted ≡ later ++ noted → IsRun backers.setting noted → AreTyped noted → IsFineRun backers noted
 unfolding IsRun life_in replayed
 run_fine backers later [] sized whole_is ran typed = record { said = tt; packets = tt; lives = λ node runs_one a c. absurd (not_in_empty a c) }
 run_fine backers later (noted ∷ before) sized whole_is ran typed =

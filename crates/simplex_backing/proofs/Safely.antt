@@ -1,7 +1,7 @@
 -- A run of members of whom few are faulty is safe.
 use Rattle.std.proofs.Common.{◌≡◌, ℕ, suc, ◌+◌, Bool, true, false, List, [], ◌∷◌, length, filter, refl, ap, if◌then◌else◌}
-use Rattle.simplex_transcript.specs.declared.setup.Setup.{Setup}
 use Rattle.simplex_transcript.specs.declared.setup.MemberKind.{MemberKind}
+use Rattle.simplex_run.specs.Setting.{Setting}
 use Rattle.simplex_run.specs.Life.{Noted}
 use Rattle.simplex_run.specs.Setups.{is_faulty, faulty_in}
 use Rattle.simplex_safety.proofs.Ruling.{run_by_rule}
@@ -16,16 +16,16 @@ use Rattle.simplex_safety.specs.Faulty.{faulty_from}
 use Rattle.simplex_safety.proofs.Nodes.{node_lives}
 use Rattle.simplex_run.specs.Kinds.{is_faulty}
 
-pub mostly_honest_is_safe : (setup : Setup) (noted : List Noted) → IsMostlyHonest setup noted → IsSafe setup noted
-mostly_honest_is_safe setup noted o =
+pub mostly_honest_is_safe : (setting : Setting) (noted : List Noted) → IsMostlyHonest setting noted → IsSafe setting noted
+mostly_honest_is_safe setting noted o =
     record {
-      backed = run_backed setup noted o;
-      agrees = λ a b sa sb. run_agrees setup noted a b o sa.0 sb.0 sa.1 sb.1;
-      named = run_names setup noted o;
-      founded = λ c p stands on. run_founded setup noted c p o stands on;
-      stored = λ node honest. (let lived = node_lives setup noted node o.term honest o.ran (floors_hold setup noted o) in lived.stored);
-      ruled = λ node honest. run_by_rule setup noted node honest o.ran;
-      blameless = run_blameless setup noted o;
+      backed = run_backed setting noted o;
+      agrees = λ a b sa sb. run_agrees setting noted a b o sa.0 sb.0 sa.1 sb.1;
+      named = run_names setting noted o;
+      founded = λ c p stands on. run_founded setting noted c p o stands on;
+      stored = λ node honest. (let lived = node_lives setting noted node o.term honest o.ran (floors_hold setting noted o) in lived.stored);
+      ruled = λ node honest. run_by_rule setting noted node honest o.ran;
+      blameless = run_blameless setting noted o;
     }
 
 -- as many as the setup's limit counts

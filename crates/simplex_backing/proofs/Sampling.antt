@@ -28,6 +28,7 @@ use Rattle.simplex_messages.specs.declared.step.Outcome.{Outcome}
 use Rattle.simplex_messages.specs.declared.step.Outcome.TheVariants as outcomes
 use Rattle.simplex_transcript.specs.declared.node.Node.{Node}
 use Rattle.simplex_journal.specs.Contents as journal
+use Rattle.simplex_run.specs.Setting.{at_epoch_genesis}
 use Rattle.simplex_run.specs.Samples.{alone, at}
 use Rattle.simplex_run.specs.Life.{Noted, life_in, sections_in}
 use Rattle.simplex_run.specs.Entries.{node_of, entry_of, made_of, noted_packets}
@@ -136,30 +137,30 @@ other_block e = heads (ap (λ (p : Proposal). first p.payload) e)
 
 -- ---- an entry of no node has no say in what is stored and due
 
-stored_apart : (xs : List Certificate) (out : List Vote) (cs : List Call) (before : List Noted) (node : Node) → AreStored alone node before → AreStored alone node (apart xs out cs ∷ before)
+stored_apart : (xs : List Certificate) (out : List Vote) (cs : List Call) (before : List Noted) (node : Node) → AreStored (at_epoch_genesis alone) node before → AreStored (at_epoch_genesis alone) node (apart xs out cs ∷ before)
 unfolding AreStored
 stored_apart xs out cs before node h = ((λ e. absurd (never e)), h)
   where
     never : false ≡ true → ⊥
     never e = cc
 
-ruled_apart : (xs : List Certificate) (out : List Vote) (cs : List Call) (before : List Noted) (node : Node) → AreByRule alone node before → AreByRule alone node (apart xs out cs ∷ before)
+ruled_apart : (xs : List Certificate) (out : List Vote) (cs : List Call) (before : List Noted) (node : Node) → AreByRule (at_epoch_genesis alone) node before → AreByRule (at_epoch_genesis alone) node (apart xs out cs ∷ before)
 unfolding AreByRule
 ruled_apart xs out cs before node h = ((λ e. absurd (never e)), h)
   where
     never : false ≡ true → ⊥
     never e = cc
 
-nothing_stored : (node : Node) → AreStored alone node []
+nothing_stored : (node : Node) → AreStored (at_epoch_genesis alone) node []
 unfolding AreStored
 nothing_stored node = tt
 
-nothing_ruled : (node : Node) → AreByRule alone node []
+nothing_ruled : (node : Node) → AreByRule (at_epoch_genesis alone) node []
 unfolding AreByRule
 nothing_ruled node = tt
 
 -- so is a step that is broken, of what is due
-ruled_broken : (cs : List Call) (node : Node) → AreByRule alone node (its outcomes.Cut cs ∷ [])
+ruled_broken : (cs : List Call) (node : Node) → AreByRule (at_epoch_genesis alone) node (its outcomes.Cut cs ∷ [])
 unfolding AreByRule
 ruled_broken cs node = ((λ e w. absurd (never w)), tt)
   where
@@ -242,7 +243,7 @@ apart_agree a b x y c = not_itself x.0 y.0 (subst (λ s. Conflict 1 s (subjects.
 
 -- ---- the samples
 
-unbacked : AllBut alone (sample Backed) Backed
+unbacked : AllBut (at_epoch_genesis alone) (sample Backed) Backed
 unfolding AreBacked StandsIn sent_votes AreStored AreByRule AreBlameless voted calls_of life_in journal.kept
 unbacked = record { others = others; fails = λ h. elim (All-head P (signed s) [] (h.0 (nullified near) (Contains-here (nullified near) []) (certified s))) [ inl bad ↦ honest bad | inr v ↦ none v.0 v.1 ] }
   where
@@ -255,7 +256,7 @@ unbacked = record { others = others; fails = λ h. elim (All-head P (signed s) [
     none : (w : Vote) → ¬ (Contains (sent_votes (sample Backed) 0) w)
     none w k = not_in_empty w k
 
-    others : (other : Word) → ¬ (other ≡ Backed) → Says alone (sample Backed) other
+    others : (other : Word) → ¬ (other ≡ Backed) → Says (at_epoch_genesis alone) (sample Backed) other
     others Backed n = absurd (n refl)
     others Agrees n = λ a b sa sb. apart_agree a b (lone_bare near IsNullified (near, refl) a sa.0) (lone_bare near IsNullified (near, refl) b sb.0)
     others Named n = λ c st. lone_bare near (λ x. (subject_round (certificate_subject x)).epoch ≡ 0) refl c st.0
@@ -277,7 +278,7 @@ lone_backed r fits = ((λ c k v. one (IsBackedIn alone (lone r (votes.Nullify (o
         counted (lone r (votes.Nullify (own_nullify r) ∷ [])) (subjects.Nullify r) (votes.Nullify (own_nullify r))
         (read_sent (apart (nullified r ∷ []) (votes.Nullify (own_nullify r) ∷ []) []) [] (votes.Nullify (own_nullify r) ∷ []) (votes.Nullify (own_nullify r)) refl (Contains-here (votes.Nullify (own_nullify r)) []) fits) refl refl
 
-unnamed : AllBut alone (sample Named) Named
+unnamed : AllBut (at_epoch_genesis alone) (sample Named) Named
 unfolding AreBacked StandsIn sent_votes AreStored AreByRule AreBlameless voted calls_of life_in journal.kept
 unnamed = record { others = others; fails = λ h. seven (h (nullified far) (stands, certified (subjects.Nullify far))) }
   where
@@ -290,7 +291,7 @@ unnamed = record { others = others; fails = λ h. seven (h (nullified far) (stan
     stands : StandsIn (sample Named) (nullified far)
     stands = inl (Contains-here (nullified far) [])
 
-    others : (other : Word) → ¬ (other ≡ Named) → Says alone (sample Named) other
+    others : (other : Word) → ¬ (other ≡ Named) → Says (at_epoch_genesis alone) (sample Named) other
     others Named n = absurd (n refl)
     others Backed n = lone_backed far (nullify_fits 7 1 (omega arith) (omega arith))
     others Agrees n = λ a b sa sb. apart_agree a b (lone_sent far IsNullified (far, refl) a sa.0) (lone_sent far IsNullified (far, refl) b sb.0)
@@ -299,7 +300,7 @@ unnamed = record { others = others; fails = λ h. seven (h (nullified far) (stan
     others Ruled n = λ node h. ruled_apart (nullified far ∷ []) (votes.Nullify (own_nullify far) ∷ []) [] [] node (nothing_ruled node)
     others Blameless n = no_blame (apart (nullified far ∷ []) (votes.Nullify (own_nullify far) ∷ []) []) [] silent nobody_blamed
 
-unfounded : AllBut alone (sample Founded) Founded
+unfounded : AllBut (at_epoch_genesis alone) (sample Founded) Founded
 unfolding AreBacked StandsIn sent_votes AreStored AreByRule AreBlameless voted calls_of life_in journal.kept
 unfounded = record { others = others; fails = λ h. (let f = h (notarized 1) (block 1) (stands, certified (subjects.Notarize (block 1))) (inl refl) in none f.member f.appended) }
   where
@@ -323,7 +324,7 @@ unfounded = record { others = others; fails = λ h. (let f = h (notarized 1) (bl
       tt,
     )
 
-    others : (other : Word) → ¬ (other ≡ Founded) → Says alone (sample Founded) other
+    others : (other : Word) → ¬ (other ≡ Founded) → Says (at_epoch_genesis alone) (sample Founded) other
     others Founded n = absurd (n refl)
     others Backed n = backed
     others Agrees n = λ a b sa sb.
@@ -343,7 +344,7 @@ both_out = vote_of 1 ∷ vote_of 2 ∷ []
 abbrev appends : List Call
 appends = calls.Append 1 (artifacts.Notarize (own_notarize 1)) ∷ calls.Append 1 (artifacts.Notarize (own_notarize 2)) ∷ []
 
-divided : AllBut alone (sample Agrees) Agrees
+divided : AllBut (at_epoch_genesis alone) (sample Agrees) Agrees
 unfolding AreBacked StandsIn sent_votes AreStored AreByRule AreBlameless voted calls_of life_in journal.kept
 divided =
     record {
@@ -385,7 +386,7 @@ divided =
     founded_by byte p f (inl e) = (let same : block byte ≡ p = cc in subst (IsNotarized alone (sample Agrees)) same f)
     founded_by byte p f (inr e) = cc
 
-    stored : (node : Node) → AreStored alone node (its outcomes.Cut appends ∷ [])
+    stored : (node : Node) → AreStored (at_epoch_genesis alone) node (its outcomes.Cut appends ∷ [])
     stored node = ((λ e before behind to bytes place. absurd (unsent before behind to bytes place)), tt)
       where
         unsent : (before behind : List Call) (to : Recipients) (bytes : List ℕ) → ¬ (appends ≡ before ++ (calls.Send channels.Vote to bytes ∷ behind))
@@ -394,7 +395,7 @@ divided =
         unsent (x ∷ y ∷ []) behind to bytes e = cc
         unsent (x ∷ y ∷ z ∷ more) behind to bytes e = cc
 
-    others : (other : Word) → ¬ (other ≡ Agrees) → Says alone (sample Agrees) other
+    others : (other : Word) → ¬ (other ≡ Agrees) → Says (at_epoch_genesis alone) (sample Agrees) other
     others Agrees n = absurd (n refl)
     others Backed n = backed
     others Named n = λ c st. which (λ x. (subject_round (certificate_subject x)).epoch ≡ 0) refl refl c st.0
@@ -410,14 +411,14 @@ divided =
 abbrev own : Vote
 own = votes.Nullify (own_nullify near)
 
-unstored : AllBut alone (sample Stored) Stored
+unstored : AllBut (at_epoch_genesis alone) (sample Stored) Stored
 unfolding AreBacked StandsIn sent_votes AreStored AreByRule AreBlameless voted calls_of life_in journal.kept
 unstored = record { others = others; fails = λ h. fails (h (node_of 0) honest) }
   where
     bare : IsBare (sample Stored)
     bare = bare_its outcomes.Cut (send own ∷ []) refl
 
-    nothing_held : (v : Vote) → ¬ (IsRepeated (IsHeld (sections_in (life_in alone [] (node_of 0)))) v)
+    nothing_held : (v : Vote) → ¬ (IsRepeated (IsHeld (sections_in (life_in (at_epoch_genesis alone) [] (node_of 0)))) v)
     nothing_held (votes.Notarize v) h = h
     nothing_held (votes.Nullify v) h = not_in_empty _ h.2
     nothing_held (votes.Finalize v) h = h
@@ -429,10 +430,10 @@ unstored = record { others = others; fails = λ h. fails (h (node_of 0) honest) 
         nowhere [] x rest e = cc
         nowhere (y ∷ before) x rest e = cc
 
-    fails : ¬ (AreStored alone (node_of 0) (sample Stored))
+    fails : ¬ (AreStored (at_epoch_genesis alone) (node_of 0) (sample Stored))
     fails h = (let x = h.0 refl [] [] recipients.All (format.vote.spelling own) refl in elim x.2 [ inl s ↦ not_stored x.0 s | inr r ↦ nothing_held x.0 r ])
 
-    others : (other : Word) → ¬ (other ≡ Stored) → Says alone (sample Stored) other
+    others : (other : Word) → ¬ (other ≡ Stored) → Says (at_epoch_genesis alone) (sample Stored) other
     others Stored n = absurd (n refl)
     others Backed n = bare.backed
     others Agrees n = bare_agrees (sample Stored) bare
@@ -441,24 +442,24 @@ unstored = record { others = others; fails = λ h. fails (h (node_of 0) honest) 
     others Ruled n = λ node h. ruled_broken (send own ∷ []) node
     others Blameless n = no_blame (its outcomes.Cut (send own ∷ [])) [] (λ member. and_call member (send own) [] refl (silent member)) nobody_blamed
 
-signed_own : IsOwn (rules_of alone 0 0) own
+signed_own : IsOwn (rules_of (at_epoch_genesis alone) 0 0) own
 unfolding rules_of keyed_attests
 signed_own = (plain_attests (keyed_attests 1 (Some 0)) (keyed_verifies 1 1) (vote_subject own), (refl, omega arith))
 
-its_own : (node : Node) → node_of 0 ≡ node → IsOwn (rules_of alone node.member 0) own
-its_own node e = subst (λ (n : Node). IsOwn (rules_of alone n.member 0) own) e signed_own
+its_own : (node : Node) → node_of 0 ≡ node → IsOwn (rules_of (at_epoch_genesis alone) node.member 0) own
+its_own node e = subst (λ (n : Node). IsOwn (rules_of (at_epoch_genesis alone) n.member 0) own) e signed_own
 
 abbrev storing : List Call
 storing = calls.Append 1 (artifacts.Nullify (own_nullify near)) ∷ calls.Sync 1 ∷ send own ∷ []
 
-undue : AllBut alone (sample Ruled) Ruled
+undue : AllBut (at_epoch_genesis alone) (sample Ruled) Ruled
 unfolding AreBacked StandsIn sent_votes AreStored AreByRule AreBlameless voted calls_of life_in journal.kept
 undue = record { others = others; fails = λ h. fails (h (node_of 0) honest) }
   where
     bare : IsBare (sample Ruled)
     bare = bare_its outcomes.Done storing refl
 
-    fails : ¬ (AreByRule alone (node_of 0) (sample Ruled))
+    fails : ¬ (AreByRule (at_epoch_genesis alone) (node_of 0) (sample Ruled))
     fails h = (let e = h.0 refl refl in cc)
 
     stored_here : (before behind : List Call) (to : Recipients) (bytes : List ℕ) (Earlier : Nullify → Type 0) (Own : Vote → Type 0) → Own own → storing ≡ before ++ (calls.Send channels.Vote to bytes ∷ behind)
@@ -474,11 +475,11 @@ undue = record { others = others; fails = λ h. fails (h (node_of 0) honest) }
     stored_here (x ∷ y ∷ z ∷ []) behind to bytes Earlier Own o e = cc
     stored_here (x ∷ y ∷ z ∷ w ∷ more) behind to bytes Earlier Own o e = cc
 
-    stored : (node : Node) → AreStored alone node (sample Ruled)
+    stored : (node : Node) → AreStored (at_epoch_genesis alone) node (sample Ruled)
     stored node =
-        ((λ e before behind to bytes place. stored_here before behind to bytes (IsHeld (sections_in (life_in alone [] node))) (IsOwn (rules_of alone node.member 0)) (its_own node (same_node (node_of 0) node e)) place), tt)
+        ((λ e before behind to bytes place. stored_here before behind to bytes (IsHeld (sections_in (life_in (at_epoch_genesis alone) [] node))) (IsOwn (rules_of (at_epoch_genesis alone) node.member 0)) (its_own node (same_node (node_of 0) node e)) place), tt)
 
-    others : (other : Word) → ¬ (other ≡ Ruled) → Says alone (sample Ruled) other
+    others : (other : Word) → ¬ (other ≡ Ruled) → Says (at_epoch_genesis alone) (sample Ruled) other
     others Ruled n = absurd (n refl)
     others Backed n = bare.backed
     others Agrees n = bare_agrees (sample Ruled) bare
@@ -491,7 +492,7 @@ undue = record { others = others; fails = λ h. fails (h (node_of 0) honest) }
 abbrev report : Call
 report = calls.Report (activities.ConflictingNotarize (record { first = own_notarize 1; second = own_notarize 2 }))
 
-blamed : AllBut alone (sample Blameless) Blameless
+blamed : AllBut (at_epoch_genesis alone) (sample Blameless) Blameless
 unfolding AreBacked StandsIn sent_votes AreStored AreByRule AreBlameless voted calls_of life_in journal.kept
 blamed = record { others = others; fails = fails }
   where
@@ -501,7 +502,7 @@ blamed = record { others = others; fails = fails }
     fails : ¬ (AreBlameless alone (sample Blameless))
     fails h = (let e = All-head (λ (call : Call). blames call 0 ≡ false) report [] (h.0 0 honest) in cc)
 
-    others : (other : Word) → ¬ (other ≡ Blameless) → Says alone (sample Blameless) other
+    others : (other : Word) → ¬ (other ≡ Blameless) → Says (at_epoch_genesis alone) (sample Blameless) other
     others Blameless n = absurd (n refl)
     others Backed n = bare.backed
     others Agrees n = bare_agrees (sample Blameless) bare
@@ -510,7 +511,7 @@ blamed = record { others = others; fails = fails }
     others Stored n = λ node h. stored_apart [] [] (report ∷ []) [] node (nothing_stored node)
     others Ruled n = λ node h. ruled_apart [] [] (report ∷ []) [] node (nothing_ruled node)
 
-pub each_word : (word : Word) → AllBut alone (sample word) word
+pub each_word : (word : Word) → AllBut (at_epoch_genesis alone) (sample word) word
 each_word Backed = unbacked
 each_word Agrees = divided
 each_word Named = unnamed
@@ -521,19 +522,19 @@ each_word Blameless = blamed
 
 -- ---- the premises
 
-pub nothing_yet : IsMostlyHonest alone []
+pub nothing_yet : IsMostlyHonest (at_epoch_genesis alone) []
 unfolding IsRun
 nothing_yet = record { some = omega arith; not_many = omega arith; term = omega arith; epoch = omega arith; few = omega arith; ran = tt; typed = tt }
 
-ticked : IsRun with_silent after_tick
+ticked : IsRun (at_epoch_genesis with_silent) after_tick
 unfolding IsRun entry_of made_of unless_forged first_forged is_forged signed_in life.clock_of
 ticked = (events.Tick 5, refl, tt)
 
-sent_noise : entry_of with_silent after_tick noise ≡ Ok (noted_packets after_tick noise (node_of 3) None (record { from = node_of 3; channel = channels.Vote; to = at ∷ []; bytes = 7 ∷ [] } ∷ []))
+sent_noise : entry_of (at_epoch_genesis with_silent) after_tick noise ≡ Ok (noted_packets after_tick noise (node_of 3) None (record { from = node_of 3; channel = channels.Vote; to = at ∷ []; bytes = 7 ∷ [] } ∷ []))
 unfolding entry_of made_of unless_forged first_forged is_forged signed_in format.vote
 sent_noise = refl
 
-pub noisy : IsMostlyHonest with_silent after_noise
+pub noisy : IsMostlyHonest (at_epoch_genesis with_silent) after_noise
 unfolding IsRun
 noisy =
     record {

@@ -4,6 +4,7 @@ use Rattle.simplex_transcript.specs.declared.entry.Packet.{Packet}
 use Rattle.simplex_transcript.specs.declared.event.Event.{Event}
 use Rattle.simplex_transcript.specs.declared.node.Node.{Node}
 use Rattle.simplex_transcript.specs.declared.setup.Setup.{Setup}
+use Rattle.simplex_run.specs.Setting.{Setting}
 use Rattle.simplex_run.specs.Kinds.{is_faulty_member}
 use Rattle.simplex_run.specs.Life.{Noted, is_of}
 use Rattle.simplex_run.specs.Members.{is_same_node}
@@ -21,15 +22,15 @@ pub record IsSentBy (setup : Setup) (noted : Noted) : Type 0 where
 abbrev pub IsShaped : Setup → Noted → Type 0
 IsShaped setup noted = (noted.entry.packets ≡ []) ⊎ (IsSentBy setup noted ⊎ Each (λ (p : Packet). is_faulty_member setup p.from.member ≡ true) noted.entry.packets)
 
-pub entry_shape : (setup : Setup) (before : List Noted) (event : Event) (noted : Noted) → entry_of setup before event ≡ Ok noted → IsShaped setup noted
-entry_shape setup before event noted e = elim (entry_turn setup before event noted e) [
-  | inl b ↦ subst (IsShaped setup) b.is (inr (inl (record { at = b.at; of = λ node. refl; packets = refl })))
+pub entry_shape : (setting : Setting) (before : List Noted) (event : Event) (noted : Noted) → entry_of setting before event ≡ Ok noted → IsShaped setting.setup noted
+entry_shape setting before event noted e = elim (entry_turn setting before event noted e) [
+  | inl b ↦ subst (IsShaped setting.setup) b.is (inr (inl (record { at = b.at; of = λ node. refl; packets = refl })))
   | inr other ↦ elim other [
-    | inl g ↦ subst (IsShaped setup) g.is (inr (inl (record { at = g.at; of = g.of; packets = refl })))
+    | inl g ↦ subst (IsShaped setting.setup) g.is (inr (inl (record { at = g.at; of = g.of; packets = refl })))
     | inr rest ↦ elim rest [
-      | inl c ↦ subst (IsShaped setup) c.is (inl refl)
+      | inl c ↦ subst (IsShaped setting.setup) c.is (inl refl)
       | inr last ↦ elim last [
-        | inl t ↦ subst (IsShaped setup) t.is (inl refl)
+        | inl t ↦ subst (IsShaped setting.setup) t.is (inl refl)
         | inr a ↦ inr (inr a.packets)
       ]
     ]

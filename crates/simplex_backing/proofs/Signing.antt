@@ -16,6 +16,7 @@ use Rattle.simplex_rules.specs.Known.{Made}
 use Rattle.simplex_journal.specs.Journal.{Section}
 use Rattle.simplex_transcript.specs.declared.node.Node.{Node}
 use Rattle.simplex_transcript.specs.declared.setup.Setup.{Setup}
+use Rattle.simplex_run.specs.Setting.{Setting}
 use Rattle.simplex_run.specs.Members.{members_of, rules_of, engine_of, kind_of}
 use Rattle.simplex_safety.proofs.Events.{engine_at}
 use Rattle.simplex_safety.proofs.Telling.{some_is}
@@ -112,10 +113,10 @@ attests_own setup member rules below sized is v e =
     keyed : Subject → Option Attestation
     keyed = keyed_attests setup.key_base (Some member)
 
-pub rules_own : (setup : Setup) (member start : ℕ) → member < members_of setup → IsSized setup → SignsOwn member (rules_of setup member start)
+pub rules_own : (setting : Setting) (member start : ℕ) → member < members_of setting.setup → IsSized setting.setup → SignsOwn member (rules_of setting member start)
 unfolding rules_of
-rules_own setup member start below sized = attests_own setup member (rules_of setup member start) below sized refl
+rules_own setting member start below sized = attests_own setting.setup member (rules_of setting member start) below sized refl
 
-pub engine_own : (setup : Setup) (at : Node) (floor : Option Finalization) (js : List Section) → at.member < members_of setup → IsSized setup → (start : ℕ) → SignsOwn at.member ((engine_at setup at floor js).voter start).rules
+pub engine_own : (setting : Setting) (at : Node) (floor : Option Finalization) (js : List Section) → at.member < members_of setting.setup → IsSized setting.setup → (start : ℕ) → SignsOwn at.member ((engine_at setting at floor js).voter start).rules
 unfolding engine_of
-engine_own setup at floor js below sized start = rules_own setup at.member start below sized
+engine_own setting at floor js below sized start = rules_own setting at.member start below sized

@@ -85,7 +85,7 @@ module _ (P : Certificate → Type 0) where
 
 -- good where it verifies
 abbrev IfVerifying : Backers → Certificate → Type 0
-IfVerifying backers c = IsVerifying backers.setup c → IsGood backers c
+IfVerifying backers c = IsVerifying backers.setting.setup c → IsGood backers c
 
 on_channel : (backers : Backers) (sender : ℕ) (channel : Channel) (bytes : List ℕ) (c : Certificate) → FineOn backers sender channel bytes → Contains (certificate_on channel bytes) c → IfVerifying backers c
 on_channel backers sender channels.Certificate bytes c f k = at (whole format.certificate bytes) refl k
@@ -101,7 +101,7 @@ in_packet backers p c f k = on_channel backers p.from.member p.channel p.bytes c
 
 -- ---- in an entry, and in a run
 
-pub standing_good : (backers : Backers) (noted : Noted) (c : Certificate) → InNoted (IsGood backers) noted → Each (IsFinePacket backers) noted.entry.packets → Contains (standing_in noted.entry) c → IsVerifying backers.setup c
+pub standing_good : (backers : Backers) (noted : Noted) (c : Certificate) → InNoted (IsGood backers) noted → Each (IsFinePacket backers) noted.entry.packets → Contains (standing_in noted.entry) c → IsVerifying backers.setting.setup c
     → IsGood backers c
 standing_good backers noted c said packets k v =
     let entry = noted.entry in
@@ -117,7 +117,7 @@ standing_good backers noted c said packets k v =
       | inr packet ↦ in_all (IfVerifying backers) (IsFinePacket backers) of_packet (in_packet backers) entry.packets c packets packet v
     ]
 
-pub stands_good : (backers : Backers) (noted : List Noted) (c : Certificate) → Each (InNoted (IsGood backers)) noted → Each (λ (n : Noted). Each (IsFinePacket backers) n.entry.packets) noted → StandsIn noted c → IsVerifying backers.setup c
+pub stands_good : (backers : Backers) (noted : List Noted) (c : Certificate) → Each (InNoted (IsGood backers)) noted → Each (λ (n : Noted). Each (IsFinePacket backers) n.entry.packets) noted → StandsIn noted c → IsVerifying backers.setting.setup c
     → IsGood backers c
 unfolding StandsIn
 stands_good backers [] c said packets k v = absurd k

@@ -165,7 +165,7 @@ held_nothing backers member made past source now stop e none h =
     record { said = nothing_said backers; taken = none; given = tt; place = unseen_place backers made (engine.nothing_held source now stop) past e refl h.place; fine = λ s f. tt }
 
 -- a step of the batcher on an input that is fine
-by_batcher_fine : (backers : Backers) (member : ℕ) (made : EngineMade) (past : List Did) (taken : engine.Taken) (input : BatcherInput) (now : ℕ) (stop : Stop) → IsSized backers.setup
+by_batcher_fine : (backers : Backers) (member : ℕ) (made : EngineMade) (past : List Did) (taken : engine.Taken) (input : BatcherInput) (now : ℕ) (stop : Stop) → IsSized backers.setting.setup
     → ((i : BatcherInput) → input_of_batcher taken ≡ Some i → i ≡ input) → ((n : ℕ) (s : Stop) (o : Outcome) (out : StepOut) → (given_to_voter (engine.did_of taken n s o out) ≡ None) × (is_start taken ≡ false) × (engine.given_to_resolver (engine.did_of taken n s o out) ≡ []))
     → IsFineInput backers input → IsFineEngine backers member made past → IsStepFine backers member made past (engine.by_batcher made past taken input now stop)
 unfolding engine.by_batcher
@@ -179,7 +179,7 @@ by_batcher_fine backers member made past taken input now stop sized only unseen 
       fine = λ s g. batcher_fine backers made past taken input now stop sized h.batcher h.history f;
     }
 
-batcher_step : (backers : Backers) (member : ℕ) (made : EngineMade) (past : List Did) (now : ℕ) (stop : Stop) (o : Option batcher_message.Message) → IsSized backers.setup → received (engine.batcher_mail made past) ≡ o
+batcher_step : (backers : Backers) (member : ℕ) (made : EngineMade) (past : List Did) (now : ℕ) (stop : Stop) (o : Option batcher_message.Message) → IsSized backers.setting.setup → received (engine.batcher_mail made past) ≡ o
     → IsFineEngine backers member made past → IsStepFine backers member made past (engine.on_batcher_mail made past now stop o)
 batcher_step backers member made past now stop None sized e h = held_nothing backers member made past sources.Batcher now stop refl (λ input t. cc) h
 batcher_step backers member made past now stop (Some message) sized e h =
@@ -297,11 +297,11 @@ brings backers made sender bytes of f message e = by message.body refl
     by (bodies.Response ys) k = λ c r v.
         let here : Contains (in_body (bodies.Response ys)) c = subst (λ x. Contains (read_certificate x) c) (sym r) (Contains-here c []) in
         let there : Contains (certificate_on channels.Resolver bytes) c = subst (λ x. Contains (in_response x) c) (sym e) (subst (λ x. Contains (in_body x) c) (sym k) here) in
-        let n : is_certified (made.verifies (certificate_subject c)) (members_of backers.setup) (certificate_signatures c) ≡ true =
+        let n : is_certified (made.verifies (certificate_subject c)) (members_of backers.setting.setup) (certificate_signatures c) ≡ true =
         subst (λ m. is_certified (made.verifies (certificate_subject c)) m (certificate_signatures c) ≡ true) of.members v in
-        f c there (subst (λ (g : Subject → Attestation → Bool). is_certified (g (certificate_subject c)) (members_of backers.setup) (certificate_signatures c) ≡ true) of.verifies n)
+        f c there (subst (λ (g : Subject → Attestation → Bool). is_certified (g (certificate_subject c)) (members_of backers.setting.setup) (certificate_signatures c) ≡ true) of.verifies n)
 
-any_step : (backers : Backers) (member : ℕ) (made : EngineMade) (past : List Did) (source : StepSource) (now : ℕ) (stop : Stop) → IsSized backers.setup → IsFineEngine backers member made past
+any_step : (backers : Backers) (member : ℕ) (made : EngineMade) (past : List Did) (source : StepSource) (now : ℕ) (stop : Stop) → IsSized backers.setting.setup → IsFineEngine backers member made past
     → IsStepFine backers member made past (engine.stepped made past source now stop)
 unfolding engine.stepped
 any_step backers member made past sources.Batcher now stop sized h = batcher_step backers member made past now stop (received (engine.batcher_mail made past)) sized refl h
@@ -319,7 +319,7 @@ any_step backers member made past sources.Handler now stop sized h = handler_ste
 any_step backers member made past sources.Fetch now stop sized h = fetch_step backers member made past now stop h
 
 -- a packet that is heard
-heard_fine : (backers : Backers) (member : ℕ) (made : EngineMade) (past : List Did) (sender : ℕ) (channel : Channel) (bytes : List ℕ) (now : ℕ) → IsSized backers.setup → FineOn backers sender channel bytes
+heard_fine : (backers : Backers) (member : ℕ) (made : EngineMade) (past : List Did) (sender : ℕ) (channel : Channel) (bytes : List ℕ) (now : ℕ) → IsSized backers.setting.setup → FineOn backers sender channel bytes
     → IsFineEngine backers member made past → IsStepFine backers member made past (engine.heard made past sender channel bytes now)
 unfolding engine.heard
 heard_fine backers member made past sender channels.Vote bytes now sized f h =
@@ -335,7 +335,7 @@ heard_fine backers member made past sender channels.Resolver bytes now sized f h
     (λ x out. by_outcome (λ y. Each (InGiven made.resolver (IsGood backers)) (engine.given_to_resolver (engine.did_of taken now stops.None y out))) (came, tt) tt (came, tt) (came, tt) x) h.given came h
 
 -- whatever an engine takes
-pub taken_fine : (backers : Backers) (before : List Noted) (at : Node) (made : EngineMade) (past : List Did) (did : Did) → IsSized backers.setup → IsTaken backers.setup before at made past did → IsFineRun backers before
+pub taken_fine : (backers : Backers) (before : List Noted) (at : Node) (made : EngineMade) (past : List Did) (did : Did) → IsSized backers.setting.setup → IsTaken backers.setting.setup before at made past did → IsFineRun backers before
     → IsFineEngine backers at.member made past → IsStepFine backers at.member made past did
 taken_fine backers before at made past did sized t fine h = elim t [
   | inl p ↦ subst (IsStepFine backers at.member made past) (sym p.is)

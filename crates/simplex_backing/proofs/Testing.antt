@@ -27,6 +27,7 @@ use Rattle.simplex_transcript.specs.declared.event.Event.{Event}
 use Rattle.simplex_transcript.specs.declared.refusal.RunError.{RunError}
 use Rattle.simplex_transcript.specs.declared.setup.Setup.{Setup}
 use Rattle.simplex_batcher_laws.proofs.Certifying.{subjects-same}
+use Rattle.simplex_run.specs.Setting.{Setting}
 use Rattle.simplex_run.specs.Kinds.{members_of, is_honest, is_faulty_member, is_same_node, node_of}
 use Rattle.simplex_run.specs.Life.{Noted}
 use Rattle.simplex_run.specs.SentVotes.{is_for_votes, vote_sent, has_sent}
@@ -239,8 +240,8 @@ none_forged setup before (Ok n) noted e = at (first_forged setup before n.entry)
     at None h k = (let same : n ≡ noted = cc in subst (λ (m : Noted). first_forged setup before m.entry ≡ None) same h)
     at (Some s) h k = cc
 
-pub entry_tested : (setup : Setup) (before : List Noted) (event : Event) (noted : Noted) → entry_of setup before event ≡ Ok noted → Each (λ (p : Packet). is_faulty_member setup p.from.member ≡ true) noted.entry.packets
-    → Each (IsTested setup before) noted.entry.packets
+pub entry_tested : (setting : Setting) (before : List Noted) (event : Event) (noted : Noted) → entry_of setting before event ≡ Ok noted → Each (λ (p : Packet). is_faulty_member setting.setup p.from.member ≡ true) noted.entry.packets
+    → Each (IsTested setting.setup before) noted.entry.packets
 unfolding entry_of first_forged
-entry_tested setup before event noted e f =
-    packets_pass setup before noted.entry.packets f (none_found (is_forged setup before) (signed_by_faulty setup noted.entry.packets) (none_forged setup before (made_of setup before event) noted e))
+entry_tested setting before event noted e f =
+    packets_pass setting.setup before noted.entry.packets f (none_found (is_forged setting.setup before) (signed_by_faulty setting.setup noted.entry.packets) (none_forged setting.setup before (made_of setting before event) noted e))

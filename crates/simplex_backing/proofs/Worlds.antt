@@ -33,6 +33,7 @@ use Rattle.simplex_messages.specs.declared.call.Call.TheVariants as calls
 use Rattle.simplex_transcript.specs.declared.entry.Packet.{Packet}
 use Rattle.simplex_transcript.specs.declared.node.Node.{Node}
 use Rattle.simplex_transcript.specs.declared.setup.Setup.{Setup}
+use Rattle.simplex_run.specs.Setting.{Setting}
 use Rattle.simplex_run.specs.Life.{Noted, is_of}
 use Rattle.simplex_run.specs.Members.{members_of, is_same_node}
 use Rattle.simplex_run.specs.Entries.{node_of, packets_of}
@@ -74,21 +75,21 @@ use Rattle.simplex_run.specs.Kinds.{is_faulty_member}
 use Rattle.simplex_safety.specs.Faulty.{faulty_of}
 use Rattle.simplex_safety.proofs.Members.{faulty_listed}
 
-abbrev pub backers_of : Setup → List Noted → Backers
-backers_of setup noted = record { setup = setup; noted = noted }
+abbrev pub backers_of : Setting → List Noted → Backers
+backers_of setting noted = record { setting = setting; noted = noted }
 
-pub sized_of : (setup : Setup) (noted : List Noted) → IsMostlyHonest setup noted → IsSized setup
-sized_of setup noted o = record { some = o.some; few = wider (members_of setup) o.not_many; fewer = o.not_many }
+pub sized_of : (setting : Setting) (noted : List Noted) → IsMostlyHonest setting noted → IsSized setting.setup
+sized_of setting noted o = record { some = o.some; few = wider (members_of setting.setup) o.not_many; fewer = o.not_many }
   where
     wider : (n : ℕ) → n < 2 ^ 16 → n < 2 ^ 32
     wider n h = omega (arith, h)
 
-pub fine_of : (setup : Setup) (noted : List Noted) → IsMostlyHonest setup noted → IsFineRun (backers_of setup noted) noted
-fine_of setup noted o = run_fine (backers_of setup noted) [] noted (sized_of setup noted o) refl o.ran o.typed
+pub fine_of : (setting : Setting) (noted : List Noted) → IsMostlyHonest setting noted → IsFineRun (backers_of setting noted) noted
+fine_of setting noted o = run_fine (backers_of setting noted) [] noted (sized_of setting noted o) refl o.ran o.typed
 
-pub earlier : (setup : Setup) (noted : Noted) (before : List Noted) → IsMostlyHonest setup (noted ∷ before) → IsMostlyHonest setup before
+pub earlier : (setting : Setting) (noted : Noted) (before : List Noted) → IsMostlyHonest setting (noted ∷ before) → IsMostlyHonest setting before
 unfolding IsRun
-earlier setup noted before o =
+earlier setting noted before o =
     record { some = o.some; not_many = o.not_many; term = o.term; few = o.few; epoch = o.epoch; ran = o.ran.2; typed = o.typed.1 }
 
 -- ---- a vote that was sent is one of the life's
@@ -186,20 +187,20 @@ from_faulty setup (x ∷ ps) p t k =
       | inr r ↦ from_faulty setup ps p t.1 r
     ]
 
-pub vote_went_out : (setup : Setup) (noted : List Noted) (member : ℕ) (v : Vote) → IsRun setup noted → ¬ (Contains (faulty_of setup) member) → Contains (sent_votes noted member) v
+pub vote_went_out : (setting : Setting) (noted : List Noted) (member : ℕ) (v : Vote) → IsRun setting noted → ¬ (Contains (faulty_of setting.setup) member) → Contains (sent_votes noted member) v
     → WentOut (node_of member) noted v
 unfolding IsRun sent_votes
-vote_went_out setup [] member v ran honest k = absurd (not_in_empty v k)
-vote_went_out setup (noted ∷ before) member v ran honest k =
+vote_went_out setting [] member v ran honest k = absurd (not_in_empty v k)
+vote_went_out setting (noted ∷ before) member v ran honest k =
     elim (Contains-append_cases (sent_votes before member) (flat_map (vote_in member) noted.entry.packets) v k) [
-      | inl old ↦ went_later (node_of member) noted before v (vote_went_out setup before member v ran.2 honest old)
+      | inl old ↦ went_later (node_of member) noted before v (vote_went_out setting before member v ran.2 honest old)
       | inr new ↦ (let p = in_flat_map (vote_in member) noted.entry.packets v new in
           let i = vote_of member p.0 v p.2 in
-          elim (entry_shape setup before ran.0 noted ran.1) [
+          elim (entry_shape setting before ran.0 noted ran.1) [
             | inl none ↦ absurd (not_in_empty p.0 (subst (λ ps. Contains ps p.0) none p.1))
             | inr shape ↦ elim shape [
-              | inl s ↦ went_now setup member noted before p.0 v s p.1 i
-              | inr f ↦ absurd (honest (subst (λ (n : Node). Contains (faulty_of setup) n.member) i.from (from_faulty setup noted.entry.packets p.0 f p.1)))
+              | inl s ↦ went_now setting.setup member noted before p.0 v s p.1 i
+              | inr f ↦ absurd (honest (subst (λ (n : Node). Contains (faulty_of setting.setup) n.member) i.from (from_faulty setting.setup noted.entry.packets p.0 f p.1)))
             ]
           ])
     ]
@@ -278,28 +279,28 @@ node_fits node (noted ∷ before) t = at (is_of node noted.event) (node_fits nod
     at false rest = rest
 
 -- a life that the node lives, of whose votes the numbers keep to their types
-pub record IsFitLife (setup : Setup) (noted : List Noted) (node : Node) : Type 0 where
-  pub lived : IsLivedBy setup noted node
+pub record IsFitLife (setting : Setting) (noted : List Noted) (node : Node) : Type 0 where
+  pub lived : IsLivedBy setting noted node
   pub fits : All Fits (subjects_of (run newborn lived.calls).sent)
 
 pub low_fits : (epoch : ℕ) (r : Round) → epoch < 2 ^ 64 → r.epoch ≡ epoch → r.view < greatest_view → (r.epoch < 2 ^ 64) × (r.view < 2 ^ 64)
 low_fits epoch r fit same low = (subst (λ n. n < 2 ^ 64) (sym same) fit, omega (arith, low))
 
-pub fit_life : (setup : Setup) (noted : List Noted) (node : Node) → setup.epoch < 2 ^ 64 → AreTyped noted → IsLivedBy setup noted node → IsFitLife setup noted node
-fit_life setup noted node epoch typed b =
+pub fit_life : (setting : Setting) (noted : List Noted) (node : Node) → setting.setup.epoch < 2 ^ 64 → AreTyped noted → IsLivedBy setting noted node → IsFitLife setting noted node
+fit_life setting noted node epoch typed b =
     let list = subjects_of (run newborn b.calls).sent in
     record {
       lived = b;
       fits = All-weaker (Contains list) Fits (λ s k. elim (b.own s k) [
         | inl v ↦ calls_fit (calls_of node noted) s (node_fits node noted typed) v
-        | inr l ↦ subst Fits (sym l.1) (low_fits setup.epoch l.0 epoch l.2 l.3)
+        | inr l ↦ subst Fits (sym l.1) (low_fits setting.setup.epoch l.0 epoch l.2 l.3)
       ]) list (All-contains_itself list);
     }
 
 -- what each member sent in its life; of a faulty one nothing is said
-pub record IsPeopled (setup : Setup) (noted : List Noted) : Type 0 where
+pub record IsPeopled (setting : Setting) (noted : List Noted) : Type 0 where
   pub history : ℕ → List Sent
-  pub lived : (i : ℕ) → ¬ (Contains (faulty_of setup) i) → (f : IsFitLife setup noted (node_of i)) × (history i ≡ (run newborn f.lived.calls).sent)
+  pub lived : (i : ℕ) → ¬ (Contains (faulty_of setting.setup) i) → (f : IsFitLife setting noted (node_of i)) × (history i ≡ (run newborn f.lived.calls).sent)
 
 pub find : (xs : List ℕ) (i : ℕ) → Contains xs i ⊎ ¬ (Contains xs i)
 find [] i = inr (not_in_empty i)
@@ -310,23 +311,23 @@ find (x ∷ xs) i = at (x == i) refl (find xs i)
     at false e (inl k) = inl (Contains-there x xs i k)
     at false e (inr n) = inr (λ k. elim (Contains-cons_cases x xs i k) [ inl same ↦ eqb-false x i e same | inr r ↦ n r ])
 
-people : (setup : Setup) (noted : List Noted) → ((node : Node) → ¬ (Contains (faulty_of setup) node.member) → IsFitLife setup noted node) → IsPeopled setup noted
-people setup noted lives = record { history = λ i. sent_by i (find (faulty_of setup) i); lived = λ i honest. same i honest (find (faulty_of setup) i) }
+people : (setting : Setting) (noted : List Noted) → ((node : Node) → ¬ (Contains (faulty_of setting.setup) node.member) → IsFitLife setting noted node) → IsPeopled setting noted
+people setting noted lives = record { history = λ i. sent_by i (find (faulty_of setting.setup) i); lived = λ i honest. same i honest (find (faulty_of setting.setup) i) }
   where
-    sent_by : (i : ℕ) → Contains (faulty_of setup) i ⊎ ¬ (Contains (faulty_of setup) i) → List Sent
+    sent_by : (i : ℕ) → Contains (faulty_of setting.setup) i ⊎ ¬ (Contains (faulty_of setting.setup) i) → List Sent
     sent_by i (inl f) = []
     sent_by i (inr h) = (run newborn (lives (node_of i) h).lived.calls).sent
 
-    same : (i : ℕ) → ¬ (Contains (faulty_of setup) i) → (d : Contains (faulty_of setup) i ⊎ ¬ (Contains (faulty_of setup) i)) → (f : IsFitLife setup noted (node_of i)) × (sent_by i d ≡ (run newborn f.lived.calls).sent)
+    same : (i : ℕ) → ¬ (Contains (faulty_of setting.setup) i) → (d : Contains (faulty_of setting.setup) i ⊎ ¬ (Contains (faulty_of setting.setup) i)) → (f : IsFitLife setting noted (node_of i)) × (sent_by i d ≡ (run newborn f.lived.calls).sent)
     same i honest (inl f) = absurd (honest f)
     same i honest (inr h) = (lives (node_of i) h, refl)
 
-abbrev pub world_of : (setup : Setup) (noted : List Noted) → IsPeopled setup noted → World
-world_of setup noted p = record { members = members_of setup; term_length = setup.term; faulty = faulty_of setup; history = p.history }
+abbrev pub world_of : (setting : Setting) (noted : List Noted) → IsPeopled setting noted → World
+world_of setting noted p = record { members = members_of setting.setup; term_length = setting.setup.term; faulty = faulty_of setting.setup; history = p.history }
 
-pub people_of : (setup : Setup) (noted : List Noted) → IsMostlyHonest setup noted → AreFloors noted → IsPeopled setup noted
-people_of setup noted o floors =
-    people setup noted (λ node honest. fit_life setup noted node o.epoch o.typed (node_lives setup noted node o.term honest o.ran floors))
+pub people_of : (setting : Setting) (noted : List Noted) → IsMostlyHonest setting noted → AreFloors noted → IsPeopled setting noted
+people_of setting noted o floors =
+    people setting noted (λ node honest. fit_life setting noted node o.epoch o.typed (node_lives setting noted node o.term honest o.ran floors))
 
 -- ---- a good certificate is backed in that world
 
@@ -343,59 +344,59 @@ rising_from least (a ∷ b ∷ rest) e (suc k) lt =
     let next : suc (k + 1) ≡ suc k + 1 = omega arith in
     subst (λ m. slice_index (a.signer ∷ signers) (suc k) < slice_index (a.signer ∷ signers) m) next (rising_from (a.signer + 1) (b ∷ rest) outer.1 k (omega (arith, lt)))
 
-module _ (setup : Setup) (noted : List Noted) (ran : IsRun setup noted) (p : IsPeopled setup noted) where
+module _ (setting : Setting) (noted : List Noted) (ran : IsRun setting noted) (p : IsPeopled setting noted) where
   abbrev w : World
-  w = world_of setup noted p
+  w = world_of setting noted p
 
   -- what an honest member is read to have voted for, it sent in its life
-  pub voted_lived : (i : ℕ) (subject : Subject) → ¬ (Contains (faulty_of setup) i) → HasVoted noted i subject → Contains (subjects_of (p.history i)) subject
+  pub voted_lived : (i : ℕ) (subject : Subject) → ¬ (Contains (faulty_of setting.setup) i) → HasVoted noted i subject → Contains (subjects_of (p.history i)) subject
   voted_lived i subject honest h =
       let l = p.lived i honest in
       let lived = l.0.lived in
       let sent = (run newborn lived.calls).sent in
-      let there = subject_lived (node_of i) noted sent h.0 lived.votes l.0.fits (vote_went_out setup noted i h.0 ran honest h.1) in
+      let there = subject_lived (node_of i) noted sent h.0 lived.votes l.0.fits (vote_went_out setting noted i h.0 ran honest h.1) in
       subst (λ xs. Contains (subjects_of xs) subject) (sym l.1) (subst (Contains (subjects_of sent)) h.2 there)
 
-  has_sent : (i : ℕ) (subject : Subject) → Counts (backers_of setup noted) i subject → Contains (faulty_of setup) i ⊎ agreement.HasSent w i subject
+  has_sent : (i : ℕ) (subject : Subject) → Counts (backers_of setting noted) i subject → Contains (faulty_of setting.setup) i ⊎ agreement.HasSent w i subject
   has_sent i subject (inl f) = inl f
-  has_sent i subject (inr h) = elim (find (faulty_of setup) i) [
+  has_sent i subject (inr h) = elim (find (faulty_of setting.setup) i) [
     | inl f ↦ inl f
     | inr honest ↦ inr (sent_of (p.history i) subject (voted_lived i subject honest h))
   ]
 
-  pub good_backed : (c : Certificate) → IsGood (backers_of setup noted) c → IsBacked w (statement_of c)
+  pub good_backed : (c : Certificate) → IsGood (backers_of setting noted) c → IsBacked w (statement_of c)
   good_backed c g =
-      let n = members_of setup in
+      let n = members_of setting.setup in
       let list = certificate_signatures c in
-      let verifies = keyed_verifies setup.key_base n (certificate_subject c) in
+      let verifies = keyed_verifies setting.setup.key_base n (certificate_subject c) in
       let parts = certified_parts verifies n list g.verifies in
       let below = All-weaker (λ (a : Attestation). (a.signer < n) × (verifies a ≡ true)) (λ (a : Attestation). a.signer < n) (λ a h. h.0) list (each_verifies verifies n list parts.each) in
       let signer : Attestation → ℕ = λ a. a.signer in
       let same : length (map signer list) ≡ length list = length-map list signer in
-      let S = λ (i : ℕ). Contains (faulty_of setup) i ⊎ agreement.HasSent w i (certificate_subject c) in
+      let S = λ (i : ℕ). Contains (faulty_of setting.setup) i ⊎ agreement.HasSent w i (certificate_subject c) in
       record {
         quorum = record {
           rising = rising_from 0 list parts.rises;
           members = All-map (λ i. i < n) signer list below;
           enough = omega (arith, parts.quorum, same);
         };
-        signed = All-map S signer list (All-weaker (λ (a : Attestation). Counts (backers_of setup noted) a.signer (certificate_subject c)) (λ (a : Attestation). S a.signer)
+        signed = All-map S signer list (All-weaker (λ (a : Attestation). Counts (backers_of setting noted) a.signer (certificate_subject c)) (λ (a : Attestation). S a.signer)
             (λ a h. has_sent a.signer (certificate_subject c) h) list g.backed);
       }
 
   -- a finalization that is backed is of a view above 0
-  pub backed_above : (f : Finalization) → 0 < members_of setup → length (faulty_of setup) ≤ max_faulty (members_of setup) → IsBacked w (statement_of (certificates.Finalization f)) → 0 < view_of f.proposal
+  pub backed_above : (f : Finalization) → 0 < members_of setting.setup → length (faulty_of setting.setup) ≤ max_faulty (members_of setting.setup) → IsBacked w (statement_of (certificates.Finalization f)) → 0 < view_of f.proposal
   backed_above f some few b =
       let signers = (statement_of (certificates.Finalization f)).signers in
-      let m = quorums_meet (members_of setup) (faulty_of setup) signers signers some few b.quorum b.quorum in
-      let S = λ (i : ℕ). Contains (faulty_of setup) i ⊎ agreement.HasSent w i (subjects.Finalize f.proposal) in
+      let m = quorums_meet (members_of setting.setup) (faulty_of setting.setup) signers signers some few b.quorum b.quorum in
+      let S = λ (i : ℕ). Contains (faulty_of setting.setup) i ⊎ agreement.HasSent w i (subjects.Finalize f.proposal) in
       elim (All-contains S signers m.member b.signed m.first) [
         | inl bad ↦ absurd (m.good bad)
         | inr h ↦ (let l = p.lived m.member m.good in
             let lived = l.0.lived in
             let sent = (run newborn lived.calls).sent in
             let there : Contains sent (record { subject = subjects.Finalize f.proposal; known = h.0 }) = subst (λ xs. Contains xs (record { subject = subjects.Finalize f.proposal; known = h.0 })) l.1 h.1 in
-            sent_above setup.term lived.calls (subjects.Finalize f.proposal) lived.legal (in_map (λ (s : Sent). s.subject) sent _ there) f.proposal refl)
+            sent_above setting.setup.term lived.calls (subjects.Finalize f.proposal) lived.legal (in_map (λ (s : Sent). s.subject) sent _ there) f.proposal refl)
       ]
     where
       in_map : {A B : Type 0} (g : A → B) (xs : List A) (x : A) → Contains xs x → Contains (map g xs) (g x)
@@ -407,29 +408,29 @@ module _ (setup : Setup) (noted : List Noted) (ran : IsRun setup noted) (p : IsP
 
 -- ---- no start is at view 0
 
-pub reported_above : (setup : Setup) (before : List Noted) → IsMostlyHonest setup before → AreFloors before → IsReportedAbove setup before
-reported_above setup before o floors f e =
-    let p = people_of setup before o floors in
-    let fine = fine_of setup before o in
-    let good = reported_good (backers_of setup before) f before e fine.said in
-    backed_above setup before o.ran p f o.some o.few (good_backed setup before o.ran p (certificates.Finalization f) good)
+pub reported_above : (setting : Setting) (before : List Noted) → IsMostlyHonest setting before → AreFloors before → IsReportedAbove setting.setup before
+reported_above setting before o floors f e =
+    let p = people_of setting before o floors in
+    let fine = fine_of setting before o in
+    let good = reported_good (backers_of setting before) f before e fine.said in
+    backed_above setting before o.ran p f o.some o.few (good_backed setting before o.ran p (certificates.Finalization f) good)
 
-pub floors_hold : (setup : Setup) (noted : List Noted) → IsMostlyHonest setup noted → AreFloors noted
+pub floors_hold : (setting : Setting) (noted : List Noted) → IsMostlyHonest setting noted → AreFloors noted
 unfolding AreFloors IsRun
-floors_hold setup [] o = tt
-floors_hold setup (noted ∷ before) o =
-    let less = earlier setup noted before o in
-    let old = floors_hold setup before less in
-    (start_above setup before o.ran.0 noted (reported_above setup before less old) o.ran.1, old)
+floors_hold setting [] o = tt
+floors_hold setting (noted ∷ before) o =
+    let less = earlier setting noted before o in
+    let old = floors_hold setting before less in
+    (start_above setting before o.ran.0 noted (reported_above setting before less old) o.ran.1, old)
 
 -- ---- agreement
 
-pub lawful : (setup : Setup) (noted : List Noted) (o : IsMostlyHonest setup noted) (p : IsPeopled setup noted) → IsLawful (world_of setup noted p)
-lawful setup noted o p =
-    let w = world_of setup noted p in
-    let backers = backers_of setup noted in
-    let fine = fine_of setup noted o in
-    let good : (c : Certificate) → IsGood backers c → IsBacked w (statement_of c) = good_backed setup noted o.ran p in
+pub lawful : (setting : Setting) (noted : List Noted) (o : IsMostlyHonest setting noted) (p : IsPeopled setting noted) → IsLawful (world_of setting noted p)
+lawful setting noted o p =
+    let w = world_of setting noted p in
+    let backers = backers_of setting noted in
+    let fine = fine_of setting noted o in
+    let good : (c : Certificate) → IsGood backers c → IsBacked w (statement_of c) = good_backed setting noted o.ran p in
     let all = Each-weaker (InNoted (IsGood backers)) (InNoted (λ c. IsBacked w (statement_of c))) (noted_more (IsGood backers) (λ c. IsBacked w (statement_of c)) good) noted fine.said in
     record {
       members = o.some;
@@ -437,14 +438,14 @@ lawful setup noted o p =
       faulty = o.few;
       honest = λ i lt honest. (let l = p.lived i honest in
           let lived = l.0.lived in
-          subst (IsHonest w) (sym l.1) (sent_honest w o.term lived.calls lived.legal (brought_good (IsBacked w) setup noted (node_of i) lived all)));
+          subst (IsHonest w) (sym l.1) (sent_honest w o.term lived.calls lived.legal (brought_good (IsBacked w) setting noted (node_of i) lived all)));
     }
 
-pub run_agrees : (setup : Setup) (noted : List Noted) (a b : Certificate) → IsMostlyHonest setup noted → StandsIn noted a → StandsIn noted b
-    → IsVerifying setup a → IsVerifying setup b → ¬ (Conflict setup.term (certificate_subject a) (certificate_subject b))
-run_agrees setup noted a b o sa sb va vb =
-    let p = people_of setup noted o (floors_hold setup noted o) in
-    let backers = backers_of setup noted in
-    let fine = fine_of setup noted o in
-    let back = λ (c : Certificate) (s : StandsIn noted c) (v : IsVerifying setup c). good_backed setup noted o.ran p c (stands_good backers noted c fine.said fine.packets s v) in
-    no_conflict (world_of setup noted p) (lawful setup noted o p) (certificate_subject a) (certificate_subject b) (statement_of a).signers (statement_of b).signers (back a sa va) (back b sb vb)
+pub run_agrees : (setting : Setting) (noted : List Noted) (a b : Certificate) → IsMostlyHonest setting noted → StandsIn noted a → StandsIn noted b
+    → IsVerifying setting.setup a → IsVerifying setting.setup b → ¬ (Conflict setting.setup.term (certificate_subject a) (certificate_subject b))
+run_agrees setting noted a b o sa sb va vb =
+    let p = people_of setting noted o (floors_hold setting noted o) in
+    let backers = backers_of setting noted in
+    let fine = fine_of setting noted o in
+    let back = λ (c : Certificate) (s : StandsIn noted c) (v : IsVerifying setting.setup c). good_backed setting noted o.ran p c (stands_good backers noted c fine.said fine.packets s v) in
+    no_conflict (world_of setting noted p) (lawful setting noted o p) (certificate_subject a) (certificate_subject b) (statement_of a).signers (statement_of b).signers (back a sa va) (back b sb vb)

@@ -1,7 +1,7 @@
 -- A run of members of whom few are faulty.
 use Rattle.std.specs.Prelude.{◌^◌, ◌<◌, ◌≤◌, List, length}
 use Rattle.simplex_values.specs.Quorum.{max_faulty}
-use Rattle.simplex_transcript.specs.declared.setup.Setup.{Setup}
+use Rattle.simplex_run.specs.Setting.{Setting}
 use Rattle.simplex_run.specs.Life.{Noted}
 use Rattle.simplex_run.specs.Members.{members_of}
 use Rattle.simplex_safety.specs.Faulty.{faulty_of}
@@ -9,11 +9,11 @@ use Rattle.simplex_safety.specs.Histories.{IsRun}
 use Rattle.simplex_backing.specs.Fitting.{AreTyped}
 
 -- There are members, of whom few are faulty; the entries are those of a run, and their values keep to their types
-pub record IsMostlyHonest (setup : Setup) (noted : List Noted) : Type 0 where
-  pub some : 0 < members_of setup
-  pub not_many : members_of setup < 2 ^ 16
-  pub term : 0 < setup.term
-  pub epoch : setup.epoch < 2 ^ 64
-  pub few : length (faulty_of setup) ≤ max_faulty (members_of setup)
-  pub ran : IsRun setup noted
+pub record IsMostlyHonest (setting : Setting) (noted : List Noted) : Type 0 where
+  pub some : 0 < members_of setting.setup
+  pub not_many : members_of setting.setup < 2 ^ 16
+  pub term : 0 < setting.setup.term
+  pub epoch : setting.setup.epoch < 2 ^ 64
+  pub few : length (faulty_of setting.setup) ≤ max_faulty (members_of setting.setup)
+  pub ran : IsRun setting noted
   pub typed : AreTyped noted

@@ -6,6 +6,7 @@ use Rattle.simplex_wire.specs.Fields.{subject_round, certificate_subject}
 use Rattle.simplex_transcript.specs.declared.event.Event.{Event}
 use Rattle.simplex_transcript.specs.declared.node.Node.{Node}
 use Rattle.simplex_transcript.specs.declared.setup.Setup.{Setup}
+use Rattle.simplex_run.specs.Setting.{Setting}
 use Rattle.simplex_run.specs.Life.{Noted}
 use Rattle.simplex_run.specs.Run as runs
 use Rattle.simplex_agreement.specs.Conflict.{Conflict}
@@ -40,15 +41,15 @@ EachHonest setup P = (node : Node) → ¬ (Contains (faulty_of setup) node.membe
 -- Each signer of a certificate that verifies is faulty or had sent the signed vote; no two such certificates conflict, and
 -- each names the setup's epoch; an honest member notarized each proposal that they name; it signs a vote and stores it
 -- before it sends it, and sends in each whole step exactly the votes that the rules give; and no evidence names it
-pub record IsSafe (setup : Setup) (noted : List Noted) : Type 0 where
-  pub backed : AreBacked setup noted
-  pub agrees : AgreeAll setup noted
-  pub named : AllName setup noted
-  pub founded : AreFounded setup noted
-  pub stored : EachHonest setup (λ node. AreStored setup node noted)
-  pub ruled : EachHonest setup (λ node. AreByRule setup node noted)
-  pub blameless : AreBlameless setup noted
+pub record IsSafe (setting : Setting) (noted : List Noted) : Type 0 where
+  pub backed : AreBacked setting.setup noted
+  pub agrees : AgreeAll setting.setup noted
+  pub named : AllName setting.setup noted
+  pub founded : AreFounded setting.setup noted
+  pub stored : EachHonest setting.setup (λ node. AreStored setting node noted)
+  pub ruled : EachHonest setting.setup (λ node. AreByRule setting node noted)
+  pub blameless : AreBlameless setting.setup noted
 
 -- so it is with the entries that these events make
-abbrev pub RunsSafely : Setup → List Event → Type 0
-RunsSafely setup events = (noted : List Noted) → runs.run setup [] events ≡ Ok noted → IsSafe setup noted
+abbrev pub RunsSafely : Setting → List Event → Type 0
+RunsSafely setting events = (noted : List Noted) → runs.run setting [] events ≡ Ok noted → IsSafe setting noted

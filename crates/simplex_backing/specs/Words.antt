@@ -1,6 +1,6 @@
 -- The words of the headline, one by one.
 use Rattle.std.specs.Prelude.{◌≡◌, List}
-use Rattle.simplex_transcript.specs.declared.setup.Setup.{Setup}
+use Rattle.simplex_run.specs.Setting.{Setting}
 use Rattle.simplex_run.specs.Life.{Noted}
 use Rattle.simplex_safety.specs.Histories.{AreStored}
 use Rattle.simplex_safety.specs.Ruled.{AreByRule}
@@ -18,16 +18,16 @@ pub data Word : Type 0 where
   Blameless : Word
 
 -- what it says of a run
-abbrev pub Says : Setup → List Noted → Word → Type 0
-Says setup noted Backed = AreBacked setup noted
-Says setup noted Agrees = AgreeAll setup noted
-Says setup noted Named = AllName setup noted
-Says setup noted Founded = AreFounded setup noted
-Says setup noted Stored = EachHonest setup (λ node. AreStored setup node noted)
-Says setup noted Ruled = EachHonest setup (λ node. AreByRule setup node noted)
-Says setup noted Blameless = AreBlameless setup noted
+abbrev pub Says : Setting → List Noted → Word → Type 0
+Says setting noted Backed = AreBacked setting.setup noted
+Says setting noted Agrees = AgreeAll setting.setup noted
+Says setting noted Named = AllName setting.setup noted
+Says setting noted Founded = AreFounded setting.setup noted
+Says setting noted Stored = EachHonest setting.setup (λ node. AreStored setting node noted)
+Says setting noted Ruled = EachHonest setting.setup (λ node. AreByRule setting node noted)
+Says setting noted Blameless = AreBlameless setting.setup noted
 
 -- all others hold, and it does not
-pub record AllBut (setup : Setup) (noted : List Noted) (word : Word) : Type 0 where
-  pub others : (other : Word) → ¬ (other ≡ word) → Says setup noted other
-  pub fails : ¬ (Says setup noted word)
+pub record AllBut (setting : Setting) (noted : List Noted) (word : Word) : Type 0 where
+  pub others : (other : Word) → ¬ (other ≡ word) → Says setting noted other
+  pub fails : ¬ (Says setting noted word)

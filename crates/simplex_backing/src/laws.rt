@@ -3,6 +3,7 @@ ghost use Rattle.std.specs.Prelude.{ℕ, ◌≡◌, List, ◌∷◌, length};
 ghost use Rattle.simplex_wire.specs.declared.certificate.Certificate.{Certificate};
 ghost use Rattle.simplex_wire.specs.Fields.{certificate_subject};
 ghost use Rattle.simplex_transcript.specs.declared.setup.Setup.{Setup};
+ghost use Rattle.simplex_run.specs.Setting.{Setting};
 ghost use Rattle.simplex_run.specs.Life.{Noted};
 ghost use Rattle.simplex_run.specs.Setups.{faulty_in};
 ghost use Rattle.simplex_agreement.specs.Conflict.{Conflict};
@@ -19,29 +20,29 @@ ghost use Rattle.simplex_backing.specs.WellSent.{AllWellSent};
 /// Each certificate that stands in an entry and verifies has signers that are faulty, or sent the signed vote in this
 /// entry or before.
 pub fn certificates_are_backed()
-    ensures { (setup : Setup) (noted : List Noted) → IsMostlyHonest setup noted → AreBacked setup noted }
+    ensures { (setting : Setting) (noted : List Noted) → IsMostlyHonest setting noted → AreBacked setting.setup noted }
 {}
 
 /// No two certificates that stand in a run and verify conflict.
 pub fn certificates_agree()
-    ensures { (setup : Setup) (noted : List Noted) (a b : Certificate) → IsMostlyHonest setup noted → StandsIn noted a → StandsIn noted b
-        → IsVerifying setup a → IsVerifying setup b → ¬ (Conflict setup.term (certificate_subject a) (certificate_subject b)) }
+    ensures { (setting : Setting) (noted : List Noted) (a b : Certificate) → IsMostlyHonest setting noted → StandsIn noted a → StandsIn noted b
+        → IsVerifying setting.setup a → IsVerifying setting.setup b → ¬ (Conflict setting.setup.term (certificate_subject a) (certificate_subject b)) }
 {}
 
 /// No entry of a run reports evidence that names an honest member.
 pub fn no_honest_member_is_blamed()
-    ensures { (setup : Setup) (noted : List Noted) → IsMostlyHonest setup noted → AreBlameless setup noted }
+    ensures { (setting : Setting) (noted : List Noted) → IsMostlyHonest setting noted → AreBlameless setting.setup noted }
 {}
 
 /// A run of members of whom few are faulty is safe.
 pub fn members_are_safe()
-    ensures safe { (setup : Setup) (noted : List Noted) → IsMostlyHonest setup noted → IsSafe setup noted }
+    ensures safe { (setting : Setting) (noted : List Noted) → IsMostlyHonest setting noted → IsSafe setting noted }
     ensures counted { (setup : Setup) → length (faulty_of setup) ≡ faulty_in setup.members }
 {}
 
 /// Each certificate that stands in a run and verifies names the setup's epoch.
 pub fn certificates_name_the_epoch()
-    ensures { (setup : Setup) (noted : List Noted) → IsMostlyHonest setup noted → AllName setup noted }
+    ensures { (setting : Setting) (noted : List Noted) → IsMostlyHonest setting noted → AllName setting.setup noted }
 {}
 
 /// Where own votes name the batcher's epoch, so does each proposal that a step hands to the voter.
@@ -52,5 +53,5 @@ pub fn proposals_name_the_epoch()
 /// Over all its lives, each vote that a member that is not faulty sent may stand by itself and may follow all that it
 /// sent before, by the certificates that had come to its node.
 pub fn honest_votes_keep_order()
-    ensures { (setup : Setup) (noted : List Noted) → IsMostlyHonest setup noted → AllWellSent setup noted }
+    ensures { (setting : Setting) (noted : List Noted) → IsMostlyHonest setting noted → AllWellSent setting.setup noted }
 {}

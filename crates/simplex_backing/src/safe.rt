@@ -2,7 +2,7 @@
 ghost use Rattle.std.specs.Prelude.{◌≡◌, List, Ok};
 ghost use Rattle.simplex_transcript.specs.declared.entry.Entry.{Entry};
 ghost use Rattle.simplex_transcript.specs.declared.event.Event.{Event};
-ghost use Rattle.simplex_transcript.specs.declared.setup.Setup.{Setup};
+ghost use Rattle.simplex_run.specs.Setting.{Setting};
 ghost use Rattle.simplex_run.specs.Run as runs;
 ghost use Rattle.simplex_safety.specs.Sayings.{Each};
 ghost use Rattle.simplex_backing.specs.Fitting.{IsTyped};
@@ -11,5 +11,5 @@ ghost use Rattle.simplex_backing.specs.Safe.{RunsSafely};
 /// Where setup and events make a transcript, whose values keep to their types, its run is safe: of every setup, with
 /// members of all kinds.
 pub fn runs_are_safe()
-    ensures { (setup : Setup) (events : List Event) (entries : List Entry) → runs.Run setup events ≡ Ok entries → Each IsTyped entries → RunsSafely setup events }
+    ensures { (setting : Setting) (events : List Event) (entries : List Entry) → runs.RunFrom setting events ≡ Ok entries → Each IsTyped entries → RunsSafely setting events }
 {}

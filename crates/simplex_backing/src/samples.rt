@@ -3,6 +3,7 @@ ghost use Rattle.std.specs.Prelude.{◌≡◌, List, [], ◌∷◌, Ok};
 ghost use Rattle.simplex_transcript.specs.declared.entry.Entry.{Entry};
 ghost use Rattle.simplex_run.specs.Run.{Run};
 ghost use Rattle.simplex_run.specs.Samples.{alone, at, starts};
+ghost use Rattle.simplex_run.specs.Setting.{at_epoch_genesis};
 ghost use Rattle.simplex_safety.specs.Sayings.{Each};
 ghost use Rattle.simplex_backing.specs.Fitting.{IsTyped};
 ghost use Rattle.simplex_backing.specs.MostlyHonest.{IsMostlyHonest};
@@ -13,13 +14,13 @@ use crate::computed::a_start_is_quiet;
 
 /// No word follows from the others: of each there are entries which all others let pass.
 pub fn each_word_is_needed()
-    ensures { (word : Word) → AllBut alone (sample word) word }
+    ensures { (word : Word) → AllBut (at_epoch_genesis alone) (sample word) word }
 {}
 
 /// The premises are met where nothing happened yet, where a faulty member sends bytes, and where a member starts.
 pub fn premises_can_be_met()
-    ensures nothing { IsMostlyHonest alone [] }
-    ensures noise { IsMostlyHonest with_silent after_noise }
+    ensures nothing { IsMostlyHonest (at_epoch_genesis alone) [] }
+    ensures noise { IsMostlyHonest (at_epoch_genesis with_silent) after_noise }
     ensures start { (entries : List Entry) × (Run alone (starts at ∷ []) ≡ Ok entries) × Each IsTyped entries }
 {
     a_start_is_quiet();

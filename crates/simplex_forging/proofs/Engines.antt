@@ -14,7 +14,7 @@ use Rattle.simplex_messages.specs.declared.call.Call.TheVariants as calls
 use Rattle.simplex_transcript.specs.declared.event.Event.{Event}
 use Rattle.simplex_transcript.specs.declared.event.Event.TheVariants as events
 use Rattle.simplex_transcript.specs.declared.node.Node.{Node}
-use Rattle.simplex_transcript.specs.declared.setup.Setup.{Setup}
+use Rattle.simplex_run.specs.Setting.{Setting}
 use Rattle.simplex_run.specs.Kinds.{is_node, runs_engine}
 use Rattle.simplex_run.specs.Life.{Noted, is_of, clock_of}
 use Rattle.simplex_run.specs.Entries.{packets_of, is_own_floor}
@@ -45,9 +45,9 @@ use Rattle.simplex_forging.proofs.Passing.{PassesFrom}
 -- ---- what a node's calls send
 
 -- all that is signed in a backed certificate is genuine
-good_genuine : (setup : Setup) (before : List Noted) (c : Certificate) → IsGood (backers_of setup before) c → All (IsGenuine setup before (certificate_subject c)) (certificate_signatures c)
-good_genuine setup before c g =
-    All-weaker (λ (a : Attestation). Counts (backers_of setup before) a.signer (certificate_subject c)) (IsGenuine setup before (certificate_subject c)) (λ a h v. h) (certificate_signatures c) g.backed
+good_genuine : (setting : Setting) (before : List Noted) (c : Certificate) → IsGood (backers_of setting before) c → All (IsGenuine setting.setup before (certificate_subject c)) (certificate_signatures c)
+good_genuine setting before c g =
+    All-weaker (λ (a : Attestation). Counts (backers_of setting before) a.signer (certificate_subject c)) (IsGenuine setting.setup before (certificate_subject c)) (λ a h v. h) (certificate_signatures c) g.backed
 
 -- each vote that these calls send is the member's own
 abbrev SendsOwn : ℕ → List Call → Type 0
@@ -56,18 +56,18 @@ SendsOwn member cs = (to : Recipients) (bytes : List ℕ) → Contains cs (calls
 sends_less : (member : ℕ) (c : Call) (cs : List Call) → SendsOwn member (c ∷ cs) → SendsOwn member cs
 sends_less member c cs own to bytes k = own to bytes (Contains-there c cs (calls.Send channels.Vote to bytes) k)
 
-module _ (setup : Setup) (before : List Noted) (at : Node) (sized : IsSized setup) where
-  calls_pass : (cs : List Call) → Each (InCall (IsGood (backers_of setup before))) cs → Each IsOfBytes (packets_of setup at cs) → SendsOwn at.member cs → Each (PassesFrom setup before) (packets_of setup at cs)
+module _ (setting : Setting) (before : List Noted) (at : Node) (sized : IsSized setting.setup) where
+  calls_pass : (cs : List Call) → Each (InCall (IsGood (backers_of setting before))) cs → Each IsOfBytes (packets_of setting.setup at cs) → SendsOwn at.member cs → Each (PassesFrom setting.setup before) (packets_of setting.setup at cs)
   calls_pass [] g b own = tt
   calls_pass (calls.Send channels.Vote to bytes ∷ rest) g b own =
       let c = calls.Send channels.Vote to bytes in
-      ((λ f. own_passes setup before at.member bytes (faulty_listed setup at.member f) (own to bytes (Contains-here c rest))), calls_pass rest g.1 b.1 (sends_less at.member c rest own))
+      ((λ f. own_passes setting.setup before at.member bytes (faulty_listed setting.setup at.member f) (own to bytes (Contains-here c rest))), calls_pass rest g.1 b.1 (sends_less at.member c rest own))
   calls_pass (calls.Send channels.Certificate to bytes ∷ rest) g b own = (
-    (λ f c e. good_genuine setup before c (good_again (backers_of setup before) g.0.1 c g.0.3 (ap (whole format.certificate) (sym g.0.2) ∙ e))),
+    (λ f c e. good_genuine setting before c (good_again (backers_of setting before) g.0.1 c g.0.3 (ap (whole format.certificate) (sym g.0.2) ∙ e))),
     calls_pass rest g.1 b.1 (sends_less at.member (calls.Send channels.Certificate to bytes) rest own),
   )
   calls_pass (calls.Send channels.Resolver to bytes ∷ rest) g b own = (
-    (λ f c k. good_genuine setup before c (answer_good (backers_of setup before) sized c bytes b.0 g.0 k)),
+    (λ f c k. good_genuine setting before c (answer_good (backers_of setting before) sized c bytes b.0 g.0 k)),
     calls_pass rest g.1 b.1 (sends_less at.member (calls.Send channels.Resolver to bytes) rest own),
   )
   calls_pass (calls.Append n a ∷ rest) g b own = calls_pass rest g.1 b (sends_less at.member (calls.Append n a) rest own)
@@ -79,7 +79,7 @@ module _ (setup : Setup) (before : List Noted) (at : Node) (sized : IsSized setu
 
 -- ---- the votes of an engine
 
-module _ (setup : Setup) (before : List Noted) (event : Event) (noted : Noted) (o : IsMostlyHonest setup before) (typed : AreTyped (noted ∷ before)) where
+module _ (setting : Setting) (before : List Noted) (event : Event) (noted : Noted) (o : IsMostlyHonest setting before) (typed : AreTyped (noted ∷ before)) where
   called : (at : Node) (c : Call) → is_of at noted.event ≡ true → Contains noted.entry.calls c → Contains (calls_of at (noted ∷ before)) c
   unfolding calls_of
   called at c of k =
@@ -87,17 +87,17 @@ module _ (setup : Setup) (before : List Noted) (event : Event) (noted : Noted) (
       (Contains-append_right (calls_of at before) noted.entry.calls c k)
 
   -- the node lives on, and what goes out on its vote channel is its member's own
-  votes_own : (at : Node) → is_node setup at ≡ true → runs_engine setup at.member ≡ true → is_of at noted.event ≡ true → IsStartAbove noted.event → IsTurn setup before event noted → SendsOwn at.member noted.entry.calls
+  votes_own : (at : Node) → is_node setting.setup at ≡ true → runs_engine setting.setup at.member ≡ true → is_of at noted.event ≡ true → IsStartAbove noted.event → IsTurn setting before event noted → SendsOwn at.member noted.entry.calls
   votes_own at node runs of above turn to bytes k =
-      let acts : ActsByEngine setup at = λ n a. a.engines at runs in
-      let floors = floors_hold setup before o in
-      let on = turn_lives setup before event noted at o.term acts above turn (engine_lives setup before at o.term acts o.ran floors) in
-      let w = went_own setup at (noted ∷ before) to bytes o.epoch on.stored typed (called at (calls.Send channels.Vote to bytes) of k) in
+      let acts : ActsByEngine setting.setup at = λ n a. a.engines at runs in
+      let floors = floors_hold setting before o in
+      let on = turn_lives setting before event noted at o.term acts above turn (engine_lives setting before at o.term acts o.ran floors) in
+      let w = went_own setting at (noted ∷ before) to bytes o.epoch on.stored typed (called at (calls.Send channels.Vote to bytes) of k) in
       let own = w.own in
       record {
         vote = w.vote;
         spelled = w.spelled;
-        own = rules_own setup at.member 0 (first_half setup at node).0 (sized_of setup before o) w.vote own.0;
+        own = rules_own setting at.member 0 (first_half setting.setup at node).0 (sized_of setting before o) w.vote own.0;
         fits = w.fits;
       }
 
@@ -113,38 +113,38 @@ module _ (setup : Setup) (before : List Noted) (event : Event) (noted : Noted) (
   going_above (events.Crash at) h = tt
   going_above (events.Inject who channel to bytes) h = tt
 
-  pub going_passes : IsGoing setup before event noted → Each (PassesFrom setup before) noted.entry.packets
+  pub going_passes : IsGoing setting before event noted → Each (PassesFrom setting.setup before) noted.entry.packets
   going_passes g =
       let at = g.at in
-      let backers = backers_of setup before in
-      let fine = fine_of setup before o in
-      let sized = sized_of setup before o in
+      let backers = backers_of setting before in
+      let fine = fine_of setting before o in
+      let sized = sized_of setting before o in
       let s = taken_fine backers before at g.made g.past g.did sized g.taken fine (subst (IsLifeFine backers at.member) g.running (fine.lives at g.runs)) in
       let same : event ≡ noted.event = ap (λ (n : Noted). n.event) g.is in
       let of : is_of at noted.event ≡ true = subst (λ (e : Event). is_of at e ≡ true) same (g.of at ∙ same_self at) in
       let own : SendsOwn at.member noted.entry.calls = votes_own at g.node g.runs of (subst IsStartAbove same (going_above event g.start)) (inr (inl g)) in
       let said = s.said in
       let new = typed.0 in
-      subst (λ (n : Noted). Each IsOfBytes n.entry.packets → SendsOwn at.member n.entry.calls → Each (PassesFrom setup before) n.entry.packets) g.is
-      (λ b k. calls_pass setup before at sized g.did.out.calls said.calls b k) new.bytes own
+      subst (λ (n : Noted). Each IsOfBytes n.entry.packets → SendsOwn at.member n.entry.calls → Each (PassesFrom setting.setup before) n.entry.packets) g.is
+      (λ b k. calls_pass setting before at sized g.did.out.calls said.calls b k) new.bytes own
 
   -- ---- a start
 
-  own_above : (at : Node) (floor : Option Finalization) (b : IsBeginning setup before event noted) → b.floor ≡ floor → IsStartAbove (events.Start b.at floor b.stop)
+  own_above : (at : Node) (floor : Option Finalization) (b : IsBeginning setting before event noted) → b.floor ≡ floor → IsStartAbove (events.Start b.at floor b.stop)
   own_above at None b e = tt
-  own_above at (Some f) b e = reported_above setup before o (floors_hold setup before o) f (subst (λ (x : Option Finalization). is_own_floor setup before x ≡ true) e b.own)
+  own_above at (Some f) b e = reported_above setting before o (floors_hold setting before o) f (subst (λ (x : Option Finalization). is_own_floor setting.setup before x ≡ true) e b.own)
 
-  pub beginning_passes : IsBeginning setup before event noted → Each (PassesFrom setup before) noted.entry.packets
+  pub beginning_passes : IsBeginning setting before event noted → Each (PassesFrom setting.setup before) noted.entry.packets
   beginning_passes b =
       let at = b.at in
-      let backers = backers_of setup before in
-      let fine = fine_of setup before o in
-      let sized = sized_of setup before o in
+      let backers = backers_of setting before in
+      let fine = fine_of setting before o in
+      let sized = sized_of setting before o in
       let floor = floor_good backers before b.floor at b.stop b.own fine.said in
       let said = begun_said backers at b.floor b.stop b.sections (clock_of before) floor (subst (IsLifeFine backers at.member) b.stopped (fine.lives at b.runs)) in
       let same : events.Start at b.floor b.stop ≡ noted.event = ap (λ (n : Noted). n.event) b.is in
       let of : is_of at noted.event ≡ true = subst (λ (e : Event). is_of at e ≡ true) same (same_self at) in
       let own : SendsOwn at.member noted.entry.calls = votes_own at b.node b.runs of (subst IsStartAbove same (own_above at b.floor b refl)) (inl b) in
       let new = typed.0 in
-      subst (λ (n : Noted). Each IsOfBytes n.entry.packets → SendsOwn at.member n.entry.calls → Each (PassesFrom setup before) n.entry.packets) b.is
-      (λ x k. calls_pass setup before at sized _ said.calls x k) new.bytes own
+      subst (λ (n : Noted). Each IsOfBytes n.entry.packets → SendsOwn at.member n.entry.calls → Each (PassesFrom setting.setup before) n.entry.packets) b.is
+      (λ x k. calls_pass setting before at sized _ said.calls x k) new.bytes own

@@ -24,6 +24,7 @@ use Rattle.simplex_transcript.specs.declared.setup.MemberKind.TheVariants as kin
 use Rattle.simplex_faults.specs.Heard.{Heard, subject_heard, own_vote, votes_to_all}
 use Rattle.simplex_faults.specs.Heard as mock
 use Rattle.simplex_faults.specs.Impersonator.{another_number, as_another, impersonator_subjects, impersonator_sends}
+use Rattle.simplex_run.specs.Setting.{Setting}
 use Rattle.simplex_run.specs.Forged.{Signed, signed, signed_in_vote, signed_in, is_forged, signed_by_faulty, first_forged}
 use Rattle.simplex_run.specs.Hearing.{heard_of, heard_in}
 use Rattle.simplex_run.specs.Kinds.{is_of_kind, is_honest, is_faulty_member, has_engine, runs_engine}
@@ -151,23 +152,23 @@ impersonators_kind setup member e = by (slice_get setup.members member) e
     by (Some kinds.Unrecovering) h = cc
     by (Some kinds.Twin) h = cc
 
-heard_impersonated : (setup : Setup) (before : List Noted) (at : Node) (ref : Ref) (noted : Noted) → IsMostlyHonest setup before → kind_of setup at.member ≡ kinds.Impersonator
-    → (o : Option Packet) → packet_for before at ref ≡ o → on_hearing setup before at ref o ≡ Ok noted → Each (AreImpersonated setup at.member) noted.entry.packets
-heard_impersonated setup before at ref noted o kind None f e = cc
-heard_impersonated setup before at ref noted o kind (Some packet) f e =
+heard_impersonated : (setting : Setting) (before : List Noted) (at : Node) (ref : Ref) (noted : Noted) → IsMostlyHonest setting before → kind_of setting.setup at.member ≡ kinds.Impersonator
+    → (o : Option Packet) → packet_for before at ref ≡ o → on_hearing setting.setup before at ref o ≡ Ok noted → Each (AreImpersonated setting.setup at.member) noted.entry.packets
+heard_impersonated setting before at ref noted o kind None f e = cc
+heard_impersonated setting before at ref noted o kind (Some packet) f e =
     let bytes = packet_delivered IsOfBytes before at ref packet (packets_typed before o.typed) f in
-    let all = impersonator_signed setup at (heard_in before at) (heard_of packet) bytes in
-    subst (λ (n : Noted). Each (AreImpersonated setup at.member) n.entry.packets) (ok_is _ noted e)
-    (subst (λ k. Each (AreImpersonated setup at.member) (map (sent_by setup at) (heard_by setup at.member k (heard_in before at) (heard_of packet)))) (sym kind) all)
+    let all = impersonator_signed setting.setup at (heard_in before at) (heard_of packet) bytes in
+    subst (λ (n : Noted). Each (AreImpersonated setting.setup at.member) n.entry.packets) (ok_is _ noted e)
+    (subst (λ k. Each (AreImpersonated setting.setup at.member) (map (sent_by setting.setup at) (heard_by setting.setup at.member k (heard_in before at) (heard_of packet)))) (sym kind) all)
 
-pub forged_by_one_signature : (setup : Setup) (before : List Noted) (at : Node) (ref : Ref) (noted : Noted) (s : Signed) → IsNext setup before (events.Deliver at ref) noted
-    → is_of_kind is_impersonator setup at.member ≡ true → first_forged setup before noted.entry ≡ Some s → HaveOneSignature setup at.member s
+pub forged_by_one_signature : (setting : Setting) (before : List Noted) (at : Node) (ref : Ref) (noted : Noted) (s : Signed) → IsNext setting before (events.Deliver at ref) noted
+    → is_of_kind is_impersonator setting.setup at.member ≡ true → first_forged setting.setup before noted.entry ≡ Some s → HaveOneSignature setting.setup at.member s
 unfolding made_of first_forged
-forged_by_one_signature setup before at ref noted s next kind e =
+forged_by_one_signature setting before at ref noted s next kind e =
     let typed = next.typed in
-    let o = mostly_honest setup before (limited setup next.limits) next.ran typed.1 in
-    let is = impersonators_kind setup at.member kind in
-    let w = without setup before o at (on_deliver setup before at ref (life_in setup before at)) (on_hearing setup before at ref (packet_for before at ref)) noted is.1 next.made in
-    let found = was_found (is_forged setup before) (signed_by_faulty setup noted.entry.packets) s e in
-    one_signature setup before at.member s
-    (signed_there setup (IsImpersonated setup at.member) noted.entry.packets (heard_impersonated setup before at ref noted o is.0 (packet_for before at ref) refl w.1) s found.0) found.1
+    let o = mostly_honest setting before (limited setting.setup next.limits) next.ran typed.1 in
+    let is = impersonators_kind setting.setup at.member kind in
+    let w = without setting before o at (on_deliver setting.setup before at ref (life_in setting before at)) (on_hearing setting.setup before at ref (packet_for before at ref)) noted is.1 next.made in
+    let found = was_found (is_forged setting.setup before) (signed_by_faulty setting.setup noted.entry.packets) s e in
+    one_signature setting.setup before at.member s
+    (signed_there setting.setup (IsImpersonated setting.setup at.member) noted.entry.packets (heard_impersonated setting before at ref noted o is.0 (packet_for before at ref) refl w.1) s found.0) found.1

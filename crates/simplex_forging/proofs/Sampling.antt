@@ -27,6 +27,7 @@ use Rattle.simplex_evidence.specs.Wire.{Fits}
 use Rattle.simplex_safety.specs.Sayings.{Each}
 use Rattle.simplex_backing.specs.Fitting.{IsOfBytes}
 use Rattle.simplex_run.specs.Requests.{packet_at, packet_for}
+use Rattle.simplex_run.specs.Setting.{at_epoch_genesis}
 use Rattle.simplex_run.specs.Samples.{at, last, first, hears_first}
 use Rattle.simplex_run.specs.Setups.{first_bad}
 use Rattle.simplex_run.specs.SentVotes as sent
@@ -82,7 +83,7 @@ told = record { from = last; channel = channels.Vote; to = last ∷ []; bytes = 
 abbrev pub telling : Noted
 telling = noted_packets [] tells_itself last None (told ∷ [])
 
-told_made : made_of with_nullifier [] tells_itself ≡ Ok telling
+told_made : made_of (at_epoch_genesis with_nullifier) [] tells_itself ≡ Ok telling
 unfolding made_of
 told_made = refl
 
@@ -92,7 +93,7 @@ told_passes = (
   tt,
 )
 
-told_taken : entry_of with_nullifier [] tells_itself ≡ Ok telling
+told_taken : entry_of (at_epoch_genesis with_nullifier) [] tells_itself ≡ Ok telling
 unfolding entry_of unless_forged
 told_taken = ap (unless_forged with_nullifier []) told_made ∙ ap (λ o. unless o telling) (passing_entry with_nullifier [] telling.entry told_passes)
 
@@ -103,7 +104,7 @@ nullified = votes_to_all (attests_of with_nullifier 3) (nullify_only_subjects (s
 abbrev answering : Noted
 answering = noted_packets (telling ∷ []) (hears_first last) last (Some (tooks.Packet first)) (map (sent_by with_nullifier last) nullified)
 
-answer_made : made_of with_nullifier (telling ∷ []) (hears_first last) ≡ Ok answering
+answer_made : made_of (at_epoch_genesis with_nullifier) (telling ∷ []) (hears_first last) ≡ Ok answering
 unfolding made_of heard_by nullify_only_sends packet_for packet_at
 answer_made = refl
 
@@ -158,7 +159,7 @@ showing = noted_packets [] forges last None (shown ∷ [])
 abbrev its_own : Signed
 its_own = signed (subjects.Notarize first_proposal) (record { signer = 0; signature = signed_by_first })
 
-shown_made : made_of with_nullifier [] forges ≡ Ok showing
+shown_made : made_of (at_epoch_genesis with_nullifier) [] forges ≡ Ok showing
 unfolding made_of
 shown_made = refl
 

@@ -17,6 +17,7 @@ use Rattle.simplex_transcript.specs.declared.setup.MemberKind.TheVariants as kin
 use Rattle.simplex_values.specs.declared.answer.Answer.{Answer}
 use Rattle.simplex_steps.specs.Engine as engine
 use Rattle.simplex_steps.specs.Engine.{EngineMade, Did}
+use Rattle.simplex_run.specs.Setting.{Setting}
 use Rattle.simplex_run.specs.Forged.{first_forged, unless, unless_forged}
 use Rattle.simplex_run.specs.Hearing.{heard_of, heard_at, heard_in}
 use Rattle.simplex_run.specs.Kinds.{is_of_kind, is_honest, is_node, is_same_node, runs_engine}
@@ -53,32 +54,32 @@ if_keeps : (event : Event) (b : Bool) (x y : Result Noted RunError) → KeepsEve
 if_keeps event true x y p q = p
 if_keeps event false x y p q = q
 
-module _ (setup : Setup) (before : List Noted) (at : Node) where
-  start_keeps : (floor : Option Finalization) (stop : Stop) (l : Life) → KeepsEvent (events.Start at floor stop) (on_start setup before at floor stop l)
+module _ (setting : Setting) (before : List Noted) (at : Node) where
+  start_keeps : (floor : Option Finalization) (stop : Stop) (l : Life) → KeepsEvent (events.Start at floor stop) (on_start setting before at floor stop l)
   start_keeps floor stop (Running made past) = tt
-  start_keeps floor stop (Stopped js) = if_keeps (events.Start at floor stop) (is_own_floor setup before floor) _ _ refl tt
+  start_keeps floor stop (Stopped js) = if_keeps (events.Start at floor stop) (is_own_floor setting.setup before floor) _ _ refl tt
 
-  packet_keeps : (ref : Ref) (o : Option Packet) (made : EngineMade) (past : List Did) → KeepsEvent (events.Deliver at ref) (on_packet setup before at ref o made past)
+  packet_keeps : (ref : Ref) (o : Option Packet) (made : EngineMade) (past : List Did) → KeepsEvent (events.Deliver at ref) (on_packet setting.setup before at ref o made past)
   packet_keeps ref None made past = tt
-  packet_keeps ref (Some packet) made past = if_keeps (events.Deliver at ref) (is_at_end setup made past) _ _ tt refl
+  packet_keeps ref (Some packet) made past = if_keeps (events.Deliver at ref) (is_at_end setting.setup made past) _ _ tt refl
 
-  deliver_keeps : (ref : Ref) (l : Life) → KeepsEvent (events.Deliver at ref) (on_deliver setup before at ref l)
+  deliver_keeps : (ref : Ref) (l : Life) → KeepsEvent (events.Deliver at ref) (on_deliver setting.setup before at ref l)
   deliver_keeps ref (Stopped js) = tt
   deliver_keeps ref (Running made past) = packet_keeps ref (packet_for before at ref) made past
 
-  hearing_keeps : (ref : Ref) (o : Option Packet) → KeepsEvent (events.Deliver at ref) (on_hearing setup before at ref o)
+  hearing_keeps : (ref : Ref) (o : Option Packet) → KeepsEvent (events.Deliver at ref) (on_hearing setting.setup before at ref o)
   hearing_keeps ref None = tt
   hearing_keeps ref (Some packet) = refl
 
-  step_keeps : (source : StepSource) (stop : Stop) (l : Life) → KeepsEvent (events.Step at source stop) (on_step setup before at source stop l)
+  step_keeps : (source : StepSource) (stop : Stop) (l : Life) → KeepsEvent (events.Step at source stop) (on_step setting.setup before at source stop l)
   step_keeps source stop (Stopped js) = tt
-  step_keeps source stop (Running made past) = if_keeps (events.Step at source stop) (is_at_end setup made past) _ _ tt refl
+  step_keeps source stop (Running made past) = if_keeps (events.Step at source stop) (is_at_end setting.setup made past) _ _ tt refl
 
-  request_keeps : (ref : Ref) (answer : Answer) (o : Option ℕ) (made : EngineMade) (past : List Did) → KeepsEvent (events.Answer at ref answer) (on_request setup before at ref answer o made past)
+  request_keeps : (ref : Ref) (answer : Answer) (o : Option ℕ) (made : EngineMade) (past : List Did) → KeepsEvent (events.Answer at ref answer) (on_request setting.setup before at ref answer o made past)
   request_keeps ref answer None made past = tt
   request_keeps ref answer (Some number) made past = if_keeps (events.Answer at ref answer) (engine.takes_reply made past number answer) _ _ refl tt
 
-  answer_keeps : (ref : Ref) (answer : Answer) (l : Life) → KeepsEvent (events.Answer at ref answer) (on_answer setup before at ref answer l)
+  answer_keeps : (ref : Ref) (answer : Answer) (l : Life) → KeepsEvent (events.Answer at ref answer) (on_answer setting.setup before at ref answer l)
   answer_keeps ref answer (Stopped js) = tt
   answer_keeps ref answer (Running made past) = request_keeps ref answer (request_number before at ref) made past
 
@@ -86,23 +87,23 @@ module _ (setup : Setup) (before : List Noted) (at : Node) where
   crash_keeps (Stopped js) = tt
   crash_keeps (Running made past) = refl
 
-  engine_keeps : (event : Event) (x y : Result Noted RunError) → KeepsEvent event x → KeepsEvent event y → KeepsEvent event (by_engine setup at x y)
-  engine_keeps event x y p q = if_keeps event (is_node setup at) _ _ (if_keeps event (runs_engine setup at.member) x y p q) tt
+  engine_keeps : (event : Event) (x y : Result Noted RunError) → KeepsEvent event x → KeepsEvent event y → KeepsEvent event (by_engine setting.setup at x y)
+  engine_keeps event x y p q = if_keeps event (is_node setting.setup at) _ _ (if_keeps event (runs_engine setting.setup at.member) x y p q) tt
 
-made_keeps : (setup : Setup) (before : List Noted) (event : Event) → KeepsEvent event (made_of setup before event)
+made_keeps : (setting : Setting) (before : List Noted) (event : Event) → KeepsEvent event (made_of setting before event)
 unfolding made_of
-made_keeps setup before (events.Start at floor stop) = engine_keeps setup before at (events.Start at floor stop) _ _ (start_keeps setup before at floor stop (life_in setup before at)) tt
-made_keeps setup before (events.Tick ms) = if_keeps (events.Tick ms) (nat_le (clock_of before + ms) (2 ^ 63 - 1)) _ _ refl tt
-made_keeps setup before (events.Deliver at ref) =
-    engine_keeps setup before at (events.Deliver at ref) _ _ (deliver_keeps setup before at ref (life_in setup before at)) (hearing_keeps setup before at ref (packet_for before at ref))
-made_keeps setup before (events.Step at source stop) = engine_keeps setup before at (events.Step at source stop) _ _ (step_keeps setup before at source stop (life_in setup before at)) refl
-made_keeps setup before (events.Answer at ref answer) = engine_keeps setup before at (events.Answer at ref answer) _ _ (answer_keeps setup before at ref answer (life_in setup before at)) tt
-made_keeps setup before (events.Crash at) = engine_keeps setup before at (events.Crash at) _ _ (crash_keeps setup before at (life_in setup before at)) refl
-made_keeps setup before (events.Inject who channel to bytes) =
-    if_keeps (events.Inject who channel to bytes) (nat_lt who (members_of setup) && list_all (is_node setup) to) _ _ (if_keeps (events.Inject who channel to bytes) (is_honest setup who) _ _ tt refl) tt
+made_keeps setting before (events.Start at floor stop) = engine_keeps setting before at (events.Start at floor stop) _ _ (start_keeps setting before at floor stop (life_in setting before at)) tt
+made_keeps setting before (events.Tick ms) = if_keeps (events.Tick ms) (nat_le (clock_of before + ms) (2 ^ 63 - 1)) _ _ refl tt
+made_keeps setting before (events.Deliver at ref) =
+    engine_keeps setting before at (events.Deliver at ref) _ _ (deliver_keeps setting before at ref (life_in setting before at)) (hearing_keeps setting before at ref (packet_for before at ref))
+made_keeps setting before (events.Step at source stop) = engine_keeps setting before at (events.Step at source stop) _ _ (step_keeps setting before at source stop (life_in setting before at)) refl
+made_keeps setting before (events.Answer at ref answer) = engine_keeps setting before at (events.Answer at ref answer) _ _ (answer_keeps setting before at ref answer (life_in setting before at)) tt
+made_keeps setting before (events.Crash at) = engine_keeps setting before at (events.Crash at) _ _ (crash_keeps setting before at (life_in setting before at)) refl
+made_keeps setting before (events.Inject who channel to bytes) =
+    if_keeps (events.Inject who channel to bytes) (nat_lt who (members_of setting.setup) && list_all (is_node setting.setup) to) _ _ (if_keeps (events.Inject who channel to bytes) (is_honest setting.setup who) _ _ tt refl) tt
 
-pub made_event : (setup : Setup) (before : List Noted) (event : Event) (noted : Noted) → made_of setup before event ≡ Ok noted → noted.event ≡ event
-made_event setup before event noted e = subst (KeepsEvent event) e (made_keeps setup before event)
+pub made_event : (setting : Setting) (before : List Noted) (event : Event) (noted : Noted) → made_of setting before event ≡ Ok noted → noted.event ≡ event
+made_event setting before event noted e = subst (KeepsEvent event) e (made_keeps setting before event)
 
 -- ---- what a node without an engine heard
 
@@ -155,30 +156,30 @@ sends_pass setup before at (s ∷ list) own = (
   sends_pass setup before at list own.1,
 )
 
-module _ (setup : Setup) (before : List Noted) (o : IsMostlyHonest setup before) where
-  hearing_passes : (at : Node) (ref : Ref) (noted : Noted) → is_node setup at ≡ true → is_of_kind is_impersonator setup at.member ≡ false
-      → (p : Option Packet) → packet_for before at ref ≡ p → on_hearing setup before at ref p ≡ Ok noted → Each (PassesFrom setup before) noted.entry.packets
+module _ (setting : Setting) (before : List Noted) (o : IsMostlyHonest setting before) where
+  hearing_passes : (at : Node) (ref : Ref) (noted : Noted) → is_node setting.setup at ≡ true → is_of_kind is_impersonator setting.setup at.member ≡ false
+      → (p : Option Packet) → packet_for before at ref ≡ p → on_hearing setting.setup before at ref p ≡ Ok noted → Each (PassesFrom setting.setup before) noted.entry.packets
   hearing_passes at ref noted node none None f e = cc
   hearing_passes at ref noted node none (Some packet) f e =
       let bytes = packets_typed before o.typed in
-      let own = mock_own setup at.member (is_there setup at node) (sized_of setup before o) (kind_of setup at.member) (heard_in before at) (heard_of packet) o.epoch (no_impersonator setup at.member none)
+      let own = mock_own setting.setup at.member (is_there setting.setup at node) (sized_of setting before o) (kind_of setting.setup at.member) (heard_in before at) (heard_of packet) o.epoch (no_impersonator setting.setup at.member none)
       (heard_bytes before at bytes) (packet_delivered IsOfBytes before at ref packet bytes f) in
-      subst (λ (n : Noted). Each (PassesFrom setup before) n.entry.packets) (ok_is _ noted e) (sends_pass setup before at _ own)
+      subst (λ (n : Noted). Each (PassesFrom setting.setup before) n.entry.packets) (ok_is _ noted e) (sends_pass setting.setup before at _ own)
 
   -- a node without an engine is there, and answers
-  pub without : (at : Node) (x y : Result Noted RunError) (noted : Noted) → runs_engine setup at.member ≡ false → by_engine setup at x y ≡ Ok noted → (is_node setup at ≡ true) × (y ≡ Ok noted)
+  pub without : (at : Node) (x y : Result Noted RunError) (noted : Noted) → runs_engine setting.setup at.member ≡ false → by_engine setting.setup at x y ≡ Ok noted → (is_node setting.setup at ≡ true) × (y ≡ Ok noted)
   without at x y noted none e =
-      let p = if_ok (is_node setup at) _ _ noted e in
+      let p = if_ok (is_node setting.setup at) _ _ noted e in
       (p.0, subst (λ (b : Bool). (if b then x else y) ≡ Ok noted) none p.1)
 
   -- no node of the event runs an engine
   abbrev OfNoEngine : Event → Type 0
-  OfNoEngine event = (at : Node) → is_of at event ≡ true → runs_engine setup at.member ≡ false
+  OfNoEngine event = (at : Node) → is_of at event ≡ true → runs_engine setting.setup at.member ≡ false
 
-  idle_passes : (event : Event) (at : Node) (noted : Noted) → ◌≡◌ {A = Result Noted RunError} (Ok (noted_idle before event at)) (Ok noted) → Each (PassesFrom setup before) noted.entry.packets
-  idle_passes event at noted e = subst (λ (n : Noted). Each (PassesFrom setup before) n.entry.packets) (ok_is (noted_idle before event at) noted e) tt
+  idle_passes : (event : Event) (at : Node) (noted : Noted) → ◌≡◌ {A = Result Noted RunError} (Ok (noted_idle before event at)) (Ok noted) → Each (PassesFrom setting.setup before) noted.entry.packets
+  idle_passes event at noted e = subst (λ (n : Noted). Each (PassesFrom setting.setup before) n.entry.packets) (ok_is (noted_idle before event at) noted e) tt
 
-  engineless_passes : (event : Event) (noted : Noted) → OfNoEngine event → may_forge setup event ≡ false → made_of setup before event ≡ Ok noted → Each (PassesFrom setup before) noted.entry.packets
+  engineless_passes : (event : Event) (noted : Noted) → OfNoEngine event → may_forge setting.setup event ≡ false → made_of setting before event ≡ Ok noted → Each (PassesFrom setting.setup before) noted.entry.packets
   unfolding made_of
   engineless_passes (events.Start at floor stop) noted none may e = (let y = (without at _ _ noted (none at (same_self at)) e).1 in cc)
   engineless_passes (events.Deliver at ref) noted none may e =
@@ -187,31 +188,31 @@ module _ (setup : Setup) (before : List Noted) (o : IsMostlyHonest setup before)
   engineless_passes (events.Answer at ref answer) noted none may e = (let y = (without at _ _ noted (none at (same_self at)) e).1 in cc)
   engineless_passes (events.Crash at) noted none may e = idle_passes (events.Crash at) at noted (without at _ _ noted (none at (same_self at)) e).1
   engineless_passes (events.Tick ms) noted none may e =
-      subst (λ (n : Noted). Each (PassesFrom setup before) n.entry.packets) (ok_is _ noted (if_ok (nat_le (clock_of before + ms) (2 ^ 63 - 1)) _ _ noted e).1) tt
+      subst (λ (n : Noted). Each (PassesFrom setting.setup before) n.entry.packets) (ok_is _ noted (if_ok (nat_le (clock_of before + ms) (2 ^ 63 - 1)) _ _ noted e).1) tt
   engineless_passes (events.Inject who channel to bytes) noted none may e = cc
 
   -- ---- every event
 
-  not_engine : (event : Event) (noted : Noted) → noted.event ≡ event → IsEngineless setup noted → OfNoEngine event
-  not_engine event noted same a at of = by (runs_engine setup at.member) refl
+  not_engine : (event : Event) (noted : Noted) → noted.event ≡ event → IsEngineless setting.setup noted → OfNoEngine event
+  not_engine event noted same a at of = by (runs_engine setting.setup at.member) refl
     where
       never : is_of at noted.event ≡ false → ⊥
       never k = cc (k, same, of)
 
-      by : (b : Bool) → runs_engine setup at.member ≡ b → runs_engine setup at.member ≡ false
+      by : (b : Bool) → runs_engine setting.setup at.member ≡ b → runs_engine setting.setup at.member ≡ false
       by true h = absurd (never (a.engines at h))
       by false h = h
 
-  event_passes : (event : Event) (noted : Noted) → AreTyped (noted ∷ before) → may_forge setup event ≡ false → made_of setup before event ≡ Ok noted → Each (PassesFrom setup before) noted.entry.packets
-  event_passes event noted typed may e = elim (made_turn setup before event noted e) [
-    | inl b ↦ beginning_passes setup before event noted o typed b
+  event_passes : (event : Event) (noted : Noted) → AreTyped (noted ∷ before) → may_forge setting.setup event ≡ false → made_of setting before event ≡ Ok noted → Each (PassesFrom setting.setup before) noted.entry.packets
+  event_passes event noted typed may e = elim (made_turn setting before event noted e) [
+    | inl b ↦ beginning_passes setting before event noted o typed b
     | inr other ↦ elim other [
-      | inl g ↦ going_passes setup before event noted o typed g
+      | inl g ↦ going_passes setting before event noted o typed g
       | inr rest ↦ elim rest [
-        | inl c ↦ subst (λ (n : Noted). Each (PassesFrom setup before) n.entry.packets) c.is tt
+        | inl c ↦ subst (λ (n : Noted). Each (PassesFrom setting.setup before) n.entry.packets) c.is tt
         | inr last ↦ elim last [
-          | inl t ↦ subst (λ (n : Noted). Each (PassesFrom setup before) n.entry.packets) t.is tt
-          | inr a ↦ engineless_passes event noted (not_engine event noted (made_event setup before event noted e) a) may e
+          | inl t ↦ subst (λ (n : Noted). Each (PassesFrom setting.setup before) n.entry.packets) t.is tt
+          | inr a ↦ engineless_passes event noted (not_engine event noted (made_event setting before event noted e) a) may e
         ]
       ]
     ]
@@ -219,13 +220,13 @@ module _ (setup : Setup) (before : List Noted) (o : IsMostlyHonest setup before)
 
 -- ---- the law
 
-pub none_forged : (setup : Setup) (before : List Noted) (event : Event) (noted : Noted) → IsNext setup before event noted → may_forge setup event ≡ false → first_forged setup before noted.entry ≡ None
-none_forged setup before event noted next may =
+pub none_forged : (setting : Setting) (before : List Noted) (event : Event) (noted : Noted) → IsNext setting before event noted → may_forge setting.setup event ≡ false → first_forged setting.setup before noted.entry ≡ None
+none_forged setting before event noted next may =
     let typed = next.typed in
-    let o = mostly_honest setup before (limited setup next.limits) next.ran typed.1 in
-    passing_entry setup before noted.entry (event_passes setup before o event noted typed may next.made)
+    let o = mostly_honest setting before (limited setting.setup next.limits) next.ran typed.1 in
+    passing_entry setting.setup before noted.entry (event_passes setting before o event noted typed may next.made)
 
-pub none_refused : (setup : Setup) (before : List Noted) (event : Event) (noted : Noted) → IsNext setup before event noted → may_forge setup event ≡ false → entry_of setup before event ≡ Ok noted
+pub none_refused : (setting : Setting) (before : List Noted) (event : Event) (noted : Noted) → IsNext setting before event noted → may_forge setting.setup event ≡ false → entry_of setting before event ≡ Ok noted
 unfolding entry_of unless_forged
-none_refused setup before event noted next may =
-    ap (unless_forged setup before) next.made ∙ ap (λ o. unless o noted) (none_forged setup before event noted next may)
+none_refused setting before event noted next may =
+    ap (unless_forged setting.setup before) next.made ∙ ap (λ o. unless o noted) (none_forged setting before event noted next may)

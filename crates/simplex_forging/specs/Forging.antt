@@ -7,6 +7,7 @@ use Rattle.simplex_transcript.specs.declared.setup.MemberKind.{MemberKind}
 use Rattle.simplex_transcript.specs.declared.setup.MemberKind.TheVariants as kinds
 use Rattle.simplex_types.specs.Keyed.{signature_of}
 use Rattle.simplex_faults.specs.Impersonator.{another_number}
+use Rattle.simplex_run.specs.Setting.{Setting}
 use Rattle.simplex_run.specs.Forged.{Signed}
 use Rattle.simplex_run.specs.Kinds.{is_of_kind}
 use Rattle.simplex_run.specs.Life.{Noted}
@@ -28,10 +29,10 @@ may_forge setup _ = false
 
 -- What one more event makes of the entries of a run, before any test of what is forged: the setup keeps its limits, so few
 -- members are faulty, and the values of all entries keep to their types
-pub record IsNext (setup : Setup) (before : List Noted) (event : Event) (noted : Noted) : Type 0 where
-  pub limits : first_bad setup ≡ None
-  pub ran : IsRun setup before
-  pub made : made_of setup before event ≡ Ok noted
+pub record IsNext (setting : Setting) (before : List Noted) (event : Event) (noted : Noted) : Type 0 where
+  pub limits : first_bad setting.setup ≡ None
+  pub ran : IsRun setting before
+  pub made : made_of setting before event ≡ Ok noted
   pub typed : AreTyped (noted ∷ before)
 
 -- The signature is one under the number that the member takes, and on this subject both members have the same one

@@ -12,6 +12,7 @@ use Rattle.simplex_transcript.specs.declared.setup.MemberKind.TheVariants as kin
 use Rattle.simplex_run.specs.Entries.{made_of}
 use Rattle.simplex_run.specs.Forged.{signed, first_forged}
 use Rattle.simplex_run.specs.Life.{Noted}
+use Rattle.simplex_run.specs.Setting.{at_epoch_genesis}
 use Rattle.simplex_run.specs.Samples.{with_last, at, last, injects}
 use Rattle.simplex_forging.specs.Forging.{IsNext}
 
@@ -39,10 +40,10 @@ forges = injects 3 at (format.vote.spelling (notarize_by 0 signed_by_first))
 
 -- the event makes one packet behind these entries, as the law's premises have it
 abbrev pub Answers : List Noted → Event → Type 0
-Answers before event = (noted : Noted) × IsNext with_nullifier before event noted × (length noted.entry.packets ≡ 1)
+Answers before event = (noted : Noted) × IsNext (at_epoch_genesis with_nullifier) before event noted × (length noted.entry.packets ≡ 1)
 
 -- the event makes an entry behind no entry, and what is forged in it is the first member's notarize
 abbrev pub IsForgery : Event → Type 0
 IsForgery event =
-    (noted : Noted) × (made_of with_nullifier [] event ≡ Ok noted)
+    (noted : Noted) × (made_of (at_epoch_genesis with_nullifier) [] event ≡ Ok noted)
     × (first_forged with_nullifier [] noted.entry ≡ Some (signed (subjects.Notarize first_proposal) (record { signer = 0; signature = signed_by_first })))

@@ -4,7 +4,7 @@ ghost use Rattle.simplex_transcript.specs.declared.event.Event.{Event};
 ghost use Rattle.simplex_transcript.specs.declared.event.Event.TheVariants as events;
 ghost use Rattle.simplex_transcript.specs.declared.node.Node.{Node};
 ghost use Rattle.simplex_transcript.specs.declared.node.Ref.{Ref};
-ghost use Rattle.simplex_transcript.specs.declared.setup.Setup.{Setup};
+ghost use Rattle.simplex_run.specs.Setting.{Setting};
 ghost use Rattle.simplex_run.specs.Entries.{entry_of};
 ghost use Rattle.simplex_run.specs.Forged.{Signed, first_forged};
 ghost use Rattle.simplex_run.specs.Kinds.{is_of_kind};
@@ -14,12 +14,12 @@ ghost use Rattle.simplex_forging.specs.Forging.{is_impersonator, may_forge, IsNe
 /// Behind the entries of a run of members of whom few are faulty, only bytes that are injected and what an impersonator
 /// hears may make a forgery: whatever else the next event is, its packets hold none, and it is not refused for one.
 pub fn only_impersonators_and_injected_bytes_forge()
-    ensures none { (setup : Setup) (before : List Noted) (event : Event) (noted : Noted) → IsNext setup before event noted → may_forge setup event ≡ false → first_forged setup before noted.entry ≡ None }
-    ensures taken { (setup : Setup) (before : List Noted) (event : Event) (noted : Noted) → IsNext setup before event noted → may_forge setup event ≡ false → entry_of setup before event ≡ Ok noted }
+    ensures none { (setting : Setting) (before : List Noted) (event : Event) (noted : Noted) → IsNext setting before event noted → may_forge setting.setup event ≡ false → first_forged setting.setup before noted.entry ≡ None }
+    ensures taken { (setting : Setting) (before : List Noted) (event : Event) (noted : Noted) → IsNext setting before event noted → may_forge setting.setup event ≡ false → entry_of setting before event ≡ Ok noted }
 {}
 
 /// And what an impersonator hears makes a forgery only where its own signature on the subject, a digest, is also that of
 /// the member whose number it takes.
 pub fn impersonators_forge_by_equal_digests()
-    ensures { (setup : Setup) (before : List Noted) (node : Node) (packet : Ref) (noted : Noted) (s : Signed) → IsNext setup before (events.Deliver node packet) noted → is_of_kind is_impersonator setup node.member ≡ true → first_forged setup before noted.entry ≡ Some s → HaveOneSignature setup node.member s }
+    ensures { (setting : Setting) (before : List Noted) (node : Node) (packet : Ref) (noted : Noted) (s : Signed) → IsNext setting before (events.Deliver node packet) noted → is_of_kind is_impersonator setting.setup node.member ≡ true → first_forged setting.setup before noted.entry ≡ Some s → HaveOneSignature setting.setup node.member s }
 {}
