@@ -20,6 +20,7 @@ use Rattle.simplex_rules.specs.Pending.{Pending, Opened}
 use Rattle.simplex_steps.specs.Voter.{Standing, answer_to, first_answered}
 use Rattle.simplex_steps.specs.Engine as engine
 use Rattle.simplex_steps.specs.Engine.{EngineMade, Did, Taken}
+use Rattle.simplex_run.specs.Setting.{Setting}
 use Rattle.simplex_run.specs.Kinds.{is_honest, is_node, runs_engine}
 use Rattle.simplex_run.specs.Life.{Noted, Life, Stopped, Running, clock_of, life_in}
 use Rattle.simplex_run.specs.Requests.{request_number, request_place, if_for, packet_for}
@@ -30,17 +31,17 @@ use Rattle.simplex_groups.proofs.Beside.{clock_beside, life_beside, packet_low, 
 use Rattle.simplex_groups.proofs.Quiet.{Quiet, quiet_made, engine_is, deliver_quiet, step_quiet, answer_quiet, node_quiet}
 
 -- two lists of entries in which the node reads the same
-pub record ReadSame (setup : Setup) (node : Node) (here before : List Noted) : Type 0 where
+pub record ReadSame (setting : Setting) (node : Node) (here before : List Noted) : Type 0 where
   pub clock : clock_of here ≡ clock_of before
-  pub life : life_in setup here node ≡ life_in setup before node
+  pub life : life_in setting here node ≡ life_in setting before node
   pub number : (at : Ref) → request_number here node at ≡ request_number before node at
   pub place : (number : ℕ) → request_place here node number ≡ request_place before node number
 
-pub reads : (setup : Setup) (node : Node) (made before : List Noted) → All (IsBeside node) made → ReadSame setup node (made ++ before) before
-reads setup node made before all =
+pub reads : (setting : Setting) (node : Node) (made before : List Noted) → All (IsBeside node) made → ReadSame setting node (made ++ before) before
+reads setting node made before all =
     record {
       clock = clock_beside node made before all;
-      life = life_beside setup node made before all;
+      life = life_beside setting node made before all;
       number = λ at. number_beside node made before at all;
       place = λ number. place_beside node made before number all;
     }
@@ -121,15 +122,15 @@ pub took_same : (node : Node) (here before : List Noted) → ((number : ℕ) →
     → (made : EngineMade) (past : List Did) (did : Did) → took_of here node made past did ≡ took_of before node made past did
 took_same node here before place made past did = rw (taken_same node here before place _ did.taken) refl
 
-on_step_same : (setup : Setup) (node : Node) (here before : List Noted) → ReadSame setup node here before → (source : StepSource) (stop : Stop) (life : Life)
-    → Same here (on_step setup here node source stop life) (on_step setup before node source stop life)
-on_step_same setup node here before same source stop (Stopped sections) = refl
-on_step_same setup node here before same source stop (Running made past) =
+on_step_same : (setting : Setting) (node : Node) (here before : List Noted) → ReadSame setting node here before → (source : StepSource) (stop : Stop) (life : Life)
+    → Same here (on_step setting.setup here node source stop life) (on_step setting.setup before node source stop life)
+on_step_same setting node here before same source stop (Stopped sections) = refl
+on_step_same setting node here before same source stop (Running made past) =
     let event = events.Step node source stop in
     let did = engine.stepped made past source (clock_of before) stop in
-    same_unless here (is_at_end setup made past) _ (entered setup before event node (took_of before node made past did) did) refusals.ViewEnd
-    (ap (λ (now : ℕ). entered setup here event node (took_of here node made past (engine.stepped made past source now stop)) (engine.stepped made past source now stop)) same.clock
-    ∙ ap (λ (took : Option Took). entered setup here event node took did) (took_same node here before same.place made past did))
+    same_unless here (is_at_end setting.setup made past) _ (entered setting.setup before event node (took_of before node made past did) did) refusals.ViewEnd
+    (ap (λ (now : ℕ). entered setting.setup here event node (took_of here node made past (engine.stepped made past source now stop)) (engine.stepped made past source now stop)) same.clock
+    ∙ ap (λ (took : Option Took). entered setting.setup here event node took did) (took_same node here before same.place made past did))
 
 -- ---- an answer
 
@@ -140,12 +141,12 @@ on_request_same setup node here before at answer clock (Some number) made past =
     same_if here (engine.takes_reply made past number answer) _ (entered setup before (events.Answer node at answer) node None (engine.replied number answer (clock_of before))) refusals.NotPending
     (ap (λ (now : ℕ). entered setup here (events.Answer node at answer) node None (engine.replied number answer now)) clock)
 
-on_answer_same : (setup : Setup) (node : Node) (here before : List Noted) (at : Ref) (answer : Answer) → ReadSame setup node here before → (life : Life)
-    → Same here (on_answer setup here node at answer life) (on_answer setup before node at answer life)
-on_answer_same setup node here before at answer same (Stopped sections) = refl
-on_answer_same setup node here before at answer same (Running made past) =
-    ap (λ o. on_request setup here node at answer o made past) (same.number at)
-    ∙ on_request_same setup node here before at answer same.clock (request_number before node at) made past
+on_answer_same : (setting : Setting) (node : Node) (here before : List Noted) (at : Ref) (answer : Answer) → ReadSame setting node here before → (life : Life)
+    → Same here (on_answer setting.setup here node at answer life) (on_answer setting.setup before node at answer life)
+on_answer_same setting node here before at answer same (Stopped sections) = refl
+on_answer_same setting node here before at answer same (Running made past) =
+    ap (λ o. on_request setting.setup here node at answer o made past) (same.number at)
+    ∙ on_request_same setting.setup node here before at answer same.clock (request_number before node at) made past
 
 -- ---- each of them
 
@@ -154,28 +155,28 @@ unfolding packet_for
 packet_same node made before at stands = ap (λ o. option_and_then (if_for node) o) (packet_beside made before at (packet_low before at stands))
 
 -- nothing is looked at for forgeries in what a node of an honest member sends
-pub honest_made : (setup : Setup) (before : List Noted) (event : Event) (node : Node) → node_stepped event ≡ Some node → is_honest setup node.member ≡ true
-    → entry_of setup before event ≡ made_of setup before event
+pub honest_made : (setting : Setting) (before : List Noted) (event : Event) (node : Node) → node_stepped event ≡ Some node → is_honest setting.setup node.member ≡ true
+    → entry_of setting before event ≡ made_of setting before event
 unfolding entry_of made_of
-honest_made setup before (events.Deliver node at) n is honest =
-    let h : is_honest setup node.member ≡ true = (let same : node ≡ n = cc in rw same honest) in
-    quiet_made setup before (made_of setup before (events.Deliver node at))
-    (subst (Quiet setup) (sym (engine_is setup node (on_deliver setup before node at (life_in setup before node)) (on_hearing setup before node at (packet_for before node at)) h))
-    (node_quiet setup node (is_node setup node) (on_deliver setup before node at (life_in setup before node)) refusals.NoMember
-    (deliver_quiet setup before node at (life_in setup before node) h)))
-honest_made setup before (events.Step node source stop) n is honest =
-    let h : is_honest setup node.member ≡ true = (let same : node ≡ n = cc in rw same honest) in
-    quiet_made setup before (made_of setup before (events.Step node source stop))
-    (subst (Quiet setup) (sym (engine_is setup node (on_step setup before node source stop (life_in setup before node)) _ h))
-    (node_quiet setup node (is_node setup node) (on_step setup before node source stop (life_in setup before node)) refusals.NoMember
-    (step_quiet setup before node source stop (life_in setup before node) h)))
-honest_made setup before (events.Answer node at answer) n is honest =
-    let h : is_honest setup node.member ≡ true = (let same : node ≡ n = cc in rw same honest) in
-    quiet_made setup before (made_of setup before (events.Answer node at answer))
-    (subst (Quiet setup) (sym (engine_is setup node (on_answer setup before node at answer (life_in setup before node)) _ h))
-    (node_quiet setup node (is_node setup node) (on_answer setup before node at answer (life_in setup before node)) refusals.NoMember
-    (answer_quiet setup before node at answer (life_in setup before node) h)))
-honest_made setup before event n is honest = cc
+honest_made setting before (events.Deliver node at) n is honest =
+    let h : is_honest setting.setup node.member ≡ true = (let same : node ≡ n = cc in rw same honest) in
+    quiet_made setting.setup before (made_of setting before (events.Deliver node at))
+    (subst (Quiet setting.setup) (sym (engine_is setting.setup node (on_deliver setting.setup before node at (life_in setting before node)) (on_hearing setting.setup before node at (packet_for before node at)) h))
+    (node_quiet setting.setup node (is_node setting.setup node) (on_deliver setting.setup before node at (life_in setting before node)) refusals.NoMember
+    (deliver_quiet setting.setup before node at (life_in setting before node) h)))
+honest_made setting before (events.Step node source stop) n is honest =
+    let h : is_honest setting.setup node.member ≡ true = (let same : node ≡ n = cc in rw same honest) in
+    quiet_made setting.setup before (made_of setting before (events.Step node source stop))
+    (subst (Quiet setting.setup) (sym (engine_is setting.setup node (on_step setting.setup before node source stop (life_in setting before node)) _ h))
+    (node_quiet setting.setup node (is_node setting.setup node) (on_step setting.setup before node source stop (life_in setting before node)) refusals.NoMember
+    (step_quiet setting.setup before node source stop (life_in setting before node) h)))
+honest_made setting before (events.Answer node at answer) n is honest =
+    let h : is_honest setting.setup node.member ≡ true = (let same : node ≡ n = cc in rw same honest) in
+    quiet_made setting.setup before (made_of setting before (events.Answer node at answer))
+    (subst (Quiet setting.setup) (sym (engine_is setting.setup node (on_answer setting.setup before node at answer (life_in setting before node)) _ h))
+    (node_quiet setting.setup node (is_node setting.setup node) (on_answer setting.setup before node at answer (life_in setting before node)) refusals.NoMember
+    (answer_quiet setting.setup before node at answer (life_in setting before node) h)))
+honest_made setting before event n is honest = cc
 
 -- where two answers are the same, so are those that a node of an honest member gives
 node_same : (setup : Setup) (here : List Noted) (node : Node) (r s other less : Result Noted RunError) → is_honest setup node.member ≡ true → Same here r s
@@ -184,39 +185,39 @@ node_same setup here node r s other less h same =
     engine_is setup node r other h ∙ same_if here (is_node setup node) r s refusals.NoMember same
     ∙ ap (put_at (length here + 1)) (sym (engine_is setup node s less h))
 
-made_apart : (setup : Setup) (before made : List Noted) (event : Event) (node : Node) → node_stepped event ≡ Some node → is_honest setup node.member ≡ true
-    → All (IsBeside node) made → StandsBefore before event → Same (made ++ before) (made_of setup (made ++ before) event) (made_of setup before event)
+made_apart : (setting : Setting) (before made : List Noted) (event : Event) (node : Node) → node_stepped event ≡ Some node → is_honest setting.setup node.member ≡ true
+    → All (IsBeside node) made → StandsBefore before event → Same (made ++ before) (made_of setting (made ++ before) event) (made_of setting before event)
 unfolding made_of
-made_apart setup before made (events.Deliver node at) n is honest beside stands =
+made_apart setting before made (events.Deliver node at) n is honest beside stands =
     let here = made ++ before in
     let e : n ≡ node = cc in
-    let h : is_honest setup node.member ≡ true = rw e at honest in
-    let same = reads setup node made before (rw e at beside) in
-    node_same setup here node (on_deliver setup here node at (life_in setup here node)) (on_deliver setup before node at (life_in setup before node)) _ _ h
-    (ap (λ life. on_deliver setup here node at life) same.life
-    ∙ on_deliver_same setup node here before at same.clock (packet_same node made before at stands) (life_in setup before node))
-made_apart setup before made (events.Step node source stop) n is honest beside stands =
+    let h : is_honest setting.setup node.member ≡ true = rw e at honest in
+    let same = reads setting node made before (rw e at beside) in
+    node_same setting.setup here node (on_deliver setting.setup here node at (life_in setting here node)) (on_deliver setting.setup before node at (life_in setting before node)) _ _ h
+    (ap (λ life. on_deliver setting.setup here node at life) same.life
+    ∙ on_deliver_same setting.setup node here before at same.clock (packet_same node made before at stands) (life_in setting before node))
+made_apart setting before made (events.Step node source stop) n is honest beside stands =
     let here = made ++ before in
     let e : n ≡ node = cc in
-    let h : is_honest setup node.member ≡ true = rw e at honest in
-    let same = reads setup node made before (rw e at beside) in
-    node_same setup here node (on_step setup here node source stop (life_in setup here node)) (on_step setup before node source stop (life_in setup before node)) _ _ h
-    (ap (λ life. on_step setup here node source stop life) same.life ∙ on_step_same setup node here before same source stop (life_in setup before node))
-made_apart setup before made (events.Answer node at answer) n is honest beside stands =
+    let h : is_honest setting.setup node.member ≡ true = rw e at honest in
+    let same = reads setting node made before (rw e at beside) in
+    node_same setting.setup here node (on_step setting.setup here node source stop (life_in setting here node)) (on_step setting.setup before node source stop (life_in setting before node)) _ _ h
+    (ap (λ life. on_step setting.setup here node source stop life) same.life ∙ on_step_same setting node here before same source stop (life_in setting before node))
+made_apart setting before made (events.Answer node at answer) n is honest beside stands =
     let here = made ++ before in
     let e : n ≡ node = cc in
-    let h : is_honest setup node.member ≡ true = rw e at honest in
-    let same = reads setup node made before (rw e at beside) in
-    node_same setup here node (on_answer setup here node at answer (life_in setup here node)) (on_answer setup before node at answer (life_in setup before node)) _ _ h
-    (ap (λ life. on_answer setup here node at answer life) same.life ∙ on_answer_same setup node here before at answer same (life_in setup before node))
-made_apart setup before made event n is honest beside stands = cc
+    let h : is_honest setting.setup node.member ≡ true = rw e at honest in
+    let same = reads setting node made before (rw e at beside) in
+    node_same setting.setup here node (on_answer setting.setup here node at answer (life_in setting here node)) (on_answer setting.setup before node at answer (life_in setting before node)) _ _ h
+    (ap (λ life. on_answer setting.setup here node at answer life) same.life ∙ on_answer_same setting node here before at answer same (life_in setting before node))
+made_apart setting before made event n is honest beside stands = cc
 
-pub stands_apart : (setup : Setup) (before made : List Noted) (event : Event) → AreApart setup event made → StandsBefore before event
-    → entry_of setup (made ++ before) event ≡ put_at (length (made ++ before) + 1) (entry_of setup before event)
-stands_apart setup before made event apart stands =
-    honest_made setup (made ++ before) event apart.node apart.steps apart.honest
-    ∙ made_apart setup before made event apart.node apart.steps apart.honest apart.beside stands
-    ∙ ap (put_at (length (made ++ before) + 1)) (sym (honest_made setup before event apart.node apart.steps apart.honest))
+pub stands_apart : (setting : Setting) (before made : List Noted) (event : Event) → AreApart setting.setup event made → StandsBefore before event
+    → entry_of setting (made ++ before) event ≡ put_at (length (made ++ before) + 1) (entry_of setting before event)
+stands_apart setting before made event apart stands =
+    honest_made setting (made ++ before) event apart.node apart.steps apart.honest
+    ∙ made_apart setting before made event apart.node apart.steps apart.honest apart.beside stands
+    ∙ ap (put_at (length (made ++ before) + 1)) (sym (honest_made setting before event apart.node apart.steps apart.honest))
 
 -- ---- what an event makes is its own, and has the next number
 
@@ -231,11 +232,11 @@ either : (before : List Noted) (event : Event) (b : Bool) (r s : Result Noted Ru
 either before event true r s p q = p
 either before event false r s p q = q
 
-start_makes : (setup : Setup) (before : List Noted) (node : Node) (floor : Option Finalization) (stop : Stop) (life : Life)
-    → Makes before (events.Start node floor stop) (on_start setup before node floor stop life)
-start_makes setup before node floor stop (Running made past) = tt
-start_makes setup before node floor stop (Stopped sections) =
-    either before (events.Start node floor stop) (is_own_floor setup before floor) (Ok _) (Err _) (record { event_is = refl; number_is = refl }) tt
+start_makes : (setting : Setting) (before : List Noted) (node : Node) (floor : Option Finalization) (stop : Stop) (life : Life)
+    → Makes before (events.Start node floor stop) (on_start setting before node floor stop life)
+start_makes setting before node floor stop (Running made past) = tt
+start_makes setting before node floor stop (Stopped sections) =
+    either before (events.Start node floor stop) (is_own_floor setting.setup before floor) (Ok _) (Err _) (record { event_is = refl; number_is = refl }) tt
 
 packet_makes : (setup : Setup) (before : List Noted) (node : Node) (at : Ref) (o : Option Packet) (made : EngineMade) (past : List Did)
     → Makes before (events.Deliver node at) (on_packet setup before node at o made past)
@@ -279,36 +280,36 @@ node_makes setup before node event run other p q =
     either before event (is_node setup node) (if runs_engine setup node.member then run else other) (Err _)
     (either before event (runs_engine setup node.member) run other p q) tt
 
-made_makes : (setup : Setup) (before : List Noted) (event : Event) → Makes before event (made_of setup before event)
+made_makes : (setting : Setting) (before : List Noted) (event : Event) → Makes before event (made_of setting before event)
 unfolding made_of
-made_makes setup before (events.Start node floor stop) =
-    node_makes setup before node (events.Start node floor stop) (on_start setup before node floor stop (life_in setup before node)) (Err _)
-    (start_makes setup before node floor stop (life_in setup before node)) tt
-made_makes setup before (events.Tick ms) = either before (events.Tick ms) _ (Ok _) (Err _) (record { event_is = refl; number_is = refl }) tt
-made_makes setup before (events.Deliver node at) =
-    node_makes setup before node (events.Deliver node at) (on_deliver setup before node at (life_in setup before node)) (on_hearing setup before node at (packet_for before node at))
-    (deliver_makes setup before node at (life_in setup before node)) (hearing_makes setup before node at (packet_for before node at))
-made_makes setup before (events.Step node source stop) =
-    node_makes setup before node (events.Step node source stop) (on_step setup before node source stop (life_in setup before node)) (Ok _)
-    (step_makes setup before node source stop (life_in setup before node)) (record { event_is = refl; number_is = refl })
-made_makes setup before (events.Answer node at answer) =
-    node_makes setup before node (events.Answer node at answer) (on_answer setup before node at answer (life_in setup before node)) (Err _)
-    (answer_makes setup before node at answer (life_in setup before node)) tt
-made_makes setup before (events.Crash node) =
-    node_makes setup before node (events.Crash node) (on_crash before node (life_in setup before node)) (Ok _)
-    (crash_makes before node (life_in setup before node)) (record { event_is = refl; number_is = refl })
-made_makes setup before (events.Inject member channel to bytes) =
-    either before (events.Inject member channel to bytes) _ (on_inject setup before member channel to bytes) (Err _)
-    (either before (events.Inject member channel to bytes) (is_honest setup member) (Err _) (Ok _) tt (record { event_is = refl; number_is = refl })) tt
+made_makes setting before (events.Start node floor stop) =
+    node_makes setting.setup before node (events.Start node floor stop) (on_start setting before node floor stop (life_in setting before node)) (Err _)
+    (start_makes setting before node floor stop (life_in setting before node)) tt
+made_makes setting before (events.Tick ms) = either before (events.Tick ms) _ (Ok _) (Err _) (record { event_is = refl; number_is = refl }) tt
+made_makes setting before (events.Deliver node at) =
+    node_makes setting.setup before node (events.Deliver node at) (on_deliver setting.setup before node at (life_in setting before node)) (on_hearing setting.setup before node at (packet_for before node at))
+    (deliver_makes setting.setup before node at (life_in setting before node)) (hearing_makes setting.setup before node at (packet_for before node at))
+made_makes setting before (events.Step node source stop) =
+    node_makes setting.setup before node (events.Step node source stop) (on_step setting.setup before node source stop (life_in setting before node)) (Ok _)
+    (step_makes setting.setup before node source stop (life_in setting before node)) (record { event_is = refl; number_is = refl })
+made_makes setting before (events.Answer node at answer) =
+    node_makes setting.setup before node (events.Answer node at answer) (on_answer setting.setup before node at answer (life_in setting before node)) (Err _)
+    (answer_makes setting.setup before node at answer (life_in setting before node)) tt
+made_makes setting before (events.Crash node) =
+    node_makes setting.setup before node (events.Crash node) (on_crash before node (life_in setting before node)) (Ok _)
+    (crash_makes before node (life_in setting before node)) (record { event_is = refl; number_is = refl })
+made_makes setting before (events.Inject member channel to bytes) =
+    either before (events.Inject member channel to bytes) _ (on_inject setting.setup before member channel to bytes) (Err _)
+    (either before (events.Inject member channel to bytes) (is_honest setting.setup member) (Err _) (Ok _) tt (record { event_is = refl; number_is = refl })) tt
 
 if_made : (number : ℕ) (event : Event) (made r : Result Noted RunError) → ((noted : Noted) → r ≡ Ok noted → made ≡ Ok noted) → IfOk made (IsMade number event)
     → IfOk r (IsMade number event)
 if_made number event made (Err error) f is = tt
 if_made number event made (Ok noted) f is = rw (f noted refl) at is
 
-pub makes : (setup : Setup) (before : List Noted) (event : Event) → IfOk (entry_of setup before event) (IsMade (length before + 1) event)
-makes setup before event =
-    if_made (length before + 1) event (made_of setup before event) (entry_of setup before event) (was_made setup before event) (made_makes setup before event)
+pub makes : (setting : Setting) (before : List Noted) (event : Event) → IfOk (entry_of setting before event) (IsMade (length before + 1) event)
+makes setting before event =
+    if_made (length before + 1) event (made_of setting before event) (entry_of setting before event) (was_made setting before event) (made_makes setting before event)
 
 kept : (number : ℕ) (noted : Noted) → noted.entry.event ≡ number → noted ≡ numbered number noted
 kept number noted e = subst (λ (n : ℕ). noted ≡ numbered n noted) e refl

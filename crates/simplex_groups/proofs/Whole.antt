@@ -9,6 +9,7 @@ use Rattle.simplex_transcript.specs.declared.node.Node.{Node}
 use Rattle.simplex_transcript.specs.declared.setup.Setup.{Setup}
 use Rattle.simplex_transcript.specs.declared.refusal.RunError.{RunError}
 use Rattle.simplex_transcript.specs.declared.refusal.Refusal.{Refusal}
+use Rattle.simplex_run.specs.Setting.{Setting}
 use Rattle.simplex_run.specs.Kinds.{is_honest, is_node, is_same_node}
 use Rattle.simplex_run.specs.Life.{Noted, is_of}
 use Rattle.simplex_run.specs.Entries.{entry_of}
@@ -67,46 +68,46 @@ one_more named made event at noted all steps is node new =
 
 -- ---- a group
 
-group_goes : (setup : Setup) (before made : List Noted) (named : List Node) (events : List Event) → AllBeside named made
-    → run setup (made ++ before) events
-    ≡ and_on (in_order (made ++ before) (apart setup before (joined setup before named events)))
-    (λ behind. run setup behind (drop (length (joined setup before named events)) events))
+group_goes : (setting : Setting) (before made : List Noted) (named : List Node) (events : List Event) → AllBeside named made
+    → run setting (made ++ before) events
+    ≡ and_on (in_order (made ++ before) (apart setting before (joined setting.setup before named events)))
+    (λ behind. run setting behind (drop (length (joined setting.setup before named events)) events))
 unfolding run joined in_order unless_refused
-group_goes setup before made named [] all = refl
-group_goes setup before made named (event ∷ events) all =
-    by (joins setup before named event) refl
-    (λ noted all. group_goes setup before (noted ∷ made) (with_named named (node_stepped event)) events all)
+group_goes setting before made named [] all = refl
+group_goes setting before made named (event ∷ events) all =
+    by (joins setting.setup before named event) refl
+    (λ noted all. group_goes setting before (noted ∷ made) (with_named named (node_stepped event)) events all)
   where
     here : List Noted
     here = made ++ before
 
     next : List Event
-    next = joined setup before (with_named named (node_stepped event)) events
+    next = joined setting.setup before (with_named named (node_stepped event)) events
 
     Goes : Type 0
     Goes = (noted : Noted) → AllBeside (with_named named (node_stepped event)) (noted ∷ made)
-        → run setup (noted ∷ here) events
-        ≡ and_on (in_order (noted ∷ here) (apart setup before next)) (λ behind. run setup behind (drop (length next) events))
+        → run setting (noted ∷ here) events
+        ≡ and_on (in_order (noted ∷ here) (apart setting before next)) (λ behind. run setting behind (drop (length next) events))
 
-    went : (j : Joins setup before named event) → Goes → (r : Result Noted RunError) → IfOk r (IsMade (length before + 1) event)
-        → unless_refused (length here + 1) (put_at (length here + 1) r) (λ noted. run setup (noted ∷ here) events)
-        ≡ and_on (unless_refused (length here + 1) (put_at (length here + 1) r) (λ noted. in_order (noted ∷ here) (apart setup before next)))
-        (λ behind. run setup behind (drop (length next) events))
+    went : (j : Joins setting.setup before named event) → Goes → (r : Result Noted RunError) → IfOk r (IsMade (length before + 1) event)
+        → unless_refused (length here + 1) (put_at (length here + 1) r) (λ noted. run setting (noted ∷ here) events)
+        ≡ and_on (unless_refused (length here + 1) (put_at (length here + 1) r) (λ noted. in_order (noted ∷ here) (apart setting before next)))
+        (λ behind. run setting behind (drop (length next) events))
     went j old (Err error) is = refl
     went j old (Ok noted) is =
         old (numbered (length here + 1) noted)
         (one_more named made event j.node (numbered (length here + 1) noted) all j.steps is.event_is)
 
-    by : (b : Bool) → joins setup before named event ≡ b → Goes
-        → unless_refused (length here + 1) (entry_of setup here event) (λ noted. run setup (noted ∷ here) events)
-        ≡ and_on (in_order here (apart setup before (if b then event ∷ next else [])))
-        (λ behind. run setup behind (drop (length (if b then event ∷ next else [])) (event ∷ events)))
+    by : (b : Bool) → joins setting.setup before named event ≡ b → Goes
+        → unless_refused (length here + 1) (entry_of setting here event) (λ noted. run setting (noted ∷ here) events)
+        ≡ and_on (in_order here (apart setting before (if b then event ∷ next else [])))
+        (λ behind. run setting behind (drop (length (if b then event ∷ next else [])) (event ∷ events)))
     by false t old = refl
     by true t old =
-        let j = joins_so setup before named event t in
-        ap (λ r. unless_refused (length here + 1) r (λ noted. run setup (noted ∷ here) events))
-        (stands_apart setup before made event (record { node = j.node; steps = j.steps; honest = j.honest; beside = all j.node j.new }) j.packet)
-        ∙ went j old (entry_of setup before event) (makes setup before event)
+        let j = joins_so setting.setup before named event t in
+        ap (λ r. unless_refused (length here + 1) r (λ noted. run setting (noted ∷ here) events))
+        (stands_apart setting before made event (record { node = j.node; steps = j.steps; honest = j.honest; beside = all j.node j.new }) j.packet)
+        ∙ went j old (entry_of setting before event) (makes setting before event)
 
 -- what joins joins one after another
 pub joined_join : (setup : Setup) (before : List Noted) (named : List Node) (events : List Event) → AllJoin setup before named (joined setup before named events)
@@ -124,42 +125,42 @@ joined_join setup before named (event ∷ events) = by (joins setup before named
 
 -- ---- all groups
 
-all_go : (limit : List Event) (setup : Setup) (before : List Noted) (events : List Event) → length events ≤ length limit
-    → in_groups limit setup before events ≡ run setup before events
+all_go : (limit : List Event) (setting : Setting) (before : List Noted) (events : List Event) → length events ≤ length limit
+    → in_groups limit setting before events ≡ run setting before events
 unfolding in_groups run in_order unless_refused
-all_go limit setup before [] few = refl
-all_go [] setup before (event ∷ events) few = absurd (omega (arith, few))
-all_go (one ∷ limit) setup before (event ∷ events) few =
-    by (joined setup before [] (event ∷ events)) (group_goes setup before [] [] (event ∷ events) (λ node new. All-nil (IsBeside node)))
-    (λ behind list short. all_go limit setup behind list short)
+all_go limit setting before [] few = refl
+all_go [] setting before (event ∷ events) few = absurd (omega (arith, few))
+all_go (one ∷ limit) setting before (event ∷ events) few =
+    by (joined setting.setup before [] (event ∷ events)) (group_goes setting before [] [] (event ∷ events) (λ node new. All-nil (IsBeside node)))
+    (λ behind list short. all_go limit setting behind list short)
   where
     Goes : Type 0
-    Goes = (behind : List Noted) (list : List Event) → length list ≤ length limit → in_groups limit setup behind list ≡ run setup behind list
+    Goes = (behind : List Noted) (list : List Event) → length list ≤ length limit → in_groups limit setting behind list ≡ run setting behind list
 
     -- the rest goes on behind what was made
     rest : Goes → (list : List Event) → length list ≤ length limit → (r : Result (List Noted) Refusal)
-        → and_on r (λ behind. in_groups limit setup behind list) ≡ and_on r (λ behind. run setup behind list)
+        → and_on r (λ behind. in_groups limit setting behind list) ≡ and_on r (λ behind. run setting behind list)
     rest old list short (Err refusal) = refl
     rest old list short (Ok behind) = old behind list short
 
     single : Goes → (r : Result Noted RunError) → r ≡ put_at (length before + 1) r
-        → and_on (unless_refused (length before + 1) (put_at (length before + 1) r) (λ noted. Ok (noted ∷ before))) (λ behind. in_groups limit setup behind events)
-        ≡ unless_refused (length before + 1) r (λ noted. run setup (noted ∷ before) events)
+        → and_on (unless_refused (length before + 1) (put_at (length before + 1) r) (λ noted. Ok (noted ∷ before))) (λ behind. in_groups limit setting behind events)
+        ≡ unless_refused (length before + 1) r (λ noted. run setting (noted ∷ before) events)
     single old (Err error) e = refl
     single old (Ok noted) e =
         let same : noted ≡ numbered (length before + 1) noted = cc in
-        ap (λ n. in_groups limit setup (n ∷ before) events) (sym same) ∙ old (noted ∷ before) events (omega (arith, few))
+        ap (λ n. in_groups limit setting (n ∷ before) events) (sym same) ∙ old (noted ∷ before) events (omega (arith, few))
 
-    by : (group : List Event) → run setup ([] ++ before) (event ∷ events)
-        ≡ and_on (in_order ([] ++ before) (apart setup before group)) (λ behind. run setup behind (drop (length group) (event ∷ events)))
+    by : (group : List Event) → run setting ([] ++ before) (event ∷ events)
+        ≡ and_on (in_order ([] ++ before) (apart setting before group)) (λ behind. run setting behind (drop (length group) (event ∷ events)))
         → Goes
-        → and_on (in_order before (apart setup before (at_least event group))) (λ behind. in_groups limit setup behind (drop (length (at_least event group)) (event ∷ events)))
-        ≡ run setup before (event ∷ events)
-    by [] goes old = single old (entry_of setup before event) (keeps_number (length before + 1) event (entry_of setup before event) (makes setup before event))
+        → and_on (in_order before (apart setting before (at_least event group))) (λ behind. in_groups limit setting behind (drop (length (at_least event group)) (event ∷ events)))
+        ≡ run setting before (event ∷ events)
+    by [] goes old = single old (entry_of setting before event) (keeps_number (length before + 1) event (entry_of setting before event) (makes setting before event))
     by (first ∷ group) goes old =
         rest old (drop (length (first ∷ group)) (event ∷ events)) (omega (arith, few, length-drop (length (first ∷ group)) (event ∷ events)))
-        (in_order before (apart setup before (first ∷ group))) ∙ sym goes
+        (in_order before (apart setting before (first ∷ group))) ∙ sym goes
 
-pub groups_same : (setup : Setup) (before : List Noted) (events : List Event) → run_in_groups setup before events ≡ run setup before events
+pub groups_same : (setting : Setting) (before : List Noted) (events : List Event) → run_in_groups setting before events ≡ run setting before events
 unfolding run_in_groups
-groups_same setup before events = all_go events setup before events (omega arith)
+groups_same setting before events = all_go events setting before events (omega arith)

@@ -8,6 +8,7 @@ use Rattle.simplex_transcript.specs.declared.node.Node.{Node}
 use Rattle.simplex_transcript.specs.declared.setup.Setup.{Setup}
 use Rattle.simplex_transcript.specs.declared.refusal.RunError.{RunError}
 use Rattle.simplex_transcript.specs.declared.refusal.Refusal.{Refusal}
+use Rattle.simplex_run.specs.Setting.{Setting}
 use Rattle.simplex_run.specs.Kinds.{is_honest, is_node, is_same_node}
 use Rattle.simplex_run.specs.Life.{Noted, is_of}
 use Rattle.simplex_run.specs.Requests.{packet_at}
@@ -77,8 +78,8 @@ put_at number (Ok noted) = Ok (numbered number noted)
 put_at number (Err error) = Err error
 
 -- what the events of a group make, each on the entries before the group
-abbrev pub apart : Setup → List Noted → List Event → List (Result Noted RunError)
-apart setup before group = map (entry_of setup before) group
+abbrev pub apart : Setting → List Noted → List Event → List (Result Noted RunError)
+apart setting before group = map (entry_of setting before) group
 
 -- In order of events, each gets its number. The first that is refused ends the run
 unfoldable pub in_order : List Noted → List (Result Noted RunError) → Result (List Noted) Refusal
@@ -92,16 +93,16 @@ and_on (Ok before) next = next before
 and_on (Err refusal) next = Err refusal
 
 -- as many groups as the first list has events, at most
-unfoldable pub in_groups : List Event → Setup → List Noted → List Event → Result (List Noted) Refusal
-in_groups limit setup before [] = Ok before
-in_groups [] setup before (event ∷ events) = Ok before
-in_groups (one ∷ limit) setup before (event ∷ events) =
-    let group = group_of setup before event events in
-    and_on (in_order before (apart setup before group)) (λ made. in_groups limit setup made (drop (length group) (event ∷ events)))
+unfoldable pub in_groups : List Event → Setting → List Noted → List Event → Result (List Noted) Refusal
+in_groups limit setting before [] = Ok before
+in_groups [] setting before (event ∷ events) = Ok before
+in_groups (one ∷ limit) setting before (event ∷ events) =
+    let group = group_of setting.setup before event events in
+    and_on (in_order before (apart setting before group)) (λ made. in_groups limit setting made (drop (length group) (event ∷ events)))
 
 -- a group takes one event at least
-unfoldable pub run_in_groups : Setup → List Noted → List Event → Result (List Noted) Refusal
-run_in_groups setup before events = in_groups events setup before events
+unfoldable pub run_in_groups : Setting → List Noted → List Event → Result (List Noted) Refusal
+run_in_groups setting before events = in_groups events setting before events
 
 -- ---- why it may be
 
