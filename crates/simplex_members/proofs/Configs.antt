@@ -5,6 +5,7 @@ use Rattle.std.proofs.lemmas.Grind.{common_steps}
 use Rattle.simplex_values.specs.declared.policy.SkipPolicy.{SkipPolicy}
 use Rattle.simplex_values.specs.declared.policy.SkipPolicy.TheVariants as skip
 use Rattle.simplex_transcript.specs.declared.setup.Setup.{Setup}
+use Rattle.simplex_run.specs.Setting.{Setting}
 use Rattle.simplex_run.specs.Setups as setups
 use Rattle.simplex_run.specs.Setups.{first_bad, is_within}
 use Rattle.simplex_run.specs.Twins.{elected}
@@ -44,22 +45,22 @@ skip-is (skip.Enabled timeout views) e = time-is timeout e
 
 -- ---- an engine that is set up so
 
-pub setup-allowed : (config : NodeConfig) (setup : Setup) → IsNone (first_bad setup) → IsSetUp config setup → configs.first_bad config ≡ None
+pub setup-allowed : (config : NodeConfig) (setting : Setting) → IsNone (first_bad setting.setup) → IsSetUp config setting → configs.first_bad config ≡ None
 unfolding configs.first_bad
-setup-allowed config setup good is =
-    let g = good-values setup good in
+setup-allowed config setting good is =
+    let g = good-values setting.setup good in
     rw (is.epoch, is.leader_timeout, is.certification_timeout, is.retry, is.retention, is.skip, is.mailbox, is.fetch_timeout, is.fetch_retry)
-    (rw (epoch-is setup.epoch g.epoch) (rw (leader-is setup.leader_timeout setup.certification_timeout g.leader)
-    (rw (time-is setup.certification_timeout g.certification) (rw (time-is setup.retry g.retry) (rw (within-is (2 ^ 32) setup.retention g.retention)
-    (rw (skip-is setup.skip g.skip) (rw (within-is 4096 setup.mailbox g.mailbox) (rw (time-is setup.fetch_timeout g.fetch_timeout) (rw g.fetch_retry refl)))))))))
+    (rw (epoch-is setting.setup.epoch g.epoch) (rw (leader-is setting.setup.leader_timeout setting.setup.certification_timeout g.leader)
+    (rw (time-is setting.setup.certification_timeout g.certification) (rw (time-is setting.setup.retry g.retry) (rw (within-is (2 ^ 32) setting.setup.retention g.retention)
+    (rw (skip-is setting.setup.skip g.skip) (rw (within-is 4096 setting.setup.mailbox g.mailbox) (rw (time-is setting.setup.fetch_timeout g.fetch_timeout) (rw g.fetch_retry refl)))))))))
 
-pub setup-stall : (config : NodeConfig) (setup : Setup) → IsNone (first_bad setup) → IsSetUp config setup → config.elector.fallback.terms ≡ terms_in setup
+pub setup-stall : (config : NodeConfig) (setting : Setting) → IsNone (first_bad setting.setup) → IsSetUp config setting → config.elector.fallback.terms ≡ terms_in setting.setup
     → IfSome config.elector.fallback.terms.stall_timeout (λ stall. (config.certification_timeout < stall) × (stall ≤ 2 ^ 62))
-setup-stall config setup good is terms = rw (terms, is.certification_timeout) (good-stall setup good)
+setup-stall config setting good is terms = rw (terms, is.certification_timeout) (good-stall setting.setup good)
 
-pub setup-lookahead : (config : NodeConfig) (setup : Setup) → IsNone (first_bad setup) → config.elector.fallback.terms ≡ terms_in setup
+pub setup-lookahead : (config : NodeConfig) (setting : Setting) → IsNone (first_bad setting.setup) → config.elector.fallback.terms ≡ terms_in setting.setup
     → config.elector.fallback.terms.lookahead ≤ 2 ^ 32
-setup-lookahead config setup good terms = rw terms (good-lookahead setup good)
+setup-lookahead config setting good terms = rw terms (good-lookahead setting.setup good)
 
 budget_same : (setup : Setup) (policy : SkipPolicy) → configs.budget (length setup.members) policy ≡ skip_budget setup policy
 budget_same setup skip.Disabled = refl
@@ -69,13 +70,13 @@ view_same : (floor : Floor) → configs.view_at floor ≡ view_at floor
 view_same (floors.Genesis payload) = refl
 view_same (floors.Finalized f) = refl
 
-pub setup-made : (config : NodeConfig) (setup : Setup) (member : ℕ) (floor : Floor) (sections : List Section) → IsSetUp config setup
-    → config.floor ≡ floor → config.elector.fallback.terms ≡ terms_in setup → elects config.elector ≡ elected setup
-    → config.scheme.behavior ≡ behavior_of (kind_of setup member) → config.scheme.inner.key_base ≡ setup.key_base
-    → config.scheme.inner.participants ≡ length setup.members → config.scheme.inner.me ≡ Some member
-    → made_with config sections ≡ engine_of setup member floor sections
+pub setup-made : (config : NodeConfig) (setting : Setting) (member : ℕ) (floor : Floor) (sections : List Section) → IsSetUp config setting
+    → config.floor ≡ floor → config.elector.fallback.terms ≡ terms_in setting.setup → elects config.elector ≡ elected setting.setup
+    → config.scheme.behavior ≡ behavior_of (kind_of setting.setup member) → config.scheme.inner.key_base ≡ setting.setup.key_base
+    → config.scheme.inner.participants ≡ length setting.setup.members → config.scheme.inner.me ≡ Some member
+    → made_with config sections ≡ engine_of setting member floor sections
 unfolding engine_made engine_of rules_of batcher_of resolver_of
-setup-made config setup member floor sections is at terms leaders behavior base count me =
+setup-made config setting member floor sections is at terms leaders behavior base count me =
     rw (
       leaders,
       is.epoch,
@@ -97,4 +98,4 @@ setup-made config setup member floor sections is at terms leaders behavior base 
       base,
       count,
       me,
-    ) (rw (budget_same setup setup.skip, view_same floor) refl)
+    ) (rw (budget_same setting.setup setting.setup.skip, view_same floor) refl)

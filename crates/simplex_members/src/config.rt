@@ -2,6 +2,7 @@
 ghost use Rattle.std.specs.Prelude.{◌≡◌, ◌<◌, ◌≤◌, ◌^◌, List, length, IfOk, IfSome, IsNone, None, Some};
 ghost use Rattle.simplex_journal.specs.Journal.{Section};
 ghost use Rattle.simplex_run.specs.Members as members;
+ghost use Rattle.simplex_run.specs.Setting.{setting_of};
 ghost use Rattle.simplex_run.specs.Setups as setups;
 ghost use Rattle.simplex_run.specs.Wrapped.{behavior_of};
 ghost use Rattle.simplex_engine.specs.Config.{first_bad};
@@ -12,7 +13,7 @@ use crate::schemes::{kind_of, scheme_of};
 use simplex_engine::EngineConfig;
 use simplex_mocks::wrapped::{Behavior, Scheme};
 use simplex_transcript::{MemberKind, Setup};
-use simplex_types::{Epoch, Finalization, Floor, Keep, Keyed, Participant, ViewDelta, genesis};
+use simplex_types::{Digest, Epoch, Finalization, Floor, Keep, Keyed, Participant, ViewDelta};
 use std::alloc::{AllocError, Global};
 
 /// The scheme of a node: its member's key, wrapped as its member's kind wants it.
@@ -21,12 +22,13 @@ pub type NodeScheme = Scheme<Keyed>;
 /// What a node's engine is made with.
 pub type NodeConfig = EngineConfig<NodeScheme, NodeElector>;
 
-/// What the engine of a member is made with, where it starts at the floor. Another kind than those with an engine makes
-/// that of an honest member.
+/// What the engine of a member is made with, where it starts at the floor and the digest is the payload of view 0. Another
+/// kind than those with an engine makes that of an honest member.
 #[tactic(auto, using(crate::proofs::Good::good))]
 pub fn config_of(
     alloc: Global,
     setup: &Setup,
+    genesis: Digest,
     member: Participant,
     floor: &Option<Finalization>,
 ) -> Result<NodeConfig, AllocError>
@@ -36,31 +38,36 @@ pub fn config_of(
     ensures lookahead { IfOk result (λ config. config.elector.fallback.terms.lookahead ≤ 2 ^ 32) }
     ensures stall { IfOk result (λ config. IfSome config.elector.fallback.terms.stall_timeout (λ stall. (config.certification_timeout < stall) × (stall ≤ 2 ^ 62))) }
     ensures allowed { IfOk result (λ config. first_bad config ≡ None) }
-    ensures made { IfOk result (λ config. (sections : List Section) → made_with config sections ≡ members.engine_of setup.now member (members.floor_of setup.now floor.now) sections) }
+    ensures made { IfOk result (λ config. (sections : List Section) → made_with config sections ≡ members.engine_of (setting_of setup.now genesis) member (members.floor_of genesis floor.now) sections) }
 {
     let inner = scheme_of(alloc, setup, member)?;
     let scheme = Scheme::new(inner, behavior_of(kind_of(setup, member)));
     let elector = elector_of(alloc, setup)?;
-    let floor = floor_at(alloc, setup, floor)?;
-    Ok(config_with(setup, scheme, elector, floor))
+    let floor = floor_at(alloc, genesis, floor)?;
+    Ok(config_with(setup, genesis, scheme, elector, floor))
 }
 
-// With this scheme, this elector and this floor.
+// With this genesis digest, this scheme, this elector and this floor.
 #[tactic(auto, using(crate::proofs::Good::good))]
-fn config_with(setup: &Setup, scheme: NodeScheme, elector: NodeElector, floor: Floor) -> NodeConfig
+fn config_with(
+    setup: &Setup,
+    genesis: Digest,
+    scheme: NodeScheme,
+    elector: NodeElector,
+    floor: Floor,
+) -> NodeConfig
     requires { IsNone (setups.first_bad setup.now) }
-    ensures setup { IsSetUp result setup.now }
+    ensures setup { IsSetUp result (setting_of setup.now genesis) }
     ensures scheme { result.scheme ≡ scheme }
     ensures elector { result.elector ≡ elector }
     ensures floor { result.floor ≡ floor }
 {
-    let epoch = Epoch(setup.epoch);
     EngineConfig {
         scheme,
         elector,
-        genesis: genesis(epoch),
+        genesis,
         floor,
-        epoch,
+        epoch: Epoch(setup.epoch),
         leader_timeout: setup.leader_timeout,
         certification_timeout: setup.certification_timeout,
         retry: setup.retry,
@@ -87,12 +94,15 @@ fn behavior_of(kind: MemberKind) -> Behavior
 }
 
 // Where a start stands.
-fn floor_at(alloc: Global, setup: &Setup, floor: &Option<Finalization>) -> Result<Floor, AllocError>
-    ensures { IfOk result (λ at. at ≡ members.floor_of setup.now floor.now) }
+fn floor_at(
+    alloc: Global,
+    genesis: Digest,
+    floor: &Option<Finalization>,
+) -> Result<Floor, AllocError>
+    ensures { IfOk result (λ at. at ≡ members.floor_of genesis floor.now) }
 {
-    let epoch = setup.epoch;
     match floor {
-        None => Ok(Floor::Genesis(genesis(Epoch(epoch)))),
+        None => Ok(Floor::Genesis(genesis)),
         Some(finalization) => Ok(Floor::Finalized(finalization.keep(alloc)?)),
     }
 }

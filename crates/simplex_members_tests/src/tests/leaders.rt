@@ -9,16 +9,19 @@ use simplex_members::{NodeConfig, NodeElector, config_of, first_bad};
 use simplex_mocks::wrapped::Behavior;
 use simplex_transcript::{MemberKind, Setup, SetupRound};
 use simplex_types::elector::Elector;
-use simplex_types::{Epoch, Participant, Round, Scheme, View};
+use simplex_types::{Digest, Epoch, Participant, Round, Scheme, View};
 use std::alloc::{AllocError, Global};
 use std::process::Abort;
 use std::test::Fail;
+
+/// The payload of view 0.
+const GENESIS: Digest = Digest([7; 32]);
 
 /// What the member's engine is made with, where the setup has such a member and keeps its limits.
 fn config(rt: &impl Abort, alloc: Global, setup: &Setup, member: u32) -> NodeConfig {
     assert!(rt; first_bad(setup).is_none(), "it keeps its limits");
     assert!(rt; (member as usize) < setup.members.len(), "a member");
-    config_of(alloc, setup, Participant(member), &None).expect(rt, "memory")
+    config_of(alloc, setup, GENESIS, Participant(member), &None).expect(rt, "memory")
 }
 
 /// Members 3 and 2 lead the first two terms, or no leader is scripted.
@@ -118,7 +121,8 @@ fn engines_are_made(rt: HostRuntime) -> Result<(), Fail> {
     let setup = GOOD.setup(alloc, &TEN, &[])?;
     assert!(rt; first_bad(&setup).is_none(), "it keeps its limits");
     assert!(rt; setup.members.len() == 10, "ten members");
-    let config = config_of(alloc, &setup, Participant(9), &None)?;
+    let config = config_of(alloc, &setup, GENESIS, Participant(9), &None)?;
+    assert_eq!(rt; config.genesis, GENESIS);
     let engine = Engine::new(alloc, config, MemoryJournal::new(alloc));
     let engine = engine.ok().ok_or("an engine")?;
     assert!(rt; !engine.has_failed());
