@@ -24,6 +24,7 @@ use Rattle.simplex_transcript.specs.declared.refusal.RunError.TheVariants as ref
 use Rattle.simplex_steps.specs.Engine.{EngineMade, Did, runs, replied, takes_reply}
 use Rattle.simplex_engine.specs.declared.input.Input.TheVariants as inputs
 use Rattle.simplex_engine.specs.Polled.{polled, refusal_of}
+use Rattle.simplex_run.specs.Setting.{Setting}
 use Rattle.simplex_run.specs.Kinds.{members_of, is_of_kind, is_node, is_honest, has_engine, runs_engine, node_of}
 use Rattle.simplex_run.specs.Members.{kind_of}
 use Rattle.simplex_run.specs.Life.{Noted, Running, clock_of, life_in}
@@ -62,98 +63,98 @@ unfolding unless_forged
 refused_whole setup before r error e = rw e refl
 
 -- an event that is refused before its packets are looked at
-deliver_refused : (setup : Setup) (before : List Noted) (node : Node) (at : Ref) (error : RunError) → made_of setup before (events.Deliver node at) ≡ Err error
-    → tested_of setup before (events.Deliver node at) ≡ Err error
+deliver_refused : (setting : Setting) (before : List Noted) (node : Node) (at : Ref) (error : RunError) → made_of setting before (events.Deliver node at) ≡ Err error
+    → tested_of setting before (events.Deliver node at) ≡ Err error
 unfolding tested_of entry_of
-deliver_refused setup before node at error e =
-    tested_by (is_of_kind is_impersonator setup node.member) _ (made_of setup before (events.Deliver node at)) (refused_whole setup before _ error e ∙ sym e) ∙ e
+deliver_refused setting before node at error e =
+    tested_by (is_of_kind is_impersonator setting.setup node.member) _ (made_of setting before (events.Deliver node at)) (refused_whole setting.setup before _ error e ∙ sym e) ∙ e
 
 -- ---- no such node
 
-pub start-missing : (setup : Setup) (before : List Noted) (node : Node) (floor : Option Finalization) (stop : Stop) → is_node setup node ≡ false
-    → tested_of setup before (events.Start node floor stop) ≡ Err refusals.NoMember
+pub start-missing : (setting : Setting) (before : List Noted) (node : Node) (floor : Option Finalization) (stop : Stop) → is_node setting.setup node ≡ false
+    → tested_of setting before (events.Start node floor stop) ≡ Err refusals.NoMember
 unfolding tested_of made_of
-start-missing setup before node floor stop e = rw e refl
+start-missing setting before node floor stop e = rw e refl
 
-pub deliver-missing : (setup : Setup) (before : List Noted) (node : Node) (at : Ref) → is_node setup node ≡ false
-    → tested_of setup before (events.Deliver node at) ≡ Err refusals.NoMember
+pub deliver-missing : (setting : Setting) (before : List Noted) (node : Node) (at : Ref) → is_node setting.setup node ≡ false
+    → tested_of setting before (events.Deliver node at) ≡ Err refusals.NoMember
 unfolding made_of
-deliver-missing setup before node at e = deliver_refused setup before node at refusals.NoMember made
+deliver-missing setting before node at e = deliver_refused setting before node at refusals.NoMember made
   where
-    made : made_of setup before (events.Deliver node at) ≡ Err refusals.NoMember
+    made : made_of setting before (events.Deliver node at) ≡ Err refusals.NoMember
     made = rw e refl
 
-pub step-missing : (setup : Setup) (before : List Noted) (node : Node) (source : StepSource) (stop : Stop) → is_node setup node ≡ false
-    → tested_of setup before (events.Step node source stop) ≡ Err refusals.NoMember
+pub step-missing : (setting : Setting) (before : List Noted) (node : Node) (source : StepSource) (stop : Stop) → is_node setting.setup node ≡ false
+    → tested_of setting before (events.Step node source stop) ≡ Err refusals.NoMember
 unfolding tested_of made_of
-step-missing setup before node source stop e = rw e refl
+step-missing setting before node source stop e = rw e refl
 
-pub answer-missing : (setup : Setup) (before : List Noted) (node : Node) (at : Ref) (answer : Answer) → is_node setup node ≡ false
-    → tested_of setup before (events.Answer node at answer) ≡ Err refusals.NoMember
+pub answer-missing : (setting : Setting) (before : List Noted) (node : Node) (at : Ref) (answer : Answer) → is_node setting.setup node ≡ false
+    → tested_of setting before (events.Answer node at answer) ≡ Err refusals.NoMember
 unfolding tested_of made_of
-answer-missing setup before node at answer e = rw e refl
+answer-missing setting before node at answer e = rw e refl
 
-pub crash-missing : (setup : Setup) (before : List Noted) (node : Node) → is_node setup node ≡ false → tested_of setup before (events.Crash node) ≡ Err refusals.NoMember
+pub crash-missing : (setting : Setting) (before : List Noted) (node : Node) → is_node setting.setup node ≡ false → tested_of setting before (events.Crash node) ≡ Err refusals.NoMember
 unfolding tested_of made_of
-crash-missing setup before node e = rw e refl
+crash-missing setting before node e = rw e refl
 
 -- ---- a stopped node
 
-pub start-stopped : (setup : Setup) (before : List Noted) (node : Node) (floor : Option Finalization) (stop : Stop) → (s : AtStopped setup before node)
-    → is_own_floor setup before floor ≡ true → tested_of setup before (events.Start node floor stop) ≡ Ok (noted_start setup before node floor stop (life_in setup before node))
+pub start-stopped : (setting : Setting) (before : List Noted) (node : Node) (floor : Option Finalization) (stop : Stop) → (s : AtStopped setting before node)
+    → is_own_floor setting.setup before floor ≡ true → tested_of setting before (events.Start node floor stop) ≡ Ok (noted_start setting before node floor stop (life_in setting before node))
 unfolding tested_of made_of
-start-stopped setup before node floor stop s own = rw (s.exists, s.engine, s.life, own) refl
+start-stopped setting before node floor stop s own = rw (s.exists, s.engine, s.life, own) refl
 
-pub start-foreign : (setup : Setup) (before : List Noted) (node : Node) (floor : Option Finalization) (stop : Stop) → (s : AtStopped setup before node)
-    → is_own_floor setup before floor ≡ false → tested_of setup before (events.Start node floor stop) ≡ Err refusals.ForeignFloor
+pub start-foreign : (setting : Setting) (before : List Noted) (node : Node) (floor : Option Finalization) (stop : Stop) → (s : AtStopped setting before node)
+    → is_own_floor setting.setup before floor ≡ false → tested_of setting before (events.Start node floor stop) ≡ Err refusals.ForeignFloor
 unfolding tested_of made_of
-start-foreign setup before node floor stop s own = rw (s.exists, s.engine, s.life, own) refl
+start-foreign setting before node floor stop s own = rw (s.exists, s.engine, s.life, own) refl
 
-pub deliver-stopped : (setup : Setup) (before : List Noted) (node : Node) (at : Ref) → AtStopped setup before node
-    → tested_of setup before (events.Deliver node at) ≡ Err refusals.NotRunning
+pub deliver-stopped : (setting : Setting) (before : List Noted) (node : Node) (at : Ref) → AtStopped setting before node
+    → tested_of setting before (events.Deliver node at) ≡ Err refusals.NotRunning
 unfolding made_of
-deliver-stopped setup before node at s = deliver_refused setup before node at refusals.NotRunning made
+deliver-stopped setting before node at s = deliver_refused setting before node at refusals.NotRunning made
   where
-    made : made_of setup before (events.Deliver node at) ≡ Err refusals.NotRunning
+    made : made_of setting before (events.Deliver node at) ≡ Err refusals.NotRunning
     made = rw (s.exists, s.engine, s.life) refl
 
-pub step-stopped : (setup : Setup) (before : List Noted) (node : Node) (source : StepSource) (stop : Stop) → AtStopped setup before node
-    → tested_of setup before (events.Step node source stop) ≡ Err refusals.NotRunning
+pub step-stopped : (setting : Setting) (before : List Noted) (node : Node) (source : StepSource) (stop : Stop) → AtStopped setting before node
+    → tested_of setting before (events.Step node source stop) ≡ Err refusals.NotRunning
 unfolding tested_of made_of
-step-stopped setup before node source stop s = rw (s.exists, s.engine, s.life) refl
+step-stopped setting before node source stop s = rw (s.exists, s.engine, s.life) refl
 
-pub answer-stopped : (setup : Setup) (before : List Noted) (node : Node) (at : Ref) (answer : Answer) → AtStopped setup before node
-    → tested_of setup before (events.Answer node at answer) ≡ Err refusals.NotRunning
+pub answer-stopped : (setting : Setting) (before : List Noted) (node : Node) (at : Ref) (answer : Answer) → AtStopped setting before node
+    → tested_of setting before (events.Answer node at answer) ≡ Err refusals.NotRunning
 unfolding tested_of made_of
-answer-stopped setup before node at answer s = rw (s.exists, s.engine, s.life) refl
+answer-stopped setting before node at answer s = rw (s.exists, s.engine, s.life) refl
 
-pub crash-stopped : (setup : Setup) (before : List Noted) (node : Node) → AtStopped setup before node → tested_of setup before (events.Crash node) ≡ Err refusals.NotRunning
+pub crash-stopped : (setting : Setting) (before : List Noted) (node : Node) → AtStopped setting before node → tested_of setting before (events.Crash node) ≡ Err refusals.NotRunning
 unfolding tested_of made_of
-crash-stopped setup before node s = rw (s.exists, s.engine, s.life) refl
+crash-stopped setting before node s = rw (s.exists, s.engine, s.life) refl
 
 -- ---- a running node
 
-pub start-running : (setup : Setup) (before : List Noted) (node : Node) (floor : Option Finalization) (stop : Stop) (view : ℕ) → AtRunning setup before node view
-    → tested_of setup before (events.Start node floor stop) ≡ Err refusals.NotStopped
+pub start-running : (setting : Setting) (before : List Noted) (node : Node) (floor : Option Finalization) (stop : Stop) (view : ℕ) → AtRunning setting before node view
+    → tested_of setting before (events.Start node floor stop) ≡ Err refusals.NotStopped
 unfolding tested_of made_of
-start-running setup before node floor stop view s = rw (s.exists, s.engine, s.life) refl
+start-running setting before node floor stop view s = rw (s.exists, s.engine, s.life) refl
 
-pub crash-running : (setup : Setup) (before : List Noted) (node : Node) (view : ℕ) → AtRunning setup before node view
-    → tested_of setup before (events.Crash node) ≡ Ok (noted_blank before (events.Crash node) (Some node))
+pub crash-running : (setting : Setting) (before : List Noted) (node : Node) (view : ℕ) → AtRunning setting before node view
+    → tested_of setting before (events.Crash node) ≡ Ok (noted_blank before (events.Crash node) (Some node))
 unfolding tested_of made_of
-crash-running setup before node view s = rw (s.exists, s.engine, s.life) refl
+crash-running setting before node view s = rw (s.exists, s.engine, s.life) refl
 
-pub step-near : (setup : Setup) (before : List Noted) (node : Node) (source : StepSource) (stop : Stop) (view : ℕ) → AtRunning setup before node view → is_near setup view ≡ true
-    → tested_of setup before (events.Step node source stop) ≡ Err refusals.ViewEnd
+pub step-near : (setting : Setting) (before : List Noted) (node : Node) (source : StepSource) (stop : Stop) (view : ℕ) → AtRunning setting before node view → is_near setting.setup view ≡ true
+    → tested_of setting before (events.Step node source stop) ≡ Err refusals.ViewEnd
 unfolding tested_of made_of
-step-near setup before node source stop view s near = rw (s.exists, s.engine, s.life) (if_end _ _ _ (rw s.current at near))
+step-near setting before node source stop view s near = rw (s.exists, s.engine, s.life) (if_end _ _ _ (rw s.current at near))
 
-pub step-is : (setup : Setup) (before : List Noted) (node : Node) (source : StepSource) (stop : Stop) (view : ℕ) → (s : AtRunning setup before node view) → is_near setup view ≡ false
-    → tested_of setup before (events.Step node source stop) ≡ on_poll setup before (events.Step node source stop) node (inputs.Step source) stop None (Running s.made s.past)
+pub step-is : (setting : Setting) (before : List Noted) (node : Node) (source : StepSource) (stop : Stop) (view : ℕ) → (s : AtRunning setting before node view) → is_near setting.setup view ≡ false
+    → tested_of setting before (events.Step node source stop) ≡ on_poll setting.setup before (events.Step node source stop) node (inputs.Step source) stop None (Running s.made s.past)
 unfolding tested_of made_of noted_poll polled refusal_of
-step-is setup before node source stop view s near =
+step-is setting before node source stop view s near =
     rw (s.exists, s.engine, s.life) (if_not _ _ _ (rw s.current at near))
-    ∙ sym (poll-taken setup before (events.Step node source stop) node (inputs.Step source) stop None s.made s.past (rw s.goes refl))
+    ∙ sym (poll-taken setting.setup before (events.Step node source stop) node (inputs.Step source) stop None s.made s.past (rw s.goes refl))
 
 -- whoever runs an engine is no impersonator
 no_mock : (setup : Setup) (member : ℕ) → runs_engine setup member ≡ true → is_of_kind is_impersonator setup member ≡ false
@@ -174,45 +175,45 @@ no_mock setup member engine = by (slice_get setup.members member) engine
     by (Some kinds.Unrecovering) e = refl
     by (Some kinds.Twin) e = refl
 
-deliver_made : (setup : Setup) (before : List Noted) (node : Node) (at : Ref) (r : Result Noted RunError) → runs_engine setup node.member ≡ true
-    → made_of setup before (events.Deliver node at) ≡ r → tested_of setup before (events.Deliver node at) ≡ r
+deliver_made : (setting : Setting) (before : List Noted) (node : Node) (at : Ref) (r : Result Noted RunError) → runs_engine setting.setup node.member ≡ true
+    → made_of setting before (events.Deliver node at) ≡ r → tested_of setting before (events.Deliver node at) ≡ r
 unfolding tested_of
-deliver_made setup before node at r engine e = rw (no_mock setup node.member engine) e
+deliver_made setting before node at r engine e = rw (no_mock setting.setup node.member engine) e
 
-pub deliver-lacks : (setup : Setup) (before : List Noted) (node : Node) (at : Ref) (view : ℕ) → AtRunning setup before node view → packet_for before node at ≡ None
-    → tested_of setup before (events.Deliver node at) ≡ Err refusals.NoPacket
+pub deliver-lacks : (setting : Setting) (before : List Noted) (node : Node) (at : Ref) (view : ℕ) → AtRunning setting before node view → packet_for before node at ≡ None
+    → tested_of setting before (events.Deliver node at) ≡ Err refusals.NoPacket
 unfolding made_of
-deliver-lacks setup before node at view s none = deliver_refused setup before node at refusals.NoPacket made
+deliver-lacks setting before node at view s none = deliver_refused setting before node at refusals.NoPacket made
   where
-    made : made_of setup before (events.Deliver node at) ≡ Err refusals.NoPacket
+    made : made_of setting before (events.Deliver node at) ≡ Err refusals.NoPacket
     made = rw (s.exists, s.engine, s.life, none) refl
 
-pub deliver-near : (setup : Setup) (before : List Noted) (node : Node) (at : Ref) (view : ℕ) (packet : Packet) → AtRunning setup before node view
-    → packet_for before node at ≡ Some packet → is_near setup view ≡ true → tested_of setup before (events.Deliver node at) ≡ Err refusals.ViewEnd
+pub deliver-near : (setting : Setting) (before : List Noted) (node : Node) (at : Ref) (view : ℕ) (packet : Packet) → AtRunning setting before node view
+    → packet_for before node at ≡ Some packet → is_near setting.setup view ≡ true → tested_of setting before (events.Deliver node at) ≡ Err refusals.ViewEnd
 unfolding made_of
-deliver-near setup before node at view packet s some near = deliver_refused setup before node at refusals.ViewEnd made
+deliver-near setting before node at view packet s some near = deliver_refused setting before node at refusals.ViewEnd made
   where
-    made : made_of setup before (events.Deliver node at) ≡ Err refusals.ViewEnd
+    made : made_of setting before (events.Deliver node at) ≡ Err refusals.ViewEnd
     made = rw (s.exists, s.engine, s.life, some) (if_end _ _ _ (rw s.current at near))
 
-pub deliver-is : (setup : Setup) (before : List Noted) (node : Node) (at : Ref) (view : ℕ) (packet : Packet) → (s : AtRunning setup before node view)
-    → packet_for before node at ≡ Some packet → is_near setup view ≡ false
-    → tested_of setup before (events.Deliver node at)
-    ≡ on_poll setup before (events.Deliver node at) node (inputs.Deliver packet.from.member packet.channel packet.bytes) stops.None (Some (tooks.Packet at)) (Running s.made s.past)
+pub deliver-is : (setting : Setting) (before : List Noted) (node : Node) (at : Ref) (view : ℕ) (packet : Packet) → (s : AtRunning setting before node view)
+    → packet_for before node at ≡ Some packet → is_near setting.setup view ≡ false
+    → tested_of setting before (events.Deliver node at)
+    ≡ on_poll setting.setup before (events.Deliver node at) node (inputs.Deliver packet.from.member packet.channel packet.bytes) stops.None (Some (tooks.Packet at)) (Running s.made s.past)
 unfolding made_of noted_poll polled refusal_of
-deliver-is setup before node at view packet s some near = deliver_made setup before node at _ s.engine made
+deliver-is setting before node at view packet s some near = deliver_made setting before node at _ s.engine made
   where
-    made : made_of setup before (events.Deliver node at)
-        ≡ on_poll setup before (events.Deliver node at) node (inputs.Deliver packet.from.member packet.channel packet.bytes) stops.None (Some (tooks.Packet at)) (Running s.made s.past)
+    made : made_of setting before (events.Deliver node at)
+        ≡ on_poll setting.setup before (events.Deliver node at) node (inputs.Deliver packet.from.member packet.channel packet.bytes) stops.None (Some (tooks.Packet at)) (Running s.made s.past)
     made =
         rw (s.exists, s.engine, s.life, some) (if_not _ _ _ (rw s.current at near))
-        ∙ sym (poll-taken setup before (events.Deliver node at) node (inputs.Deliver packet.from.member packet.channel packet.bytes) stops.None (Some (tooks.Packet at)) s.made s.past
+        ∙ sym (poll-taken setting.setup before (events.Deliver node at) node (inputs.Deliver packet.from.member packet.channel packet.bytes) stops.None (Some (tooks.Packet at)) s.made s.past
         (rw s.goes refl))
 
-pub answer-none : (setup : Setup) (before : List Noted) (node : Node) (at : Ref) (answer : Answer) (view : ℕ) → AtRunning setup before node view
-    → None ≡ request_number before node at → tested_of setup before (events.Answer node at answer) ≡ Err refusals.NotPending
+pub answer-none : (setting : Setting) (before : List Noted) (node : Node) (at : Ref) (answer : Answer) (view : ℕ) → AtRunning setting before node view
+    → None ≡ request_number before node at → tested_of setting before (events.Answer node at answer) ≡ Err refusals.NotPending
 unfolding tested_of made_of
-answer-none setup before node at answer view s none = rw (s.exists, s.engine, s.life, ← none) refl
+answer-none setting before node at answer view s none = rw (s.exists, s.engine, s.life, ← none) refl
 
 answer_by : (setup : Setup) (before : List Noted) (node : Node) (at : Ref) (answer : Answer) (number : ℕ) (made : EngineMade) (past : List Did) → runs past ≡ true
     → (b : Bool) → takes_reply made past number answer ≡ b
@@ -222,41 +223,41 @@ unfolding on_poll unless noted_poll polled refusal_of taken_of
 answer_by setup before node at answer number made past goes true e = rw (goes, e) refl
 answer_by setup before node at answer number made past goes false e = rw (goes, e) refl
 
-pub answer-is : (setup : Setup) (before : List Noted) (node : Node) (at : Ref) (answer : Answer) (number view : ℕ) → (s : AtRunning setup before node view)
+pub answer-is : (setting : Setting) (before : List Noted) (node : Node) (at : Ref) (answer : Answer) (number view : ℕ) → (s : AtRunning setting before node view)
     → Some number ≡ request_number before node at
-    → tested_of setup before (events.Answer node at answer) ≡ on_poll setup before (events.Answer node at answer) node (inputs.Answer number answer) stops.None None (Running s.made s.past)
+    → tested_of setting before (events.Answer node at answer) ≡ on_poll setting.setup before (events.Answer node at answer) node (inputs.Answer number answer) stops.None None (Running s.made s.past)
 unfolding tested_of made_of
-answer-is setup before node at answer number view s some =
-    rw (s.exists, s.engine, s.life, ← some) (answer_by setup before node at answer number s.made s.past s.goes (takes_reply s.made s.past number answer) refl)
+answer-is setting before node at answer number view s some =
+    rw (s.exists, s.engine, s.life, ← some) (answer_by setting.setup before node at answer number s.made s.past s.goes (takes_reply s.made s.past number answer) refl)
 
 -- ---- a node of a faulty member without an engine
 
-pub start-faulty : (setup : Setup) (before : List Noted) (node : Node) (floor : Option Finalization) (stop : Stop) → AtFaulty setup node
-    → tested_of setup before (events.Start node floor stop) ≡ Err refusals.NotStopped
+pub start-faulty : (setting : Setting) (before : List Noted) (node : Node) (floor : Option Finalization) (stop : Stop) → AtFaulty setting.setup node
+    → tested_of setting before (events.Start node floor stop) ≡ Err refusals.NotStopped
 unfolding tested_of made_of
-start-faulty setup before node floor stop s = rw (s.exists, s.engine) refl
+start-faulty setting before node floor stop s = rw (s.exists, s.engine) refl
 
-pub answer-faulty : (setup : Setup) (before : List Noted) (node : Node) (at : Ref) (answer : Answer) → AtFaulty setup node
-    → tested_of setup before (events.Answer node at answer) ≡ Err refusals.NotPending
+pub answer-faulty : (setting : Setting) (before : List Noted) (node : Node) (at : Ref) (answer : Answer) → AtFaulty setting.setup node
+    → tested_of setting before (events.Answer node at answer) ≡ Err refusals.NotPending
 unfolding tested_of made_of
-answer-faulty setup before node at answer s = rw (s.exists, s.engine) refl
+answer-faulty setting before node at answer s = rw (s.exists, s.engine) refl
 
-pub step-faulty : (setup : Setup) (before : List Noted) (node : Node) (source : StepSource) (stop : Stop) → AtFaulty setup node
-    → tested_of setup before (events.Step node source stop) ≡ Ok (noted_idle before (events.Step node source stop) node)
+pub step-faulty : (setting : Setting) (before : List Noted) (node : Node) (source : StepSource) (stop : Stop) → AtFaulty setting.setup node
+    → tested_of setting before (events.Step node source stop) ≡ Ok (noted_idle before (events.Step node source stop) node)
 unfolding tested_of made_of
-step-faulty setup before node source stop s = rw (s.exists, s.engine) refl
+step-faulty setting before node source stop s = rw (s.exists, s.engine) refl
 
-pub crash-faulty : (setup : Setup) (before : List Noted) (node : Node) → AtFaulty setup node
-    → tested_of setup before (events.Crash node) ≡ Ok (noted_idle before (events.Crash node) node)
+pub crash-faulty : (setting : Setting) (before : List Noted) (node : Node) → AtFaulty setting.setup node
+    → tested_of setting before (events.Crash node) ≡ Ok (noted_idle before (events.Crash node) node)
 unfolding tested_of made_of
-crash-faulty setup before node s = rw (s.exists, s.engine) refl
+crash-faulty setting before node s = rw (s.exists, s.engine) refl
 
-pub hear-lacks : (setup : Setup) (before : List Noted) (node : Node) (at : Ref) → is_node setup node ≡ true → runs_engine setup node.member ≡ false → packet_for before node at ≡ None
-    → tested_of setup before (events.Deliver node at) ≡ Err refusals.NoPacket
+pub hear-lacks : (setting : Setting) (before : List Noted) (node : Node) (at : Ref) → is_node setting.setup node ≡ true → runs_engine setting.setup node.member ≡ false → packet_for before node at ≡ None
+    → tested_of setting before (events.Deliver node at) ≡ Err refusals.NoPacket
 unfolding made_of
-hear-lacks setup before node at exists engine none = deliver_refused setup before node at refusals.NoPacket made
+hear-lacks setting before node at exists engine none = deliver_refused setting before node at refusals.NoPacket made
   where
-    made : made_of setup before (events.Deliver node at) ≡ Err refusals.NoPacket
+    made : made_of setting before (events.Deliver node at) ≡ Err refusals.NoPacket
     made = rw (exists, engine, none) refl
 
 -- what it sends when it hears the packet
@@ -265,38 +266,38 @@ noted_hearing setup before node at packet =
     noted_packets before (events.Deliver node at) node (Some (tooks.Packet at))
     (map (sent_by setup node) (heard_by setup node.member (kind_of setup node.member) (heard_in before node) (heard_of packet)))
 
-hear_made : (setup : Setup) (before : List Noted) (node : Node) (at : Ref) (packet : Packet) → is_node setup node ≡ true → runs_engine setup node.member ≡ false
-    → packet_for before node at ≡ Some packet → made_of setup before (events.Deliver node at) ≡ Ok (noted_hearing setup before node at packet)
+hear_made : (setting : Setting) (before : List Noted) (node : Node) (at : Ref) (packet : Packet) → is_node setting.setup node ≡ true → runs_engine setting.setup node.member ≡ false
+    → packet_for before node at ≡ Some packet → made_of setting before (events.Deliver node at) ≡ Ok (noted_hearing setting.setup before node at packet)
 unfolding made_of
-hear_made setup before node at packet exists engine some = rw (exists, engine, some) refl
+hear_made setting before node at packet exists engine some = rw (exists, engine, some) refl
 
 -- only where it may be forged it is tested
-pub hear-is : (setup : Setup) (before : List Noted) (node : Node) (at : Ref) (packet : Packet) → is_node setup node ≡ true → runs_engine setup node.member ≡ false
+pub hear-is : (setting : Setting) (before : List Noted) (node : Node) (at : Ref) (packet : Packet) → is_node setting.setup node ≡ true → runs_engine setting.setup node.member ≡ false
     → packet_for before node at ≡ Some packet
-    → tested_of setup before (events.Deliver node at) ≡ heard_test setup before node (noted_hearing setup before node at packet)
+    → tested_of setting before (events.Deliver node at) ≡ heard_test setting.setup before node (noted_hearing setting.setup before node at packet)
 unfolding tested_of entry_of
-hear-is setup before node at packet exists engine some = by (is_of_kind is_impersonator setup node.member)
+hear-is setting before node at packet exists engine some = by (is_of_kind is_impersonator setting.setup node.member)
   where
-    made : made_of setup before (events.Deliver node at) ≡ Ok (noted_hearing setup before node at packet)
-    made = hear_made setup before node at packet exists engine some
+    made : made_of setting before (events.Deliver node at) ≡ Ok (noted_hearing setting.setup before node at packet)
+    made = hear_made setting before node at packet exists engine some
 
-    by : (b : Bool) → (if b then unless_forged setup before (made_of setup before (events.Deliver node at)) else made_of setup before (events.Deliver node at))
-        ≡ (if b then unless_forged setup before (Ok (noted_hearing setup before node at packet)) else Ok (noted_hearing setup before node at packet))
-    by true = ap (λ r. unless_forged setup before r) made
+    by : (b : Bool) → (if b then unless_forged setting.setup before (made_of setting before (events.Deliver node at)) else made_of setting before (events.Deliver node at))
+        ≡ (if b then unless_forged setting.setup before (Ok (noted_hearing setting.setup before node at packet)) else Ok (noted_hearing setting.setup before node at packet))
+    by true = ap (λ r. unless_forged setting.setup before r) made
     by false = made
 
 -- ---- bytes that are injected
 
-pub inject-missing : (setup : Setup) (before : List Noted) (member : ℕ) (channel : Channel) (to : List Node) (bytes : List ℕ)
-    → (nat_lt member (members_of setup) && list_all (is_node setup) to) ≡ false → tested_of setup before (events.Inject member channel to bytes) ≡ Err refusals.NoMember
+pub inject-missing : (setting : Setting) (before : List Noted) (member : ℕ) (channel : Channel) (to : List Node) (bytes : List ℕ)
+    → (nat_lt member (members_of setting.setup) && list_all (is_node setting.setup) to) ≡ false → tested_of setting before (events.Inject member channel to bytes) ≡ Err refusals.NoMember
 unfolding tested_of entry_of made_of unless_forged
-inject-missing setup before member channel to bytes e = rw e refl
+inject-missing setting before member channel to bytes e = rw e refl
 
-pub inject-honest : (setup : Setup) (before : List Noted) (member : ℕ) (channel : Channel) (to : List Node) (bytes : List ℕ)
-    → (nat_lt member (members_of setup) && list_all (is_node setup) to) ≡ true → is_honest setup member ≡ true
-    → tested_of setup before (events.Inject member channel to bytes) ≡ Err refusals.NotFaulty
+pub inject-honest : (setting : Setting) (before : List Noted) (member : ℕ) (channel : Channel) (to : List Node) (bytes : List ℕ)
+    → (nat_lt member (members_of setting.setup) && list_all (is_node setting.setup) to) ≡ true → is_honest setting.setup member ≡ true
+    → tested_of setting before (events.Inject member channel to bytes) ≡ Err refusals.NotFaulty
 unfolding tested_of entry_of made_of unless_forged
-inject-honest setup before member channel to bytes e honest = rw (e, honest) refl
+inject-honest setting before member channel to bytes e honest = rw (e, honest) refl
 
 -- what the bytes make
 abbrev pub noted_bytes : List Noted → ℕ → Channel → List Node → List ℕ → Noted
@@ -304,22 +305,22 @@ noted_bytes before member channel to bytes =
     noted_packets before (events.Inject member channel to bytes) (node_of member) None
     (record { from = node_of member; channel = channel; to = to; bytes = bytes } ∷ [])
 
-pub inject-is : (setup : Setup) (before : List Noted) (member : ℕ) (channel : Channel) (to : List Node) (bytes : List ℕ)
-    → (nat_lt member (members_of setup) && list_all (is_node setup) to) ≡ true → is_honest setup member ≡ false
-    → tested_of setup before (events.Inject member channel to bytes) ≡ unless_forged setup before (Ok (noted_bytes before member channel to bytes))
+pub inject-is : (setting : Setting) (before : List Noted) (member : ℕ) (channel : Channel) (to : List Node) (bytes : List ℕ)
+    → (nat_lt member (members_of setting.setup) && list_all (is_node setting.setup) to) ≡ true → is_honest setting.setup member ≡ false
+    → tested_of setting before (events.Inject member channel to bytes) ≡ unless_forged setting.setup before (Ok (noted_bytes before member channel to bytes))
 unfolding tested_of entry_of made_of
-inject-is setup before member channel to bytes e faulty = rw (e, faulty) refl
+inject-is setting before member channel to bytes e faulty = rw (e, faulty) refl
 
 -- ---- a tick
 
-pub tick-late : (setup : Setup) (before : List Noted) (clock ms : ℕ) → clock ≡ clock_of before → clock < 2 ^ 63 → (2 ^ 63 - 1) - clock < ms
-    → tested_of setup before (events.Tick ms) ≡ Err refusals.ClockEnd
+pub tick-late : (setting : Setting) (before : List Noted) (clock ms : ℕ) → clock ≡ clock_of before → clock < 2 ^ 63 → (2 ^ 63 - 1) - clock < ms
+    → tested_of setting before (events.Tick ms) ≡ Err refusals.ClockEnd
 unfolding tested_of made_of
-tick-late setup before clock ms is early late =
+tick-late setting before clock ms is early late =
     let past : nat_le (clock_of before + ms) (2 ^ 63 - 1) ≡ false = rw (← is) (grind (arith, common_steps)) in rw past refl
 
-pub tick-is : (setup : Setup) (before : List Noted) (clock ms : ℕ) → clock ≡ clock_of before → clock < 2 ^ 63 → ms ≤ (2 ^ 63 - 1) - clock
-    → tested_of setup before (events.Tick ms) ≡ Ok (noted_blank before (events.Tick ms) None)
+pub tick-is : (setting : Setting) (before : List Noted) (clock ms : ℕ) → clock ≡ clock_of before → clock < 2 ^ 63 → ms ≤ (2 ^ 63 - 1) - clock
+    → tested_of setting before (events.Tick ms) ≡ Ok (noted_blank before (events.Tick ms) None)
 unfolding tested_of made_of
-tick-is setup before clock ms is early within =
+tick-is setting before clock ms is early within =
     let held : nat_le (clock_of before + ms) (2 ^ 63 - 1) ≡ true = rw (← is) (grind (arith, common_steps)) in rw held refl

@@ -22,6 +22,7 @@ use Rattle.simplex_engine.specs.declared.input.TakenInside.{TakenInside}
 use Rattle.simplex_engine.specs.declared.error.PollError.{PollError}
 use Rattle.simplex_engine.specs.declared.error.PollError.TheVariants as errors
 use Rattle.simplex_engine.specs.Polled.{polled, refusal_of, is_memory}
+use Rattle.simplex_run.specs.Setting.{Setting}
 use Rattle.simplex_run.specs.Life.{Noted, Life, Stopped, Running, clock_of, after, went_on}
 use Rattle.simplex_run.specs.Entries.{took_of, entry_with}
 use Rattle.simplex_records.specs.Events.{AreFrom}
@@ -66,31 +67,31 @@ pub same-ok : {A E : Type 0} (x y : A) (r : Result A E) → r ≡ Ok x → r ≡
 same-ok x y r a b = cc
 
 -- what was noted of an input that was taken
-pub record IsNotedPoll (setup : Setup) (before : List Noted) (of : Event) (node : Node) (input : Input) (stop : Stop) (life : Life) (noted : Noted) : Type 0 where
+pub record IsNotedPoll (setting : Setting) (before : List Noted) (of : Event) (node : Node) (input : Input) (stop : Stop) (life : Life) (noted : Noted) : Type 0 where
   pub same : noted.event ≡ of
   pub from : AreFrom node noted.entry.packets
-  pub goes : ((did : Did) → after setup of (Some did) life ≡ went_on did life) → after setup noted.event noted.did life ≡ after_poll input (clock_of before) stop life
+  pub goes : ((did : Did) → after setting of (Some did) life ≡ went_on did life) → after setting noted.event noted.did life ≡ after_poll input (clock_of before) stop life
 
-noted_running : (setup : Setup) (before : List Noted) (event : Event) (node : Node) (input : Input) (stop : Stop) (outside : Option Took)
+noted_running : (setting : Setting) (before : List Noted) (event : Event) (node : Node) (input : Input) (stop : Stop) (outside : Option Took)
     (made : EngineMade) (past : List Did)
-    → IsNotedPoll setup before event node input stop (Running made past) (noted_poll setup before event node input stop outside made past)
+    → IsNotedPoll setting before event node input stop (Running made past) (noted_poll setting.setup before event node input stop outside made past)
 unfolding noted_poll after_poll
-noted_running setup before event node input stop outside made past =
+noted_running setting before event node input stop outside made past =
     record {
       same = refl;
-      from = packets-from setup node (polled made past input (clock_of before) stop).out.calls;
+      from = packets-from setting.setup node (polled made past input (clock_of before) stop).out.calls;
       goes = λ goes. goes (polled made past input (clock_of before) stop);
     }
 
-pub poll-noted : (setup : Setup) (before : List Noted) (event : Event) (node : Node) (input : Input) (stop : Stop) (outside : Option Took)
+pub poll-noted : (setting : Setting) (before : List Noted) (event : Event) (node : Node) (input : Input) (stop : Stop) (outside : Option Took)
     (outcome : Outcome) (taken : Option TakenInside) (out : StepOut) (now : ℕ) (life : Life) (noted : Noted)
-    → IsPolled life input now stop outcome taken out → on_poll setup before event node input stop outside life ≡ Ok noted
-    → IsNotedPoll setup before event node input stop life noted
+    → IsPolled life input now stop outcome taken out → on_poll setting.setup before event node input stop outside life ≡ Ok noted
+    → IsNotedPoll setting before event node input stop life noted
 unfolding IsPolled
-poll-noted setup before event node input stop outside outcome taken out now (Stopped sections) noted gave is = absurd gave
-poll-noted setup before event node input stop outside outcome taken out now (Running made past) noted gave is =
-    rw (same-ok noted _ _ is (poll-taken setup before event node input stop outside made past gave.0))
-    (noted_running setup before event node input stop outside made past)
+poll-noted setting before event node input stop outside outcome taken out now (Stopped sections) noted gave is = absurd gave
+poll-noted setting before event node input stop outside outcome taken out now (Running made past) noted gave is =
+    rw (same-ok noted _ _ is (poll-taken setting.setup before event node input stop outside made past gave.0))
+    (noted_running setting before event node input stop outside made past)
 
 -- an input that was refused
 unless_some : (error : Option PollError) (refused : PollError) (noted : Noted) → error ≡ Some refused → unless error noted ≡ Err (as_run_error refused)
@@ -118,14 +119,14 @@ whole-error errors.Memory e = absurd (cc)
 pub step-input : (node : Node) (source : StepSource) (stop : Stop) → IsInput (events.Step node source stop) node
 unfolding after clock_of
 step-input node source stop =
-    record { of = record { of = λ other. refl; start = refl }; goes = λ setup did life. refl; time = λ noted before is. rw is refl }
+    record { of = record { of = λ other. refl; start = refl }; goes = λ setting did life. refl; time = λ noted before is. rw is refl }
 
 pub deliver-input : (node : Node) (at : Ref) → IsInput (events.Deliver node at) node
 unfolding after clock_of
 deliver-input node at =
-    record { of = record { of = λ other. refl; start = refl }; goes = λ setup did life. refl; time = λ noted before is. rw is refl }
+    record { of = record { of = λ other. refl; start = refl }; goes = λ setting did life. refl; time = λ noted before is. rw is refl }
 
 pub answer-input : (node : Node) (at : Ref) (answer : Answer) → IsInput (events.Answer node at answer) node
 unfolding after clock_of
 answer-input node at answer =
-    record { of = record { of = λ other. refl; start = refl }; goes = λ setup did life. refl; time = λ noted before is. rw is refl }
+    record { of = record { of = λ other. refl; start = refl }; goes = λ setting did life. refl; time = λ noted before is. rw is refl }

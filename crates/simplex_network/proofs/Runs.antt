@@ -10,6 +10,7 @@ use Rattle.simplex_transcript.specs.declared.field.Field.{Field}
 use Rattle.simplex_transcript.specs.declared.refusal.RunError.{RunError}
 use Rattle.simplex_transcript.specs.declared.refusal.RunError.TheVariants as errors
 use Rattle.simplex_transcript.specs.declared.refusal.Refusal.{Refusal}
+use Rattle.simplex_run.specs.Setting.{Setting}
 use Rattle.simplex_run.specs.Life.{Noted}
 use Rattle.simplex_run.specs.Entries.{entry_of}
 use Rattle.simplex_run.specs.Setups.{first_bad}
@@ -23,16 +24,16 @@ abbrev pub in_order : List Noted → List Entry
 in_order before = reverse (map (λ n. n.entry) before)
 
 -- the network made the entries so far, and the events that are left lead to where all of them do
-pub record Ran (network : Network) (setup : Setup) (events left : List Event) (entries : List Entry) (number : ℕ) : Type 0 where
+pub record Ran (network : Network) (setting : Setting) (events left : List Event) (entries : List Entry) (number : ℕ) : Type 0 where
   pub before : List Noted
-  pub stands : StandsFor network setup before
-  pub ends : run setup before left ≡ run setup [] events
+  pub stands : StandsFor network setting before
+  pub ends : run setting before left ≡ run setting [] events
   pub made : in_order before ≡ entries
   pub count : number ≡ length before
   pub total : length before + length left ≡ length events
 
-pub ran-none : (network : Network) (setup : Setup) (events : List Event) → StandsFor network setup [] → Ran network setup events events [] 0
-ran-none network setup events stands =
+pub ran-none : (network : Network) (setting : Setting) (events : List Event) → StandsFor network setting [] → Ran network setting events events [] 0
+ran-none network setting events stands =
     record { before = []; stands = stands; ends = refl; made = refl; count = refl; total = omega arith }
 
 -- what was noted where the entry is this
@@ -47,47 +48,47 @@ in_order-push before noted = rw (reverse-append (noted.entry ∷ []) (map (λ n.
 next_of : (events : List Event) (i : ℕ) (event : Event) → i < length events → event ≡ get_or events i event → drop i events ≡ event ∷ drop (i + 1) events
 next_of events i event lt is = drop_more events i event lt ∙ ap (λ e. e ∷ drop (i + 1) events) (sym is)
 
-pub ran-more : (old new : Network) (setup : Setup) (events : List Event) (entries : List Entry) (i number : ℕ) (event : Event) (entry : Entry) → i < length events
-    → event ≡ get_or events i event → Ran old setup events (drop i events) entries number → Grows old new event entry → Enters old event entry
-    → Ran new setup events (drop (i + 1) events) (entries ++ entry ∷ []) (number + 1)
+pub ran-more : (old new : Network) (setting : Setting) (events : List Event) (entries : List Entry) (i number : ℕ) (event : Event) (entry : Entry) → i < length events
+    → event ≡ get_or events i event → Ran old setting events (drop i events) entries number → Grows old new event entry → Enters old event entry
+    → Ran new setting events (drop (i + 1) events) (entries ++ entry ∷ []) (number + 1)
 unfolding run unless_refused
-ran-more old new setup events entries i number event entry lt at ran grows enters =
-    let ends : run setup ran.before (event ∷ drop (i + 1) events) ≡ run setup [] events =
-    ap (λ left. run setup ran.before left) (sym (next_of events i event lt at)) ∙ ran.ends in
-    let noted = noted_of entry (entry_of setup ran.before event) (enters setup ran.before ran.stands) in
+ran-more old new setting events entries i number event entry lt at ran grows enters =
+    let ends : run setting ran.before (event ∷ drop (i + 1) events) ≡ run setting [] events =
+    ap (λ left. run setting ran.before left) (sym (next_of events i event lt at)) ∙ ran.ends in
+    let noted = noted_of entry (entry_of setting ran.before event) (enters setting ran.before ran.stands) in
     record {
       before = noted.0 ∷ ran.before;
-      stands = grows setup ran.before noted.0 ran.stands noted.1;
+      stands = grows setting ran.before noted.0 ran.stands noted.1;
       ends = rw noted.1 at ends;
       made = in_order-push ran.before noted.0 ∙ ap (λ es. es ++ noted.0.entry ∷ []) ran.made ∙ ap (λ e. entries ++ e ∷ []) noted.2;
       count = omega (arith, ran.count);
       total = omega (arith, ran.total, length-drop i events, length-drop (i + 1) events);
     }
 
-pub ran-refused : (network : Network) (setup : Setup) (events : List Event) (entries : List Entry) (i number : ℕ) (event : Event) (error : RunError) → i < length events
-    → event ≡ get_or events i event → Ran network setup events (drop i events) entries number → Refuses network event error
-    → run setup [] events ≡ Err (refused error (number + 1))
+pub ran-refused : (network : Network) (setting : Setting) (events : List Event) (entries : List Entry) (i number : ℕ) (event : Event) (error : RunError) → i < length events
+    → event ≡ get_or events i event → Ran network setting events (drop i events) entries number → Refuses network event error
+    → run setting [] events ≡ Err (refused error (number + 1))
 unfolding run unless_refused
-ran-refused network setup events entries i number event error lt at ran refuses =
-    let ends : run setup ran.before (event ∷ drop (i + 1) events) ≡ run setup [] events =
-    ap (λ left. run setup ran.before left) (sym (next_of events i event lt at)) ∙ ran.ends in
-    sym (rw (refuses setup ran.before ran.stands) at ends) ∙ ap (λ n. Err (refused error (n + 1))) (sym ran.count)
+ran-refused network setting events entries i number event error lt at ran refuses =
+    let ends : run setting ran.before (event ∷ drop (i + 1) events) ≡ run setting [] events =
+    ap (λ left. run setting ran.before left) (sym (next_of events i event lt at)) ∙ ran.ends in
+    sym (rw (refuses setting ran.before ran.stands) at ends) ∙ ap (λ n. Err (refused error (n + 1))) (sym ran.count)
 
 -- all events are made
-all_made : (network : Network) (setup : Setup) (events : List Event) (entries : List Entry) (i number : ℕ) → length events ≤ i
-    → (ran : Ran network setup events (drop i events) entries number) → run setup [] events ≡ Ok ran.before
+all_made : (network : Network) (setting : Setting) (events : List Event) (entries : List Entry) (i number : ℕ) → length events ≤ i
+    → (ran : Ran network setting events (drop i events) entries number) → run setting [] events ≡ Ok ran.before
 unfolding run
-all_made network setup events entries i number le ran =
-    sym (ap (λ left. run setup ran.before left) (sym (drop_all i events le)) ∙ ran.ends)
+all_made network setting events entries i number le ran =
+    sym (ap (λ left. run setting ran.before left) (sym (drop_all i events le)) ∙ ran.ends)
 
-pub ran-all : (network : Network) (setup : Setup) (events : List Event) (entries : List Entry) (i number : ℕ) → length events ≤ i
-    → Ran network setup events (drop i events) entries number → transcript_of (run setup [] events) ≡ Ok entries
-ran-all network setup events entries i number le ran =
-    ap (λ r. transcript_of r) (all_made network setup events entries i number le ran) ∙ ap (λ es. Ok es) ran.made
+pub ran-all : (network : Network) (setting : Setting) (events : List Event) (entries : List Entry) (i number : ℕ) → length events ≤ i
+    → Ran network setting events (drop i events) entries number → transcript_of (run setting [] events) ≡ Ok entries
+ran-all network setting events entries i number le ran =
+    ap (λ r. transcript_of r) (all_made network setting events entries i number le ran) ∙ ap (λ es. Ok es) ran.made
 
-pub ran-network : (network : Network) (setup : Setup) (events : List Event) (entries : List Entry) (i number : ℕ) → length events ≤ i
-    → Ran network setup events (drop i events) entries number → MadeBy network setup (run setup [] events)
-ran-network network setup events entries i number le ran = rw (all_made network setup events entries i number le ran) ran.stands
+pub ran-network : (network : Network) (setting : Setting) (events : List Event) (entries : List Entry) (i number : ℕ) → length events ≤ i
+    → Ran network setting events (drop i events) entries number → MadeBy network setting (run setting [] events)
+ran-network network setting events entries i number le ran = rw (all_made network setting events entries i number le ran) ran.stands
 
 -- ---- a setup that is refused
 
@@ -115,15 +116,15 @@ setup-good setup is = none_bad (first_bad setup) is
 
 -- ---- all of a run
 
-pub ran-done : (network : Network) (setup : Setup) (events : List Event) (entries : List Entry) (i number : ℕ) → setup_refusal setup ≡ None
-    → length events ≤ i → Ran network setup events (drop i events) entries number
-    → unless_bad (first_bad setup) (transcript_of (run setup [] events)) ≡ Ok entries
-ran-done network setup events entries i number allowed le ran = rw (setup-good setup allowed) (ran-all network setup events entries i number le ran)
+pub ran-done : (network : Network) (setting : Setting) (events : List Event) (entries : List Entry) (i number : ℕ) → setup_refusal setting.setup ≡ None
+    → length events ≤ i → Ran network setting events (drop i events) entries number
+    → unless_bad (first_bad setting.setup) (transcript_of (run setting [] events)) ≡ Ok entries
+ran-done network setting events entries i number allowed le ran = rw (setup-good setting.setup allowed) (ran-all network setting events entries i number le ran)
 
-pub ran-ends : (network : Network) (setup : Setup) (events : List Event) (entries : List Entry) (i number : ℕ) (event : Event) (error : RunError) (refusal : Refusal)
-    → setup_refusal setup ≡ None → i < length events → event ≡ get_or events i event → Ran network setup events (drop i events) entries number
+pub ran-ends : (network : Network) (setting : Setting) (events : List Event) (entries : List Entry) (i number : ℕ) (event : Event) (error : RunError) (refusal : Refusal)
+    → setup_refusal setting.setup ≡ None → i < length events → event ≡ get_or events i event → Ran network setting events (drop i events) entries number
     → refusal ≡ refused error (number + 1) → is_memory refusal.error ≡ false → (is_memory error ≡ false → Refuses network event error)
-    → unless_bad (first_bad setup) (transcript_of (run setup [] events)) ≡ Err refusal
-ran-ends network setup events entries i number event error refusal allowed lt at ran is whole refuses =
-    rw (is, setup-good setup allowed)
-    (ap (λ r. transcript_of r) (ran-refused network setup events entries i number event error lt at ran (refuses (rw is at whole))))
+    → unless_bad (first_bad setting.setup) (transcript_of (run setting [] events)) ≡ Err refusal
+ran-ends network setting events entries i number event error refusal allowed lt at ran is whole refuses =
+    rw (is, setup-good setting.setup allowed)
+    (ap (λ r. transcript_of r) (ran-refused network setting events entries i number event error lt at ran (refuses (rw is at whole))))

@@ -13,6 +13,7 @@ use Rattle.simplex_transcript.specs.declared.node.Ref.{Ref}
 use Rattle.simplex_transcript.specs.declared.setup.Setup.{Setup}
 use Rattle.simplex_transcript.specs.declared.setup.MemberKind.{MemberKind}
 use Rattle.simplex_transcript.specs.declared.setup.MemberKind.TheVariants as kinds
+use Rattle.simplex_run.specs.Setting.{Setting}
 use Rattle.simplex_run.specs.Kinds.{members_of, is_of_kind, is_faulty, is_honest, has_engine, runs_engine, node_of}
 use Rattle.simplex_run.specs.Members.{kind_of}
 use Rattle.simplex_run.specs.Life.{Noted, clock_of}
@@ -76,81 +77,84 @@ hears_it before node at packet some = rw (same_self node) (ap (λ o. option_map 
 deliver_of : (node : Node) (at : Ref) → IsOf (events.Deliver node at) node false
 deliver_of node at = record { of = λ other. refl; start = refl }
 
-part_hears : (setup : Setup) (before : List Noted) (node : Node) → runs_engine setup node.member ≡ false → part_in setup before node ≡ Hears (heard_in before node)
+part_hears : (setting : Setting) (before : List Noted) (node : Node) → runs_engine setting.setup node.member ≡ false → part_in setting before node ≡ Hears (heard_in before node)
 unfolding part_in
-part_hears setup before node e = rw e refl
+part_hears setting before node e = rw e refl
 
 -- what it sends is the rule's
-pub network-says : (old : Network) (setup : Setup) (before : List Noted) (node : Node) (packet : Packet) (sent : List Sent) (packets : List Packet) → Keeps old setup before
-    → runs_engine setup node.member ≡ false
+pub network-says : (old : Network) (setting : Setting) (before : List Noted) (node : Node) (packet : Packet) (sent : List Sent) (packets : List Packet) → Keeps old setting before
+    → runs_engine setting.setup node.member ≡ false
     → ((setup : Setup) (parts : Node → Part) (past : List Heard) → HostsStand setup old.hosts.list.items parts → parts node ≡ Hears past
     → sent ≡ heard_by setup node.member (kind_of setup node.member) past (heard_of packet))
     → packets ≡ map (sent_by old.setup node) sent
-    → packets ≡ map (sent_by setup node) (heard_by setup node.member (kind_of setup node.member) (heard_in before node) (heard_of packet))
-network-says old setup before node packet sent packets s engine says made =
-    rw s.given at made ∙ ap (λ (l : List Sent). map (sent_by setup node) l) (says setup (part_in setup before) (heard_in before node) (rw s.given at s.hosts) (part_hears setup before node engine))
+    → packets ≡ map (sent_by setting.setup node) (heard_by setting.setup node.member (kind_of setting.setup node.member) (heard_in before node) (heard_of packet))
+network-says old setting before node packet sent packets s engine says made =
+    rw s.given at made ∙ ap (λ (l : List Sent). map (sent_by setting.setup node) l) (says setting.setup (part_in setting before) (heard_in before node) (rw s.given at s.hosts) (part_hears setting before node engine))
 
-pub network-heard : (old new : Network) (setup : Setup) (before : List Noted) (node : Node) (at : Ref) (packet : Packet) (packets : List Packet) (entry : Entry)
-    → new.setup ≡ old.setup → new.failed ≡ old.failed → new.clock ≡ old.clock → Keeps old setup before → node.member < members_of setup → runs_engine setup node.member ≡ false
+pub network-heard : (old new : Network) (setting : Setting) (before : List Noted) (node : Node) (at : Ref) (packet : Packet) (packets : List Packet) (entry : Entry)
+    → new.setup ≡ old.setup → new.genesis ≡ old.genesis → new.failed ≡ old.failed → new.clock ≡ old.clock → Keeps old setting before → node.member < members_of setting.setup → runs_engine setting.setup node.member ≡ false
     → packet_for before node at ≡ Some packet
-    → packets ≡ (noted_hearing setup before node at packet).entry.packets
+    → packets ≡ (noted_hearing setting.setup before node at packet).entry.packets
     → ((setup : Setup) (parts : Node → Part) (past : List Heard) → HostsStand setup old.hosts.list.items parts → parts node ≡ Hears past
     → HostsStand setup new.hosts.list.items (changed node (Hears (heard_of packet ∷ past)) parts))
-    → entry ≡ (noted_hearing setup before node at packet).entry
+    → entry ≡ (noted_hearing setting.setup before node at packet).entry
     → ((setup : Setup) (before : List Noted) (noted : Noted) → noted.entry ≡ entry → is_start noted.event ≡ false → is_honest setup node.member ≡ false → AreFrom node packets
     → RecordsStand old.records setup before → RecordsStand new.records setup (noted ∷ before))
-    → Keeps new setup (noted_hearing setup before node at packet ∷ before)
+    → Keeps new setting (noted_hearing setting.setup before node at packet ∷ before)
 unfolding clock_of
-network-heard old new setup before node at packet packets entry same_setup same_failed same_clock s below engine some made moves entry_is keeps =
-    let noted = noted_hearing setup before node at packet in
+network-heard old new setting before node at packet packets entry same_setup same_genesis same_failed same_clock s below engine some made moves entry_is keeps =
+    let noted = noted_hearing setting.setup before node at packet in
     record {
       given = same_setup ∙ s.given;
+      genesis = same_genesis ∙ s.genesis;
       alive = same_failed ∙ s.alive;
       clock = same_clock ∙ s.clock;
-      hosts = rw (same_setup, s.given) (hosts-like setup new.hosts.list.items _ (part_in setup (noted ∷ before))
-          (parts-hear setup before noted node (heard_of packet) (deliver_of node at) engine (hears_it before node at packet some))
-          (moves setup (part_in setup before) (heard_in before node) (rw s.given at s.hosts) (part_hears setup before node engine)));
-      records = keeps setup before noted (sym entry_is) refl (no_honest setup node.member engine)
-          (subst (λ (l : List Packet). AreFrom node l) (sym made) (all_from setup node (heard_by setup node.member (kind_of setup node.member) (heard_in before node) (heard_of packet))))
+      hosts = rw (same_setup, s.given) (hosts-like setting.setup new.hosts.list.items _ (part_in setting (noted ∷ before))
+          (parts-hear setting before noted node (heard_of packet) (deliver_of node at) engine (hears_it before node at packet some))
+          (moves setting.setup (part_in setting before) (heard_in before node) (rw s.given at s.hosts) (part_hears setting before node engine)));
+      records = keeps setting.setup before noted (sym entry_is) refl (no_honest setting.setup node.member engine)
+          (subst (λ (l : List Packet). AreFrom node l) (sym made) (all_from setting.setup node (heard_by setting.setup node.member (kind_of setting.setup node.member) (heard_in before node) (heard_of packet))))
           s.records;
-      senders = senders-more setup before noted node below (all_from setup node (heard_by setup node.member (kind_of setup node.member) (heard_in before node) (heard_of packet))) s.senders;
+      senders = senders-more setting.setup before noted node below (all_from setting.setup node (heard_by setting.setup node.member (kind_of setting.setup node.member) (heard_in before node) (heard_of packet))) s.senders;
     }
 
 -- what an impersonator says is refused, and it goes on as before
-pub network-unheard : (old new : Network) (setup : Setup) (before : List Noted) (node : Node) → new.setup ≡ old.setup → new.failed ≡ old.failed → new.clock ≡ old.clock
-    → new.records ≡ old.records → Keeps old setup before → runs_engine setup node.member ≡ false → is_of_kind is_impersonator old.setup node.member ≡ true
+pub network-unheard : (old new : Network) (setting : Setting) (before : List Noted) (node : Node) → new.setup ≡ old.setup → new.genesis ≡ old.genesis → new.failed ≡ old.failed → new.clock ≡ old.clock
+    → new.records ≡ old.records → Keeps old setting before → runs_engine setting.setup node.member ≡ false → is_of_kind is_impersonator old.setup node.member ≡ true
     → ((setup : Setup) (parts : Node → Part) (past : List Heard) → is_of_kind is_impersonator setup node.member ≡ true → HostsStand setup old.hosts.list.items parts → parts node ≡ Hears past
     → HostsStand setup new.hosts.list.items parts)
-    → Keeps new setup before
-network-unheard old new setup before node same_setup same_failed same_clock same_records s engine impersonates rests =
+    → Keeps new setting before
+network-unheard old new setting before node same_setup same_genesis same_failed same_clock same_records s engine impersonates rests =
     record {
       given = same_setup ∙ s.given;
+      genesis = same_genesis ∙ s.genesis;
       alive = same_failed ∙ s.alive;
       clock = same_clock ∙ s.clock;
-      hosts = rw (same_setup, s.given) (rests setup (part_in setup before) (heard_in before node) (rw s.given at impersonates) (rw s.given at s.hosts) (part_hears setup before node engine));
+      hosts = rw (same_setup, s.given) (rests setting.setup (part_in setting before) (heard_in before node) (rw s.given at impersonates) (rw s.given at s.hosts) (part_hears setting before node engine));
       records = rw same_records s.records;
       senders = s.senders;
     }
 
 -- ---- bytes that are injected
 
-pub network-spoke : (old new : Network) (setup : Setup) (before : List Noted) (member : ℕ) (channel : Channel) (to : List Node) (bytes : List ℕ) (packets : List Packet) (entry : Entry)
-    → new.setup ≡ old.setup → new.failed ≡ old.failed → new.clock ≡ old.clock → new.hosts ≡ old.hosts → Keeps old setup before → member < members_of setup → is_honest setup member ≡ false
+pub network-spoke : (old new : Network) (setting : Setting) (before : List Noted) (member : ℕ) (channel : Channel) (to : List Node) (bytes : List ℕ) (packets : List Packet) (entry : Entry)
+    → new.setup ≡ old.setup → new.genesis ≡ old.genesis → new.failed ≡ old.failed → new.clock ≡ old.clock → new.hosts ≡ old.hosts → Keeps old setting before → member < members_of setting.setup → is_honest setting.setup member ≡ false
     → packets ≡ (noted_bytes before member channel to bytes).entry.packets
     → entry ≡ (noted_bytes before member channel to bytes).entry
     → ((setup : Setup) (before : List Noted) (noted : Noted) → noted.entry ≡ entry → is_start noted.event ≡ false → is_honest setup member ≡ false → AreFrom (node_of member) packets
     → RecordsStand old.records setup before → RecordsStand new.records setup (noted ∷ before))
-    → Keeps new setup (noted_bytes before member channel to bytes ∷ before)
+    → Keeps new setting (noted_bytes before member channel to bytes ∷ before)
 unfolding clock_of
-network-spoke old new setup before member channel to bytes packets entry same_setup same_failed same_clock same_hosts s below faulty made entry_is keeps =
+network-spoke old new setting before member channel to bytes packets entry same_setup same_genesis same_failed same_clock same_hosts s below faulty made entry_is keeps =
     let noted = noted_bytes before member channel to bytes in
     record {
       given = same_setup ∙ s.given;
+      genesis = same_genesis ∙ s.genesis;
       alive = same_failed ∙ s.alive;
       clock = same_clock ∙ s.clock;
-      hosts = rw (same_setup, s.given, same_hosts) (hosts-like setup old.hosts.list.items (part_in setup before) (part_in setup (noted ∷ before))
-          (parts-still setup before noted (λ other runs. refl) (λ other. refl)) (rw s.given at s.hosts));
-      records = keeps setup before noted (sym entry_is) refl faulty
+      hosts = rw (same_setup, s.given, same_hosts) (hosts-like setting.setup old.hosts.list.items (part_in setting before) (part_in setting (noted ∷ before))
+          (parts-still setting before noted (λ other runs. refl) (λ other. refl)) (rw s.given at s.hosts));
+      records = keeps setting.setup before noted (sym entry_is) refl faulty
           (subst (λ (l : List Packet). AreFrom (node_of member) l) (sym made) (one_from member channel to bytes)) s.records;
-      senders = senders-more setup before noted (node_of member) below (one_from member channel to bytes) s.senders;
+      senders = senders-more setting.setup before noted (node_of member) below (one_from member channel to bytes) s.senders;
     }

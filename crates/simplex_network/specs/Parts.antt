@@ -15,6 +15,7 @@ use Rattle.simplex_engine.specs.declared.input.TakenInside.{TakenInside}
 use Rattle.simplex_engine.specs.declared.error.PollError.{PollError}
 use Rattle.simplex_engine.specs.declared.error.PollError.TheVariants as errors
 use Rattle.simplex_engine.specs.Polled.{polled, refusal_of, taken_inside}
+use Rattle.simplex_run.specs.Setting.{Setting}
 use Rattle.simplex_run.specs.Kinds.{is_node, is_same_node, runs_engine}
 use Rattle.simplex_run.specs.Life.{Noted, Life, Stopped, Running, going_on, life_in}
 use Rattle.simplex_run.specs.Mocks.{Heard}
@@ -28,8 +29,12 @@ pub data Part : Type 0 where
   Hears : (past : List Heard) → Part
 
 -- the part of a node, read from the entries so far
-unfoldable pub part_in : Setup → List Noted → Node → Part
-part_in setup before node = if runs_engine setup node.member then Lives (life_in setup before node) else Hears (heard_in before node)
+unfoldable pub part_in : Setting → List Noted → Node → Part
+part_in setting before node = if runs_engine setting.setup node.member then Lives (life_in setting before node) else Hears (heard_in before node)
+
+-- what it is at before any event
+abbrev pub first_part : Setup → Node → Part
+first_part setup node = if runs_engine setup node.member then Lives (Stopped []) else Hears []
 
 -- parts of which one is another
 unfoldable pub changed : Node → Part → (Node → Part) → Node → Part

@@ -18,6 +18,7 @@ use Rattle.simplex_engine.specs.declared.input.TakenInside.TheVariants as inside
 use Rattle.simplex_engine.specs.declared.error.PollError.{PollError}
 use Rattle.simplex_engine.specs.declared.error.PollError.TheVariants as errors
 use Rattle.simplex_engine.specs.Polled.{polled, refusal_of}
+use Rattle.simplex_run.specs.Setting.{Setting}
 use Rattle.simplex_run.specs.Kinds.{is_same_node}
 use Rattle.simplex_run.specs.Members.{floor_of, engine_of}
 use Rattle.simplex_run.specs.Life.{Noted, Life, Stopped, Running, clock_of, is_of, after, went_on, sections_in}
@@ -28,8 +29,8 @@ use Rattle.simplex_forging.specs.Forging.{may_forge}
 -- ---- what is tested
 
 -- what an event makes, where that is tested for forgeries alone in which there may be one
-unfoldable pub tested_of : Setup → List Noted → Event → Result Noted RunError
-tested_of setup before event = if may_forge setup event then entry_of setup before event else made_of setup before event
+unfoldable pub tested_of : Setting → List Noted → Event → Result Noted RunError
+tested_of setting before event = if may_forge setting.setup event then entry_of setting before event else made_of setting before event
 
 -- ---- inputs
 
@@ -63,7 +64,7 @@ pub record IsOf (event : Event) (node : Node) (starts : Bool) : Type 0 where
 -- the event is an input of this node's engine
 pub record IsInput (event : Event) (node : Node) : Type 0 where
   pub of : IsOf event node false
-  pub goes : (setup : Setup) (did : Did) (life : Life) → after setup event (Some did) life ≡ went_on did life
+  pub goes : (setting : Setting) (did : Did) (life : Life) → after setting event (Some did) life ≡ went_on did life
   pub time : (noted : Noted) (before : List Noted) → noted.event ≡ event → clock_of (noted ∷ before) ≡ clock_of before
 
 -- what was taken from inside an engine, its request named by its place
@@ -73,7 +74,7 @@ named before node (insides.Answer request answer) = option_map (λ at. tooks.Req
 named before node insides.Deadline = Some tooks.Timer
 
 -- what a start of this node makes
-abbrev pub noted_start : Setup → List Noted → Node → Option Finalization → Stop → Life → Noted
-noted_start setup before node floor stop life =
-    noted_with setup before (events.Start node floor stop) node (Some tooks.Floor)
-    (begun (engine_of setup node.member (floor_of setup floor) (sections_in life)) (clock_of before) stop)
+abbrev pub noted_start : Setting → List Noted → Node → Option Finalization → Stop → Life → Noted
+noted_start setting before node floor stop life =
+    noted_with setting.setup before (events.Start node floor stop) node (Some tooks.Floor)
+    (begun (engine_of setting node.member (floor_of setting.genesis floor) (sections_in life)) (clock_of before) stop)

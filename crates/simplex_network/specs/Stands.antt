@@ -16,6 +16,7 @@ use Rattle.simplex_transcript.specs.declared.setup.Setup.{Setup}
 use Rattle.simplex_transcript.specs.declared.refusal.RunError.{RunError}
 use Rattle.simplex_transcript.specs.declared.refusal.Refusal.{Refusal}
 use Rattle.simplex_engine.specs.declared.input.Input.{Input}
+use Rattle.simplex_run.specs.Setting.{Setting}
 use Rattle.simplex_run.specs.Kinds.{members_of, is_of_kind, is_node, runs_engine}
 use Rattle.simplex_run.specs.Setups.{first_bad}
 use Rattle.simplex_run.specs.Life.{Noted, Life, Stopped, Running, clock_of, life_in}
@@ -57,25 +58,26 @@ abbrev pub AreOfMembers : Setup → List Noted → Type 0
 AreOfMembers setup before = (at : Ref) (packet : Packet) → packet_at before at ≡ Some packet → packet.from.member < members_of setup
 
 -- the network keeps what these entries made, the newest first, and never wanted memory
-pub record Keeps (network : Network) (setup : Setup) (before : List Noted) : Type 0 where
-  pub given : network.setup ≡ setup
+pub record Keeps (network : Network) (setting : Setting) (before : List Noted) : Type 0 where
+  pub given : network.setup ≡ setting.setup
+  pub genesis : network.genesis ≡ setting.genesis
   pub alive : network.failed ≡ false
   pub clock : network.clock ≡ clock_of before
-  pub hosts : HostsStand network.setup network.hosts.list.items (part_in network.setup before)
-  pub records : RecordsStand network.records setup before
-  pub senders : AreOfMembers setup before
+  pub hosts : HostsStand network.setup network.hosts.list.items (part_in setting before)
+  pub records : RecordsStand network.records setting.setup before
+  pub senders : AreOfMembers setting.setup before
 
--- the network, so set up, made these entries, the newest first, and never wanted memory
-pub record StandsFor (network : Network) (setup : Setup) (before : List Noted) : Type 0 where
-  pub keeps : Keeps network setup before
-  pub good : IsNone (first_bad setup)
-  pub ran : IsRun setup before
+-- the network, so set, made these entries, the newest first, and never wanted memory
+pub record StandsFor (network : Network) (setting : Setting) (before : List Noted) : Type 0 where
+  pub keeps : Keeps network setting before
+  pub good : IsNone (first_bad setting.setup)
+  pub ran : IsRun setting before
   pub typed : AreTyped before
 
 -- the network made these entries. A run that was refused made none
-abbrev pub MadeBy : Network → Setup → Result (List Noted) Refusal → Type 0
-MadeBy network setup (Ok before) = StandsFor network setup before
-MadeBy network setup (Err refusal) = ⊥
+abbrev pub MadeBy : Network → Setting → Result (List Noted) Refusal → Type 0
+MadeBy network setting (Ok before) = StandsFor network setting before
+MadeBy network setting (Err refusal) = ⊥
 
 -- whether an earlier event wanted memory
 unfoldable pub has_failed : Network → Bool
@@ -89,22 +91,22 @@ entered (Err error) = Err error
 -- whatever entries the old network made, the new one made them and this event's, whose entry is this
 abbrev pub Grows : Network → Network → Event → Entry → Type 0
 Grows old new event entry =
-    (setup : Setup) (before : List Noted) (noted : Noted) → StandsFor old setup before → entry_of setup before event ≡ Ok noted
-    → StandsFor new setup (noted ∷ before)
+    (setting : Setting) (before : List Noted) (noted : Noted) → StandsFor old setting before → entry_of setting before event ≡ Ok noted
+    → StandsFor new setting (noted ∷ before)
 
 -- whatever entries the network made, this is the event's
 abbrev pub Enters : Network → Event → Entry → Type 0
 Enters network event entry =
-    (setup : Setup) (before : List Noted) → StandsFor network setup before → entered (entry_of setup before event) ≡ Ok entry
+    (setting : Setting) (before : List Noted) → StandsFor network setting before → entered (entry_of setting before event) ≡ Ok entry
 
 -- whatever entries the network made, this is why the event is refused
 abbrev pub Refuses : Network → Event → RunError → Type 0
 Refuses network event error =
-    (setup : Setup) (before : List Noted) → StandsFor network setup before → entry_of setup before event ≡ Err error
+    (setting : Setting) (before : List Noted) → StandsFor network setting before → entry_of setting before event ≡ Err error
 
 -- whatever entries the old network made, the new one made them
 abbrev pub Stays : Network → Network → Type 0
-Stays old new = (setup : Setup) (before : List Noted) → StandsFor old setup before → StandsFor new setup before
+Stays old new = (setting : Setting) (before : List Noted) → StandsFor old setting before → StandsFor new setting before
 
 -- the engine that is shown is the node's, and there is one exactly where its life runs
 abbrev pub EngineOf : Part → Option NodeEngine → Type 0
@@ -115,101 +117,101 @@ EngineOf _ None = Unit {0}
 
 abbrev pub ShowsEngine : Network → Node → Option NodeEngine → Type 0
 ShowsEngine network node engine =
-    (setup : Setup) (before : List Noted) → StandsFor network setup before
-    → EngineOf (if is_node setup node then part_in setup before node else Lives (Stopped [])) engine
+    (setting : Setting) (before : List Noted) → StandsFor network setting before
+    → EngineOf (if is_node setting.setup node then part_in setting before node else Lives (Stopped [])) engine
 
 -- ---- the same words, where forgeries are looked for where they may be
 
 -- whatever the old network keeps, the new one keeps it and this event's
 abbrev pub Adds : Network → Network → Event → Type 0
 Adds old new event =
-    (setup : Setup) (before : List Noted) (noted : Noted) → Keeps old setup before → tested_of setup before event ≡ Ok noted
-    → Keeps new setup (noted ∷ before)
+    (setting : Setting) (before : List Noted) (noted : Noted) → Keeps old setting before → tested_of setting before event ≡ Ok noted
+    → Keeps new setting (noted ∷ before)
 
 -- whatever the network keeps, this is the event's
 abbrev pub Gives : Network → Event → Entry → Type 0
 Gives network event entry =
-    (setup : Setup) (before : List Noted) → Keeps network setup before → entered (tested_of setup before event) ≡ Ok entry
+    (setting : Setting) (before : List Noted) → Keeps network setting before → entered (tested_of setting before event) ≡ Ok entry
 
 -- whatever the network keeps, this is why the event is refused
 abbrev pub Denies : Network → Event → RunError → Type 0
 Denies network event error =
-    (setup : Setup) (before : List Noted) → Keeps network setup before → tested_of setup before event ≡ Err error
+    (setting : Setting) (before : List Noted) → Keeps network setting before → tested_of setting before event ≡ Err error
 
 -- whatever the old network keeps, the new one keeps it
 abbrev pub Rests : Network → Network → Type 0
-Rests old new = (setup : Setup) (before : List Noted) → Keeps old setup before → Keeps new setup before
+Rests old new = (setting : Setting) (before : List Noted) → Keeps old setting before → Keeps new setting before
 
 -- what the node is at, or that it does not exist
 abbrev pub Finds : Network → Node → Result Status RunError → Type 0
 Finds network node result =
-    (setup : Setup) (before : List Noted) → Keeps network setup before → result ≡ found_in setup node (part_in setup before node)
+    (setting : Setting) (before : List Noted) → Keeps network setting before → result ≡ found_in setting.setup node (part_in setting before node)
 
 abbrev pub Shows : Network → Node → Option NodeEngine → Type 0
 Shows network node engine =
-    (setup : Setup) (before : List Noted) → Keeps network setup before
-    → EngineOf (if is_node setup node then part_in setup before node else Lives (Stopped [])) engine
+    (setting : Setting) (before : List Noted) → Keeps network setting before
+    → EngineOf (if is_node setting.setup node then part_in setting before node else Lives (Stopped [])) engine
 
 -- the node exists
 abbrev pub Exists : Network → Node → Type 0
 Exists network node = is_node network.setup node ≡ true
 
 -- the node's life, where its member runs engines
-abbrev pub LivesAs : Setup → List Noted → Node → Life → Type 0
-LivesAs setup before node life = (runs_engine setup node.member ≡ true) × (life_in setup before node ≡ life)
+abbrev pub LivesAs : Setting → List Noted → Node → Life → Type 0
+LivesAs setting before node life = (runs_engine setting.setup node.member ≡ true) × (life_in setting before node ≡ life)
 
 -- the same words of a start of a node
 abbrev pub StartAdds : Network → Network → Node → Option Finalization → Stop → Type 0
 StartAdds old new node floor stop =
-    (setup : Setup) (before : List Noted) (life : Life) → Keeps old setup before → LivesAs setup before node life
-    → Keeps new setup (noted_start setup before node floor stop life ∷ before)
+    (setting : Setting) (before : List Noted) (life : Life) → Keeps old setting before → LivesAs setting before node life
+    → Keeps new setting (noted_start setting before node floor stop life ∷ before)
 
 abbrev pub StartGives : Network → Node → Option Finalization → Stop → Entry → Type 0
 StartGives network node floor stop entry =
-    (setup : Setup) (before : List Noted) (life : Life) → Keeps network setup before → LivesAs setup before node life
-    → entry ≡ (noted_start setup before node floor stop life).entry
+    (setting : Setting) (before : List Noted) (life : Life) → Keeps network setting before → LivesAs setting before node life
+    → entry ≡ (noted_start setting before node floor stop life).entry
 
 -- and of an input of a node's engine
 abbrev pub PollAdds : Network → Network → Node → Input → Stop → Option Took → Type 0
 PollAdds old new node input stop outside =
-    (setup : Setup) (before : List Noted) (event : Event) (noted : Noted) (life : Life) → Keeps old setup before → LivesAs setup before node life → IsInput event node
-    → on_poll setup before event node input stop outside life ≡ Ok noted → Keeps new setup (noted ∷ before)
+    (setting : Setting) (before : List Noted) (event : Event) (noted : Noted) (life : Life) → Keeps old setting before → LivesAs setting before node life → IsInput event node
+    → on_poll setting.setup before event node input stop outside life ≡ Ok noted → Keeps new setting (noted ∷ before)
 
 abbrev pub PollGives : Network → Node → Input → Stop → Option Took → Entry → Type 0
 PollGives network node input stop outside entry =
-    (setup : Setup) (before : List Noted) (event : Event) (life : Life) → Keeps network setup before → LivesAs setup before node life
-    → entered (on_poll setup before event node input stop outside life) ≡ Ok entry
+    (setting : Setting) (before : List Noted) (event : Event) (life : Life) → Keeps network setting before → LivesAs setting before node life
+    → entered (on_poll setting.setup before event node input stop outside life) ≡ Ok entry
 
 abbrev pub PollDenies : Network → Node → Input → Stop → Option Took → RunError → Type 0
 PollDenies network node input stop outside error =
-    (setup : Setup) (before : List Noted) (event : Event) (life : Life) → Keeps network setup before → LivesAs setup before node life
-    → on_poll setup before event node input stop outside life ≡ Err error
+    (setting : Setting) (before : List Noted) (event : Event) (life : Life) → Keeps network setting before → LivesAs setting before node life
+    → on_poll setting.setup before event node input stop outside life ≡ Err error
 
 -- of a packet that a node of a faulty member without an engine takes
 abbrev pub HearAdds : Network → Network → Node → Ref → Type 0
 HearAdds old new node at =
-    (setup : Setup) (before : List Noted) (noted : Noted) → Keeps old setup before → runs_engine setup node.member ≡ false
-    → tested_of setup before (events.Deliver node at) ≡ Ok noted → Keeps new setup (noted ∷ before)
+    (setting : Setting) (before : List Noted) (noted : Noted) → Keeps old setting before → runs_engine setting.setup node.member ≡ false
+    → tested_of setting before (events.Deliver node at) ≡ Ok noted → Keeps new setting (noted ∷ before)
 
 abbrev pub HearGives : Network → Node → Ref → Entry → Type 0
 HearGives network node at entry =
-    (setup : Setup) (before : List Noted) → Keeps network setup before → runs_engine setup node.member ≡ false
-    → entered (tested_of setup before (events.Deliver node at)) ≡ Ok entry
+    (setting : Setting) (before : List Noted) → Keeps network setting before → runs_engine setting.setup node.member ≡ false
+    → entered (tested_of setting before (events.Deliver node at)) ≡ Ok entry
 
 abbrev pub HearDenies : Network → Node → Ref → RunError → Type 0
 HearDenies network node at error =
-    (setup : Setup) (before : List Noted) → Keeps network setup before → runs_engine setup node.member ≡ false
-    → tested_of setup before (events.Deliver node at) ≡ Err error
+    (setting : Setting) (before : List Noted) → Keeps network setting before → runs_engine setting.setup node.member ≡ false
+    → tested_of setting before (events.Deliver node at) ≡ Err error
 
 abbrev pub HearRests : Network → Network → Node → Type 0
 HearRests old new node =
-    (setup : Setup) (before : List Noted) → Keeps old setup before → runs_engine setup node.member ≡ false → Keeps new setup before
+    (setting : Setting) (before : List Noted) → Keeps old setting before → runs_engine setting.setup node.member ≡ false → Keeps new setting before
 
 -- of a crash of a running node
 abbrev pub HaltAdds : Network → Network → Node → Type 0
 HaltAdds old new node =
-    (setup : Setup) (before : List Noted) (life : Life) → Keeps old setup before → LivesAs setup before node life
-    → Keeps new setup (noted_blank before (events.Crash node) (Some node) ∷ before)
+    (setting : Setting) (before : List Noted) (life : Life) → Keeps old setting before → LivesAs setting before node life
+    → Keeps new setting (noted_blank before (events.Crash node) (Some node) ∷ before)
 
 -- of a step or a crash of a node that has no engine
 abbrev pub IsIdle : Event → Node → Type 0
@@ -217,13 +219,13 @@ IsIdle event node = ((source : StepSource) × (stop : Stop) × (event ≡ events
 
 abbrev pub IdleAdds : Network → Network → Node → Type 0
 IdleAdds old new node =
-    (setup : Setup) (before : List Noted) (event : Event) → Keeps old setup before → runs_engine setup node.member ≡ false → IsIdle event node
-    → Keeps new setup (noted_idle before event node ∷ before)
+    (setting : Setting) (before : List Noted) (event : Event) → Keeps old setting before → runs_engine setting.setup node.member ≡ false → IsIdle event node
+    → Keeps new setting (noted_idle before event node ∷ before)
 
 -- the entry of an event that does nothing
 abbrev pub BlankGives : Network → Option Node → Outcome → Entry → Type 0
 BlankGives network who outcome entry =
-    (setup : Setup) (before : List Noted) → Keeps network setup before → entry ≡ record (blank_entry (length before + 1) who) { outcome = outcome }
+    (setting : Setting) (before : List Noted) → Keeps network setting before → entry ≡ record (blank_entry (length before + 1) who) { outcome = outcome }
 
 -- ---- tests
 

@@ -13,7 +13,7 @@ ghost use Rattle.simplex_engine.specs.Config.{first_bad};
 ghost use Rattle.simplex_engine.specs.Polled.{is_memory};
 ghost use Rattle.simplex_members.specs.NodeEngine.{made_with};
 ghost use Rattle.simplex_records.specs.Seats.{seat_of, node_at};
-ghost use Rattle.simplex_network.specs.Parts.{Part, Lives, Hears, goes_on, status_in, refusal_in, after_poll, IsPolled, IsStarted, after_start, changed, part_in};
+ghost use Rattle.simplex_network.specs.Parts.{Part, Lives, Hears, goes_on, status_in, refusal_in, after_poll, IsPolled, IsStarted, after_start, changed, first_part};
 ghost use Rattle.simplex_run.specs.Kinds.{is_of_kind};
 ghost use Rattle.simplex_forging.specs.Forging.{is_impersonator};
 ghost use Rattle.simplex_network.specs.Stands.{HostsStand, HostStands, HasSeat, EngineOf};
@@ -41,7 +41,7 @@ impl Hosts {
     pub(crate) fn new(alloc: Global, setup: &Setup) -> Result<Hosts, AllocError>
         requires good { IsNone (rules.first_bad setup.now) }
         ensures count { IfOk result (λ hosts. length hosts.list.items ≡ 2 * length setup.now.members) }
-        ensures stands { IfOk result (λ hosts. HostsStand setup.now hosts.list.items (part_in setup.now [])) }
+        ensures stands { IfOk result (λ hosts. HostsStand setup.now hosts.list.items (first_part setup.now)) }
     {
         let mut list = Vec::new(alloc);
         for seat in 0..count_of(setup) {
@@ -175,7 +175,7 @@ fn member_at(setup: &Setup, seat: usize) -> Participant
 fn blank_host(alloc: Global, setup: &Setup, seat: usize) -> Result<Host, AllocError>
     requires good { IsNone (rules.first_bad setup.now) }
     requires below { seat < 2 * length setup.now.members }
-    ensures { IfOk result (λ host. HostStands setup.now (node_at seat).member host (part_in setup.now [] (node_at seat))) }
+    ensures { IfOk result (λ host. HostStands setup.now (node_at seat).member host (first_part setup.now (node_at seat))) }
 {
     let member = member_at(setup, seat);
     if has_engine(setup, member) {

@@ -17,4 +17,4 @@ mod testing;
 
 pub use host::NodeEngine;
 pub use network::Network;
-pub use run::{Transcript, run_network};
+pub use run::{Transcript, run_network, run_network_from};

@@ -2,13 +2,14 @@
 #![tactic(auto, unfolding(crate::specs::Stands::has_failed))]
 
 ghost use Rattle.std.specs.Prelude.{◌≡◌, ◌↔◌, ◌<◌, ◌*◌, ◌^◌, ◌||◌, [], true, false, length, vec_len, IfOk, IfErr, IsErrOf, IsTrue, IsNone, None, Some};
+ghost use Rattle.simplex_run.specs.Setting.{setting_of, at_epoch_genesis};
 ghost use Rattle.simplex_run.specs.Setups as setups;
 ghost use Rattle.simplex_records.specs.Stands.{seats_in};
 
 use crate::host::NodeEngine;
 use crate::hosts::Hosts;
 use crate::inputs::{heard, run_error, took};
-use crate::nodes::{exist, is_at_end, is_honest, is_node, member_of};
+use crate::nodes::{exist, genesis_at, is_at_end, is_honest, is_node, member_of};
 use crate::sending::{one_packet, packets_of};
 use crate::status::Status;
 use crate::testing::{test, test_heard};
@@ -19,7 +20,7 @@ use simplex_messages::{Outcome, StepOut, Stop};
 use simplex_records::Records;
 use simplex_transcript::{Entry, Event, Node, Ref, RunError, Setup, StepSource, Took};
 use simplex_typed::entry_is_typed;
-use simplex_types::{Answer, Bytes, Channel, Finalization, Keep, Sequence};
+use simplex_types::{Answer, Bytes, Channel, Digest, Finalization, Keep, Sequence};
 use std::alloc::{AllocError, Global};
 
 /// The last time of the clock.
@@ -30,6 +31,7 @@ const LAST_TIME: u64 = (1 << 63) - 1;
 pub struct Network {
     alloc: Global,
     setup: Setup,
+    genesis: Digest,
     hosts: Hosts,
     records: Records,
     clock: u64,
@@ -47,17 +49,26 @@ impl Network {
     ghost use Rattle.simplex_network.specs.Answer.{is_memory, is_failed, wants_memory, setup_refusal, IsRefused};
     ghost use Rattle.simplex_network.specs.Stands.{Keeps, StandsFor, has_failed, ShowsEngine, Shows, Grows, Adds, Enters, Gives, Refuses, Denies, Stays, Rests, StartAdds, StartGives, HearAdds, HearGives, HearDenies, HearRests, HaltAdds, IdleAdds, BlankGives, PollAdds, PollGives, PollDenies, Finds, Exists};
 
-    /// A network of stopped nodes, whose clock is 0.
-    #[tactic(auto, using(crate::proofs::Standing::standing))]
+    /// A network of stopped nodes, whose clock is 0. The payload of view 0 is the epoch's genesis digest.
     pub fn new(alloc: Global, setup: &Setup) -> Result<Network, RunError>
-        ensures stands { IfOk result (λ network. StandsFor network setup.now []) }
+        ensures stands { IfOk result (λ network. StandsFor network (at_epoch_genesis setup.now) []) }
+        ensures allowed { IfOk result (λ _. setup_refusal setup.now ≡ None) }
+        ensures refused { IfErr result (IsRefused (setup_refusal setup.now)) }
+    {
+        Network::with_genesis(alloc, setup, genesis_at(setup.epoch))
+    }
+
+    /// The same, where the payload of view 0 is this digest.
+    #[tactic(auto, using(crate::proofs::Standing::standing))]
+    pub fn with_genesis(alloc: Global, setup: &Setup, genesis: Digest) -> Result<Network, RunError>
+        ensures stands { IfOk result (λ network. StandsFor network (setting_of setup.now genesis) []) }
         ensures allowed { IfOk result (λ _. setup_refusal setup.now ≡ None) }
         ensures refused { IfErr result (IsRefused (setup_refusal setup.now)) }
     {
         if let Some(field) = first_bad(setup) {
             return Err(RunError::BadSetup(field));
         }
-        match Network::with_setup(alloc, setup) {
+        match Network::with_setup(alloc, setup, genesis) {
             Ok(network) => Ok(network),
             Err(_) => Err(RunError::Memory),
         }
@@ -108,13 +119,14 @@ impl Network {
         }
     }
 
-    fn with_setup(alloc: Global, setup: &Setup) -> Result<Network, AllocError>
+    fn with_setup(alloc: Global, setup: &Setup, genesis: Digest) -> Result<Network, AllocError>
         requires { IsNone (setups.first_bad setup.now) }
-        ensures { IfOk result (λ network. Keeps network setup.now []) }
+        ensures { IfOk result (λ network. Keeps network (setting_of setup.now genesis) []) }
     {
         Ok(Network {
             alloc,
             setup: setup.keep(alloc)?,
+            genesis,
             hosts: Hosts::new(alloc, setup)?,
             records: Records::new(alloc, setup)?,
             clock: 0,
@@ -195,7 +207,7 @@ impl Network {
         ensures alive { self.new.failed ≡ self.old.failed }
     {
         let member = member_of(&self.setup, node);
-        let Ok(config) = config_of(self.alloc, &self.setup, member, floor) else {
+        let Ok(config) = config_of(self.alloc, &self.setup, self.genesis, member, floor) else {
             return Err(RunError::Memory);
         };
         let mut out = StepOut::new(self.alloc);

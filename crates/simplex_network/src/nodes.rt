@@ -1,13 +1,21 @@
-//! What a setup says of nodes and views.
+//! What a setup says of nodes, views and genesis.
 ghost use Rattle.std.specs.Prelude.{◌≡◌, ◌&&◌, ◌-◌, ◌*◌, true, nat_lt, length, IsNone};
 ghost use Rattle.std.specs.List.{list_all, slice_get};
 ghost use Rattle.simplex_values.specs.Terms.{greatest_view};
+ghost use Rattle.simplex_types.specs.Genesis.{genesis_of};
 ghost use Rattle.simplex_run.specs.Kinds as kinds;
 ghost use Rattle.simplex_run.specs.Setups.{first_bad};
 ghost use Rattle.simplex_forging.specs.Forging.{is_impersonator};
 
 use simplex_transcript::{MemberKind, Node, Setup};
-use simplex_types::{Participant, View};
+use simplex_types::{Digest, Epoch, Participant, View, genesis};
+
+/// The genesis digest of the epoch of this number.
+pub(crate) fn genesis_at(epoch: u64) -> Digest
+    ensures { result ≡ genesis_of epoch }
+{
+    genesis(Epoch(epoch))
+}
 
 /// Whether the node exists: the first half of a member, or the second of a twin.
 pub(crate) fn is_node(setup: &Setup, node: Node) -> bool

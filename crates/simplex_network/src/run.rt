@@ -1,6 +1,7 @@
 //! A whole run.
 ghost use Rattle.std.specs.Prelude.{◌≡◌, ◌++◌, ◌∷◌, [], Ok, Err, OnOk, IfOk, IfErr, true, false};
 ghost use Rattle.simplex_run.specs.Run as runs;
+ghost use Rattle.simplex_run.specs.Setting.{setting_of, at_epoch_genesis};
 ghost use Rattle.simplex_run.specs.Setups as setups;
 ghost use Rattle.simplex_run_laws.specs.Complete.{IsOneEach, IsPossible};
 ghost use Rattle.simplex_safety.specs.Sayings.{Each};
@@ -10,12 +11,13 @@ ghost use Rattle.simplex_network.specs.Answer.{is_memory};
 ghost use Rattle.simplex_network.specs.Stands.{MadeBy};
 
 use crate::network::Network;
+use crate::nodes::genesis_at;
 use simplex_backing::runs_are_safe;
 use simplex_members::are_few;
 use simplex_run_laws::{possible_events_run, runs_are_possible, runs_have_one_entry_each};
 use simplex_transcript::{Entry, Event, Field, Refusal, RunError, Setup};
 use simplex_typed::entries_are_typed;
-use simplex_types::Sequence;
+use simplex_types::{Digest, Sequence};
 use std::alloc::Global;
 
 /// The entries of a run, one for each event, and the network on which it was made.
@@ -25,60 +27,95 @@ pub struct Transcript {
     pub network: Network,
 }
 
-/// Runs the events, or tells the first refusal. Want of memory is a refusal of its own.
+/// Runs the events, or tells the first refusal. Want of memory is a refusal of its own. The payload of view 0 is the epoch's
+/// genesis digest.
 pub fn run_network(alloc: Global, setup: &Setup, events: &[Event]) -> Result<Transcript, Refusal>
     ensures done { IfOk result (λ transcript. runs.Run setup.now events.now ≡ Ok transcript.entries) }
-    ensures network { IfOk result (λ transcript. MadeBy transcript.network setup.now (runs.run setup.now [] events.now)) }
+    ensures network { IfOk result (λ transcript. MadeBy transcript.network (at_epoch_genesis setup.now) (runs.run (at_epoch_genesis setup.now) [] events.now)) }
     ensures refused { IfErr result (λ refusal. is_memory refusal.error ≡ false → runs.Run setup.now events.now ≡ Err refusal) }
     // Each certificate that stands in the transcript and verifies is backed and of the setup's epoch, no two of them
     // conflict; of each honest member each vote was stored first, and the votes of each event that no stop broke are those
     // that the rules give; and no honest member is blamed.
-    ensures safe { IfOk result (λ transcript. RunsSafely setup.now events.now) }
+    ensures safe { IfOk result (λ transcript. RunsSafely (at_epoch_genesis setup.now) events.now) }
     // One entry for each event: as many, numbered from 1, each of the node that its event names.
     ensures entries { IfOk result (λ transcript. IsOneEach transcript.entries events.now) }
     // A valid setup and events that each meet their conditions make a transcript, or want memory; and nothing else does.
-    ensures complete { IfErr result (λ refusal. IsPossible setup.now events.now → is_memory refusal.error ≡ true) }
-    ensures possible { IfOk result (λ transcript. IsPossible setup.now events.now) }
+    ensures complete { IfErr result (λ refusal. IsPossible (at_epoch_genesis setup.now) events.now → is_memory refusal.error ≡ true) }
+    ensures possible { IfOk result (λ transcript. IsPossible (at_epoch_genesis setup.now) events.now) }
+{
+    run_network_from(alloc, setup, genesis_at(setup.epoch), events)
+}
+
+/// The same, where the payload of view 0 is this digest.
+pub fn run_network_from(
+    alloc: Global,
+    setup: &Setup,
+    genesis: Digest,
+    events: &[Event],
+) -> Result<Transcript, Refusal>
+    ensures done { IfOk result (λ transcript. runs.RunFrom (setting_of setup.now genesis) events.now ≡ Ok transcript.entries) }
+    ensures network { IfOk result (λ transcript. MadeBy transcript.network (setting_of setup.now genesis) (runs.run (setting_of setup.now genesis) [] events.now)) }
+    ensures refused { IfErr result (λ refusal. is_memory refusal.error ≡ false → runs.RunFrom (setting_of setup.now genesis) events.now ≡ Err refusal) }
+    // What holds of the run at the epoch's genesis digest.
+    ensures safe { IfOk result (λ transcript. RunsSafely (setting_of setup.now genesis) events.now) }
+    ensures entries { IfOk result (λ transcript. IsOneEach transcript.entries events.now) }
+    ensures complete { IfErr result (λ refusal. IsPossible (setting_of setup.now genesis) events.now → is_memory refusal.error ≡ true) }
+    ensures possible { IfOk result (λ transcript. IsPossible (setting_of setup.now genesis) events.now) }
 {
     runs_are_safe();
     runs_have_one_entry_each();
     possible_events_run();
     runs_are_possible();
-    run_typed(alloc, setup, events)
+    run_typed(alloc, setup, genesis, events)
 }
 
 // Runs the events. The values of the entries keep to their types.
-fn run_typed(alloc: Global, setup: &Setup, events: &[Event]) -> Result<Transcript, Refusal>
-    ensures done { IfOk result (λ transcript. runs.Run setup.now events.now ≡ Ok transcript.entries) }
-    ensures network { IfOk result (λ transcript. MadeBy transcript.network setup.now (runs.run setup.now [] events.now)) }
-    ensures refused { IfErr result (λ refusal. is_memory refusal.error ≡ false → runs.Run setup.now events.now ≡ Err refusal) }
+fn run_typed(
+    alloc: Global,
+    setup: &Setup,
+    genesis: Digest,
+    events: &[Event],
+) -> Result<Transcript, Refusal>
+    ensures done { IfOk result (λ transcript. runs.RunFrom (setting_of setup.now genesis) events.now ≡ Ok transcript.entries) }
+    ensures network { IfOk result (λ transcript. MadeBy transcript.network (setting_of setup.now genesis) (runs.run (setting_of setup.now genesis) [] events.now)) }
+    ensures refused { IfErr result (λ refusal. is_memory refusal.error ≡ false → runs.RunFrom (setting_of setup.now genesis) events.now ≡ Err refusal) }
     ensures typed { IfOk result (λ transcript. Each IsTyped transcript.entries) }
 {
-    let transcript = run_few(alloc, setup, events)?;
+    let transcript = run_few(alloc, setup, genesis, events)?;
     entries_are_typed(transcript.entries.as_slice());
     Ok(transcript)
 }
 
 // Runs the events where there are no more than may be, and tells the first refusal else.
-#[tactic(auto, unfolding(simplex_run::specs::Run::Run))]
-fn run_few(alloc: Global, setup: &Setup, events: &[Event]) -> Result<Transcript, Refusal>
-    ensures done { IfOk result (λ transcript. runs.Run setup.now events.now ≡ Ok transcript.entries) }
-    ensures network { IfOk result (λ transcript. MadeBy transcript.network setup.now (runs.run setup.now [] events.now)) }
-    ensures refused { IfErr result (λ refusal. is_memory refusal.error ≡ false → runs.Run setup.now events.now ≡ Err refusal) }
+#[tactic(auto, unfolding(simplex_run::specs::Run::RunFrom))]
+fn run_few(
+    alloc: Global,
+    setup: &Setup,
+    genesis: Digest,
+    events: &[Event],
+) -> Result<Transcript, Refusal>
+    ensures done { IfOk result (λ transcript. runs.RunFrom (setting_of setup.now genesis) events.now ≡ Ok transcript.entries) }
+    ensures network { IfOk result (λ transcript. MadeBy transcript.network (setting_of setup.now genesis) (runs.run (setting_of setup.now genesis) [] events.now)) }
+    ensures refused { IfErr result (λ refusal. is_memory refusal.error ≡ false → runs.RunFrom (setting_of setup.now genesis) events.now ≡ Err refusal) }
 {
     if !are_few(setup, events) {
         return Err(refused(RunError::BadSetup(Field::Events), 0));
     }
-    run_all(alloc, setup, events)
+    run_all(alloc, setup, genesis, events)
 }
 
 // Runs all events.
-fn run_all(alloc: Global, setup: &Setup, events: &[Event]) -> Result<Transcript, Refusal>
-    ensures done { IfOk result (λ transcript. runs.unless_bad (setups.first_bad setup.now) (runs.transcript_of (runs.run setup.now [] events.now)) ≡ Ok transcript.entries) }
-    ensures network { IfOk result (λ transcript. MadeBy transcript.network setup.now (runs.run setup.now [] events.now)) }
-    ensures refused { IfErr result (λ refusal. is_memory refusal.error ≡ false → runs.unless_bad (setups.first_bad setup.now) (runs.transcript_of (runs.run setup.now [] events.now)) ≡ Err refusal) }
+fn run_all(
+    alloc: Global,
+    setup: &Setup,
+    genesis: Digest,
+    events: &[Event],
+) -> Result<Transcript, Refusal>
+    ensures done { IfOk result (λ transcript. runs.unless_bad (setups.first_bad setup.now) (runs.transcript_of (runs.run (setting_of setup.now genesis) [] events.now)) ≡ Ok transcript.entries) }
+    ensures network { IfOk result (λ transcript. MadeBy transcript.network (setting_of setup.now genesis) (runs.run (setting_of setup.now genesis) [] events.now)) }
+    ensures refused { IfErr result (λ refusal. is_memory refusal.error ≡ false → runs.unless_bad (setups.first_bad setup.now) (runs.transcript_of (runs.run (setting_of setup.now genesis) [] events.now)) ≡ Err refusal) }
 {
-    let mut network = match Network::new(alloc, setup) {
+    let mut network = match Network::with_genesis(alloc, setup, genesis) {
         Ok(network) => network,
         Err(error) => return Err(refused(error, 0)),
     };

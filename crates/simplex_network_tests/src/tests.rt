@@ -2,6 +2,7 @@
 mod changed_bits;
 mod engine;
 mod finalizes;
+mod genesis;
 mod members;
 mod restarts;
 mod view;

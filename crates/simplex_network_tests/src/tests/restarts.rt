@@ -12,9 +12,9 @@ use std::process::Abort;
 use std::test::Fail;
 
 /// The node of the only member.
-const NODE: Node = Node { member: 0, half: 0 };
+pub(super) const NODE: Node = Node { member: 0, half: 0 };
 
-fn setup(alloc: Global) -> Result<Setup, AllocError> {
+pub(super) fn setup(alloc: Global) -> Result<Setup, AllocError> {
     let mut members = Sequence::new(alloc);
     members.push(MemberKind::Honest)?;
     Ok(Setup {

@@ -5,9 +5,9 @@ use Rattle.simplex_network.proofs.network.Network.find.Goals as goal
 
 pub returns-then-is_node-clause-found : goal.returns-then-is_node-clause-found
 returns-then-is_node-clause-found c =
-    λ setup before s. found-is setup c.args.node (part_in setup before c.args.node) _ (rw s.given at (sym c.is_node.ensures ∙ c.if-is_node.true))
-    (c.status.ensures setup (part_in setup before) (rw s.given at s.hosts) (part-goes setup before c.args.node))
+    λ setting before s. found-is setting.setup c.args.node (part_in setting before c.args.node) _ (rw s.given at (sym c.is_node.ensures ∙ c.if-is_node.true))
+    (c.status.ensures setting.setup (part_in setting before) (rw s.given at s.hosts) (part-goes setting before c.args.node))
 
 pub returns-else-is_node-clause-found : goal.returns-else-is_node-clause-found
 returns-else-is_node-clause-found c =
-    λ setup before s. found-not setup c.args.node (part_in setup before c.args.node) (rw s.given at (sym c.is_node.ensures ∙ c.if-is_node.false))
+    λ setting before s. found-not setting.setup c.args.node (part_in setting before c.args.node) (rw s.given at (sym c.is_node.ensures ∙ c.if-is_node.false))

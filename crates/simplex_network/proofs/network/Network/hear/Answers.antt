@@ -11,36 +11,36 @@ use Rattle.simplex_network.proofs.network.Network.hear.Goals as goal
 
 pub returns-in_default-clause-reason : goal.returns-in_default-clause-reason
 returns-in_default-clause-reason c =
-    λ whole setup before s none. hear-lacks setup before c.args.node c.args.at (rw s.given at c.requires) none (sym (c.in_default.ensures setup before s.records))
+    λ whole setting before s none. hear-lacks setting before c.args.node c.args.at (rw s.given at c.requires) none (sym (c.in_default.ensures setting.setup before s.records))
 
 pub returns-in-Err-clause-reason : goal.returns-in-Err-clause-reason
 returns-in-Err-clause-reason c =
-    λ whole setup before s none.
-    let made = (network-says c.args.self.now setup before c.args.node c.in-Some.packet.now _ _ s none (rw c.as_slice.ensures at c.in-Ok.ensures.sends) c.in-Ok-packets_of.ensures) in
-    hear-is setup before c.args.node c.args.at c.in-Some.packet.now (rw s.given at c.requires) none (sym (c.in-Some.ensures setup before s.records))
-    ∙ (rw s.given at (c.in-Err.ensures.some whole)) before (noted_hearing setup before c.args.node c.args.at c.in-Some.packet.now) s.records (rw c.as_slice-2.ensures (sym made))
+    λ whole setting before s none.
+    let made = (network-says c.args.self.now setting before c.args.node c.in-Some.packet.now _ _ s none (rw c.as_slice.ensures at c.in-Ok.ensures.sends) c.in-Ok-packets_of.ensures) in
+    hear-is setting before c.args.node c.args.at c.in-Some.packet.now (rw s.given at c.requires) none (sym (c.in-Some.ensures setting.setup before s.records))
+    ∙ (rw s.given at (c.in-Err.ensures.some whole)) before (noted_hearing setting.setup before c.args.node c.args.at c.in-Some.packet.now) s.records (rw c.as_slice-2.ensures (sym made))
 
 pub returns-in-Err-clause-stays : goal.returns-in-Err-clause-stays
 returns-in-Err-clause-stays c =
-    λ whole setup before s none. network-unheard c.args.self.now _ setup before c.args.node refl refl refl refl s none c.in-Err.ensures.of c.in-Ok.ensures.unmoved
+    λ whole setting before s none. network-unheard c.args.self.now _ setting before c.args.node refl refl refl refl refl s none c.in-Err.ensures.of c.in-Ok.ensures.unmoved
 
 pub returns-in-Ok-speak-clause-stands : goal.returns-in-Ok-speak-clause-stands
 returns-in-Ok-speak-clause-stands c =
-    λ setup before noted s none is.
-    let made = (network-says c.args.self.now setup before c.args.node c.in-Some.packet.now _ _ s none (rw c.as_slice.ensures at c.in-Ok.ensures.sends) c.in-Ok-packets_of.ensures) in
-    let tested = hear-is setup before c.args.node c.args.at c.in-Some.packet.now (rw s.given at c.requires) none (sym (c.in-Some.ensures setup before s.records))
-    ∙ (rw s.given at c.in-Ok-test_heard.ensures.none) before (noted_hearing setup before c.args.node c.args.at c.in-Some.packet.now) s.records (rw c.as_slice-2.ensures (sym made)) in
+    λ setting before noted s none is.
+    let made = (network-says c.args.self.now setting before c.args.node c.in-Some.packet.now _ _ s none (rw c.as_slice.ensures at c.in-Ok.ensures.sends) c.in-Ok-packets_of.ensures) in
+    let tested = hear-is setting before c.args.node c.args.at c.in-Some.packet.now (rw s.given at c.requires) none (sym (c.in-Some.ensures setting.setup before s.records))
+    ∙ (rw s.given at c.in-Ok-test_heard.ensures.none) before (noted_hearing setting.setup before c.args.node c.args.at c.in-Some.packet.now) s.records (rw c.as_slice-2.ensures (sym made)) in
     rw (same-ok noted _ _ is tested)
-    (network-heard c.args.self.now _ setup before c.args.node c.args.at c.in-Some.packet.now _ _ refl refl refl s (rw s.given at (node-member c.args.self.now.setup c.args.node c.requires)) none (sym (c.in-Some.ensures setup before s.records)) made
+    (network-heard c.args.self.now _ setting before c.args.node c.args.at c.in-Some.packet.now _ _ refl refl refl refl s (rw s.given at (node-member c.args.self.now.setup c.args.node c.requires)) none (sym (c.in-Some.ensures setting.setup before s.records)) made
     (rw c.as_slice.ensures at c.in-Ok.ensures.stands)
-    (c.in-Ok-speak.ensures.entry setup before s.records ∙ ap (λ ps. spoken_entry (length before + 1) c.args.node (Some (tooks.Packet c.args.at)) ps) made)
+    (c.in-Ok-speak.ensures.entry setting.setup before s.records ∙ ap (λ ps. spoken_entry (length before + 1) c.args.node (Some (tooks.Packet c.args.at)) ps) made)
     c.in-Ok-speak.ensures.stands)
 
 pub returns-in-Ok-speak-clause-entry : goal.returns-in-Ok-speak-clause-entry
 returns-in-Ok-speak-clause-entry c =
-    λ setup before s none.
-    let made = (network-says c.args.self.now setup before c.args.node c.in-Some.packet.now _ _ s none (rw c.as_slice.ensures at c.in-Ok.ensures.sends) c.in-Ok-packets_of.ensures) in
-    let tested = hear-is setup before c.args.node c.args.at c.in-Some.packet.now (rw s.given at c.requires) none (sym (c.in-Some.ensures setup before s.records))
-    ∙ (rw s.given at c.in-Ok-test_heard.ensures.none) before (noted_hearing setup before c.args.node c.args.at c.in-Some.packet.now) s.records (rw c.as_slice-2.ensures (sym made)) in
+    λ setting before s none.
+    let made = (network-says c.args.self.now setting before c.args.node c.in-Some.packet.now _ _ s none (rw c.as_slice.ensures at c.in-Ok.ensures.sends) c.in-Ok-packets_of.ensures) in
+    let tested = hear-is setting before c.args.node c.args.at c.in-Some.packet.now (rw s.given at c.requires) none (sym (c.in-Some.ensures setting.setup before s.records))
+    ∙ (rw s.given at c.in-Ok-test_heard.ensures.none) before (noted_hearing setting.setup before c.args.node c.args.at c.in-Some.packet.now) s.records (rw c.as_slice-2.ensures (sym made)) in
     ap (λ r. entered r) tested
-    ∙ ap (λ e. Ok e) (sym (c.in-Ok-speak.ensures.entry setup before s.records ∙ ap (λ ps. spoken_entry (length before + 1) c.args.node (Some (tooks.Packet c.args.at)) ps) made))
+    ∙ ap (λ e. Ok e) (sym (c.in-Ok-speak.ensures.entry setting.setup before s.records ∙ ap (λ ps. spoken_entry (length before + 1) c.args.node (Some (tooks.Packet c.args.at)) ps) made))

@@ -11,39 +11,39 @@ use Rattle.simplex_network.proofs.network.Network.inject.Goals as goal
 
 pub returns-then-not-exist-clause-reason : goal.returns-then-not-exist-clause-reason
 returns-then-not-exist-clause-reason c =
-    λ whole setup before s. inject-missing setup before _ _ _ _ (rw (s.given, c.as_slice.ensures) at (sym c.exist.ensures ∙ c.if-not-exist.true))
+    λ whole setting before s. inject-missing setting before _ _ _ _ (rw (s.given, c.as_slice.ensures) at (sym c.exist.ensures ∙ c.if-not-exist.true))
 
 pub returns-then-is_honest-clause-reason : goal.returns-then-is_honest-clause-reason
 returns-then-is_honest-clause-reason c =
-    λ whole setup before s. inject-honest setup before _ _ _ _ (rw (s.given, c.as_slice.ensures) at (sym c.exist.ensures ∙ c.if-not-exist.false))
+    λ whole setting before s. inject-honest setting before _ _ _ _ (rw (s.given, c.as_slice.ensures) at (sym c.exist.ensures ∙ c.if-not-exist.false))
     (rw s.given at (sym c.is_honest.ensures ∙ c.if-is_honest.true))
 
 pub returns-in-Err-clause-reason : goal.returns-in-Err-clause-reason
 returns-in-Err-clause-reason c =
-    λ whole setup before s.
-    inject-is setup before c.args.member c.args.channel c.args.to.now c.args.bytes.now
+    λ whole setting before s.
+    inject-is setting before c.args.member c.args.channel c.args.to.now c.args.bytes.now
     (rw (s.given, c.as_slice.ensures) at (sym c.exist.ensures ∙ c.if-not-exist.false)) (rw s.given at (sym c.is_honest.ensures ∙ c.if-is_honest.false))
     ∙ (rw s.given at (c.in-Err.ensures.some whole)) before (noted_bytes before c.args.member c.args.channel c.args.to.now c.args.bytes.now) s.records
     (rw (c.as_slice-2.ensures, c.in-Ok.ensures) refl)
 
 pub returns-in-Ok-speak-clause-stands : goal.returns-in-Ok-speak-clause-stands
 returns-in-Ok-speak-clause-stands c =
-    λ setup before noted s is.
-    let tested = inject-is setup before c.args.member c.args.channel c.args.to.now c.args.bytes.now
+    λ setting before noted s is.
+    let tested = inject-is setting before c.args.member c.args.channel c.args.to.now c.args.bytes.now
     (rw (s.given, c.as_slice.ensures) at (sym c.exist.ensures ∙ c.if-not-exist.false)) (rw s.given at (sym c.is_honest.ensures ∙ c.if-is_honest.false))
     ∙ (rw s.given at c.in-Ok-test.ensures.none) before (noted_bytes before c.args.member c.args.channel c.args.to.now c.args.bytes.now) s.records
     (rw (c.as_slice-2.ensures, c.in-Ok.ensures) refl) in
     rw (same-ok noted _ _ is tested)
-    (network-spoke c.args.self.now _ setup before c.args.member c.args.channel c.args.to.now c.args.bytes.now _ _ refl refl refl refl s
-    (member-below setup c.args.member _ (rw s.given at (sym c.exist.ensures ∙ c.if-not-exist.false)))
+    (network-spoke c.args.self.now _ setting before c.args.member c.args.channel c.args.to.now c.args.bytes.now _ _ refl refl refl refl refl s
+    (member-below setting.setup c.args.member _ (rw s.given at (sym c.exist.ensures ∙ c.if-not-exist.false)))
     (rw s.given at (sym c.is_honest.ensures ∙ c.if-is_honest.false)) c.in-Ok.ensures
-    (c.in-Ok-speak.ensures.entry setup before s.records ∙ ap (λ ps. spoken_entry (length before + 1) (node_of c.args.member) None ps) c.in-Ok.ensures) c.in-Ok-speak.ensures.stands)
+    (c.in-Ok-speak.ensures.entry setting.setup before s.records ∙ ap (λ ps. spoken_entry (length before + 1) (node_of c.args.member) None ps) c.in-Ok.ensures) c.in-Ok-speak.ensures.stands)
 
 pub returns-in-Ok-speak-clause-entry : goal.returns-in-Ok-speak-clause-entry
 returns-in-Ok-speak-clause-entry c =
-    λ setup before s.
-    let tested = inject-is setup before c.args.member c.args.channel c.args.to.now c.args.bytes.now
+    λ setting before s.
+    let tested = inject-is setting before c.args.member c.args.channel c.args.to.now c.args.bytes.now
     (rw (s.given, c.as_slice.ensures) at (sym c.exist.ensures ∙ c.if-not-exist.false)) (rw s.given at (sym c.is_honest.ensures ∙ c.if-is_honest.false))
     ∙ (rw s.given at c.in-Ok-test.ensures.none) before (noted_bytes before c.args.member c.args.channel c.args.to.now c.args.bytes.now) s.records
     (rw (c.as_slice-2.ensures, c.in-Ok.ensures) refl) in
-    ap (λ r. entered r) tested ∙ ap (λ e. Ok e) (sym (c.in-Ok-speak.ensures.entry setup before s.records ∙ ap (λ ps. spoken_entry (length before + 1) (node_of c.args.member) None ps) c.in-Ok.ensures))
+    ap (λ r. entered r) tested ∙ ap (λ e. Ok e) (sym (c.in-Ok-speak.ensures.entry setting.setup before s.records ∙ ap (λ ps. spoken_entry (length before + 1) (node_of c.args.member) None ps) c.in-Ok.ensures))
