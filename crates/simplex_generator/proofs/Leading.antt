@@ -5,9 +5,8 @@ use Rattle.simplex_transcript.specs.declared.event.Event.{Event}
 use Rattle.simplex_transcript.specs.declared.refusal.RunError.{RunError}
 use Rattle.simplex_run.specs.Life.{Noted}
 use Rattle.simplex_run.specs.Entries.{entry_of}
-use Rattle.simplex_generated.specs.Setup.{setup_of}
 use Rattle.simplex_generator.specs.declared.generator.Generator.{Generator}
-use Rattle.simplex_generator.specs.Generated.{event_behind, events_behind, unless_refused, generated}
+use Rattle.simplex_generator.specs.Generated.{setting_for, event_behind, events_behind, unless_refused, generated}
 use Rattle.simplex_generator.specs.Stands.{Generates, Draw, Drew, Makes, Refuses}
 
 -- these events, and so many that are left, are those of the number
@@ -27,7 +26,7 @@ leads_all generator number zero steps events none leads = sym (append-nil events
 leads_all generator number (suc left) steps events none leads = absurd (omega (arith, none))
 
 -- an event that was drawn and made, or refused
-one_more : (number left at : ℕ) (before : List Noted) (event : Event) (made : Result Noted RunError) → event ≡ (event_behind number before at).event → entry_of (setup_of number) before event ≡ made
+one_more : (number left at : ℕ) (before : List Noted) (event : Event) (made : Result Noted RunError) → event ≡ (event_behind number before at).event → entry_of (setting_for number) before event ≡ made
     → events_behind number (suc left) before at ≡ event ∷ unless_refused made (λ noted. events_behind number left (noted ∷ before) (at + (event_behind number before at).words))
 unfolding events_behind
 one_more number left at before event made is entry = rw (sym is) (rw entry refl)

@@ -43,32 +43,32 @@ runs_any number node is = is
 
 -- the part of a node that runs engines
 part_is : (number : ℕ) (node : Node) (before : List Noted) → runs_engine (setup_of number) node.member ≡ true
-    → part_in (setup_of number) before node ≡ Lives (life_in (setup_of number) before node)
+    → part_in (generated.setting_for number) before node ≡ Lives (life_in (generated.setting_for number) before node)
 unfolding part_in
 part_is number node before runs-engine = rw runs-engine refl
 
 -- the engine that is shown is that of its life, which goes on
 pub shown : (network : Network) (number : ℕ) (node : Node) (before : List Noted) (engine : Option NodeEngine) → ShowsEngine network node engine
-    → is_node (setup_of number) node ≡ true → runs_engine (setup_of number) node.member ≡ true → StandsFor network (setup_of number) before
-    → EngineOf (Lives (life_in (setup_of number) before node)) engine
+    → is_node (setup_of number) node ≡ true → runs_engine (setup_of number) node.member ≡ true → StandsFor network (generated.setting_for number) before
+    → EngineOf (Lives (life_in (generated.setting_for number) before node)) engine
 shown network number node before engine shows is runs-engine stands =
     subst (λ part. EngineOf part engine) (part_is number node before runs-engine)
-    (subst (λ (b : Bool). EngineOf (if b then part_in (setup_of number) before node else Lives (Stopped [])) engine) is (shows (setup_of number) before stands))
+    (subst (λ (b : Bool). EngineOf (if b then part_in (generated.setting_for number) before node else Lives (Stopped [])) engine) is (shows (generated.setting_for number) before stands))
 
 goes : (number : ℕ) (node : Node) (before : List Noted) (life : Life) → runs_engine (setup_of number) node.member ≡ true
-    → life_in (setup_of number) before node ≡ life → goes_on (Lives life) ≡ true
+    → life_in (generated.setting_for number) before node ≡ life → goes_on (Lives life) ≡ true
 goes number node before life runs-engine is =
-    subst (λ part. goes_on part ≡ true) (part_is number node before runs-engine ∙ ap Lives is) (part-goes (setup_of number) before node)
+    subst (λ part. goes_on part ≡ true) (part_is number node before runs-engine ∙ ap Lives is) (part-goes (generated.setting_for number) before node)
 
 -- ---- a node that runs
 
 pub runs_shown : {A : Type 0} (view : A → NodeEngine) (network : Network) (number : ℕ) (node : Node) (before : List Noted) (found : Option A)
     → ShowsEngine network node (option_map view found)
-    → is_node (setup_of 0) node ≡ true → runs_engine (setup_of number) node.member ≡ true → StandsFor network (setup_of number) before
-    → is_some found ≡ generated.is_running (setup_of number) before node
+    → is_node (setup_of 0) node ≡ true → runs_engine (setup_of number) node.member ≡ true → StandsFor network (generated.setting_for number) before
+    → is_some found ≡ generated.is_running (generated.setting_for number) before node
 unfolding generated.is_running
 runs_shown {A} view network number node before found shows is runs-engine stands =
-    rw runs-engine (by (life_in (setup_of number) before node) found
+    rw runs-engine (by (life_in (generated.setting_for number) before node) found
     (shown network number node before (option_map view found) shows (any_number number node is) runs-engine stands))
   where
     by : (life : Life) (found : Option A) → EngineOf (Lives life) (option_map view found) → is_some found ≡ generated.runs life
@@ -78,7 +78,7 @@ runs_shown {A} view network number node before found shows is runs-engine stands
     by (Stopped sections) None of-it = refl
 
 pub runs_without : (number : ℕ) (node : Node) (before : List Noted) → runs_engine (setup_of number) node.member ≡ false
-    → true ≡ generated.is_running (setup_of number) before node
+    → true ≡ generated.is_running (generated.setting_for number) before node
 unfolding generated.is_running
 runs_without number node before none = rw none refl
 
@@ -86,11 +86,11 @@ runs_without number node before none = rw none refl
 
 pub held_none : (network : Network) (node : Node) (items : List Held) (now : ℕ) → ShowsEngine network node None
     → (is_node (setup_of 0) node && runs_engine (setup_of 0) node.member) ≡ true
-    → (number : ℕ) (before : List Noted) → StandsFor network (setup_of number) before → clock_of before ≡ now
-    → items ≡ items ++ generated.held_at (life_in (setup_of number) before node) (clock_of before) node
+    → (number : ℕ) (before : List Noted) → StandsFor network (generated.setting_for number) before → clock_of before ≡ now
+    → items ≡ items ++ generated.held_at (life_in (generated.setting_for number) before node) (clock_of before) node
 held_none network node items now shows is number before stands clock =
     let parts = both (is_node (setup_of 0) node) (runs_engine (setup_of 0) node.member) is in
-    by (life_in (setup_of number) before node) (shown network number node before None shows (any_number number node parts.0) (runs_any number node parts.1) stands)
+    by (life_in (generated.setting_for number) before node) (shown network number node before None shows (any_number number node parts.0) (runs_any number node parts.1) stands)
   where
     by : (life : Life) → EngineOf (Lives life) None → items ≡ items ++ generated.held_at life (clock_of before) node
     by (Running made past) of-it = absurd of-it
@@ -99,15 +99,15 @@ held_none network node items now shows is number before stands clock =
 pub held_some : (network : Network) (node : Node) (engine : NodeEngine) (old new : List Held) (now : ℕ) → ShowsEngine network node (Some engine)
     → (is_node (setup_of 0) node && runs_engine (setup_of 0) node.member) ≡ true
     → ((made : EngineMade) (past : List Did) → EngineStands engine made past → runs past ≡ true → new ≡ old ++ generated.held_at (Running made past) now node)
-    → (number : ℕ) (before : List Noted) → StandsFor network (setup_of number) before → clock_of before ≡ now
-    → new ≡ old ++ generated.held_at (life_in (setup_of number) before node) (clock_of before) node
+    → (number : ℕ) (before : List Noted) → StandsFor network (generated.setting_for number) before → clock_of before ≡ now
+    → new ≡ old ++ generated.held_at (life_in (generated.setting_for number) before node) (clock_of before) node
 unfolding goes_on
 held_some network node engine old new now shows is holds number before stands clock =
     let parts = both (is_node (setup_of 0) node) (runs_engine (setup_of 0) node.member) is in
-    by (life_in (setup_of number) before node) refl
+    by (life_in (generated.setting_for number) before node) refl
     (shown network number node before (Some engine) shows (any_number number node parts.0) (runs_any number node parts.1) stands) (runs_any number node parts.1)
   where
-    by : (life : Life) → life_in (setup_of number) before node ≡ life → EngineOf (Lives life) (Some engine) → runs_engine (setup_of number) node.member ≡ true
+    by : (life : Life) → life_in (generated.setting_for number) before node ≡ life → EngineOf (Lives life) (Some engine) → runs_engine (setup_of number) node.member ≡ true
         → new ≡ old ++ generated.held_at life (clock_of before) node
     by (Stopped sections) e of-it lives = absurd of-it
     by (Running made past) e of-it lives =

@@ -5,8 +5,8 @@ use Rattle.simplex_transcript.specs.declared.event.Event.{Event}
 use Rattle.simplex_transcript.specs.declared.event.StepSource.{StepSource}
 use Rattle.simplex_transcript.specs.declared.node.Node.{Node}
 use Rattle.simplex_transcript.specs.declared.refusal.RunError.{RunError}
-use Rattle.simplex_transcript.specs.declared.setup.Setup.{Setup}
 use Rattle.simplex_engine.specs.Holding.{holds}
+use Rattle.simplex_run.specs.Setting.{Setting, at_epoch_genesis}
 use Rattle.simplex_run.specs.Kinds.{runs_engine}
 use Rattle.simplex_run.specs.Life.{Noted, Life, Stopped, Running, clock_of, life_in}
 use Rattle.simplex_run.specs.Entries.{entry_of}
@@ -19,11 +19,11 @@ abbrev pub runs : Life → Bool
 runs (Stopped sections) = false
 runs (Running made past) = true
 
-unfoldable pub is_running : Setup → List Noted → Node → Bool
-is_running setup before node = if runs_engine setup node.member then runs (life_in setup before node) else true
+unfoldable pub is_running : Setting → List Noted → Node → Bool
+is_running setting before node = if runs_engine setting.setup node.member then runs (life_in setting before node) else true
 
-abbrev pub running_nodes : Setup → List Noted → List Node
-running_nodes setup before = filter (is_running setup before) all_nodes
+abbrev pub running_nodes : Setting → List Noted → List Node
+running_nodes setting before = filter (is_running setting before) all_nodes
 
 -- whether a source of a node's engine holds something at this clock
 abbrev pub holds_at : Life → ℕ → StepSource → Bool
@@ -39,12 +39,16 @@ abbrev pub held_at : Life → ℕ → Node → List Held
 held_at life now node = held_of life now node all_sources
 
 -- all that hold something, by node
-unfoldable pub held : Setup → List Noted → List Held
-held setup before = flat_map (λ node. held_at (life_in setup before node) (clock_of before) node) engine_nodes
+unfoldable pub held : Setting → List Noted → List Held
+held setting before = flat_map (λ node. held_at (life_in setting before node) (clock_of before) node) engine_nodes
+
+-- the setup that a number makes, whose run begins at the epoch's genesis digest
+abbrev pub setting_for : ℕ → Setting
+setting_for number = at_epoch_genesis (setup_of number)
 
 -- the event behind these entries, with words from this place on
 unfoldable pub event_behind : ℕ → List Noted → ℕ → Drawn
-event_behind number before at = next_event (running_nodes (setup_of number) before) (held (setup_of number) before) number before at
+event_behind number before at = next_event (running_nodes (setting_for number) before) (held (setting_for number) before) number before at
 
 -- an event that is refused is the last
 abbrev pub unless_refused : Result Noted RunError → (Noted → List Event) → List Event
@@ -56,7 +60,7 @@ unfoldable pub events_behind : ℕ → ℕ → List Noted → ℕ → List Event
 events_behind number zero before at = []
 events_behind number (suc left) before at =
     (let drawn = event_behind number before at in
-    drawn.event ∷ unless_refused (entry_of (setup_of number) before drawn.event) (λ noted. events_behind number left (noted ∷ before) (at + drawn.words)))
+    drawn.event ∷ unless_refused (entry_of (setting_for number) before drawn.event) (λ noted. events_behind number left (noted ∷ before) (at + drawn.words)))
 
 -- the events that the number makes, so many of them
 unfoldable pub generated : ℕ → ℕ → List Event

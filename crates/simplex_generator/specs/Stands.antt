@@ -5,14 +5,13 @@ use Rattle.simplex_transcript.specs.declared.refusal.RunError.{RunError}
 use Rattle.simplex_run.specs.Life.{Noted}
 use Rattle.simplex_run.specs.Entries.{entry_of}
 use Rattle.simplex_network.specs.Stands.{StandsFor}
-use Rattle.simplex_generated.specs.Setup.{setup_of}
 use Rattle.simplex_generated.specs.Draws.{DrawsBehind}
-use Rattle.simplex_generator.specs.Generated.{event_behind}
+use Rattle.simplex_generator.specs.Generated.{setting_for, event_behind}
 use Rattle.simplex_generator.specs.declared.generator.Generator.{Generator}
 
 -- the number's generator made these entries, the newest first, and draws words from this place on
 pub record Generates (generator : Generator) (number : ℕ) (before : List Noted) (at : ℕ) : Type 0 where
-  pub network : StandsFor generator.network (setup_of number) before
+  pub network : StandsFor generator.network (setting_for number) before
   pub drawing : DrawsBehind generator.drawing number before at
 
 -- whatever the generator made, the event is the next
@@ -28,9 +27,9 @@ Drew old new =
 abbrev pub Makes : Generator → Generator → Event → Type 0
 Makes old new event =
     (number : ℕ) (before : List Noted) (at : ℕ) → Generates old number before at
-    → (noted : Noted) × (entry_of (setup_of number) before event ≡ Ok noted) × Generates new number (noted ∷ before) at
+    → (noted : Noted) × (entry_of (setting_for number) before event ≡ Ok noted) × Generates new number (noted ∷ before) at
 
 -- whatever it made, the network refuses the event
 abbrev pub Refuses : Generator → Event → RunError → Type 0
 Refuses generator event error =
-    (number : ℕ) (before : List Noted) (at : ℕ) → Generates generator number before at → entry_of (setup_of number) before event ≡ Err error
+    (number : ℕ) (before : List Noted) (at : ℕ) → Generates generator number before at → entry_of (setting_for number) before event ≡ Err error

@@ -18,7 +18,7 @@ use std::alloc::{AllocError, Global};
 /// The sources that hold something, by node, then in order.
 #[tactic(auto, unfolding(crate::specs::Generated::held, simplex_generated::specs::Setup::setup_of))]
 pub(crate) fn all_held(alloc: Global, network: &Network, now: u64) -> Result<Vec<Held>, AllocError>
-    ensures { IfOk result (λ held. (number : ℕ) (before : List Noted) → StandsFor network.now (setup_of number) before → clock_of before ≡ now → held.items ≡ generated.held (setup_of number) before) }
+    ensures { IfOk result (λ held. (number : ℕ) (before : List Noted) → StandsFor network.now (generated.setting_for number) before → clock_of before ≡ now → held.items ≡ generated.held (generated.setting_for number) before) }
 {
     let mut held = Vec::new(alloc);
     let mut rest = ENGINE_NODES.as_slice();
@@ -38,7 +38,7 @@ fn push_held(
     now: u64,
 ) -> Result<(), AllocError>
     requires { (is_node (setup_of 0) node && runs_engine (setup_of 0) node.member) ≡ true }
-    ensures { OnOk result ((number : ℕ) (before : List Noted) → StandsFor network.now (setup_of number) before → clock_of before ≡ now → held.new.items ≡ held.old.items ++ generated.held_at (life_in (setup_of number) before node) (clock_of before) node) }
+    ensures { OnOk result ((number : ℕ) (before : List Noted) → StandsFor network.now (generated.setting_for number) before → clock_of before ≡ now → held.new.items ≡ held.old.items ++ generated.held_at (life_in (generated.setting_for number) before node) (clock_of before) node) }
 {
     match network.engine(node) {
         None => Ok(()),
@@ -71,7 +71,7 @@ fn push_sources(
 /// The nodes that are given packets: those whose engine runs, and those that have none.
 #[tactic(auto, unfolding(simplex_generated::specs::Setup::setup_of))]
 pub(crate) fn running_nodes(alloc: Global, network: &Network) -> Result<Vec<Node>, AllocError>
-    ensures { IfOk result (λ running. (number : ℕ) (before : List Noted) → StandsFor network.now (setup_of number) before → running.items ≡ generated.running_nodes (setup_of number) before) }
+    ensures { IfOk result (λ running. (number : ℕ) (before : List Noted) → StandsFor network.now (generated.setting_for number) before → running.items ≡ generated.running_nodes (generated.setting_for number) before) }
 {
     let mut running = Vec::new(alloc);
     let mut rest = NODES.as_slice();
@@ -87,7 +87,7 @@ pub(crate) fn running_nodes(alloc: Global, network: &Network) -> Result<Vec<Node
 #[tactic(auto, using(crate::proofs::Shown::runs_shown, crate::proofs::Shown::runs_without))]
 fn is_running(network: &Network, node: Node) -> bool
     requires { is_node (setup_of 0) node ≡ true }
-    ensures { (number : ℕ) (before : List Noted) → StandsFor network.now (setup_of number) before → result ≡ generated.is_running (setup_of number) before node }
+    ensures { (number : ℕ) (before : List Noted) → StandsFor network.now (generated.setting_for number) before → result ≡ generated.is_running (generated.setting_for number) before node }
 {
     if has_engine(node) {
         network.engine(node).is_some()

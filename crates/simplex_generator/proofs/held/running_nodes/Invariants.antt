@@ -11,8 +11,8 @@ use Rattle.simplex_generator.proofs.held.running_nodes.Given as goal
 abbrev pub invariant-loop-rest : goal.invariant-loop-rest
 invariant-loop-rest l = record {
   nodes : list_all (is_node (setup_of 0)) l.rest ≡ true;
-  running : (number : ℕ) (before : List Noted) → StandsFor l.network (setup_of number) before
-      → l.running.items ++ filter (generated.is_running (setup_of number) before) l.rest ≡ generated.running_nodes (setup_of number) before;
+  running : (number : ℕ) (before : List Noted) → StandsFor l.network (generated.setting_for number) before
+      → l.running.items ++ filter (generated.is_running (generated.setting_for number) before) l.rest ≡ generated.running_nodes (generated.setting_for number) before;
 }
 
 abbrev pub decreases-loop-rest : goal.decreases-loop-rest
