@@ -5,7 +5,6 @@ use Rattle.std.specs.Option.{option_or, option_and_then}
 use Rattle.simplex_wire.specs.declared.certificate.Finalization.{Finalization}
 use Rattle.simplex_journal.specs.Journal.{Section, crashed}
 use Rattle.simplex_messages.specs.declared.step.Outcome.{Outcome}
-use Rattle.simplex_messages.specs.declared.step.Outcome.TheVariants as outcomes
 use Rattle.simplex_messages.specs.declared.step.Stop.{Stop}
 use Rattle.simplex_messages.specs.declared.step.StepOut.{StepOut}
 use Rattle.simplex_transcript.specs.declared.event.Event.{Event}

@@ -19,7 +19,6 @@ use Rattle.simplex_network.specs.declared.host.Host.TheVariants as hosts
 use Rattle.simplex_transcript.specs.declared.setup.Setup.{Setup}
 use Rattle.simplex_members.specs.declared.faulty_member.FaultyMember.{FaultyMember}
 use Rattle.simplex_members.specs.NodeEngine.{NodeConfig, made_with}
-use Rattle.simplex_network.specs.declared.status.Status.{Status}
 use Rattle.simplex_network.specs.declared.status.Status.TheVariants as statuses
 use Rattle.simplex_network.specs.NodeEngine.{NodeEngine, EngineStands}
 use Rattle.simplex_network.specs.Parts.{Part, Lives, Hears, goes_on, status_of, status_in, refusal_in, after_poll, IsPolled, after_start}

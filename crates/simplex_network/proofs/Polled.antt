@@ -14,8 +14,6 @@ use Rattle.simplex_transcript.specs.declared.entry.Took.{Took}
 use Rattle.simplex_transcript.specs.declared.node.Node.{Node}
 use Rattle.simplex_transcript.specs.declared.node.Ref.{Ref}
 use Rattle.simplex_transcript.specs.declared.setup.Setup.{Setup}
-use Rattle.simplex_transcript.specs.declared.refusal.RunError.{RunError}
-use Rattle.simplex_transcript.specs.declared.refusal.RunError.TheVariants as refusals
 use Rattle.simplex_steps.specs.Engine.{EngineMade, Did}
 use Rattle.simplex_engine.specs.declared.input.Input.{Input}
 use Rattle.simplex_engine.specs.declared.input.TakenInside.{TakenInside}

@@ -1,6 +1,5 @@
 use Rattle.std.proofs.Common.{refl, sym, ap, ◌∙◌}
 use Rattle.std.specs.Prelude.{Ok}
-use Rattle.simplex_transcript.specs.declared.event.Event.TheVariants as events
 use Rattle.simplex_run.specs.Life.{life_in}
 use Rattle.simplex_network.specs.Stands.{entered}
 use Rattle.simplex_network.proofs.Polled.{same-ok}
