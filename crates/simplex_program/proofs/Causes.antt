@@ -10,6 +10,7 @@ use Rattle.simplex_transcript.specs.declared.refusal.RunError.{RunError}
 use Rattle.simplex_transcript.specs.declared.refusal.Refusal.{Refusal}
 use Rattle.simplex_form.specs.declared.input.Input.{Input}
 use Rattle.simplex_form.specs.Input.{input_of}
+use Rattle.simplex_run.specs.Setting.{at_epoch_genesis}
 use Rattle.simplex_run.specs.Run.{Run, run, refused}
 use Rattle.simplex_run_laws.specs.Complete.{IsOneEach}
 use Rattle.simplex_backing.specs.Safe.{RunsSafely}
@@ -192,7 +193,7 @@ run_read old new events result exit written after decided (inr cut) transcript i
 
 -- a whole run of the bytes, as it was made
 pub made_whole : (bytes : List ℕ) (input : Input) (made : Transcript) → input_of bytes ≡ Ok input
-    → Run input.setup input.events ≡ Ok made.entries → IsOneEach made.entries input.events → MadeBy made.network input.setup (run input.setup [] input.events) → RunsSafely input.setup input.events
+    → Run input.setup input.events ≡ Ok made.entries → IsOneEach made.entries input.events → MadeBy made.network (at_epoch_genesis input.setup) (run (at_epoch_genesis input.setup) [] input.events) → RunsSafely (at_epoch_genesis input.setup) input.events
     → (transcript : Transcript) → Done made ≡ Done transcript → WholeRun bytes transcript
 made_whole bytes input made says entries each network safe transcript is =
     let same : made ≡ transcript = cc in

@@ -2,6 +2,7 @@
 use Rattle.std.specs.Prelude.{◌≡◌, ℕ, List, [], Ok}
 use Rattle.simplex_form.specs.declared.input.Input.{Input}
 use Rattle.simplex_form.specs.Input.{input_of}
+use Rattle.simplex_run.specs.Setting.{at_epoch_genesis}
 use Rattle.simplex_run.specs.Run.{Run, run}
 use Rattle.simplex_run_laws.specs.Complete.{IsOneEach}
 use Rattle.simplex_backing.specs.Safe.{RunsSafely}
@@ -16,5 +17,5 @@ pub record WholeRun (bytes : List ℕ) (transcript : Transcript) : Type 0 where
   pub says : input_of bytes ≡ Ok input
   pub entries : Run input.setup input.events ≡ Ok transcript.entries
   pub each : IsOneEach transcript.entries input.events
-  pub network : MadeBy transcript.network input.setup (run input.setup [] input.events)
-  pub safe : RunsSafely input.setup input.events
+  pub network : MadeBy transcript.network (at_epoch_genesis input.setup) (run (at_epoch_genesis input.setup) [] input.events)
+  pub safe : RunsSafely (at_epoch_genesis input.setup) input.events
