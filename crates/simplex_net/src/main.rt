@@ -1,4 +1,5 @@
-//! The program: runs the events that standard input says, and prints what was finalized: `simplex_net run < input.json`.
+//! The program: runs the events that standard input says, and prints what was finalized: `simplex_net run < input.json`; or runs
+//! those that a number makes, and sums them up: `simplex_net gen 7 2000`.
 //!
 //! It hands the process to [`program`] and decides nothing: words, standard input and standard output go in, and the status
 //! is that of the exit. Of an exit by a fault or want of memory, for which standard output stays as it is, it says on

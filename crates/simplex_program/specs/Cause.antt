@@ -1,5 +1,5 @@
 -- Which ending the program comes to, and why.
-use Rattle.std.specs.Prelude.{◌≡◌, ◌≤◌, ◌⊎◌, ℕ, nat_lt, if◌then◌else◌, List, [], ◌∷◌, map, length, codes, Option, Result, Ok, Err, String, string_bytes}
+use Rattle.std.specs.Prelude.{◌≡◌, ◌≤◌, ◌⊎◌, ℕ, nat_lt, if◌then◌else◌, List, [], length, Option, Result, Ok, Err, String}
 use Rattle.std.specs.declared.alloc.Global.{Global}
 use Rattle.simplex_transcript.specs.declared.event.Event.{Event}
 use Rattle.simplex_transcript.specs.declared.entry.Entry.{Entry}
@@ -8,12 +8,14 @@ use Rattle.simplex_form.specs.declared.input.Input.{Input}
 use Rattle.simplex_form.specs.Input.{input_of}
 use Rattle.simplex_io.specs.Io.{TakesAll, TakesOver, TakesWithin, Rose}
 use Rattle.simplex_run.specs.Run.{Run}
+use Rattle.simplex_generated.specs.Setup.{setup_of}
+use Rattle.simplex_generator.specs.Generated.{generated}
+use Rattle.simplex_program.specs.declared.command.Command.TheVariants as commands
+use Rattle.simplex_program.specs.declared.text.Telling.{Telling}
+use Rattle.simplex_program.specs.declared.text.Telling.TheVariants as tellings
+use Rattle.simplex_program.specs.Words.{Says, AreTaken}
 use Rattle.simplex_io.specs.declared.read.TheConstants.{LIMIT}
 use Rattle.simplex_program.specs.Exit.{Ending, Ran, Refused, BadWords, BadInput, TooLong, ReadFault, WriteFault, Memory}
-
--- the one word `run`
-abbrev pub IsRun : List (String Global) → Type 0
-IsRun words = map string_bytes words ≡ codes "run" ∷ []
 
 -- a run is whole, or refused at an event
 abbrev pub ending_of_run : Result (List Entry) Refusal → Ending
@@ -47,17 +49,28 @@ abbrev pub LeadsTo : Option (List ℕ) → Option (List ℕ) → List Event → 
 LeadsTo old new events ending =
     (bytes : List ℕ) × TakesAll old bytes new × (length bytes ≤ LIMIT) × (events_of bytes ≡ events) × (ending_of bytes ≡ ending)
 
+-- the words ask for events that a number makes, nothing was read, and the run of these leads to this ending
+abbrev pub IsGenerated : List (String Global) → Option (List ℕ) → Option (List ℕ) → List Event → Ending → Type 0
+IsGenerated words old new events ending =
+    (number steps : ℕ) × Says words (commands.Gen number steps) × (new ≡ old) × (generated number steps ≡ events)
+    × (ending_of_run (Run (setup_of number) events) ≡ ending)
+
+-- a run of what the source says is told by its lines, and one of what a number makes is summed up
+abbrev pub IsRunOf : List (String Global) → Option (List ℕ) → Option (List ℕ) → Telling → List Event → Ending → Type 0
+IsRunOf words old new tellings.Lines events ending = Says words commands.Run × LeadsTo old new events ending
+IsRunOf words old new tellings.Summary events ending = IsGenerated words old new events ending
+
 -- Why an ending is chosen, before its text is written: by the words, by what is left of the source before and after,
 -- and by its count of faults before and after.
-abbrev pub Cause : List (String Global) → Option (List ℕ) → Option (List ℕ) → ℕ → ℕ → List Event → Ending → Type 0
-Cause words old new before now events (Ran entries) = IsRun words × LeadsTo old new events (Ran entries)
-Cause words old new before now events (Refused error event) = IsRun words × LeadsTo old new events (Refused error event)
-Cause words old new before now events (BadInput place) = IsRun words × LeadsTo old new events (BadInput place)
-Cause words old new before now events BadWords = (¬ IsRun words) × (new ≡ old)
-Cause words old new before now events TooLong = IsRun words × TakesOver LIMIT old new
-Cause words old new before now events ReadFault = IsRun words × Rose before now × TakesWithin LIMIT old new
-Cause words old new before now events WriteFault = ⊥
-Cause words old new before now events Memory = IsRun words
+abbrev pub Cause : List (String Global) → Option (List ℕ) → Option (List ℕ) → ℕ → ℕ → Telling → List Event → Ending → Type 0
+Cause words old new before now telling events (Ran entries) = IsRunOf words old new telling events (Ran entries)
+Cause words old new before now telling events (Refused error event) = IsRunOf words old new telling events (Refused error event)
+Cause words old new before now telling events (BadInput place) = Says words commands.Run × LeadsTo old new events (BadInput place)
+Cause words old new before now telling events BadWords = (¬ AreTaken words) × (new ≡ old)
+Cause words old new before now telling events TooLong = Says words commands.Run × TakesOver LIMIT old new
+Cause words old new before now telling events ReadFault = Says words commands.Run × Rose before now × TakesWithin LIMIT old new
+Cause words old new before now telling events WriteFault = ⊥
+Cause words old new before now telling events Memory = Says words commands.Run ⊎ (new ≡ old)
 
 -- writing the text or memory failed
 abbrev pub IsCut : Ending → Type 0

@@ -5,8 +5,11 @@ use Rattle.simplex_transcript.specs.declared.entry.Entry.{Entry}
 use Rattle.simplex_transcript.specs.declared.refusal.RunError.{RunError}
 use Rattle.simplex_text.specs.Lines.{pieces, PrintedRun}
 use Rattle.simplex_text.specs.Refusals.{refused_line, error_name}
+use Rattle.simplex_generated.specs.Summary.{summary}
 use Rattle.simplex_program.specs.declared.exit.Exit.{Exit}
 use Rattle.simplex_program.specs.declared.exit.Exit.TheVariants as exits
+use Rattle.simplex_program.specs.declared.text.Telling.{Telling}
+use Rattle.simplex_program.specs.declared.text.Telling.TheVariants as tellings
 
 -- how the program ends, as far as it is told: a whole run by its entries alone
 pub data Ending : Type 0 where
@@ -53,13 +56,18 @@ status_of Memory = 7
 abbrev pub bad_input_line : ℕ → List ℕ
 bad_input_line place = pieces (codes "bad input at " ∷ decimal place ∷ codes "\n" ∷ [])
 
+-- the text of a whole run of these events: its lines, or the line that sums it up
+abbrev pub text_of_run : Telling → List Event → List Entry → List ℕ
+text_of_run tellings.Lines events entries = PrintedRun events entries
+text_of_run tellings.Summary events entries = summary events entries
+
 -- the text of an ending, where these are the events that ran
-abbrev pub text_of : List Event → Ending → List ℕ
-text_of events (Ran entries) = PrintedRun events entries
-text_of events (Refused error event) = refused_line (error_name error) event
-text_of events BadWords = codes "usage: run | par WORKERS | gen NUMBER STEPS\n"
-text_of events (BadInput place) = bad_input_line place
-text_of events TooLong = codes "input too long\n"
-text_of events ReadFault = []
-text_of events WriteFault = []
-text_of events Memory = []
+abbrev pub text_of : Telling → List Event → Ending → List ℕ
+text_of telling events (Ran entries) = text_of_run telling events entries
+text_of telling events (Refused error event) = refused_line (error_name error) event
+text_of telling events BadWords = codes "usage: run | par WORKERS | gen NUMBER STEPS\n"
+text_of telling events (BadInput place) = bad_input_line place
+text_of telling events TooLong = codes "input too long\n"
+text_of telling events ReadFault = []
+text_of telling events WriteFault = []
+text_of telling events Memory = []

@@ -1,3 +1,4 @@
+pub mod Words
 pub mod Exit
 pub mod Cause
 pub mod Whole

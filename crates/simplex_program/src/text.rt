@@ -1,10 +1,11 @@
 //! The text of each exit.
 ghost use Rattle.std.specs.Prelude.{◌≡◌, IfOk, string_bytes};
-ghost use Rattle.simplex_program.specs.Exit.{told, text_of, bad_input_line};
+ghost use Rattle.simplex_program.specs.Exit.{told, text_of, text_of_run, bad_input_line};
 
 use crate::exit::Exit;
+use simplex_generated::summary;
 use simplex_text::{printed_run, refusal_text};
-use simplex_transcript::{Event, Refusal};
+use simplex_transcript::{Entry, Event, Refusal};
 use std::alloc::{AllocError, Global};
 
 // What is said of words that are not taken.
@@ -16,12 +17,41 @@ fn bad_input(alloc: Global, place: u64) -> Result<String, AllocError>
     format!(in alloc; "bad input at {place}\n")
 }
 
+// The text of a whole run.
+fn told_run(
+    alloc: Global,
+    telling: Telling,
+    events: &[Event],
+    entries: &[Entry],
+) -> Result<String, AllocError>
+    ensures { IfOk result (λ text. string_bytes text ≡ text_of_run telling events.now entries.now) }
+{
+    match telling {
+        Telling::Lines => printed_run(alloc, events, entries),
+        Telling::Summary => summary(alloc, events, entries),
+    }
+}
+
+/// How a whole run is told.
+#[derive(Clone, Copy, Debug, PartialEq, Eq)]
+pub(crate) enum Telling {
+    /// By a line for each of its finalizations, evidence and stops.
+    Lines,
+    /// By one line with their numbers.
+    Summary,
+}
+
 /// The text of an exit, and for a whole run that of its events.
-pub(crate) fn text(alloc: Global, exit: &Exit, events: &[Event]) -> Result<String, AllocError>
-    ensures { IfOk result (λ text. string_bytes text ≡ text_of events.now (told exit.now)) }
+pub(crate) fn text(
+    alloc: Global,
+    telling: Telling,
+    exit: &Exit,
+    events: &[Event],
+) -> Result<String, AllocError>
+    ensures { IfOk result (λ text. string_bytes text ≡ text_of telling events.now (told exit.now)) }
 {
     match exit {
-        Exit::Done(transcript) => printed_run(alloc, events, transcript.entries.as_slice()),
+        Exit::Done(transcript) => told_run(alloc, telling, events, transcript.entries.as_slice()),
         Exit::Refused { error, event } => refusal_text(
             alloc,
             &Refusal {

@@ -11,7 +11,7 @@ const USAGE: &str = "usage: run | par WORKERS | gen NUMBER STEPS\n";
 const REST: &str =
     r#""key_base":1,"members":["honest"],"term":1,"lookahead":0,"leader_timeout":1000,"certification_timeout":2000,"retry":500,"stall":null,"retention":10,"skip":null,"forward":"disabled","mailbox":16,"track":false,"handoff":false,"fetch_timeout":1000,"fetch_retry":100,"scenario":[]"#;
 
-fn words_of(rt: &impl Abort, alloc: Global, words: &[&str]) -> Vec<String> {
+pub(crate) fn words_of(rt: &impl Abort, alloc: Global, words: &[&str]) -> Vec<String> {
     let mut owned = Vec::new(alloc);
     for &word in words {
         let word = String::from_str(alloc, word).expect(rt, "room");
@@ -75,7 +75,7 @@ pub(crate) fn assert_ends(
 #[test]
 fn other_words_are_told_the_usage(rt: HostRuntime) {
     let alloc = rt.alloc();
-    let table: [(&str, &[&str]); 9] = [
+    let table: [(&str, &[&str]); 18] = [
         ("no words", &[]),
         ("an empty word", &[""]),
         ("another word", &["walk"]),
@@ -84,11 +84,45 @@ fn other_words_are_told_the_usage(rt: HostRuntime) {
         ("twice", &["run", "run"]),
         ("an empty word behind", &["run", ""]),
         ("workers", &["par", "4"]),
-        ("a list", &["gen", "1", "10"]),
+        ("no number", &["gen"]),
+        ("no steps", &["gen", "7"]),
+        ("a word too many", &["gen", "7", "3", "3"]),
+        ("a leading zero", &["gen", "07", "3"]),
+        ("a sign", &["gen", "+7", "3"]),
+        ("an empty number", &["gen", "", "3"]),
+        ("hexadecimal", &["gen", "7", "a"]),
+        ("2^64", &["gen", "18446744073709551616", "3"]),
+        ("too many steps", &["gen", "7", "1048577"]),
+        ("run with a number", &["run", "7", "3"]),
     ];
     for (case, words) in table {
         let input = spaces(&rt, alloc, 9);
         assert_ends(&rt, alloc, case, words, input, NOTHING, (USAGE, 2));
+    }
+}
+
+#[test]
+fn the_events_of_a_number_are_summed_up(rt: HostRuntime) {
+    let alloc = rt.alloc();
+    let table: [(&[&str], &str); 3] = [
+        (
+            &["gen", "7", "0"],
+            "events 0 finalized 0 greatest 0 evidence 0 stops 0\n",
+        ),
+        (
+            &["gen", "7", "3"],
+            "events 3 finalized 0 greatest 0 evidence 0 stops 0\n",
+        ),
+        (
+            &["gen", "18446744073709551615", "1"],
+            "events 1 finalized 0 greatest 0 evidence 0 stops 0\n",
+        ),
+    ];
+    for (words, line) in table {
+        // Nothing is read.
+        let failing = Failing { read: 1, write: 0 };
+        let input = spaces(&rt, alloc, 9);
+        assert_ends(&rt, alloc, "a number", words, input, failing, (line, 0));
     }
 }
 

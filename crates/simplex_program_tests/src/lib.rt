@@ -4,4 +4,6 @@
 #[cfg(test)]
 mod exits;
 #[cfg(test)]
+mod generated;
+#[cfg(test)]
 mod runs;
