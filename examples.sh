@@ -2,8 +2,9 @@
 # Runs the program on each example of examples/ that examples.txt names, and compares what it writes and its status; then sees
 # what it says of a standard input that cannot be read, and of a standard output that cannot be written; then runs it on all
 # that stands in further folders.
-# Usage: examples.sh [FOLDER..]. A folder has NAME.json, NAME.out and NAME.status of each example. The program is the one that
-# rt ci or make build built; where there is none, rt run builds it.
+# Usage: examples.sh [FOLDER..]. A folder has NAME.json, NAME.out and NAME.status of each example. Where the words are not the
+# one word run they stand in NAME.words, and NAME.json may be missing. The program is the one that rt ci or make build built;
+# where there is none, rt run builds it.
 set -uo pipefail
 here=$(cd "$(dirname "$0")" && pwd)
 program=$here/crates/simplex_net/out/simplex_net
@@ -32,12 +33,16 @@ count() {
 
 # Why the program does not do what the example says, or nothing.
 fault() {
-    local example=$1 status=0 wanted
-    for kind in json out status; do
-        [[ -f $example.$kind ]] || { echo "there is no $example.$kind"; return; }
+    local example=$1 status=0 wanted words=(run) input=$1.json
+    if [[ -f $example.words ]]; then
+        read -ra words <"$example.words"
+        [[ -f $input ]] || input=/dev/null
+    fi
+    for file in "$example.out" "$example.status" "$input"; do
+        [[ -e $file ]] || { echo "there is no $file"; return; }
     done
     wanted=$(<"$example.status")
-    timeout 120 "$program" run <"$example.json" >"$written" || status=$?
+    timeout 120 "$program" "${words[@]}" <"$input" >"$written" || status=$?
     if [[ $status != "$wanted" ]]; then
         echo "status $status, not $wanted"
     elif ! cmp -s "$written" "$example.out"; then
