@@ -3,13 +3,17 @@ pub mod Places
 pub mod OneHost
 pub mod ManyHosts
 pub mod Moves
+pub mod Cutting
 pub mod Found
 pub mod Named
 pub mod Polled
 pub mod Events
+pub mod Acting
 pub mod Tested
 pub mod Senders
 pub mod Networks
+pub mod Lending
+pub mod Preparing
 pub mod Speaking
 pub mod Standing
 pub mod Runs

@@ -34,9 +34,10 @@ use Rattle.simplex_records.specs.Stands.{RecordsStand}
 use Rattle.simplex_records.proofs.KeptPackets.{packets-from}
 use Rattle.simplex_records.proofs.Seating.{same-seat}
 use Rattle.simplex_network.specs.declared.network.Network.{Network}
+use Rattle.simplex_network.specs.declared.task.Made.{Made}
 use Rattle.simplex_network.specs.NodeEngine.{NodeEngine}
 use Rattle.simplex_network.specs.Parts.{Part, Lives, first_part, part_in, after_poll, IsPolled, IsStarted, after_start, changed}
-use Rattle.simplex_network.specs.Polls.{on_poll, IsOf, IsInput, noted_start, named}
+use Rattle.simplex_network.specs.Polls.{EntersMade, on_poll, IsOf, IsInput, noted_start, named}
 use Rattle.simplex_network.specs.Stands.{Keeps, HostsStand, EngineOf, LivesAs, IsIdle, entered}
 use Rattle.simplex_network.proofs.Polled.{poll-noted, poll-entered}
 use Rattle.simplex_network.proofs.ManyHosts.{hosts-like}
@@ -47,11 +48,11 @@ same_entry : (a b : Entry) → ◌≡◌ {A = Result Entry RunError} (Ok a) (Ok 
 same_entry a b e = cc
 
 -- what both say of one result
-both_entries : (noted : Noted) (entry : Entry) (r : Result Noted RunError) → r ≡ Ok noted → entered r ≡ Ok entry → noted.entry ≡ entry
+pub both_entries : (noted : Noted) (entry : Entry) (r : Result Noted RunError) → r ≡ Ok noted → entered r ≡ Ok entry → noted.entry ≡ entry
 both_entries noted entry r is enters = same_entry noted.entry entry (ap (λ x. entered x) (sym is) ∙ enters)
 
 -- an event of the node is one of its seat
-at_seat : (event : Event) (node : Node) (starts : Bool) → node.half < 2 → IsOf event node starts → records.IsOf event (seat_of node) starts
+pub at_seat : (event : Event) (node : Node) (starts : Bool) → node.half < 2 → IsOf event node starts → records.IsOf event (seat_of node) starts
 at_seat event node starts half is = record { of = λ at. is.of _ ∙ same-seat node at half; start = is.start }
 
 -- a network that is seen apart and put together
@@ -99,20 +100,19 @@ network-hides network setting before node s missing =
 -- ---- an input
 
 -- the entry of an input of a node's engine
-pub network-entered : (old : Network) (setting : Setting) (before : List Noted) (event : Event) (node : Node) (input : Input) (stop : Stop) (outside took shown : Option Took)
-    (outcome : Outcome) (taken : Option TakenInside) (out : StepOut) (entry : Entry) (life : Life) → Keeps old setting before → LivesAs setting before node life
-    → ((setup : Setup) (parts : Node → Part) (life : Life) → HostsStand setup old.hosts.list.items parts → parts node ≡ Lives life → IsPolled life input old.clock stop outcome taken out)
-    → ((setup : Setup) (before : List Noted) → RecordsStand old.records setup before → took ≡ option_and_then (named before node) taken)
-    → shown ≡ option_or outside took
-    → ((before : List Noted) (did : Did) → RecordsStand old.records old.setup before → did.out ≡ out → did.outcome ≡ outcome
-    → entry ≡ entry_with old.setup (length before + 1) node shown did)
-    → entered (on_poll setting.setup before event node input stop outside life) ≡ Ok entry
-network-entered old setting before event node input stop outside took shown outcome taken out entry life s lives gives names shows enters =
-    let entering : (did : Did) → did.out ≡ out → did.outcome ≡ outcome → entry ≡ entry_with old.setup (length before + 1) node (option_or outside took) did =
-    (λ did is ends. rw (← shows) (enters before did (rw s.given s.records) is ends)) in
-    poll-entered setting.setup before event node input stop outside took entry old.clock outcome taken out life s.clock
-    (gives setting.setup (part_in setting before) life (rw s.given at s.hosts) (part-lives setting before node life lives))
-    (names setting.setup before s.records) (rw s.given at entering)
+pub network-entered : (old : Network) (setting : Setting) (before : List Noted) (event : Event) (node : Node) (input : Input) (stop : Stop) (made : Made) (entry : Entry) (life : Life)
+    → Keeps old setting before → LivesAs setting before node life
+    → ((setup : Setup) (parts : Node → Part) (life : Life) → HostsStand setting.setup old.hosts.list.items parts → parts node ≡ Lives life
+    → IsPolled life input old.clock stop made.polled.outcome made.polled.taken made.out)
+    → EntersMade old.records old.setup node made entry
+    → entered (on_poll setting.setup before event node input stop made.outside life) ≡ Ok entry
+network-entered old setting before event node input stop made entry life s lives gives enters =
+    let entering : (did : Did) → did.out ≡ made.out → did.outcome ≡ made.polled.outcome
+    → entry ≡ entry_with old.setup (length before + 1) node (option_or made.outside (option_and_then (named before node) made.polled.taken)) did =
+    (λ did is ends. enters before did (rw s.given s.records) is ends) in
+    poll-entered setting.setup before event node input stop made.outside (option_and_then (named before node) made.polled.taken) entry old.clock made.polled.outcome made.polled.taken made.out life s.clock
+    (gives setting (part_in setting before) life (rw s.given at s.hosts) (part-lives setting before node life lives))
+    refl (rw s.given at entering)
 
 pub network-polled : (old new : Network) (setting : Setting) (before : List Noted) (event : Event) (noted : Noted) (node : Node) (input : Input) (stop : Stop) (outside : Option Took)
     (outcome : Outcome) (taken : Option TakenInside) (out : StepOut) (entry : Entry) (life : Life) → node.half < 2 → node.member < members_of setting.setup

@@ -1,9 +1,10 @@
 -- What is tested for forgeries, and what an input that a node's engine is given makes of the entries before it.
-use Rattle.std.specs.Prelude.{◌≡◌, Bool, false, List, ◌∷◌, Option, Some, None, Result, Ok, Err, if◌then◌else◌}
-use Rattle.std.specs.Option.{option_map, option_or}
+use Rattle.std.specs.Prelude.{◌≡◌, ◌+◌, Bool, false, List, ◌∷◌, length, Option, Some, None, Result, Ok, Err, if◌then◌else◌}
+use Rattle.std.specs.Option.{option_map, option_or, option_and_then}
 use Rattle.simplex_messages.specs.declared.step.Stop.{Stop}
 use Rattle.simplex_transcript.specs.declared.event.Event.{Event}
 use Rattle.simplex_transcript.specs.declared.event.Event.TheVariants as events
+use Rattle.simplex_transcript.specs.declared.entry.Entry.{Entry}
 use Rattle.simplex_transcript.specs.declared.entry.Took.{Took}
 use Rattle.simplex_transcript.specs.declared.entry.Took.TheVariants as tooks
 use Rattle.simplex_transcript.specs.declared.setup.Setup.{Setup}
@@ -23,8 +24,11 @@ use Rattle.simplex_run.specs.Kinds.{is_same_node}
 use Rattle.simplex_run.specs.Members.{floor_of, engine_of}
 use Rattle.simplex_run.specs.Life.{Noted, Life, Stopped, Running, clock_of, is_of, after, went_on, sections_in}
 use Rattle.simplex_run.specs.Requests.{is_start, request_place}
-use Rattle.simplex_run.specs.Entries.{took_of, noted_with, made_of, entry_of}
+use Rattle.simplex_run.specs.Entries.{took_of, noted_with, made_of, entry_of, entry_with}
 use Rattle.simplex_forging.specs.Forging.{may_forge}
+use Rattle.simplex_records.specs.declared.records.Records.{Records}
+use Rattle.simplex_records.specs.Stands.{RecordsStand}
+use Rattle.simplex_network.specs.declared.task.Made.{Made}
 
 -- ---- what is tested
 
@@ -72,6 +76,12 @@ abbrev pub named : List Noted → Node → TakenInside → Option Took
 named before node (insides.Message message) = Some (tooks.Message message)
 named before node (insides.Answer request answer) = option_map (λ at. tooks.Request at answer) (request_place before node request)
 named before node insides.Deadline = Some tooks.Timer
+
+-- whatever entries the records stand for, this is the entry of what a step of the node's engine made
+abbrev pub EntersMade : Records → Setup → Node → Made → Entry → Type 0
+EntersMade records setup node made entry =
+    (before : List Noted) (did : Did) → RecordsStand records setup before → did.out ≡ made.out → did.outcome ≡ made.polled.outcome
+    → entry ≡ entry_with setup (length before + 1) node (option_or made.outside (option_and_then (named before node) made.polled.taken)) did
 
 -- what a start of this node makes
 abbrev pub noted_start : Setting → List Noted → Node → Option Finalization → Stop → Life → Noted

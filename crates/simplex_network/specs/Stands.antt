@@ -8,14 +8,12 @@ use Rattle.simplex_transcript.specs.declared.event.Event.{Event}
 use Rattle.simplex_transcript.specs.declared.event.Event.TheVariants as events
 use Rattle.simplex_transcript.specs.declared.event.StepSource.{StepSource}
 use Rattle.simplex_transcript.specs.declared.entry.Packet.{Packet}
-use Rattle.simplex_transcript.specs.declared.entry.Took.{Took}
 use Rattle.simplex_transcript.specs.declared.node.Node.{Node}
 use Rattle.simplex_transcript.specs.declared.node.Ref.{Ref}
 use Rattle.simplex_transcript.specs.declared.entry.Entry.{Entry}
 use Rattle.simplex_transcript.specs.declared.setup.Setup.{Setup}
 use Rattle.simplex_transcript.specs.declared.refusal.RunError.{RunError}
 use Rattle.simplex_transcript.specs.declared.refusal.Refusal.{Refusal}
-use Rattle.simplex_engine.specs.declared.input.Input.{Input}
 use Rattle.simplex_run.specs.Setting.{Setting}
 use Rattle.simplex_run.specs.Kinds.{members_of, is_of_kind, is_node, runs_engine}
 use Rattle.simplex_run.specs.Setups.{first_bad}
@@ -34,6 +32,7 @@ use Rattle.simplex_network.specs.declared.host.Host.{Host}
 use Rattle.simplex_network.specs.declared.host.Host.TheVariants as hosts
 use Rattle.simplex_network.specs.declared.network.Network.{Network}
 use Rattle.simplex_network.specs.declared.status.Status.{Status}
+use Rattle.simplex_network.specs.declared.task.Given.{Given}
 use Rattle.simplex_network.specs.NodeEngine.{NodeEngine, EngineStands}
 use Rattle.simplex_network.specs.Parts.{Part, Lives, Hears, part_in, found_in}
 use Rattle.simplex_network.specs.Polls.{IsInput, tested_of, on_poll, noted_start}
@@ -171,40 +170,38 @@ StartGives network node floor stop entry =
     (setting : Setting) (before : List Noted) (life : Life) → Keeps network setting before → LivesAs setting before node life
     → entry ≡ (noted_start setting before node floor stop life).entry
 
--- and of an input of a node's engine
-abbrev pub PollAdds : Network → Network → Node → Input → Stop → Option Took → Type 0
-PollAdds old new node input stop outside =
+-- and of what a node's engine is given
+abbrev pub PollAdds : Network → Network → Node → Given → Type 0
+PollAdds old new node given =
     (setting : Setting) (before : List Noted) (event : Event) (noted : Noted) (life : Life) → Keeps old setting before → LivesAs setting before node life → IsInput event node
-    → on_poll setting.setup before event node input stop outside life ≡ Ok noted → Keeps new setting (noted ∷ before)
+    → on_poll setting.setup before event node given.input given.stop given.outside life ≡ Ok noted → Keeps new setting (noted ∷ before)
 
-abbrev pub PollGives : Network → Node → Input → Stop → Option Took → Entry → Type 0
-PollGives network node input stop outside entry =
+abbrev pub PollGives : Network → Node → Given → Entry → Type 0
+PollGives network node given entry =
     (setting : Setting) (before : List Noted) (event : Event) (life : Life) → Keeps network setting before → LivesAs setting before node life
-    → entered (on_poll setting.setup before event node input stop outside life) ≡ Ok entry
+    → entered (on_poll setting.setup before event node given.input given.stop given.outside life) ≡ Ok entry
 
-abbrev pub PollDenies : Network → Node → Input → Stop → Option Took → RunError → Type 0
-PollDenies network node input stop outside error =
+abbrev pub PollDenies : Network → Node → Given → RunError → Type 0
+PollDenies network node given error =
     (setting : Setting) (before : List Noted) (event : Event) (life : Life) → Keeps network setting before → LivesAs setting before node life
-    → on_poll setting.setup before event node input stop outside life ≡ Err error
+    → on_poll setting.setup before event node given.input given.stop given.outside life ≡ Err error
 
--- of a packet that a node of a faulty member without an engine takes
-abbrev pub HearAdds : Network → Network → Node → Ref → Type 0
-HearAdds old new node at =
+-- of an event that steps a node of a faulty member without an engine
+abbrev pub FaultyAdds : Network → Network → Node → Event → Type 0
+FaultyAdds old new node event =
     (setting : Setting) (before : List Noted) (noted : Noted) → Keeps old setting before → runs_engine setting.setup node.member ≡ false
-    → tested_of setting before (events.Deliver node at) ≡ Ok noted → Keeps new setting (noted ∷ before)
+    → tested_of setting before event ≡ Ok noted → Keeps new setting (noted ∷ before)
 
-abbrev pub HearGives : Network → Node → Ref → Entry → Type 0
-HearGives network node at entry =
-    (setting : Setting) (before : List Noted) → Keeps network setting before → runs_engine setting.setup node.member ≡ false
-    → entered (tested_of setting before (events.Deliver node at)) ≡ Ok entry
+abbrev pub FaultyGives : Network → Node → Event → Entry → Type 0
+FaultyGives network node event entry =
+    (setting : Setting) (before : List Noted) → Keeps network setting before → runs_engine setting.setup node.member ≡ false → entered (tested_of setting before event) ≡ Ok entry
 
-abbrev pub HearDenies : Network → Node → Ref → RunError → Type 0
-HearDenies network node at error =
-    (setting : Setting) (before : List Noted) → Keeps network setting before → runs_engine setting.setup node.member ≡ false
-    → tested_of setting before (events.Deliver node at) ≡ Err error
+abbrev pub FaultyDenies : Network → Node → Event → RunError → Type 0
+FaultyDenies network node event error =
+    (setting : Setting) (before : List Noted) → Keeps network setting before → runs_engine setting.setup node.member ≡ false → tested_of setting before event ≡ Err error
 
-abbrev pub HearRests : Network → Network → Node → Type 0
-HearRests old new node =
+abbrev pub FaultyRests : Network → Network → Node → Type 0
+FaultyRests old new node =
     (setting : Setting) (before : List Noted) → Keeps old setting before → runs_engine setting.setup node.member ≡ false → Keeps new setting before
 
 -- of a crash of a running node

@@ -29,6 +29,7 @@ use simplex_records::seat_of;
 use simplex_transcript::{Node, Setup};
 use simplex_types::{Channel, Participant, Sequence};
 use std::alloc::{AllocError, Global};
+use std::mem;
 
 /// A host at each seat: two for each member, one a half.
 #[derive(Drop)]
@@ -90,6 +91,27 @@ impl Hosts {
             Ok(polled) => Ok(polled),
             Err(error) => Err(error),
         }
+    }
+
+    /// Lends the host of a node. A stopped one with an empty journal is left.
+    pub(crate) fn lend(&mut self, alloc: Global, node: Node) -> Host
+        requires { HasSeat self.old.list.items node }
+        ensures count { length self.new.list.items ≡ length self.old.list.items }
+        ensures host { (setup : setups.Setup) (parts : nodes.Node → Part) → HostsStand setup self.old.list.items parts → HostStands setup node.member result (parts node) }
+        ensures stands { (setup : setups.Setup) (parts : nodes.Node → Part) → HostsStand setup self.old.list.items parts → HostsStand setup self.new.list.items (changed node (Lives (Stopped [])) parts) }
+    {
+        let at = seat_of(node);
+        mem::replace(&mut self.list[at], Host::Stopped(MemoryJournal::new(alloc)))
+    }
+
+    /// Puts the host of a node where it sits.
+    pub(crate) fn put(&mut self, node: Node, host: Host)
+        requires { HasSeat self.old.list.items node }
+        ensures count { length self.new.list.items ≡ length self.old.list.items }
+        ensures stands { (setup : setups.Setup) (parts : nodes.Node → Part) (part : Part) → HostsStand setup self.old.list.items parts → HostStands setup node.member host part → HostsStand setup self.new.list.items (changed node part parts) }
+    {
+        let at = seat_of(node);
+        self.list[at] = host;
     }
 
     /// Lets a faulty member without an engine hear the bytes at a node, and gives what it sends.

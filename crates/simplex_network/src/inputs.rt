@@ -1,15 +1,16 @@
-//! What an engine is given, and what it is told to have taken.
-ghost use Rattle.std.specs.Prelude.{◌≡◌, ◌<◌, ◌^◌, List, IfOk};
+//! What an engine is given, and what is entered of what it made.
+ghost use Rattle.std.specs.Prelude.{◌≡◌, ◌<◌, ◌^◌, List, IfOk, false};
 ghost use Rattle.std.specs.Option.{option_and_then};
-ghost use Rattle.simplex_transcript.specs.declared.setup.Setup.{Setup};
+ghost use Rattle.simplex_transcript.specs.declared.setup.Setup as setups;
 ghost use Rattle.simplex_run.specs.Life.{Noted};
 ghost use Rattle.simplex_records.specs.Seats.{seat_of};
-ghost use Rattle.simplex_records.specs.Stands.{RecordsStand, seats_in};
-ghost use Rattle.simplex_network.specs.Polls.{as_run_error, named};
+ghost use Rattle.simplex_records.specs.Stands.{RecordsStand, TakesIn, seats_in};
+ghost use Rattle.simplex_network.specs.Polls.{EntersMade, as_run_error, named};
 
+use crate::task::Made;
 use simplex_engine::{Input, PollError, TakenInside};
 use simplex_records::Records;
-use simplex_transcript::{Node, Packet, RunError, Took};
+use simplex_transcript::{Entry, Node, Packet, RunError, Setup, Took};
 use simplex_types::{Keep, Participant};
 use std::alloc::{AllocError, Global};
 
@@ -29,7 +30,7 @@ pub(crate) fn heard(alloc: Global, packet: &Packet) -> Result<Input, AllocError>
 pub(crate) fn took(records: &Records, node: Node, taken: Option<TakenInside>) -> Option<Took>
     requires half { node.half < 2 }
     requires seat { seat_of node < seats_in records.now }
-    ensures { (setup : Setup) (before : List Noted) → RecordsStand records.now setup before → result ≡ option_and_then (named before node) taken }
+    ensures { (setup : setups.Setup) (before : List Noted) → RecordsStand records.now setup before → result ≡ option_and_then (named before node) taken }
 {
     match taken? {
         TakenInside::Message(message) => Some(Took::Message(message)),
@@ -39,6 +40,30 @@ pub(crate) fn took(records: &Records, node: Node, taken: Option<TakenInside>) ->
         }
         TakenInside::Deadline => Some(Took::Timer),
     }
+}
+
+/// Enters what a step of the node's engine made. What it took is told from outside, else from inside.
+pub(crate) fn enter(
+    alloc: Global,
+    setup: &Setup,
+    records: &mut Records,
+    node: Node,
+    made: Made,
+) -> Result<Entry, AllocError>
+    requires half { node.half < 2 }
+    requires seat { seat_of node < seats_in records.old }
+    ensures count { seats_in records.new ≡ seats_in records.old }
+    ensures entry { IfOk result (EntersMade records.old setup.now node made) }
+    ensures stands { IfOk result (λ entry. TakesIn records.old records.new setup.now node false entry) }
+{
+    let Made {
+        polled,
+        out,
+        outside,
+    } = made;
+    let inside = took(records, node, polled.taken);
+    let took = outside.or(inside);
+    records.enter(alloc, setup, node, false, took, out, polled.outcome)
 }
 
 /// What a refusal of an engine is to the network. An engine that failed wanted memory before.

@@ -5,6 +5,7 @@
 //! engines that step, and that a whole run is safe.
 #![tactic(auto)]
 
+mod cut;
 mod host;
 mod hosts;
 mod inputs;
@@ -13,8 +14,10 @@ mod nodes;
 mod run;
 mod sending;
 mod status;
+mod task;
 mod testing;
 
 pub use host::NodeEngine;
 pub use network::Network;
 pub use run::{Transcript, run_network, run_network_from};
+pub use task::Task;

@@ -21,10 +21,9 @@ pub(crate) fn test(
     ensures some { IfErr result (λ error. is_memory error ≡ false → IsForgedAs setup.now records.now packets.now error) }
     ensures unfailed { IfErr result (λ error. is_failed error ≡ false) }
 {
-    match records.first_forged(alloc, setup, packets) {
-        Ok(None) => Ok(()),
-        Ok(Some(Forgery { member, subject })) => Err(RunError::Forged { member, subject }),
-        Err(_) => Err(RunError::Memory),
+    match records.first_forged(alloc, setup, packets)? {
+        None => Ok(()),
+        Some(Forgery { member, subject }) => Err(RunError::Forged { member, subject }),
     }
 }
 

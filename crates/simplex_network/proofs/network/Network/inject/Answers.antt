@@ -24,26 +24,26 @@ returns-in-Err-clause-reason c =
     inject-is setting before c.args.member c.args.channel c.args.to.now c.args.bytes.now
     (rw (s.given, c.as_slice.ensures) at (sym c.exist.ensures ∙ c.if-not-exist.false)) (rw s.given at (sym c.is_honest.ensures ∙ c.if-is_honest.false))
     ∙ (rw s.given at (c.in-Err.ensures.some whole)) before (noted_bytes before c.args.member c.args.channel c.args.to.now c.args.bytes.now) s.records
-    (rw (c.as_slice-2.ensures, c.in-Ok.ensures) refl)
+    (rw (c.as_slice-2.ensures, c.in_ok-packets.ensures) refl)
 
-pub returns-in-Ok-speak-clause-stands : goal.returns-in-Ok-speak-clause-stands
-returns-in-Ok-speak-clause-stands c =
+pub returns-in_ok-entry-in-Ok-clause-stands : goal.returns-in_ok-entry-in-Ok-clause-stands
+returns-in_ok-entry-in-Ok-clause-stands c =
     λ setting before noted s is.
     let tested = inject-is setting before c.args.member c.args.channel c.args.to.now c.args.bytes.now
     (rw (s.given, c.as_slice.ensures) at (sym c.exist.ensures ∙ c.if-not-exist.false)) (rw s.given at (sym c.is_honest.ensures ∙ c.if-is_honest.false))
-    ∙ (rw s.given at c.in-Ok-test.ensures.none) before (noted_bytes before c.args.member c.args.channel c.args.to.now c.args.bytes.now) s.records
-    (rw (c.as_slice-2.ensures, c.in-Ok.ensures) refl) in
+    ∙ (rw s.given at c.in-Ok.ensures.none) before (noted_bytes before c.args.member c.args.channel c.args.to.now c.args.bytes.now) s.records
+    (rw (c.as_slice-2.ensures, c.in_ok-packets.ensures) refl) in
     rw (same-ok noted _ _ is tested)
     (network-spoke c.args.self.now _ setting before c.args.member c.args.channel c.args.to.now c.args.bytes.now _ _ refl refl refl refl refl s
     (member-below setting.setup c.args.member _ (rw s.given at (sym c.exist.ensures ∙ c.if-not-exist.false)))
-    (rw s.given at (sym c.is_honest.ensures ∙ c.if-is_honest.false)) c.in-Ok.ensures
-    (c.in-Ok-speak.ensures.entry setting.setup before s.records ∙ ap (λ ps. spoken_entry (length before + 1) (node_of c.args.member) None ps) c.in-Ok.ensures) c.in-Ok-speak.ensures.stands)
+    (rw s.given at (sym c.is_honest.ensures ∙ c.if-is_honest.false)) c.in_ok-packets.ensures
+    (c.in_ok-entry-in-Ok.ensures.entry setting.setup before s.records ∙ ap (λ ps. spoken_entry (length before + 1) (node_of c.args.member) None ps) c.in_ok-packets.ensures) c.in_ok-entry-in-Ok.ensures.stands)
 
-pub returns-in-Ok-speak-clause-entry : goal.returns-in-Ok-speak-clause-entry
-returns-in-Ok-speak-clause-entry c =
+pub returns-in_ok-entry-in-Ok-clause-entry : goal.returns-in_ok-entry-in-Ok-clause-entry
+returns-in_ok-entry-in-Ok-clause-entry c =
     λ setting before s.
     let tested = inject-is setting before c.args.member c.args.channel c.args.to.now c.args.bytes.now
     (rw (s.given, c.as_slice.ensures) at (sym c.exist.ensures ∙ c.if-not-exist.false)) (rw s.given at (sym c.is_honest.ensures ∙ c.if-is_honest.false))
-    ∙ (rw s.given at c.in-Ok-test.ensures.none) before (noted_bytes before c.args.member c.args.channel c.args.to.now c.args.bytes.now) s.records
-    (rw (c.as_slice-2.ensures, c.in-Ok.ensures) refl) in
-    ap (λ r. entered r) tested ∙ ap (λ e. Ok e) (sym (c.in-Ok-speak.ensures.entry setting.setup before s.records ∙ ap (λ ps. spoken_entry (length before + 1) (node_of c.args.member) None ps) c.in-Ok.ensures))
+    ∙ (rw s.given at c.in-Ok.ensures.none) before (noted_bytes before c.args.member c.args.channel c.args.to.now c.args.bytes.now) s.records
+    (rw (c.as_slice-2.ensures, c.in_ok-packets.ensures) refl) in
+    ap (λ r. entered r) tested ∙ ap (λ e. Ok e) (sym (c.in_ok-entry-in-Ok.ensures.entry setting.setup before s.records ∙ ap (λ ps. spoken_entry (length before + 1) (node_of c.args.member) None ps) c.in_ok-packets.ensures))

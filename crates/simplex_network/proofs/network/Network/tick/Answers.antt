@@ -11,9 +11,9 @@ returns-then-ms-self-clause-reason c = λ whole setting before s. tick-late sett
 pub returns-clause-stands : goal.returns-clause-stands
 returns-clause-stands c =
     λ setting before noted s is. rw (same-ok noted _ _ is (tick-is setting before _ _ s.clock c.args.self.now.early c.if-ms-self.false))
-    (network-ticked c.args.self.now _ setting before c.args.ms _ refl refl refl refl refl s (c.in-Ok.ensures.entry setting.setup before s.records) c.in-Ok.ensures.stands)
+    (network-ticked c.args.self.now _ setting before c.args.ms _ refl refl refl refl refl s (c.in_ok-entry.ensures.entry setting.setup before s.records) c.in_ok-entry.ensures.stands)
 
 pub returns-clause-entry : goal.returns-clause-entry
 returns-clause-entry c =
     λ setting before s. ap (λ r. entered r) (tick-is setting before _ _ s.clock c.args.self.now.early c.if-ms-self.false)
-    ∙ rw (c.in-Ok.ensures.entry setting.setup before s.records) refl
+    ∙ rw (c.in_ok-entry.ensures.entry setting.setup before s.records) refl
