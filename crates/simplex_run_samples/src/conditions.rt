@@ -8,6 +8,7 @@ ghost use Rattle.simplex_transcript.specs.declared.event.StepSource.TheVariants 
 ghost use Rattle.simplex_transcript.specs.declared.refusal.RunError.TheVariants as refusals;
 ghost use Rattle.simplex_transcript.specs.declared.setup.MemberKind.TheVariants as kinds;
 ghost use Rattle.simplex_run.specs.Run.{Run, run, refused};
+ghost use Rattle.simplex_run.specs.Setting.{at_epoch_genesis};
 ghost use Rattle.simplex_run_samples.specs.Faulty.{led_by, crashes, shows, told_first, starts_half, notarization_by, certificate_bytes, response_bytes, leader_votes, reported_at, goes_on_from, outcomes_from};
 ghost use Rattle.simplex_run_samples.specs.Lists.{alone, with_last, node, second, at, starts, steps, hears, approves, first_block};
 ghost use Rattle.simplex_run_samples.specs.Shown.{outcomes_in};
@@ -58,6 +59,6 @@ pub fn injections_come_out()
 pub fn limits_come_out()
     ensures last_tick { outcomes_in (Run (with_last kinds.Silent) (events.Tick (2 ^ 63 - 1) ∷ [])) ≡ outcomes.Done ∷ [] }
     ensures clock_end { Run (with_last kinds.Silent) (events.Tick (2 ^ 63 - 1) ∷ events.Tick 1 ∷ []) ≡ Err (refused refusals.ClockEnd 2) }
-    ensures last_view { outcomes_from (run alone (reported_at (2 ^ 64 - 4) ∷ []) (goes_on_from (2 ^ 64 - 4))) ≡ outcomes.Done ∷ outcomes.Done ∷ outcomes.Done ∷ [] }
-    ensures view_end { run alone (reported_at (2 ^ 64 - 3) ∷ []) (goes_on_from (2 ^ 64 - 3)) ≡ Err (refused refusals.ViewEnd 3) }
+    ensures last_view { outcomes_from (run (at_epoch_genesis alone) (reported_at (2 ^ 64 - 4) ∷ []) (goes_on_from (2 ^ 64 - 4))) ≡ outcomes.Done ∷ outcomes.Done ∷ outcomes.Done ∷ [] }
+    ensures view_end { run (at_epoch_genesis alone) (reported_at (2 ^ 64 - 3) ∷ []) (goes_on_from (2 ^ 64 - 3)) ≡ Err (refused refusals.ViewEnd 3) }
 {}
