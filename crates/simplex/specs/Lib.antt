@@ -1,4 +1,5 @@
--- The definitions that the contracts of `run_network` and `program` cite.
+-- The definitions that the contracts of `run_network`, `run_network_from` and `program` cite.
+pub use Rattle.simplex_run.specs.Setting
 pub use Rattle.simplex_run.specs.Run
 pub use Rattle.simplex_run.specs.Setups
 pub use Rattle.simplex_run_laws.specs.Complete

@@ -8,8 +8,8 @@
 //! - [`actors`]: the voter, the batcher and the resolver, what they take and what their steps give;
 //! - [`journal`], [`mailbox`], [`io`]: what they stand on;
 //! - [`Engine`]: a member's actors and the mail between them;
-//! - [`Network`] and [`run_network`]: members of every kind, honest and faulty, under a list of events, with the entries
-//!   that they make;
+//! - [`Network`], [`run_network`] and [`run_network_from`]: members of every kind, honest and faulty, under a list of events,
+//!   with the entries that they make;
 //! - [`form`] (`read_run`, `read_setup`, `read_event`, `read_value`, ..), [`text`] and [`program`]: such a run as JSON, its
 //!   lines, and both behind one call;
 //! - [`mocks`], [`twins`]: members that break the rules, an application and a relay to try engines with, a reporter that
@@ -32,7 +32,7 @@ pub use simplex_fetch as fetch;
 pub use simplex_form as form;
 pub use simplex_io as io;
 pub use simplex_mailbox as mailbox;
-pub use simplex_network::{Network, NodeEngine, Transcript, run_network};
+pub use simplex_network::{Network, NodeEngine, Transcript, run_network, run_network_from};
 pub use simplex_program::{Exit, LIMIT, program};
 pub use simplex_repair as repair;
 pub use simplex_report as report;
