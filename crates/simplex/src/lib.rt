@@ -10,6 +10,7 @@
 //! - [`Engine`]: a member's actors and the mail between them;
 //! - [`Network`], [`run_network`] and [`run_network_from`]: members of every kind, honest and faulty, under a list of events,
 //!   with the entries that they make;
+//! - [`gen_run`] and [`generated`]: the events that a number makes, and what they are drawn from;
 //! - [`form`] (`read_run`, `read_setup`, `read_event`, `read_value`, ..), [`text`] and [`program`]: such a run as JSON, its
 //!   lines, and both behind one call;
 //! - [`mocks`], [`twins`]: members that break the rules, an application and a relay to try engines with, a reporter that
@@ -30,10 +31,12 @@ pub use simplex_engine::{
 };
 pub use simplex_fetch as fetch;
 pub use simplex_form as form;
+pub use simplex_generated as generated;
+pub use simplex_generator::gen_run;
 pub use simplex_io as io;
 pub use simplex_mailbox as mailbox;
 pub use simplex_network::{Network, NodeEngine, Transcript, run_network, run_network_from};
-pub use simplex_program::{Exit, LIMIT, program};
+pub use simplex_program::{Command, Exit, LIMIT, MOST_STEPS, program};
 pub use simplex_repair as repair;
 pub use simplex_report as report;
 pub use simplex_round as round;
