@@ -4,6 +4,7 @@
 
 ghost use Rattle.std.specs.Prelude.{IfOk};
 ghost use Rattle.simplex.specs.Safe.{RunsSafely};
+ghost use Rattle.simplex.specs.Setting.{at_epoch_genesis};
 
 mod script;
 
@@ -117,7 +118,7 @@ fn agree(alloc: Global) -> Result<Script, AllocError> {
 
 /// Runs the events. Whatever they are, no two certificates of the run conflict, and each vote was stored before it went out.
 fn run(alloc: Global, setup: &Setup, events: &[Event]) -> Result<Transcript, Refusal>
-    ensures { IfOk result (λ _. RunsSafely setup.now events.now) }
+    ensures { IfOk result (λ _. RunsSafely (at_epoch_genesis setup.now) events.now) }
 {
     run_network(alloc, setup, events)
 }
