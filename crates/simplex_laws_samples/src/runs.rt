@@ -2,6 +2,7 @@
 ghost use Rattle.std.specs.Prelude.{[], ◌∷◌};
 ghost use Rattle.simplex_values.specs.declared.plan.Channel.TheVariants as channels;
 ghost use Rattle.simplex_transcript.specs.declared.setup.MemberKind.TheVariants as kinds;
+ghost use Rattle.simplex_run.specs.Setting.{at_epoch_genesis};
 ghost use Rattle.simplex_run_laws.specs.Complete.{IsPossible};
 ghost use Rattle.simplex_run_samples.specs.Faulty.{shows};
 ghost use Rattle.simplex_run_samples.specs.Lists.{alone, finalizes, with_last, node, at, hears};
@@ -12,8 +13,8 @@ use simplex_run_samples::{deliveries_come_out, one_member_finalizes};
 /// What a law asks of a setup and events can be met: those by which a member alone finalizes view 1. A packet that comes
 /// to a member that was not started does not meet it.
 pub fn events_can_be_possible()
-    ensures possible { IsPossible alone finalizes }
-    ensures impossible { IsPossible (with_last kinds.Silent) (shows channels.Vote (node 0 ∷ []) (7 ∷ []) ∷ hears 0 (at 1 0) ∷ []) → ⊥ }
+    ensures possible { IsPossible (at_epoch_genesis alone) finalizes }
+    ensures impossible { IsPossible (at_epoch_genesis (with_last kinds.Silent)) (shows channels.Vote (node 0 ∷ []) (7 ∷ []) ∷ hears 0 (at 1 0) ∷ []) → ⊥ }
 {
     one_member_finalizes();
     runs_are_possible();

@@ -1,6 +1,7 @@
 use Rattle.std.proofs.Common.{◌≡◌, List, ◌∷◌, Result, Ok, Err, refl}
 use Rattle.simplex_transcript.specs.declared.entry.Entry.{Entry}
 use Rattle.simplex_transcript.specs.declared.refusal.Refusal.{Refusal}
+use Rattle.simplex_run.specs.Setting.{at_epoch_genesis}
 use Rattle.simplex_run.specs.Run.{Run}
 use Rattle.simplex_run_samples.specs.Lists.{alone, finalizes}
 use Rattle.simplex_run_samples.specs.Shown.{Shown, calls_in}
@@ -15,7 +16,7 @@ entries_of (Err refusal) first others shown = cc
 pub returns-clause-possible : goal.returns-clause-possible
 returns-clause-possible c =
     let made = entries_of (Run alone finalizes) _ _ c.one_member_finalizes.ensures.calls in
-    c.runs_are_possible.ensures alone finalizes made.0 made.1
+    c.runs_are_possible.ensures (at_epoch_genesis alone) finalizes made.0 made.1
 
 pub returns-clause-impossible : goal.returns-clause-impossible
 returns-clause-impossible c = λ possible.
