@@ -9,5 +9,6 @@ pub mod Sourced
 pub mod PollsOver
 pub mod Voters
 pub mod Stages
+pub mod Settling
 pub mod Limits
 pub mod Making

@@ -4,4 +4,5 @@ pub mod Laws
 pub mod Made
 pub mod Parts
 pub mod Polled
+pub mod Settled
 pub mod Stands

@@ -12,6 +12,8 @@ ghost use Rattle.simplex_engine.specs.Holding.{holds};
 ghost use Rattle.simplex_engine.specs.Polled.{polled, refusal_of, is_memory};
 ghost use Rattle.simplex_voter.specs.Turned.{FaultsAt};
 ghost use Rattle.simplex_engine.specs.Stands.{StandsFor, Takes, Stays, Gives, Answers, Starts, GivesFirst, FailsAfter, has_begun, has_failed};
+ghost use Rattle.simplex_engine.specs.declared.stage.Stage.TheVariants as stages;
+ghost use Rattle.simplex_engine.specs.Settled.{halted, settled_in};
 ghost use Rattle.simplex_engine.specs.Stands.{StandsOver, StaysOver, AnswersOver, Fares, FaresFirst, journal_of, faults_of, has_stopped};
 
 use crate::boxes::Boxes;
@@ -19,7 +21,7 @@ use crate::config::EngineConfig;
 use crate::crew::Crew;
 use crate::error::{NewError, PollError};
 use crate::input::{Input, Polled};
-use crate::stage::{Stage, crew_of, stage_after, stage_with};
+use crate::stage::{Stage, crew_of, stage_after};
 use crate::unstarted::Unstarted;
 use simplex_journal::Journal;
 use simplex_messages::{Outcome, StepOut, Stop};
@@ -175,21 +177,54 @@ impl<S: Scheme + Drop, L: Elector + Drop, J: Journal + Drop> Engine<S, L, J> {
         ensures sound { OnOk result (has_failed self.old ≡ false) }
         ensures alive { OnOk result (has_failed self.new ≡ false) }
     {
+        let result = match &mut self.stage {
+            Stage::Running(crew) => crew.poll(input, now, stop, out),
+            Stage::Waiting(_) => return Err(PollError::Stopped),
+            Stage::Stopped(_) => return Err(PollError::Stopped),
+            Stage::Failed => return Err(PollError::Failed),
+        };
+        self.settle(&result);
+        result
+    }
+
+    /// The actors stay where they lie, unless the poll was broken off or there was no memory for it.
+    fn settle(&mut self, given: &Result<Polled, PollError>)
+        ensures { self.new.stage ≡ settled_in self.old.stage given.now }
+    {
+        match given {
+            Ok(polled) => match polled.outcome {
+                Outcome::Done | Outcome::Idle => {}
+                Outcome::Journal | Outcome::Cut => self.halt(),
+            },
+            Err(PollError::Memory) => self.fail(),
+            Err(PollError::Failed | PollError::Stopped | PollError::NotPending) => {}
+        }
+    }
+
+    /// A step was broken off.
+    #[cold]
+    #[inline(never)]
+    fn halt(&mut self)
+        ensures { self.new.stage ≡ halted self.old.stage }
+    {
         match mem::replace(&mut self.stage, Stage::Failed) {
-            Stage::Running(mut crew) => {
-                let result = crew.poll(input, now, stop, out);
-                self.stage = stage_with(crew, &result);
-                result
-            }
-            Stage::Waiting(unstarted) => {
-                self.stage = Stage::Waiting(unstarted);
-                Err(PollError::Stopped)
-            }
-            Stage::Stopped(crew) => {
-                self.stage = Stage::Stopped(crew);
-                Err(PollError::Stopped)
-            }
-            Stage::Failed => Err(PollError::Failed),
+            Stage::Running(crew) => self.stage = Stage::Stopped(crew),
+            Stage::Waiting(unstarted) => self.stage = Stage::Waiting(unstarted),
+            Stage::Stopped(crew) => self.stage = Stage::Stopped(crew),
+            Stage::Failed => {}
+        }
+    }
+
+    /// There was no memory for a call.
+    #[cold]
+    #[inline(never)]
+    fn fail(&mut self)
+        ensures { self.new.stage ≡ stages.Failed }
+    {
+        match mem::replace(&mut self.stage, Stage::Failed) {
+            Stage::Waiting(unstarted) => drop(unstarted),
+            Stage::Running(crew) | Stage::Stopped(crew) => drop(crew),
+            Stage::Failed => {}
         }
     }
 

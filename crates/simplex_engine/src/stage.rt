@@ -4,11 +4,9 @@
 ghost use Rattle.std.specs.Prelude.{◌≡◌, ◌<◌, ◌^◌, ◌∷◌, Bool, List, IfOk};
 ghost use Rattle.simplex_steps.specs.Engine.{EngineMade, Did};
 ghost use Rattle.simplex_voter.specs.Actor.{journal_of};
-ghost use Rattle.simplex_engine.specs.Stands.{CrewStands, StageStands, Waits, Fresh, settled, settled_with};
+ghost use Rattle.simplex_engine.specs.Stands.{CrewStands, StageStands, Waits, Fresh, settled};
 
 use crate::crew::Crew;
-use crate::error::PollError;
-use crate::input::Polled;
 use crate::unstarted::Unstarted;
 use simplex_journal::Journal;
 use simplex_messages::Outcome;
@@ -66,22 +64,5 @@ pub(crate) fn stage_after<S: Scheme, L: Elector, J: Journal>(
     match outcome {
         Outcome::Done | Outcome::Idle => Stage::Running(crew),
         Outcome::Journal | Outcome::Cut => Stage::Stopped(crew),
-    }
-}
-
-/// The stage of an engine whose actors were just polled with this result.
-pub(crate) fn stage_with<S: Scheme + Drop, L: Elector + Drop, J: Journal + Drop>(
-    crew: Crew<S, L, J>,
-    given: &Result<Polled, PollError>,
-) -> Stage<S, L, J>
-    ensures { result ≡ settled_with crew given.now }
-{
-    match given {
-        Ok(polled) => stage_after(crew, polled.outcome),
-        Err(PollError::Memory) => {
-            drop(crew);
-            Stage::Failed
-        }
-        Err(PollError::Failed | PollError::Stopped | PollError::NotPending) => Stage::Running(crew),
     }
 }
