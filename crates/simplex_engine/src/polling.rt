@@ -10,7 +10,7 @@ ghost use Rattle.simplex_engine.specs.declared.error.PollError.TheVariants as po
 ghost use Rattle.simplex_transcript.specs.declared.event.StepSource.TheVariants as sources;
 ghost use Rattle.simplex_steps.specs.Engine.{heard, stepped, replied, takes_reply};
 ghost use Rattle.simplex_engine.specs.Parts.{after_voter_mail, after_batcher_mail};
-ghost use Rattle.simplex_engine.specs.Polled.{polled, taken_inside, is_taken, unless_idle};
+ghost use Rattle.simplex_engine.specs.Polled.{polled, taken_inside, is_taken};
 ghost use Rattle.simplex_voter.specs.Actor.{journal_of};
 ghost use Rattle.simplex_voter.specs.Turned.{FaultsAt};
 ghost use Rattle.simplex_engine.specs.Stands.{CrewTakes, CrewTakesAs, CrewStaysAs, CrewGives, CrewGivesAs, CrewAnswers, CrewAnswersAs, CrewRefuses, CrewFares, WorksAs, TellsAs, faults_in};

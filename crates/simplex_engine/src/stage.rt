@@ -1,10 +1,10 @@
 //! How far an engine is.
 #![tactic(auto, unfolding(crate::specs::Stands::CrewStands, simplex_steps::specs::Engine::runs))]
 
-ghost use Rattle.std.specs.Prelude.{◌≡◌, ◌<◌, ◌^◌, ◌∷◌, Bool, List, IfOk};
-ghost use Rattle.simplex_steps.specs.Engine.{EngineMade, Did};
+ghost use Rattle.std.specs.Prelude.{◌≡◌, ◌<◌, ◌^◌, Bool, IfOk};
+ghost use Rattle.simplex_steps.specs.Engine.{EngineMade};
 ghost use Rattle.simplex_voter.specs.Actor.{journal_of};
-ghost use Rattle.simplex_engine.specs.Stands.{CrewStands, StageStands, Waits, Fresh, settled};
+ghost use Rattle.simplex_engine.specs.Stands.{Waits, Fresh, settled};
 
 use crate::crew::Crew;
 use crate::unstarted::Unstarted;
