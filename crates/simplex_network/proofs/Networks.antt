@@ -111,7 +111,7 @@ network-entered old setting before event node input stop made entry life s lives
     → entry ≡ entry_with old.setup (length before + 1) node (option_or made.outside (option_and_then (named before node) made.polled.taken)) did =
     (λ did is ends. enters before did (rw s.given s.records) is ends) in
     poll-entered setting.setup before event node input stop made.outside (option_and_then (named before node) made.polled.taken) entry old.clock made.polled.outcome made.polled.taken made.out life s.clock
-    (gives setting (part_in setting before) life (rw s.given at s.hosts) (part-lives setting before node life lives))
+    (gives setting.setup (part_in setting before) life (rw s.given at s.hosts) (part-lives setting before node life lives))
     refl (rw s.given at entering)
 
 pub network-polled : (old new : Network) (setting : Setting) (before : List Noted) (event : Event) (noted : Noted) (node : Node) (input : Input) (stop : Stop) (outside : Option Took)
