@@ -156,12 +156,20 @@ impl Host {
     {
         match outcome {
             Outcome::Done | Outcome::Idle => Ok(()),
-            Outcome::Cut | Outcome::Journal => {
-                let journal = self.take_journal(alloc)?;
-                *self = Host::Stopped(journal);
-                Ok(())
-            }
+            Outcome::Cut | Outcome::Journal => self.halt(alloc),
         }
+    }
+
+    // The engine gives way to its journal.
+    #[cold]
+    #[inline(never)]
+    fn halt(&mut self, alloc: Global) -> Result<(), PollError>
+        ensures stands { OnOk result ((setup : Setup) (member : ℕ) (made : EngineMade) (past : List Did) → runs past ≡ false → HostStands setup member self.old (Lives (Running made past)) → HostStands setup member self.new (Lives (going_on made past))) }
+        ensures memory { IfErr result (λ error. is_memory error ≡ true) }
+    {
+        let journal = self.take_journal(alloc)?;
+        *self = Host::Stopped(journal);
+        Ok(())
     }
 
     // The journal, with no call ordered to fail. An empty one is left. Behind want of memory there may be none.
