@@ -102,7 +102,7 @@ network-hides network setting before node s missing =
 -- the entry of an input of a node's engine
 pub network-entered : (old : Network) (setting : Setting) (before : List Noted) (event : Event) (node : Node) (input : Input) (stop : Stop) (made : Made) (entry : Entry) (life : Life)
     → Keeps old setting before → LivesAs setting before node life
-    → ((setup : Setup) (parts : Node → Part) (life : Life) → HostsStand setting.setup old.hosts.list.items parts → parts node ≡ Lives life
+    → ((setup : Setup) (parts : Node → Part) (life : Life) → HostsStand setup old.hosts.list.items parts → parts node ≡ Lives life
     → IsPolled life input old.clock stop made.polled.outcome made.polled.taken made.out)
     → EntersMade old.records old.setup node made entry
     → entered (on_poll setting.setup before event node input stop made.outside life) ≡ Ok entry
