@@ -1,0 +1,148 @@
+//! A whole run, by several workers.
+ghost use Rattle.std.specs.Prelude.{◌≡◌, ◌<◌, ◌≤◌, ◌^◌, [], length, true, false, Ok, Err, IfOk, IfErr};
+ghost use Rattle.simplex_run.specs.Run as runs;
+ghost use Rattle.simplex_run.specs.Setting.{at_epoch_genesis};
+ghost use Rattle.simplex_run.specs.Setups as setups;
+ghost use Rattle.simplex_run_laws.specs.Complete.{IsOneEach, IsPossible};
+ghost use Rattle.simplex_safety.specs.Sayings.{Each};
+ghost use Rattle.simplex_backing.specs.Fitting.{IsTyped};
+ghost use Rattle.simplex_backing.specs.Safe.{RunsSafely};
+ghost use Rattle.simplex_network.specs.Answer.{is_memory};
+ghost use Rattle.simplex_network.specs.Stands.{MadeBy};
+
+use crate::gate::Gate;
+use crate::group::{push, refused, step_group};
+use simplex_backing::runs_are_safe;
+use simplex_members::are_few;
+use simplex_network::{Network, Transcript};
+use simplex_run_laws::{possible_events_run, runs_are_possible, runs_have_one_entry_each};
+use simplex_transcript::{Event, Field, Refusal, RunError, Setup};
+use simplex_typed::entries_are_typed;
+use simplex_types::Sequence;
+use std::alloc::Global;
+use std::thread::Threads;
+
+/// Runs the events as `run_network` does, and steps those at once that stand apart, by so many workers, of which each has a
+/// thread of its own: the first goes to worker 0, and so on in turn. Where two events or more are stepped at once, the gate
+/// is passed before each of their steps.
+pub fn run_network_par<G: Gate, R: Threads + Sync>(
+    rt: &R,
+    alloc: Global,
+    setup: &Setup,
+    events: &[Event],
+    workers: u32,
+    gate: &G,
+) -> Result<Transcript, Refusal>
+    requires { 0 < workers }
+    ensures done { IfOk result (λ transcript. runs.Run setup.now events.now ≡ Ok transcript.entries) }
+    ensures network { IfOk result (λ transcript. MadeBy transcript.network (at_epoch_genesis setup.now) (runs.run (at_epoch_genesis setup.now) [] events.now)) }
+    ensures refused { IfErr result (λ refusal. is_memory refusal.error ≡ false → runs.Run setup.now events.now ≡ Err refusal) }
+    // Each certificate that stands in the transcript and verifies is backed and of the setup's epoch, no two of them
+    // conflict; of each honest member each vote was stored first, and the votes of each event that no stop broke are those
+    // that the rules give; and no honest member is blamed.
+    ensures safe { IfOk result (λ transcript. RunsSafely (at_epoch_genesis setup.now) events.now) }
+    // One entry for each event: as many, numbered from 1, each of the node that its event names.
+    ensures entries { IfOk result (λ transcript. IsOneEach transcript.entries events.now) }
+    // A valid setup and events that each meet their conditions make a transcript, or want memory; and nothing else does.
+    ensures complete { IfErr result (λ refusal. IsPossible (at_epoch_genesis setup.now) events.now → is_memory refusal.error ≡ true) }
+    ensures possible { IfOk result (λ transcript. IsPossible (at_epoch_genesis setup.now) events.now) }
+{
+    runs_are_safe();
+    runs_have_one_entry_each();
+    possible_events_run();
+    runs_are_possible();
+    run_typed(rt, alloc, setup, events, workers, gate)
+}
+
+// Runs the events. The values of the entries keep to their types.
+fn run_typed<G: Gate, R: Threads + Sync>(
+    rt: &R,
+    alloc: Global,
+    setup: &Setup,
+    events: &[Event],
+    workers: u32,
+    gate: &G,
+) -> Result<Transcript, Refusal>
+    requires { 0 < workers }
+    ensures done { IfOk result (λ transcript. runs.Run setup.now events.now ≡ Ok transcript.entries) }
+    ensures network { IfOk result (λ transcript. MadeBy transcript.network (at_epoch_genesis setup.now) (runs.run (at_epoch_genesis setup.now) [] events.now)) }
+    ensures refused { IfErr result (λ refusal. is_memory refusal.error ≡ false → runs.Run setup.now events.now ≡ Err refusal) }
+    ensures typed { IfOk result (λ transcript. Each IsTyped transcript.entries) }
+{
+    let transcript = run_few(rt, alloc, setup, events, workers, gate)?;
+    entries_are_typed(transcript.entries.as_slice());
+    Ok(transcript)
+}
+
+// Runs the events where there are no more than may be, and tells the first refusal else.
+#[tactic(auto, unfolding(simplex_run::specs::Run::RunFrom))]
+fn run_few<G: Gate, R: Threads + Sync>(
+    rt: &R,
+    alloc: Global,
+    setup: &Setup,
+    events: &[Event],
+    workers: u32,
+    gate: &G,
+) -> Result<Transcript, Refusal>
+    requires { 0 < workers }
+    ensures done { IfOk result (λ transcript. runs.Run setup.now events.now ≡ Ok transcript.entries) }
+    ensures network { IfOk result (λ transcript. MadeBy transcript.network (at_epoch_genesis setup.now) (runs.run (at_epoch_genesis setup.now) [] events.now)) }
+    ensures refused { IfErr result (λ refusal. is_memory refusal.error ≡ false → runs.Run setup.now events.now ≡ Err refusal) }
+{
+    if !are_few(setup, events) {
+        return Err(refused(RunError::BadSetup(Field::Events), 0));
+    }
+    run_all(rt, alloc, setup, events, workers, gate)
+}
+
+// Runs all events, group by group.
+fn run_all<G: Gate, R: Threads + Sync>(
+    rt: &R,
+    alloc: Global,
+    setup: &Setup,
+    events: &[Event],
+    workers: u32,
+    gate: &G,
+) -> Result<Transcript, Refusal>
+    requires workers { 0 < workers }
+    requires few { length events.now ≤ 2 ^ 20 }
+    ensures done { IfOk result (λ transcript. runs.unless_bad (setups.first_bad setup.now) (runs.transcript_of (runs.run (at_epoch_genesis setup.now) [] events.now)) ≡ Ok transcript.entries) }
+    ensures network { IfOk result (λ transcript. MadeBy transcript.network (at_epoch_genesis setup.now) (runs.run (at_epoch_genesis setup.now) [] events.now)) }
+    ensures refused { IfErr result (λ refusal. is_memory refusal.error ≡ false → runs.unless_bad (setups.first_bad setup.now) (runs.transcript_of (runs.run (at_epoch_genesis setup.now) [] events.now)) ≡ Err refusal) }
+{
+    let mut network = match Network::new(alloc, setup) {
+        Ok(network) => network,
+        Err(error) => return Err(refused(error, 0)),
+    };
+    let mut entries = Sequence::new(alloc);
+    let mut next = 0;
+    while next < events.len() {
+        let first = next as u64 + 1;
+        let Ok(size) = network.group_size(&events[next..]) else {
+            return Err(refused(RunError::Memory, first));
+        };
+        if size < 2 {
+            match network.apply(&events[next]) {
+                Ok(entry) => push(&mut entries, entry, first)?,
+                Err(error) => return Err(refused(error, first)),
+            }
+            next += 1;
+        } else {
+            let group = &events[next..next + size];
+            match step_group(
+                rt,
+                alloc,
+                &mut network,
+                &mut entries,
+                group,
+                first,
+                workers as usize,
+                gate,
+            ) {
+                Ok(()) => next += size,
+                Err(refusal) => return Err(refusal),
+            }
+        }
+    }
+    Ok(Transcript { entries, network })
+}
