@@ -1,5 +1,5 @@
 //! The hosts, two seats for each member, and a change of one of them.
-ghost use Rattle.std.specs.Prelude.{◌≡◌, ◌<◌, ◌≤◌, ◌*◌, ◌/◌, ◌^◌, ◌∷◌, List, length, true, false, IfOk, IfErr, IfSome, OnOk, IsNone};
+ghost use Rattle.std.specs.Prelude.{◌≡◌, ◌<◌, ◌≤◌, ◌*◌, ◌/◌, ◌^◌, ◌∷◌, List, [], length, true, false, IfOk, IfErr, IfSome, OnOk, IsNone};
 ghost use Rattle.std.specs.Option.{option_map};
 ghost use Rattle.simplex_transcript.specs.declared.node.Node as nodes;
 ghost use Rattle.simplex_transcript.specs.declared.setup.Setup as setups;
