@@ -1,11 +1,10 @@
 #!/usr/bin/env python3
 """Compares two builds of the program on the same long lists of events: bench/against.py BEFORE [NOW].
 
-BEFORE and NOW are programs; NOW is that of this checkout, after `make build`. One of an earlier commit comes from a clone of that
-commit by `make build`, or, in a minute and unproved, by `rt try`; compare two that were made in the same way, since an unproved
-program tests while it runs what a proved one need not. Both are given each list in turn, and must write the same output. It prints,
-for each number of members, the events a second and the peak of memory of both (the least of the turns), how many times as fast
-NOW is, and what part of BEFORE's memory it takes.
+BEFORE and NOW are programs; NOW is that of this checkout, after `make build`, and one of an earlier commit comes from a clone of
+that commit by `make build` there. (What `rt try` makes is not fit for it: an unproved program is some hundred times slower.)
+Both are given each list in turn, and must write the same output. It prints, for each number of members, the events a second and
+the peak of memory of both (the least of the turns), how many times as fast NOW is, and what part of BEFORE's memory it takes.
 """
 import argparse
 import hashlib
