@@ -15,7 +15,7 @@ use Rattle.simplex_groups.proofs.Whole.{joined_join}
 use Rattle.simplex_network.specs.declared.network.Network.{Network}
 use Rattle.simplex_network.specs.Answer.{setup_refusal}
 use Rattle.simplex_network.specs.Lending.{Groups, MayLend}
-use Rattle.simplex_network.proofs.Runs.{Ran, setting-good}
+use Rattle.simplex_network.proofs.Runs.{Ran, setup-good}
 use Rattle.simplex_par.specs.Steps.{GroupMakes, GroupRefuses}
 
 run_on : (setting : Setting) (start : List Noted) (first rest : List Event) (before : List Noted) → run setting start first ≡ Ok before
@@ -115,4 +115,4 @@ ran-group-ends old setting events entries next size first group refusal allowed 
     let whole : run setting [] events ≡ Err refusal =
     sym ran.ends ∙ ap (λ list. run setting ran.before list) (part_is events next size)
     ∙ run_stops setting ran.before (take size (drop next events)) (drop (next + size) events) refusal (subst (λ list. run setting ran.before list ≡ Err refusal) is stops) in
-    rw (setting-good setting allowed) (ap (λ r. transcript_of r) whole)
+    rw (setup-good setting.setup allowed) (ap (λ r. transcript_of r) whole)
