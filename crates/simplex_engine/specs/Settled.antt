@@ -1,5 +1,5 @@
 -- What becomes of an engine's stage, where the actors lie in it.
-use Rattle.std.specs.Prelude.{Result, Ok, Err}
+use Rattle.std.specs.Prelude.{ℕ, Result, Ok, Err}
 use Rattle.simplex_wire.specs.declared.scheme.Scheme as scheme
 use Rattle.simplex_types.specs.declared.elector.Elector as elector
 use Rattle.simplex_journal.specs.declared.journal.Journal as journal
@@ -33,3 +33,8 @@ module _ {S L J : Type 0} {s : scheme.Ghosts S} {l : elector.Ghosts L} {j : jour
   settled_in stage (Err errors.Failed) = stage
   settled_in stage (Err errors.Stopped) = stage
   settled_in stage (Err errors.NotPending) = stage
+
+-- the clock after a poll at this one: a refused poll leaves it
+abbrev pub clock_after : ℕ → Result Polled PollError → ℕ → ℕ
+clock_after before (Ok polled) now = now
+clock_after before (Err error) now = before

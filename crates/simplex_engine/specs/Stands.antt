@@ -1,5 +1,5 @@
 -- Which histories an engine stands for.
-use Rattle.std.specs.Prelude.{◌≡◌, ◌≢◌, ℕ, ◌⊎◌, Bool, true, false, List, [], ◌∷◌, length, Option, Some, None, Result, Ok, Err}
+use Rattle.std.specs.Prelude.{◌≡◌, ◌≢◌, ℕ, ◌⊎◌, Bool, true, false, List, [], ◌∷◌, length, Option, Some, None, Result, Ok, Err, if◌then◌else◌}
 use Rattle.std.specs.Option.{option_map, option_map_or}
 use Rattle.simplex_wire.specs.declared.scheme.Scheme as scheme
 use Rattle.simplex_types.specs.declared.elector.Elector as elector
@@ -269,6 +269,21 @@ module _ {S L J : Type 0} {s : scheme.Ghosts S} {l : elector.Ghosts L} {j : jour
   -- how many calls of its journal failed
   abbrev pub faults_of : Engine S L J s l j → ℕ
   faults_of engine = option_map_or j.fault_count (journal_of engine) 0
+
+  -- the clock of the last call that was not refused
+  abbrev pub clock_of : Engine S L J s l j → ℕ
+  clock_of engine = engine.clock
+
+  -- whether it takes inputs, and why it does not
+  abbrev pub is_at_work : Stage S L J s l j → Bool
+  is_at_work (stages.Running crew) = true
+  is_at_work _ = false
+
+  abbrev pub is_running : Engine S L J s l j → Bool
+  is_running engine = is_at_work engine.stage
+
+  abbrev pub not_running : Engine S L J s l j → PollError
+  not_running engine = if has_failed engine then errors.Failed else errors.Stopped
 
   -- whether a step was broken off
   abbrev pub is_stopped : Stage S L J s l j → Bool

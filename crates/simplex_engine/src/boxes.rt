@@ -6,12 +6,12 @@ use simplex_mailbox::Mailbox;
 use simplex_messages::{batcher, resolver, voter};
 use std::alloc::{AllocError, Global};
 
-/// The mailbox of each actor.
+/// The mailbox of each actor, with what it was handed and did not take yet.
 #[derive(Drop)]
-pub(crate) struct Boxes {
-    pub(crate) batcher: Mailbox<batcher::Message>,
-    pub(crate) voter: Mailbox<voter::Message>,
-    pub(crate) resolver: Mailbox<resolver::MailboxMessage>,
+pub struct Boxes {
+    pub batcher: Mailbox<batcher::Message>,
+    pub voter: Mailbox<voter::Message>,
+    pub resolver: Mailbox<resolver::MailboxMessage>,
 }
 
 impl Boxes {

@@ -13,8 +13,9 @@ ghost use Rattle.simplex_engine.specs.Polled.{polled, refusal_of, is_memory};
 ghost use Rattle.simplex_voter.specs.Turned.{FaultsAt};
 ghost use Rattle.simplex_engine.specs.Stands.{StandsFor, Takes, Stays, Gives, Answers, Starts, GivesFirst, FailsAfter, has_begun, has_failed};
 ghost use Rattle.simplex_engine.specs.declared.stage.Stage.TheVariants as stages;
-ghost use Rattle.simplex_engine.specs.Settled.{halted, settled_in};
-ghost use Rattle.simplex_engine.specs.Stands.{StandsOver, StaysOver, AnswersOver, Fares, FaresFirst, journal_of, faults_of, has_stopped};
+ghost use Rattle.simplex_engine.specs.Settled.{halted, settled_in, clock_after};
+ghost use Rattle.simplex_engine.specs.Stands.{StandsOver, StaysOver, AnswersOver, Fares, FaresFirst, CrewStands, journal_of, faults_of, has_stopped, is_running, not_running, clock_of};
+ghost use Rattle.simplex_voter.specs.Actor as voters;
 
 use crate::boxes::Boxes;
 use crate::config::EngineConfig;
@@ -34,6 +35,8 @@ use std::mem;
 /// The actors of a member, and the mail between them.
 pub struct Engine<S: Scheme, L: Elector, J: Journal> {
     alloc: Global,
+    // of the last call that was not refused
+    clock: u64,
     stage: Stage<S, L, J>,
 }
 
@@ -42,6 +45,7 @@ impl<S: Scheme + Drop, L: Elector + Drop, J: Journal + Drop> Drop for Engine<S, 
     fn drop(self) {
         let Engine {
             alloc: _alloc,
+            clock: _clock,
             stage,
         } = self;
         match stage {
@@ -67,6 +71,7 @@ impl<S: Scheme + Keep + Drop, L: Elector + Drop, J: Journal + Drop> Engine<S, L,
         ensures over { IfOk result (λ engine. StandsOver engine (engine_made S.attests S.verifies S.recovers S.members S.member L.elects L.cuts config (J.sections journal)) []) }
         ensures journal { IfOk result (λ engine. journal_of engine ≡ Some journal) }
         ensures alive { IfOk result (λ engine. has_failed engine ≡ false) }
+        ensures clock { IfOk result (λ engine. clock_of engine ≡ 0) }
         ensures allowed { IfOk result (λ _. first_bad config ≡ None) }
         ensures refused { IfErr result (λ error. Refused error (first_bad config)) }
     {
@@ -90,6 +95,7 @@ impl<S: Scheme + Keep + Drop, L: Elector + Drop, J: Journal + Drop> Engine<S, L,
         ensures over { IfOk result (λ engine. StandsOver engine (engine_made S.attests S.verifies S.recovers S.members S.member L.elects L.cuts config (J.sections journal)) []) }
         ensures journal { IfOk result (λ engine. journal_of engine ≡ Some journal) }
         ensures alive { IfOk result (λ engine. has_failed engine ≡ false) }
+        ensures clock { IfOk result (λ engine. clock_of engine ≡ 0) }
     {
         let boxes = Boxes::new(alloc, config.mailbox)?;
         let for_batcher = config.for_batcher(alloc)?;
@@ -105,6 +111,7 @@ impl<S: Scheme + Keep + Drop, L: Elector + Drop, J: Journal + Drop> Engine<S, L,
         };
         Ok(Engine {
             alloc,
+            clock: 0,
             stage: Stage::Waiting(unstarted),
         })
     }
@@ -126,6 +133,7 @@ impl<S: Scheme + Drop, L: Elector + Drop, J: Journal + Drop> Engine<S, L, J> {
         ensures refused_over { IfErr result (λ error. (made : EngineMade) → StandsOver self.old made [] → is_memory error ≡ true) }
         ensures again_over { (made : EngineMade) (past : List Did) → StandsOver self.old made past → has_begun past ≡ true → result ≡ Err PollError.Stopped }
         ensures same { IfErr result (λ error. is_memory error ≡ false → self.new ≡ self.old) }
+        ensures clock { OnOk result (clock_of self.new ≡ now) }
         ensures stays { IfErr result (λ error. is_memory error ≡ false → Stays self.old self.new) }
         ensures failed { IfErr result (FailsAfter self.old self.new) }
         ensures sound { OnOk result (has_failed self.old ≡ false) }
@@ -136,6 +144,7 @@ impl<S: Scheme + Drop, L: Elector + Drop, J: Journal + Drop> Engine<S, L, J> {
                 let mut crew = crew_of(unstarted, self.alloc, now)?;
                 let outcome = crew.start(now, stop, out)?;
                 self.stage = stage_after(crew, outcome);
+                self.clock = now;
                 Ok(outcome)
             }
             Stage::Running(crew) => {
@@ -172,11 +181,14 @@ impl<S: Scheme + Drop, L: Elector + Drop, J: Journal + Drop> Engine<S, L, J> {
         ensures accepted_over { IfOk result (λ _. AnswersOver self.old (λ made past. refusal_of made past input) None) }
         ensures refused_over { IfErr result (λ error. is_memory error ≡ false → AnswersOver self.old (λ made past. refusal_of made past input) (Some error)) }
         ensures stays_over { IfErr result (λ error. is_memory error ≡ false → StaysOver self.old self.new) }
+        ensures clock { OnOk result (clock_of self.new ≡ now) }
+        ensures clock_stays { IfErr result (λ error. is_memory error ≡ false → clock_of self.new ≡ clock_of self.old) }
         ensures journal { IfErr result (λ error. is_memory error ≡ false → journal_of self.new ≡ journal_of self.old) }
         ensures failed { IfErr result (FailsAfter self.old self.new) }
         ensures sound { OnOk result (has_failed self.old ≡ false) }
         ensures alive { OnOk result (has_failed self.new ≡ false) }
     {
+        let before = self.clock;
         let result = match &mut self.stage {
             Stage::Running(crew) => crew.poll(input, now, stop, out),
             Stage::Waiting(_) => return Err(PollError::Stopped),
@@ -184,6 +196,7 @@ impl<S: Scheme + Drop, L: Elector + Drop, J: Journal + Drop> Engine<S, L, J> {
             Stage::Failed => return Err(PollError::Failed),
         };
         self.settle(&result);
+        self.clock = clock_after(before, &result, now);
         result
     }
 
@@ -265,6 +278,36 @@ impl<S: Scheme + Drop, L: Elector + Drop, J: Journal + Drop> Engine<S, L, J> {
         }
     }
 
+    /// The actors of an engine that runs, and the mail between them, for whoever steps each of them itself.
+    pub fn into_crew(mut self) -> Result<Crew<S, L, J>, PollError>
+        ensures stands { IfOk result (λ crew. (made : EngineMade) (past : List Did) → StandsFor self made past → CrewStands true crew made past) }
+        ensures over { IfOk result (λ crew. (made : EngineMade) (past : List Did) → StandsOver self made past → CrewStands false crew made past) }
+        ensures journal { IfOk result (λ crew. journal_of self ≡ Some (voters.journal_of crew.voter)) }
+        ensures running { IfOk result (λ _. is_running self ≡ true) }
+        ensures refused { IfErr result (λ error. (is_running self ≡ false) × (error ≡ not_running self)) }
+        ensures runs { (made : EngineMade) (past : List Did) → StandsOver self made past → is_running self ≡ runs past }
+    {
+        match mem::replace(&mut self.stage, Stage::Failed) {
+            Stage::Running(crew) => Ok(crew),
+            Stage::Waiting(unstarted) => {
+                drop(unstarted);
+                Err(PollError::Stopped)
+            }
+            Stage::Stopped(crew) => {
+                drop(crew);
+                Err(PollError::Stopped)
+            }
+            Stage::Failed => Err(PollError::Failed),
+        }
+    }
+
+    /// The clock of the last call that was not refused, in milliseconds; before the start 0.
+    pub fn clock(&self) -> u64
+        ensures { result ≡ clock_of self.now }
+    {
+        self.clock
+    }
+
     /// The view that the voter is in, while the engine runs; before its start 1.
     pub fn current_view(&self) -> View
         ensures running { (made : EngineMade) (past : List Did) → StandsFor self.now made past → runs past ≡ true → result ≡ current_of (voter_in made past).rules (place_of (voter_in made past) (voter_past past)).standing.desk.known }
@@ -290,5 +333,15 @@ impl<S: Scheme + Drop, L: Elector + Drop, J: Journal + Drop> Engine<S, L, J> {
             Stage::Waiting(_) => false,
             Stage::Failed => false,
         }
+    }
+}
+
+// The clock after a poll that ended so: a refused one leaves it.
+fn clock_after(before: u64, given: &Result<Polled, PollError>, now: u64) -> u64
+    ensures { result ≡ clock_after before given.now now }
+{
+    match given {
+        Ok(_) => now,
+        Err(_) => before,
     }
 }

@@ -20,7 +20,9 @@ mod stage;
 mod unstarted;
 mod working;
 
+pub use boxes::Boxes;
 pub use config::{EngineConfig, EngineField};
+pub use crew::Crew;
 pub use engine::Engine;
 pub use error::{NewError, PollError};
 pub use input::{Input, Polled, TakenInside};

@@ -6,8 +6,8 @@ ghost use Rattle.simplex_network.specs.Lending.{MayLend};
 ghost use Rattle.simplex_par.specs.Lanes.{Any, Done, LanesHold};
 ghost use Rattle.simplex_par.specs.Steps.{GroupMakes, GroupRefuses, LendsAll, EntersAll, RefusesOne};
 
-use crate::gate::Gate;
 use crate::lanes::{Dealt, Lane, empty_lanes, next_of, put, step_all};
+use simplex_gate::Gate;
 use simplex_network::Network;
 use simplex_transcript::{Entry, Event, Refusal, RunError};
 use simplex_types::Sequence;

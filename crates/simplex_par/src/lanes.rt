@@ -4,7 +4,7 @@
 ghost use Rattle.std.specs.Prelude.{◌≡◌, ◌<◌, length, IfOk, OnOk};
 ghost use Rattle.simplex_par.specs.Lanes.{AreEmpty, MakesStep, AllStep, LanesStep, PutsLast, TakesFirst};
 
-use crate::gate::Gate;
+use simplex_gate::Gate;
 use simplex_network::Task;
 use std::alloc::{AllocError, Global};
 use std::collections::VecDeque;

@@ -4,10 +4,9 @@
 //! one by one answers, whatever the threads do.
 #![tactic(auto)]
 
-mod gate;
 mod group;
 mod lanes;
 mod run;
 
-pub use gate::{Gate, OpenGate};
 pub use run::run_network_par;
+pub use simplex_gate::{Gate, OpenGate};

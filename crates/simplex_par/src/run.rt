@@ -10,9 +10,9 @@ ghost use Rattle.simplex_backing.specs.Safe.{RunsSafely};
 ghost use Rattle.simplex_network.specs.Answer.{is_memory};
 ghost use Rattle.simplex_network.specs.Stands.{MadeBy};
 
-use crate::gate::Gate;
 use crate::group::{push, refused, step_group};
 use simplex_backing::runs_are_safe;
+use simplex_gate::Gate;
 use simplex_members::are_few;
 use simplex_network::{Network, Transcript};
 use simplex_run_laws::{possible_events_run, runs_are_possible, runs_have_one_entry_each};

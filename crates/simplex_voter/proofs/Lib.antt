@@ -14,3 +14,4 @@ pub mod Posts
 pub mod Sources
 pub mod Lives
 pub mod LivesOver
+pub mod Unanswered

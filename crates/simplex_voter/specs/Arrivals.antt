@@ -5,6 +5,7 @@ use Rattle.std.specs.Option.{is_some, is_none, option_map, option_map_or, option
 use Rattle.simplex_values.specs.declared.answer.Answer.{Answer}
 use Rattle.simplex_rules.specs.Pending.{Pending, Opened, is_open, put_number}
 use Rattle.simplex_steps.specs.Voter.{Standing, fits_proposal, fits_verdict, marked_answered}
+use Rattle.simplex_voter.specs.Unanswered.{prepare_of, propose_of}
 use Rattle.simplex_voter.specs.declared.request.Arrival.{Arrival}
 use Rattle.simplex_voter.specs.declared.request.PendingProposal.{PendingProposal}
 use Rattle.simplex_voter.specs.declared.request.OpenRequest.{OpenRequest}
@@ -143,3 +144,22 @@ with_number number answer = (number, answer)
 -- the answer that a request keeps, with its number
 abbrev pub answer_kept : Option OpenRequest → Option (ℕ × Answer)
 answer_kept request = option_and_then (λ (r : OpenRequest). option_map (λ (a : Arrival). with_number r.number a.answer) r.arrival) request
+
+-- ---- what waits for an answer
+
+-- the number, where no answer came
+abbrev pub if_waiting : ℕ → Option Arrival → Option ℕ
+if_waiting number None = Some number
+if_waiting number (Some arrival) = None
+
+-- the pending proposal's number, where its Prepare waits, and where its Propose waits
+abbrev pub pending_prepare : PendingProposal → Option ℕ
+pending_prepare p = option_and_then (λ number. if_waiting number p.arrival) (prepare_of p.state p.number)
+
+abbrev pub pending_propose : PendingProposal → Option ℕ
+pending_propose p = option_and_then (λ number. if_waiting number p.arrival) (propose_of p.state p.number)
+
+-- the first of these requests that waits
+unfoldable pub first_waiting : List OpenRequest → Option ℕ
+first_waiting [] = None
+first_waiting (r ∷ rest) = if is_none r.arrival then Some r.number else first_waiting rest

@@ -3,3 +3,4 @@ pub mod Arrivals
 pub mod Performing
 pub mod Stands
 pub mod Turned
+pub mod Unanswered

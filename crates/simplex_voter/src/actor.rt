@@ -12,8 +12,10 @@ ghost use Rattle.simplex_steps.specs.Voter.{takes_answer, acted};
 ghost use Rattle.simplex_steps.specs.VoterLife.{VoterMade, Given, Started, Stepped, Answered, place_of, start_given, step_given};
 ghost use Rattle.simplex_voter.specs.Actor.{state_config, voter_made, StandsFor, Takes, Answers, Gives, Starts, GivesFirst, StandsOver, TakesOver, AnswersOver, Fares, FaresFirst, journal_of, next_answer};
 ghost use Rattle.simplex_voter.specs.Turned.{FaultsAt, step_left, start_left};
+ghost use Rattle.simplex_voter.specs.Unanswered.{unanswered};
 
 use crate::config::Config;
+use crate::kind::AskKind;
 use crate::performing::settle;
 use crate::planner::Planner;
 use crate::posting::post_all;
@@ -205,6 +207,15 @@ impl<S: Scheme + Drop, L: Elector + Drop, J: Journal + Drop> Actor<S, L, J> {
         ensures over { AnswersOver S.attests L.elects J.sections self.now (λ made past. next_answer (place_of made past).standing input.now) result }
     {
         self.planner.next_answer(input)
+    }
+
+    /// The number of the oldest open request of this kind that has no answer.
+    #[tactic(auto, unfolding(crate::specs::Actor::StandsFor, crate::specs::Actor::StandsOver))]
+    pub fn unanswered(&self, kind: AskKind) -> Option<u64>
+        ensures told { Answers S.attests L.elects J.sections J.order self.now (λ made past. unanswered (place_of made past).standing kind) result }
+        ensures over { AnswersOver S.attests L.elects J.sections self.now (λ made past. unanswered (place_of made past).standing kind) result }
+    {
+        self.planner.unanswered(kind)
     }
 
     /// The view that the member is in.

@@ -8,6 +8,7 @@ mod actor;
 mod answering;
 mod config;
 mod holding;
+mod kind;
 mod numbers;
 mod performing;
 mod planner;
@@ -19,6 +20,8 @@ mod requests;
 mod starting;
 mod stepping;
 mod telling;
+mod waiting;
 
 pub use actor::Actor;
 pub use config::Config;
+pub use kind::AskKind;
