@@ -12,7 +12,7 @@ use std::marker::Model;
 
 /// A post that keeps what is put, in order.
 #[derive(Drop)]
-pub(crate) struct Held<M> {
+pub struct Held<M> {
     messages: VecDeque<M>,
 }
 
@@ -26,12 +26,19 @@ impl<M> Model for Held<M> {
 
 impl<M> Held<M> {
     /// Nothing is held.
-    pub(crate) fn new(alloc: Global) -> Held<M>
+    pub fn new(alloc: Global) -> Held<M>
         ensures { result ≡ [] }
     {
         Held {
             messages: VecDeque::new(alloc),
         }
+    }
+
+    /// The messages, in order.
+    pub fn into_messages(self) -> VecDeque<M>
+        ensures { result.items ≡ self }
+    {
+        self.messages
     }
 }
 
@@ -49,8 +56,7 @@ impl<M: Policy> Held<M> {
     pub(crate) fn put_into(self, mailbox: &mut Mailbox<M>) -> Result<(), AllocError>
         ensures { OnOk result (mailbox.new ≡ all_enqueued M.handle mailbox.old self) }
     {
-        let Held { messages } = self;
-        put_each(messages, mailbox)?;
+        put_each(self.into_messages(), mailbox)?;
         Ok(())
     }
 }

@@ -25,5 +25,6 @@ pub use config::{EngineConfig, EngineField};
 pub use crew::Crew;
 pub use engine::Engine;
 pub use error::{NewError, PollError};
+pub use held::Held;
 pub use input::{Input, Polled, TakenInside};
 pub use laws::{batcher_hands_to_the_voter_alone, voter_hands_itself_nothing};

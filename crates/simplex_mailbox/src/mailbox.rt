@@ -87,6 +87,13 @@ impl<M: Policy> Mailbox<M> {
         self.is_closed = true;
     }
 
+    /// How many messages are ready at most.
+    pub fn capacity(&self) -> u32
+        ensures { result ≡ self.now.capacity }
+    {
+        self.capacity
+    }
+
     /// Whether nothing is held.
     pub fn is_empty(&self) -> bool
         ensures { result ≡ holds_nothing self.now }
