@@ -1,7 +1,6 @@
 pub mod VoterMail
 pub mod BatcherMail
 pub mod Places
-pub mod Holding
 pub mod More
 pub mod ResolverMail
 pub mod Polls

@@ -18,10 +18,9 @@ ghost use Rattle.simplex_engine.specs.Polled.{answer_inside, unless_idle};
 ghost use Rattle.simplex_engine.specs.Stands.{Fresh, CrewStands, CrewStarts, VoterFares, Works, WorksAs, Ends, EndsAs, TellsAs, faults_in};
 
 use crate::crew::Crew;
-use crate::held::Held;
 use crate::input::{Polled, TakenInside};
 use simplex_journal::Journal;
-use simplex_mailbox::posted_are_enqueued;
+use simplex_mailbox::{Held, posted_are_enqueued};
 use simplex_messages::{
     BatcherInput, Outcome, ResolverInput, StepOut, Stop, VoterInput, batcher, resolver,
 };

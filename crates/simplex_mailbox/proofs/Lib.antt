@@ -1,3 +1,4 @@
 pub mod Fills
 pub mod Skipped
 pub mod Turns
+pub mod Holding

@@ -5,6 +5,7 @@ ghost use Rattle.simplex_mailbox.specs.Waiting.{Waiting, nothing, in_turn, drain
 ghost use Rattle.simplex_mailbox.specs.Mail.{Mail, all_enqueued};
 ghost use Rattle.simplex_mailbox.specs.Post.{Posted};
 
+use crate::held::Held;
 use crate::mailbox::Mailbox;
 use crate::policy::Policy;
 use crate::post::Post;
@@ -29,4 +30,9 @@ pub fn order_is_kept<M: Policy>()
 /// Messages that were put in a mailbox one by one make of it what the definition says of all of them.
 pub fn posted_are_enqueued<M: Policy>()
     ensures { (before : Mail M) (messages : List M) (after : Mail M) → Posted ⟦<Mailbox<M> as Post<M>>⟧.puts before messages after → after ≡ all_enqueued M.handle before messages }
+{}
+
+/// Messages that were held back one by one stand behind those that were before.
+pub fn posted_are_held<M: Drop>()
+    ensures { (before : List M) (messages : List M) (after : List M) → Posted ⟦<Held<M> as Post<M>>⟧.puts before messages after → after ≡ before ++ messages }
 {}

@@ -5,6 +5,7 @@
 //! its two lists, and what an overflow holds as `Waiting`.
 #![tactic(auto)]
 
+mod held;
 mod laws;
 mod mailbox;
 mod overflow;
@@ -14,7 +15,10 @@ mod post;
 mod requested;
 mod samples;
 
-pub use laws::{all_goes_in_turn, order_is_kept, place_is_forgotten, posted_are_enqueued};
+pub use held::Held;
+pub use laws::{
+    all_goes_in_turn, order_is_kept, place_is_forgotten, posted_are_enqueued, posted_are_held,
+};
 pub use mailbox::Mailbox;
 pub use overflow::Overflow;
 pub use pending::Pending;

@@ -1,6 +1,6 @@
 use Rattle.std.proofs.Common.{ap}
 use Rattle.simplex_mailbox.specs.Mail.{all_enqueued}
-use Rattle.simplex_engine.proofs.Holding.{held-posted}
+use Rattle.simplex_mailbox.proofs.Holding.{held-posted}
 use Rattle.simplex_engine.proofs.crew.Crew.step_resolver.Goals as goal
 
 pub returns-then-cut_short-clause-stands : goal.returns-then-cut_short-clause-stands

@@ -1,6 +1,6 @@
 use Rattle.std.proofs.Common.{◌≡◌, length}
 use Rattle.simplex_mailbox.specs.Mail.{all_enqueued}
-use Rattle.simplex_engine.proofs.held.put_each.Given as goal
+use Rattle.simplex_mailbox.proofs.held.put_each.Given as goal
 
 -- what is left, put into the mailbox as it is now, makes of it what all does of the mailbox as it was
 abbrev pub invariant-loop-message : goal.invariant-loop-message

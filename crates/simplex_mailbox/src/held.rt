@@ -1,11 +1,13 @@
-//! Messages that are held back until a step is known to be whole.
-#![tactic(auto, unfolding(simplex_mailbox::specs::Mail::all_enqueued))]
+//! Messages that are held back, as until a step is known to be whole.
+#![tactic(auto, unfolding(crate::specs::Mail::all_enqueued))]
 
 ghost use Rattle.std.specs.Prelude.{◌≡◌, [], ◌∷◌, ◌++◌, OnOk};
 ghost use Rattle.simplex_mailbox.specs.Mail.{all_enqueued};
 
-use simplex_mailbox::{Mailbox, Policy, Post};
-use simplex_types::Feedback;
+use crate::mailbox::Mailbox;
+use crate::policy::Policy;
+use crate::post::Post;
+use simplex_values::Feedback;
 use std::alloc::{AllocError, Global};
 use std::collections::VecDeque;
 use std::marker::Model;
@@ -53,7 +55,7 @@ impl<M: Drop> Post<M> for Held<M> {
 
 impl<M: Policy> Held<M> {
     /// Puts all that is held into the mailbox.
-    pub(crate) fn put_into(self, mailbox: &mut Mailbox<M>) -> Result<(), AllocError>
+    pub fn put_into(self, mailbox: &mut Mailbox<M>) -> Result<(), AllocError>
         ensures { OnOk result (mailbox.new ≡ all_enqueued M.handle mailbox.old self) }
     {
         put_each(self.into_messages(), mailbox)?;
