@@ -4,10 +4,7 @@ use Rattle.std.specs.Option.{option_map, option_map_or}
 use Rattle.simplex_wire.specs.declared.scheme.Scheme as scheme
 use Rattle.simplex_types.specs.declared.elector.Elector as elector
 use Rattle.simplex_journal.specs.declared.journal.Journal as journal
-use Rattle.simplex_journal.specs.Order.{Order, no_order}
-use Rattle.simplex_values.specs.declared.proposal.Subject.{Subject}
-use Rattle.simplex_values.specs.declared.round.Round.{Round}
-use Rattle.simplex_wire.specs.declared.attestation.Attestation.{Attestation}
+use Rattle.simplex_journal.specs.Order.{no_order}
 use Rattle.simplex_journal.specs.Journal.{Section}
 use Rattle.simplex_mailbox.specs.Mail.{no_mail}
 use Rattle.simplex_messages.specs.declared.step.Outcome.{Outcome}
@@ -18,7 +15,7 @@ use Rattle.simplex_messages.specs.declared.voter.VoterInput.{VoterInput}
 use Rattle.simplex_steps.specs.VoterLife.{VoterMade, Given, Stepped, place_of, step_given}
 use Rattle.simplex_steps.specs.Engine.{EngineMade, Did, begun, runs}
 use Rattle.simplex_voter.specs.Actor as voter
-use Rattle.simplex_voter.specs.declared.actor.Actor.{Actor}
+pub use Rattle.simplex_voter.specs.Actor.{VoterStands}
 use Rattle.simplex_voter.specs.Turned.{Becomes, BecomesFirst, step_left, start_left}
 use Rattle.simplex_batcher.specs.Stands as batcher
 use Rattle.simplex_resolver.specs.Stands as resolver
@@ -46,12 +43,6 @@ has_begun (did ∷ past) = true
 -- empty mailboxes
 abbrev pub empty_boxes : ℕ → Boxes
 empty_boxes capacity = record { batcher = no_mail capacity; voter = no_mail capacity; resolver = no_mail capacity }
-
--- What is known of the voter. Over a journal that tells that no call of it will fail it is what each step gives; over any
--- journal a step gives the same, but for a call that fails by itself.
-abbrev pub VoterStands : {S L J : Type 0} → (S → Subject → Option Attestation) → (L → Round → ℕ) → (J → List Section) → (J → Option Order) → Bool → Actor S L J → VoterMade → List Given → Type 0
-VoterStands attests elects sections order true actor made past = voter.StandsFor attests elects sections order actor made past
-VoterStands attests elects sections order false actor made past = voter.StandsOver attests elects sections actor made past
 
 -- The stop of a poll stays what it is, but for a step of the voter: there it becomes another by what the journal did.
 abbrev pub Turns : Stop → ℕ → Stop → Type 0

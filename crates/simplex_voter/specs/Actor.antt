@@ -1,5 +1,5 @@
 -- For which history a voter stands.
-use Rattle.std.specs.Prelude.{◌≡◌, ◌≢◌, ℕ, List, [], ◌∷◌, length, Option, Some, None}
+use Rattle.std.specs.Prelude.{◌≡◌, ◌≢◌, ℕ, Bool, true, false, List, [], ◌∷◌, length, Option, Some, None}
 use Rattle.std.specs.Option.{option_map, option_and_then}
 use Rattle.simplex_values.specs.declared.proposal.Subject.{Subject}
 use Rattle.simplex_values.specs.declared.answer.Answer.{Answer}
@@ -149,3 +149,9 @@ module _ {S L J : Type 0} where
     pub leaves : (made : VoterMade) → StandsOver attests elects sections old made [] → sections new.journal ≡ left turned made []
     pub stands : outcome ≢ outcomes.Journal
         → (made : VoterMade) → StandsOver attests elects sections old made [] → StandsOver attests elects sections new made (given turned ∷ [])
+
+-- What is known of the voter. Over a journal that tells that no call of it will fail it is what each step gives; over any
+-- journal a step gives the same, but for a call that fails by itself.
+abbrev pub VoterStands : {S L J : Type 0} → (S → Subject → Option Attestation) → (L → Round → ℕ) → (J → List Section) → (J → Option Order) → Bool → Actor S L J → VoterMade → List Given → Type 0
+VoterStands attests elects sections order true actor made past = StandsFor attests elects sections order actor made past
+VoterStands attests elects sections order false actor made past = StandsOver attests elects sections actor made past
