@@ -1,0 +1,29 @@
+-- The calls by which messages are handed over.
+use Rattle.std.specs.Prelude.{◌≡◌, List, [], ◌∷◌, ◌++◌, Bool, Option, Some, None}
+use Rattle.std.specs.List.{filter_map}
+use Rattle.simplex_mailbox.specs.Mail.{Mail, received, after_recv}
+use Rattle.simplex_messages.specs.declared.handed.Handed.{Handed}
+use Rattle.simplex_messages.specs.declared.step.StepOut.{StepOut}
+use Rattle.simplex_shared.specs.declared.op.Op.{Op}
+use Rattle.simplex_shared.specs.declared.op.Op.TheVariants.{Put, Took, Shut}
+
+module _ {M : Type 0} where
+  -- a mailbox of one thread is emptied: its messages come in this order
+  unfoldable pub Drains : (skips : M → Bool) → Mail M → List M → Type 0
+  Drains skips mail [] = received mail ≡ None
+  Drains skips mail (message ∷ rest) = (received mail ≡ Some message) × Drains skips (after_recv skips mail) rest
+
+  -- the calls put these messages, one by one, whatever each was answered
+  unfoldable pub Puts : List M → List (Op M) → Type 0
+  Puts [] [] = Unit {0}
+  Puts (message ∷ rest) (Put caller put feedback ∷ calls) = (put ≡ message) × Puts rest calls
+  Puts _ _ = ⊥
+
+  -- behind the earlier calls stand those that put these messages
+  abbrev pub PutsBehind : List M → List (Op M) → List (Op M) → Type 0
+  PutsBehind messages before after = (calls : List (Op M)) × (after ≡ before ++ calls) × Puts messages calls
+
+  -- what steps handed on for one mailbox, in order
+  unfoldable pub handed_on : (Handed → Option M) → List StepOut → List M
+  handed_on for_it [] = []
+  handed_on for_it (out ∷ outs) = filter_map for_it out.handed ++ handed_on for_it outs

@@ -1,0 +1,6 @@
+pub mod Batching
+pub mod Handing
+pub mod Resolving
+pub mod Threads
+pub mod Turns
+pub mod Voting
