@@ -301,6 +301,11 @@ impl<S: Scheme + Drop, L: Elector + Drop, J: Journal + Drop> Engine<S, L, J> {
         }
     }
 
+    /// What is known of an engine over a journal that tells that no call of it will fail is known of it over any.
+    pub fn stands_over(&self)
+        ensures { (made : EngineMade) (past : List Did) → StandsFor self.now made past → StandsOver self.now made past }
+    {}
+
     /// The clock of the last call that was not refused, in milliseconds; before the start 0.
     pub fn clock(&self) -> u64
         ensures { result ≡ clock_of self.now }

@@ -1,6 +1,7 @@
 pub mod Batching
 pub mod Handing
 pub mod Resolving
+pub mod Team
 pub mod Threads
 pub mod Turns
 pub mod Voting
