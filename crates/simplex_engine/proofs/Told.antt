@@ -1,5 +1,5 @@
 -- What is known over a journal that tells that no call of it will fail is known over any.
-use Rattle.std.proofs.Common.{◌≡◌, List, true, false}
+use Rattle.std.proofs.Common.{◌≡◌, List, true, false, tt}
 use Rattle.simplex_wire.specs.declared.scheme.Scheme as scheme
 use Rattle.simplex_types.specs.declared.elector.Elector as elector
 use Rattle.simplex_journal.specs.declared.journal.Journal as journal
@@ -34,7 +34,7 @@ module _ {S L J : Type 0} {s : scheme.Ghosts S} {l : elector.Ghosts L} {j : jour
       }
 
   waits-over : (unstarted : Unstarted S L J s l j) (made : EngineMade) → Waits true unstarted made → Waits false unstarted made
-  waits-over unstarted made h = record { order = record {}; voter = h.voter; batcher = h.batcher; resolver = h.resolver; boxes = h.boxes }
+  waits-over unstarted made h = record { order = tt; voter = h.voter; batcher = h.batcher; resolver = h.resolver; boxes = h.boxes }
 
   stage-over : (stage : Stage S L J s l j) (made : EngineMade) (past : List Did) → StageStands true stage made past → StageStands false stage made past
   stage-over (stages.Waiting unstarted) made past h = (h.0, waits-over unstarted made h.1)
