@@ -40,7 +40,6 @@ where
     J: Journal + Drop + Send,
     G: Gate,
     R: Threads + Wait + Sync,
-    requires clock { clock_of engine < 2 ^ 63 }
     requires clocks { All IsInTime feed.voter.items }
     // What each actor gave, turn by turn.
     ensures batcher { IfOk result (λ run. (made : EngineMade) (past : List Did) → StandsOver engine made past
