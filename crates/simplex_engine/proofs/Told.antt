@@ -1,10 +1,10 @@
 -- What is known over a journal that tells that no call of it will fail is known over any.
-use Rattle.std.proofs.Common.{◌≡◌, List, true, false, tt}
+use Rattle.std.proofs.Common.{◌≡◌, List, Bool, true, false, tt, refl, sym, subst}
 use Rattle.simplex_wire.specs.declared.scheme.Scheme as scheme
 use Rattle.simplex_types.specs.declared.elector.Elector as elector
 use Rattle.simplex_journal.specs.declared.journal.Journal as journal
 use Rattle.simplex_steps.specs.VoterLife.{VoterMade, Given}
-use Rattle.simplex_steps.specs.Engine.{EngineMade, Did}
+use Rattle.simplex_steps.specs.Engine.{EngineMade, Did, runs}
 use Rattle.simplex_voter.specs.Actor as voter
 use Rattle.simplex_voter.specs.declared.actor.Actor.{Actor}
 use Rattle.simplex_engine.specs.declared.crew.Crew.{Crew}
@@ -13,7 +13,7 @@ use Rattle.simplex_engine.specs.declared.stage.Stage.TheVariants as stages
 use Rattle.simplex_engine.specs.declared.unstarted.Unstarted.{Unstarted}
 use Rattle.simplex_engine.specs.declared.engine.Engine.{Engine}
 use Rattle.simplex_engine.specs.Parts.{Parts}
-use Rattle.simplex_engine.specs.Stands.{VoterStands, Placed, Holds, CrewStands, Waits, StageStands, StandsFor, StandsOver}
+use Rattle.simplex_engine.specs.Stands.{VoterStands, Placed, Holds, CrewStands, Waits, StageStands, StandsFor, StandsOver, is_at_work}
 
 module _ {S L J : Type 0} {s : scheme.Ghosts S} {l : elector.Ghosts L} {j : journal.Ghosts J} where
   voter-over : (actor : Actor S L J) (made : VoterMade) (past : List Given)
@@ -45,3 +45,15 @@ module _ {S L J : Type 0} {s : scheme.Ghosts S} {l : elector.Ghosts L} {j : jour
   pub told-over : (engine : Engine S L J s l j) (made : EngineMade) (past : List Did) → StandsFor engine made past → StandsOver engine made past
   unfolding StandsFor StandsOver
   told-over engine made past h = stage-over engine.stage made past h
+
+  -- ---- the actors of an engine that runs
+
+  pub crew-of : (told : Bool) (stage : Stage S L J s l j) (crew : Crew S L J s l j) (made : EngineMade) (past : List Did) → stage ≡ stages.Running crew
+      → StageStands told stage made past → CrewStands told crew made past
+  crew-of told stage crew made past is h = (subst (λ (stage : Stage S L J s l j). StageStands told stage made past) is h).1
+
+  pub at-work : (stage : Stage S L J s l j) (made : EngineMade) (past : List Did) → StageStands false stage made past → is_at_work stage ≡ runs past
+  at-work (stages.Waiting unstarted) made past h = rw h.0 refl
+  at-work (stages.Running crew) made past h = sym h.0
+  at-work (stages.Stopped crew) made past h = sym h.0
+  at-work stages.Failed made past h = absurd h
