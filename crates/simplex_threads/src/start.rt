@@ -1,11 +1,12 @@
 //! Each actor of an engine on a thread of its own.
 ghost use Rattle.std.specs.Prelude.{◌≡◌, ◌<◌, ◌^◌, List, All, true, false, IfOk, IfErr, OnOk};
 ghost use Rattle.simplex_steps.specs.Engine.{EngineMade, Did, runs};
-ghost use Rattle.simplex_engine.specs.Parts.{parts_of};
+ghost use Rattle.simplex_engine.specs.Parts.{Parts, parts_of};
 ghost use Rattle.simplex_engine.specs.Polled.{is_memory};
-ghost use Rattle.simplex_engine.specs.Stands.{StandsFor, StandsOver, clock_of, faults_of, is_running, not_running};
+ghost use Rattle.simplex_engine.specs.Stands.{StandsFor, StandsOver, Holds, clock_of, faults_of, faults_in, is_running, not_running};
 ghost use Rattle.simplex_turns.specs.Threads.{IsInTime};
 ghost use Rattle.simplex_threads.specs.Ran.{BatcherRan, ResolverRan, VoterRan, VoterRanWhole, IsHandedOn};
+ghost use Rattle.simplex_threads.specs.Ready.{IsReady};
 
 use crate::run::{Feed, ThreadRun};
 use simplex_engine::{Boxes, Crew, Engine, PollError};
@@ -16,7 +17,7 @@ use simplex_turns::{
 };
 use simplex_types::elector::Elector;
 use simplex_types::{Keep, Scheme};
-use std::alloc::AllocError;
+use std::alloc::{AllocError, Global};
 use std::collections::VecDeque;
 use std::sync::Wait;
 use std::thread::Threads;
@@ -56,6 +57,7 @@ where
     ensures refused { IfErr result (λ error. is_memory error ≡ false → (is_running engine ≡ false) × (error ≡ not_running engine)) }
     ensures runs { (made : EngineMade) (past : List Did) → StandsOver engine made past → is_running engine ≡ runs past }
 {
+    engine.stands_over();
     let now = engine.clock();
     let crew = engine.into_crew()?;
     let run = run_crew(rt, crew, now, feed, turns, gate)?;
@@ -68,7 +70,9 @@ fn team_of<S: Scheme + Drop, L: Elector + Drop, J: Journal + Drop, R: Wait>(
     crew: Crew<S, L, J>,
     now: u64,
     feed: Feed,
-) -> Result<Team<S, L, J>, AllocError> {
+) -> Result<Team<S, L, J>, AllocError>
+    ensures { IfOk result (IsReady crew now feed) }
+{
     let Crew {
         alloc,
         voter,
@@ -92,7 +96,7 @@ fn team_of<S: Scheme + Drop, L: Elector + Drop, J: Journal + Drop, R: Wait>(
             alloc,
             actor: batcher,
             now,
-            feed: VecDeque::from(feed.batcher),
+            feed: queue_of(alloc, feed.batcher)?,
             own: batcher_takes,
             voter: batcher_to_voter,
         },
@@ -100,7 +104,7 @@ fn team_of<S: Scheme + Drop, L: Elector + Drop, J: Journal + Drop, R: Wait>(
             alloc,
             actor: voter,
             now,
-            feed: VecDeque::from(feed.voter),
+            feed: queue_of(alloc, feed.voter)?,
             own: voter_takes,
             batcher: voter_to_batcher,
             resolver: voter_to_resolver,
@@ -109,7 +113,7 @@ fn team_of<S: Scheme + Drop, L: Elector + Drop, J: Journal + Drop, R: Wait>(
             alloc,
             actor: resolver,
             now,
-            feed: VecDeque::from(feed.resolver),
+            feed: queue_of(alloc, feed.resolver)?,
             own: resolver_takes,
             voter: resolver_to_voter,
         },
@@ -131,6 +135,15 @@ where
     J: Journal + Drop + Send,
     G: Gate,
     R: Threads + Wait + Sync,
+    requires clock { now < 2 ^ 63 }
+    requires clocks { All IsInTime feed.voter.items }
+    ensures batcher { IfOk result (λ run. (parts : Parts) → Holds false crew parts → BatcherRan parts now turns feed.batcher.items run.logs.batcher run.batcher.items) }
+    ensures resolver { IfOk result (λ run. (parts : Parts) → Holds false crew parts → ResolverRan parts now turns feed.resolver.items run.logs.resolver run.resolver.items) }
+    ensures voter { IfOk result (λ run. (parts : Parts) → Holds false crew parts
+        → VoterRan parts now turns feed.voter.items run.logs.voter run.voter.items (faults_in crew) (J.fault_count run.journal) (J.sections run.journal)) }
+    ensures whole { IfOk result (λ run. (parts : Parts) → Holds true crew parts
+        → VoterRanWhole parts now turns feed.voter.items run.logs.voter run.voter.items (J.sections run.journal)) }
+    ensures handed { IfOk result IsHandedOn }
 {
     let team = team_of(rt, crew, now, feed)?;
     let (team, outs) = team.run(rt, turns, gate)?;
@@ -147,4 +160,15 @@ where
         logs,
         journal,
     })
+}
+
+// The items, in order, to be taken one by one.
+fn queue_of<T: Drop>(alloc: Global, items: Vec<T>) -> Result<VecDeque<T>, AllocError>
+    ensures { IfOk result (λ queue. queue.items ≡ items.items) }
+{
+    let mut queue = VecDeque::with_capacity(alloc, items.len())?;
+    for item in items {
+        queue.push_back(item)?;
+    }
+    Ok(queue)
 }
