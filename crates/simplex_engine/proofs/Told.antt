@@ -1,8 +1,13 @@
 -- What is known over a journal that tells that no call of it will fail is known over any.
-use Rattle.std.proofs.Common.{◌≡◌, List, Bool, true, false, tt, refl, sym, subst}
+use Rattle.std.proofs.Common.{◌≡◌, ℕ, List, Bool, true, false, Option, refl, sym, subst}
 use Rattle.simplex_wire.specs.declared.scheme.Scheme as scheme
 use Rattle.simplex_types.specs.declared.elector.Elector as elector
 use Rattle.simplex_journal.specs.declared.journal.Journal as journal
+use Rattle.simplex_journal.specs.Journal.{Section}
+use Rattle.simplex_journal.specs.Order.{Order}
+use Rattle.simplex_values.specs.declared.proposal.Subject.{Subject}
+use Rattle.simplex_values.specs.declared.round.Round.{Round}
+use Rattle.simplex_wire.specs.declared.attestation.Attestation.{Attestation}
 use Rattle.simplex_steps.specs.VoterLife.{VoterMade, Given}
 use Rattle.simplex_steps.specs.Engine.{EngineMade, Did, runs}
 use Rattle.simplex_voter.specs.Actor as voter
@@ -15,17 +20,17 @@ use Rattle.simplex_engine.specs.declared.engine.Engine.{Engine}
 use Rattle.simplex_engine.specs.Parts.{Parts}
 use Rattle.simplex_engine.specs.Stands.{VoterStands, Placed, Holds, CrewStands, Waits, StageStands, StandsFor, StandsOver, is_at_work}
 
-module _ {S L J : Type 0} {s : scheme.Ghosts S} {l : elector.Ghosts L} {j : journal.Ghosts J} where
-  voter-over : (actor : Actor S L J) (made : VoterMade) (past : List Given)
-      → VoterStands s.attests l.elects j.sections j.order true actor made past → VoterStands s.attests l.elects j.sections j.order false actor made past
-  unfolding voter.StandsFor voter.StandsOver
-  voter-over actor made past h = record { floor = h.floor; planner = h.planner; sections_are = h.sections_are }
+voter-over : {S L J : Type 0} (attests : S → Subject → Option Attestation) (elects : L → Round → ℕ) (sections : J → List Section) (order : J → Option Order) (actor : Actor S L J) (made : VoterMade) (past : List Given)
+    → VoterStands attests elects sections order true actor made past → VoterStands attests elects sections order false actor made past
+unfolding voter.StandsFor voter.StandsOver
+voter-over attests elects sections order actor made past h = record { floor = h.floor; planner = h.planner; sections_are = h.sections_are }
 
+module _ {S L J : Type 0} {s : scheme.Ghosts S} {l : elector.Ghosts L} {j : journal.Ghosts J} where
   crew-over : (crew : Crew S L J s l j) (made : EngineMade) (past : List Did) → CrewStands true crew made past → CrewStands false crew made past
   unfolding CrewStands
   crew-over crew made past h =
       record {
-        voter = record { given = h.voter.given; stands = voter-over crew.voter _ _ h.voter.stands; place = h.voter.place };
+        voter = record { given = h.voter.given; stands = voter-over s.attests l.elects j.sections j.order crew.voter _ _ h.voter.stands; place = h.voter.place };
         batcher = h.batcher;
         resolver = h.resolver;
         to_batcher = h.to_batcher;
@@ -53,6 +58,7 @@ module _ {S L J : Type 0} {s : scheme.Ghosts S} {l : elector.Ghosts L} {j : jour
   crew-of told stage crew made past is h = (subst (λ (stage : Stage S L J s l j). StageStands told stage made past) is h).1
 
   pub at-work : (stage : Stage S L J s l j) (made : EngineMade) (past : List Did) → StageStands false stage made past → is_at_work stage ≡ runs past
+  unfolding runs
   at-work (stages.Waiting unstarted) made past h = rw h.0 refl
   at-work (stages.Running crew) made past h = sym h.0
   at-work (stages.Stopped crew) made past h = sym h.0

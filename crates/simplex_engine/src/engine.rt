@@ -23,7 +23,7 @@ use crate::config::EngineConfig;
 use crate::crew::Crew;
 use crate::error::{NewError, PollError};
 use crate::input::{Input, Polled};
-use crate::stage::{Stage, crew_of, stage_after};
+use crate::stage::{Stage, crew_of, is_at_work, stage_after};
 use crate::unstarted::Unstarted;
 use simplex_journal::Journal;
 use simplex_messages::{Outcome, StepOut, Stop};
@@ -286,7 +286,6 @@ impl<S: Scheme + Drop, L: Elector + Drop, J: Journal + Drop> Engine<S, L, J> {
         ensures journal { IfOk result (λ crew. journal_of self ≡ Some (voters.journal_of crew.voter)) }
         ensures running { IfOk result (λ _. is_running self ≡ true) }
         ensures refused { IfErr result (λ error. (is_running self ≡ false) × (error ≡ not_running self)) }
-        ensures runs { (made : EngineMade) (past : List Did) → StandsOver self made past → is_running self ≡ runs past }
     {
         match mem::replace(&mut self.stage, Stage::Failed) {
             Stage::Running(crew) => Ok(crew),
@@ -306,6 +305,14 @@ impl<S: Scheme + Drop, L: Elector + Drop, J: Journal + Drop> Engine<S, L, J> {
     pub fn stands_over(&self)
         ensures { (made : EngineMade) (past : List Did) → StandsFor self.now made past → StandsOver self.now made past }
     {}
+
+    /// Whether it takes inputs: it was started, and no step was broken off since.
+    pub fn is_running(&self) -> bool
+        ensures value { result ≡ is_running self.now }
+        ensures runs { (made : EngineMade) (past : List Did) → StandsOver self.now made past → is_running self.now ≡ runs past }
+    {
+        is_at_work(&self.stage)
+    }
 
     /// The clock of the last call that was not refused, in milliseconds; before the start 0.
     pub fn clock(&self) -> u64

@@ -4,7 +4,7 @@
 ghost use Rattle.std.specs.Prelude.{◌≡◌, ◌<◌, ◌^◌, Bool, IfOk};
 ghost use Rattle.simplex_steps.specs.Engine.{EngineMade};
 ghost use Rattle.simplex_voter.specs.Actor.{journal_of};
-ghost use Rattle.simplex_engine.specs.Stands.{Waits, Fresh, settled};
+ghost use Rattle.simplex_engine.specs.Stands.{Waits, Fresh, settled, is_at_work};
 
 use crate::crew::Crew;
 use crate::unstarted::Unstarted;
@@ -65,4 +65,11 @@ pub(crate) fn stage_after<S: Scheme, L: Elector, J: Journal>(
         Outcome::Done | Outcome::Idle => Stage::Running(crew),
         Outcome::Journal | Outcome::Cut => Stage::Stopped(crew),
     }
+}
+
+/// Whether the actors are at work.
+pub(crate) fn is_at_work<S: Scheme, L: Elector, J: Journal>(stage: &Stage<S, L, J>) -> bool
+    ensures { result ≡ is_at_work stage.now }
+{
+    matches!(stage, Stage::Running(_))
 }
