@@ -1,6 +1,6 @@
 use Rattle.std.proofs.Common.{◌∙◌, sym, true, false}
 use Rattle.simplex_engine.specs.Stands.{StandsFor, StandsOver}
-use Rattle.simplex_engine.proofs.Told.{crew-of, at-work}
+use Rattle.simplex_engine.proofs.Told.{crew-of}
 use Rattle.simplex_engine.proofs.engine.Engine.into_crew.Goals as goal
 
 pub returns-in-Running-clause-stands : goal.returns-in-Running-clause-stands
