@@ -71,8 +71,7 @@ three_parts a b c d e f is = (cc, cc)
 pub one_number : (words : List (String Global)) (number steps other count : ℕ) → Says words (commands.Gen number steps) → Says words (commands.Gen other count)
     → (number ≡ other) × (steps ≡ count)
 one_number words number steps other count gen again =
-    let parts = three_parts _ _ _ _ _ _ (sym gen.0 ∙ again.0) in
-    (
+    let parts = three_parts _ _ _ _ _ _ (sym gen.0 ∙ again.0) in (
       decimal_injective number other gen.1 again.1 parts.0,
       decimal_injective steps count (omega (arith, gen.2)) (omega (arith, again.2)) parts.1,
     )

@@ -15,7 +15,7 @@ pub const MOST_WORKERS: u32 = 64;
 pub enum Command {
     /// `run`: the setup and the events that the source says.
     Run,
-    /// `par WORKERS`: the same, whose steps are made by so many workers at once.
+    /// `par WORKERS`: the same, by so many workers.
     Par { workers: u32 },
     /// `gen NUMBER STEPS`: the events that the number makes, so many of them.
     Gen { number: u64, steps: u64 },
@@ -47,11 +47,7 @@ fn run_of(word: &String) -> Option<Command>
 }
 
 // What two words ask for.
-fn workers_of(
-    alloc: Global,
-    word: &String,
-    workers: &String,
-) -> Result<Option<Command>, AllocError>
+fn workers_of(alloc: Global, word: &String, workers: &String) -> Result<Option<Command>, AllocError>
     ensures some { IfOk result (λ it. IfSome it (Says (word.now ∷ workers.now ∷ []))) }
     ensures none { IfOk result (λ it. IfNone it (¬ AreTaken (word.now ∷ workers.now ∷ []))) }
 {
