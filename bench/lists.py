@@ -2,6 +2,8 @@
 """Long lists of events of honest members, for what measures the program.
 
     bench/lists.py rounds MEMBERS EVENTS      members finalize view after view, and nothing is lost
+    bench/lists.py abreast MEMBERS EVENTS     the same, and each member takes a step before any takes the next
+    bench/lists.py ticks MEMBERS EVENTS       each member takes eight steps between two ticks, abreast of the others, in one view
     bench/lists.py behind VIEWS               three members give up so many views and one more, and a fourth catches up
     bench/lists.py given_up VIEWS             the same without the fourth
 """
@@ -70,25 +72,37 @@ class Rounds(Events):
         self.view, self.leader = 1, 1 % members
         self.asked = [self.leader + 1, 0]
 
+    # What a member does on its own, with a stop behind each of its events but the last. What it sends is told at the end.
+
     def notarize(self, member, request):
         """The member finds the proposal valid, and votes for it: its vote."""
         self.answer(member, request, {"verdict": True})
+        yield
         vote = self.step(member, "verify")
+        yield
         self.step(member, "batcher")
         return vote
 
     def finalize(self, member, request):
         """The member certifies the view, and votes to finalize it: its vote."""
         self.answer(member, request, {"verdict": True})
+        yield
         vote = self.step(member, "certify")
-        self.steps(member, "resolver", "batcher", "batcher")
+        for source in ["resolver", "batcher", "batcher"]:
+            yield
+            self.step(member, source)
         return vote
 
     def take_certificate(self, member):
         """The member's voter takes the certificate that its batcher made of the votes, and sends it."""
         sent = self.step(member, "voter")
+        yield
         self.step(member, "resolver")
         return sent
+
+    def all_do(self, doings):
+        """Each member does all of its own before the next one does: what each sent."""
+        return [(member, to_its_end(doing)) for member, doing in doings]
 
     def add_view(self):
         """One view, from the proposal to its finalization."""
@@ -97,25 +111,89 @@ class Rounds(Events):
         self.step(self.leader, "batcher")
         self.deliver_all([(self.leader, proposal)])
         requests = [(it, self.step(it, "voter")) for it in self.members if it != self.leader]
-        self.deliver_all([(it, self.notarize(it, request)) for it, request in requests])
-        notarizations = [(it, self.take_certificate(it)) for it in self.members]
+        self.deliver_all(self.all_do([(it, self.notarize(it, request)) for it, request in requests]))
+        notarizations = self.all_do([(it, self.take_certificate(it)) for it in self.members])
         self.deliver_all(notarizations)
         # A request to certify stands first in the entry in which the notarization was sent; and in the entry in which a
         # member votes to finalize stands the next leader's request for a proposal.
-        votes = [(it, self.finalize(it, request)) for it, request in notarizations]
+        votes = self.all_do([(it, self.finalize(it, request)) for it, request in notarizations])
         self.view, self.leader = self.view + 1, (self.view + 1) % len(self.members)
         self.asked = votes[self.leader][1]
         self.deliver_all(votes)
-        self.deliver_all([(it, self.take_certificate(it)) for it in self.members])
+        self.deliver_all(self.all_do([(it, self.take_certificate(it)) for it in self.members]))
+
+
+class Abreast(Rounds):
+    """The same views, in which members do the same abreast: each does one thing before any does the next. So the events of
+    a node are the same, and as many different nodes stand side by side as there are members."""
+
+    def all_do(self, doings):
+        told = {}
+        left = dict(doings)
+        while left:
+            for member, doing in list(left.items()):
+                try:
+                    next(doing)
+                except StopIteration as end:
+                    told[member] = end.value
+                    del left[member]
+        return [(member, told[member]) for member, _ in doings]
+
+
+def to_its_end(doing):
+    """What is told at the end."""
+    while True:
+        try:
+            next(doing)
+        except StopIteration as end:
+            return end.value
+
+
+class Ticks(Events):
+    """Members that stay in view 1: each gives it up, and goes on to send its vote, but hears the votes of four others alone."""
+
+    HEARD = 4
+
+    def __init__(self, members):
+        super().__init__(members)
+        for member in self.members:
+            self.add("start", member, floor=None, stop=None)
+        self.ms = 1000
+
+    def tick(self):
+        """A tick, and eight events of each member, abreast of the others."""
+        self.events.append({"do": "tick", "ms": self.ms})
+        self.ms = 500
+        votes = [self.step(it, "timer") for it in self.members]
+        for source in ["batcher", "voter", "resolver"]:
+            for member in self.members:
+                self.step(member, source)
+        for behind in range(1, self.HEARD + 1):
+            for member in self.members:
+                self.deliver(member, votes[(member + behind) % len(self.members)])
+
+
+def first_events(made, add, count):
+    """The first `count` events of the list that grows by this."""
+    while len(made.events) < count:
+        add()
+    del made.events[count:]
+    return made.input()
 
 
 def rounds(members, count):
-    """The first `count` events of members that finalize view after view."""
     made = Rounds(members)
-    while len(made.events) < count:
-        made.add_view()
-    del made.events[count:]
-    return made.input()
+    return first_events(made, made.add_view, count)
+
+
+def abreast(members, count):
+    made = Abreast(members)
+    return first_events(made, made.add_view, count)
+
+
+def ticks(members, count):
+    made = Ticks(members)
+    return first_events(made, made.tick, count)
 
 
 class Behind(Events):
@@ -169,6 +247,10 @@ def main():
     match sys.argv[1:]:
         case ["rounds", members, events]:
             made = rounds(int(members), int(events))
+        case ["abreast", members, events]:
+            made = abreast(int(members), int(events))
+        case ["ticks", members, events]:
+            made = ticks(int(members), int(events))
         case ["behind", views]:
             made = behind(int(views), True)
         case ["given_up", views]:

@@ -1,4 +1,4 @@
--- The definitions that the contracts of `run_network`, `run_network_from`, `gen_run` and `program` cite.
+-- The definitions that the contracts of `run_network`, `run_network_from`, `run_network_par`, `gen_run` and `program` cite.
 pub use Rattle.simplex_run.specs.Setting
 pub use Rattle.simplex_run.specs.Run
 pub use Rattle.simplex_run.specs.Setups

@@ -9,7 +9,8 @@
 //! - [`journal`], [`mailbox`], [`io`]: what they stand on;
 //! - [`Engine`]: a member's actors and the mail between them;
 //! - [`Network`], [`run_network`] and [`run_network_from`]: members of every kind, honest and faulty, under a list of events,
-//!   with the entries that they make;
+//!   with the entries that they make; [`run_network_par`]: the same run by several threads, whose steps pass a [`Gate`], which
+//!   is [`OpenGate`] where nobody is to be held;
 //! - [`gen_run`] and [`generated`]: the events that a number makes, and what they are drawn from;
 //! - [`form`] (`read_run`, `read_setup`, `read_event`, `read_value`, ..), [`text`] and [`program`]: such a run as JSON, its
 //!   lines, and both behind one call;
@@ -36,7 +37,8 @@ pub use simplex_generator::gen_run;
 pub use simplex_io as io;
 pub use simplex_mailbox as mailbox;
 pub use simplex_network::{Network, NodeEngine, Transcript, run_network, run_network_from};
-pub use simplex_program::{Command, Exit, LIMIT, MOST_STEPS, program};
+pub use simplex_par::{Gate, OpenGate, run_network_par};
+pub use simplex_program::{Command, Exit, LIMIT, MOST_STEPS, MOST_WORKERS, program};
 pub use simplex_repair as repair;
 pub use simplex_report as report;
 pub use simplex_round as round;

@@ -1,8 +1,8 @@
-//! The program: runs the events that standard input says, and prints what was finalized: `simplex_net run < input.json`; or runs
-//! those that a number makes, and sums them up: `simplex_net gen 7 2000`.
+//! The program: runs the events that standard input says, and prints what was finalized: `simplex_net run < input.json`, or by
+//! four threads `simplex_net par 4 < input.json`; or runs those that a number makes, and sums them up: `simplex_net gen 7 2000`.
 //!
-//! It hands the process to [`program`] and decides nothing: words, standard input and standard output go in, and the status
-//! is that of the exit. Of an exit by a fault or want of memory, for which standard output stays as it is, it says on
+//! It hands the process to [`program`] and decides nothing: threads, words, standard input and standard output go in, and the
+//! status is that of the exit. Of an exit by a fault or want of memory, for which standard output stays as it is, it says on
 //! standard error which it was.
 #![tactic(auto)]
 
@@ -62,7 +62,7 @@ fn main(rt: HostRuntime) -> ExitCode {
         Ok(words) => {
             let mut source = ReaderSource::new(rt.alloc(), rt.reader());
             let mut sink = WriterSink::new(io::writer(&rt));
-            program(rt.alloc(), &words, &mut source, &mut sink)
+            program(&rt, rt.alloc(), &words, &mut source, &mut sink)
         }
     };
     tell(&rt, &exit);

@@ -25,8 +25,8 @@ use Rattle.simplex_program.specs.declared.exit.Exit.TheVariants.{Done}
 use Rattle.simplex_program.specs.declared.command.Command.TheVariants as commands
 use Rattle.simplex_program.specs.declared.text.Telling.{Telling}
 use Rattle.simplex_program.specs.declared.text.Telling.TheVariants as tellings
-use Rattle.simplex_program.specs.Words.{Says, AreTaken}
-use Rattle.simplex_program.proofs.Commands.{one_command, not_both, gen_parts}
+use Rattle.simplex_program.specs.Words.{Says, AreTaken, AsksForRun}
+use Rattle.simplex_program.proofs.Commands.{one_number, not_both, asked_are_taken}
 use Rattle.simplex_io.specs.declared.read.TheConstants.{LIMIT}
 use Rattle.simplex_program.specs.Exit.{Ending, Ran, Refused, BadWords, BadInput, TooLong, ReadFault, WriteFault, Memory, told, text_of}
 use Rattle.simplex_io.specs.Io.{Takes, TakesAll, TakesWithin, Adds}
@@ -60,14 +60,14 @@ leads all (Some rest) events ending (bytes, taken, small, says, is) =
     let same : all ≡ bytes = whole ∙ ap (λ r. bytes ++ r) taken.1 ∙ append-nil bytes in
     sym is ∙ ap ending_of (sym same) ∙ pick_small (length all) LIMIT TooLong (ending_of all) (omega (arith, ap length same))
 
-chosen : (words : List (String Global)) (all : List ℕ) (new : Option (List ℕ)) (before now : ℕ) (telling : Telling) (events : List Event) (ending : Ending) → Says words commands.Run
+chosen : (words : List (String Global)) (all : List ℕ) (new : Option (List ℕ)) (before now : ℕ) (telling : Telling) (events : List Event) (ending : Ending) → AsksForRun words
     → Cause words (Some all) new before now telling events ending → (ending ≡ ending_for all) ⊎ IsFault ending
 chosen words all new before now tellings.Lines events (Ran entries) run cause = inl (leads all new events _ cause.1)
 chosen words all new before now tellings.Summary events (Ran entries) run cause = absurd (not_both words cause.0 cause.1 run cause.2)
 chosen words all new before now tellings.Lines events (Refused error event) run cause = inl (leads all new events _ cause.1)
 chosen words all new before now tellings.Summary events (Refused error event) run cause = absurd (not_both words cause.0 cause.1 run cause.2)
 chosen words all new before now telling events (BadInput place) run cause = inl (leads all new events _ cause.1)
-chosen words all new before now telling events BadWords run cause = absurd (cause.0 (commands.Run, run))
+chosen words all new before now telling events BadWords run cause = absurd (cause.0 (asked_are_taken words run))
 chosen words all new before now telling events TooLong run cause = inl (over all cause.1.0 new cause.1.1 cause.1.2)
 chosen words all new before now telling events ReadFault run cause = inr (inl refl)
 chosen words all new before now telling events WriteFault run cause = absurd cause
@@ -82,7 +82,7 @@ after_writing result exit right X (inr cut) is = inr (inr cut)
 
 -- a source that tells its bytes is answered by the ending that they lead to, or by a fault
 pub told_answer : (words : List (String Global)) (old new : Option (List ℕ)) (before now : ℕ) (telling : Telling) (events : List Event) (result exit : Exit) (X : Type 0)
-    → Cause words old new before now telling events (told exit) → ((result ≡ exit) × X) ⊎ IsCut (told result) → Says words commands.Run
+    → Cause words old new before now telling events (told exit) → ((result ≡ exit) × X) ⊎ IsCut (told result) → AsksForRun words
     → IfSome old (λ bytes. (told result ≡ ending_for bytes) ⊎ IsFault (told result))
 told_answer words None new before now telling events result exit X cause whole run = tt
 told_answer words (Some all) new before now telling events result exit X cause whole run =
@@ -124,16 +124,16 @@ small_after_writing words old new before now telling events result exit X cause 
 
 untaken : (words : List (String Global)) (old new : Option (List ℕ)) (before now : ℕ) (telling : Telling) (events : List Event) (ending : Ending) → ¬ AreTaken words
     → Cause words old new before now telling events ending → (new ≡ old) × ((ending ≡ BadWords) ⊎ IsCut ending)
-untaken words old new before now tellings.Lines events (Ran entries) none cause = absurd (none (commands.Run, cause.0))
+untaken words old new before now tellings.Lines events (Ran entries) none cause = absurd (none (asked_are_taken words cause.0))
 untaken words old new before now tellings.Summary events (Ran entries) none cause = absurd (none (commands.Gen cause.0 cause.1, cause.2))
-untaken words old new before now tellings.Lines events (Refused error event) none cause = absurd (none (commands.Run, cause.0))
+untaken words old new before now tellings.Lines events (Refused error event) none cause = absurd (none (asked_are_taken words cause.0))
 untaken words old new before now tellings.Summary events (Refused error event) none cause = absurd (none (commands.Gen cause.0 cause.1, cause.2))
-untaken words old new before now telling events (BadInput place) none cause = absurd (none (commands.Run, cause.0))
+untaken words old new before now telling events (BadInput place) none cause = absurd (none (asked_are_taken words cause.0))
 untaken words old new before now telling events BadWords none cause = (cause.1, inl refl)
-untaken words old new before now telling events TooLong none cause = absurd (none (commands.Run, cause.0))
-untaken words old new before now telling events ReadFault none cause = absurd (none (commands.Run, cause.0))
+untaken words old new before now telling events TooLong none cause = absurd (none (asked_are_taken words cause.0))
+untaken words old new before now telling events ReadFault none cause = absurd (none (asked_are_taken words cause.0))
 untaken words old new before now telling events WriteFault none cause = absurd cause
-untaken words old new before now telling events Memory none (inl run) = absurd (none (commands.Run, run))
+untaken words old new before now telling events Memory none (inl run) = absurd (none (asked_are_taken words run))
 untaken words old new before now telling events Memory none (inr same) = (same, inr (inr refl))
 
 either_cut : (ending : Ending) → ((ending ≡ BadWords) ⊎ IsCut ending) ⊎ IsCut ending → (ending ≡ BadWords) ⊎ IsCut ending
@@ -186,7 +186,7 @@ of_input (Err place) ending is = subst IsOfInput is tt
 
 -- what the whole source says is why it ends so
 pub reads : (words : List (String Global)) (old new : Option (List ℕ)) (before now : ℕ) (bytes : List ℕ) (telling : Telling) (events : List Event) (exit : Exit)
-    → Says words commands.Run → TakesAll old bytes new → length bytes ≤ LIMIT → events_of bytes ≡ events → telling ≡ tellings.Lines → ending_of bytes ≡ told exit
+    → AsksForRun words → TakesAll old bytes new → length bytes ≤ LIMIT → events_of bytes ≡ events → telling ≡ tellings.Lines → ending_of bytes ≡ told exit
     → Cause words old new before now telling events (told exit)
 reads words old new before now bytes telling events exit run taken few says lines is =
     rw lines (by (told exit) is)
@@ -226,7 +226,7 @@ pub as_asked : (words : List (String Global)) (number steps : ℕ) (exit : Exit)
     → (other count : ℕ) (transcript : Transcript) → Says words (commands.Gen other count) → exit ≡ Done transcript
     → (telling ≡ tellings.Summary) × (events ≡ generated other count) × WholeRun (setup_of other) (generated other count) transcript
 as_asked words number steps exit telling events says whole other count transcript asked done =
-    let (n, k) = gen_parts number steps other count (one_command words (commands.Gen number steps) (commands.Gen other count) says asked) in
+    let (n, k) = one_number words number steps other count says asked in
     rw (← n, ← k) (whole transcript done)
 
 pub wants_memory : (words : List (String Global)) (left : Option (List ℕ)) (faults : ℕ) (telling : Telling) (events : List Event) (exit : Exit) → exit ≡ exits.Memory
@@ -237,8 +237,7 @@ wants_memory words left faults telling events exit is = rw is (inr refl)
 same_run : (words : List (String Global)) (number steps other count : ℕ) (events : List Event) (ending : Ending) → Says words (commands.Gen number steps) → Says words (commands.Gen other count)
     → generated other count ≡ events → ending_of_run (Run (setup_of other) events) ≡ ending → ending ≡ ending_of_run (Run (setup_of number) (generated number steps))
 same_run words number steps other count events ending says too made is =
-    let same = one_command words (commands.Gen number steps) (commands.Gen other count) says too in
-    let (n, k) = gen_parts number steps other count same in
+    let (n, k) = one_number words number steps other count says too in
     rw (n, k, made) (sym is)
 
 -- why the events of a number end so, whatever is left of a source
@@ -342,7 +341,7 @@ bad_input_read words old new before now telling events result exit X cause whole
     (bytes, taken, input_bad (input_of bytes) place leads)
 
 -- a run that was refused is one of the whole source, where that was asked for
-of_source : (words : List (String Global)) (old new : Option (List ℕ)) (telling : Telling) (events : List Event) (ending : Ending) → Says words commands.Run
+of_source : (words : List (String Global)) (old new : Option (List ℕ)) (telling : Telling) (events : List Event) (ending : Ending) → AsksForRun words
     → IsRunOf words old new telling events ending → LeadsTo old new events ending
 of_source words old new tellings.Lines events ending run is = is.1
 of_source words old new tellings.Summary events ending run is = absurd (not_both words is.0 is.1 run is.2)
@@ -350,7 +349,7 @@ of_source words old new tellings.Summary events ending run is = absurd (not_both
 -- the whole source was read, and its run is refused
 pub refused_read : (words : List (String Global)) (old new : Option (List ℕ)) (before now : ℕ) (telling : Telling) (events : List Event) (result exit : Exit) (X : Type 0)
     → Cause words old new before now telling events (told exit) → ((result ≡ exit) × X) ⊎ IsCut (told result)
-    → (error : RunError) (event : ℕ) → Says words commands.Run → told result ≡ Refused error event
+    → (error : RunError) (event : ℕ) → AsksForRun words → told result ≡ Refused error event
     → (bytes : List ℕ) × TakesAll old bytes new
     × ((input : Input) × (input_of bytes ≡ Ok input) × (Run input.setup input.events ≡ Err (record { error = error; event = event })))
 refused_read words old new before now telling events result exit X cause whole error event run is =
@@ -368,10 +367,10 @@ says_events bytes transcript events says of = sym of ∙ ap events_in says.says
 
 -- the whole source was read, its run is whole, and what is printed of it was written
 pub run_read : (words : List (String Global)) (old new : Option (List ℕ)) (telling : Telling) (events : List Event) (result exit : Exit) (written after : Option (List ℕ))
-    → ((transcript : Transcript) → Says words commands.Run → exit ≡ Done transcript
+    → ((transcript : Transcript) → AsksForRun words → exit ≡ Done transcript
     → (telling ≡ tellings.Lines) × ((bytes : List ℕ) × TakesAll old bytes new × (SaysWhole bytes transcript × (events_of bytes ≡ events))))
     → ((result ≡ exit) × Adds written (text_of telling events (told exit)) after) ⊎ IsCut (told result)
-    → (transcript : Transcript) → Says words commands.Run → result ≡ Done transcript
+    → (transcript : Transcript) → AsksForRun words → result ≡ Done transcript
     → (bytes : List ℕ) × TakesAll old bytes new
     × ((says : SaysWhole bytes transcript) × Adds written (PrintedRun says.input.events transcript.entries) after)
 run_read words old new telling events result exit written after decided (inl (same, added)) transcript run is =

@@ -13,7 +13,7 @@ use Rattle.simplex_generator.specs.Generated.{generated}
 use Rattle.simplex_program.specs.declared.command.Command.TheVariants as commands
 use Rattle.simplex_program.specs.declared.text.Telling.{Telling}
 use Rattle.simplex_program.specs.declared.text.Telling.TheVariants as tellings
-use Rattle.simplex_program.specs.Words.{Says, AreTaken}
+use Rattle.simplex_program.specs.Words.{Says, AreTaken, AsksForRun}
 use Rattle.simplex_io.specs.declared.read.TheConstants.{LIMIT}
 use Rattle.simplex_program.specs.Exit.{Ending, Ran, Refused, BadWords, BadInput, TooLong, ReadFault, WriteFault, Memory}
 
@@ -57,7 +57,7 @@ IsGenerated words old new events ending =
 
 -- a run of what the source says is told by its lines, and one of what a number makes is summed up
 abbrev pub IsRunOf : List (String Global) → Option (List ℕ) → Option (List ℕ) → Telling → List Event → Ending → Type 0
-IsRunOf words old new tellings.Lines events ending = Says words commands.Run × LeadsTo old new events ending
+IsRunOf words old new tellings.Lines events ending = AsksForRun words × LeadsTo old new events ending
 IsRunOf words old new tellings.Summary events ending = IsGenerated words old new events ending
 
 -- Why an ending is chosen, before its text is written: by the words, by what is left of the source before and after,
@@ -65,12 +65,12 @@ IsRunOf words old new tellings.Summary events ending = IsGenerated words old new
 abbrev pub Cause : List (String Global) → Option (List ℕ) → Option (List ℕ) → ℕ → ℕ → Telling → List Event → Ending → Type 0
 Cause words old new before now telling events (Ran entries) = IsRunOf words old new telling events (Ran entries)
 Cause words old new before now telling events (Refused error event) = IsRunOf words old new telling events (Refused error event)
-Cause words old new before now telling events (BadInput place) = Says words commands.Run × LeadsTo old new events (BadInput place)
+Cause words old new before now telling events (BadInput place) = AsksForRun words × LeadsTo old new events (BadInput place)
 Cause words old new before now telling events BadWords = (¬ AreTaken words) × (new ≡ old)
-Cause words old new before now telling events TooLong = Says words commands.Run × TakesOver LIMIT old new
-Cause words old new before now telling events ReadFault = Says words commands.Run × Rose before now × TakesWithin LIMIT old new
+Cause words old new before now telling events TooLong = AsksForRun words × TakesOver LIMIT old new
+Cause words old new before now telling events ReadFault = AsksForRun words × Rose before now × TakesWithin LIMIT old new
 Cause words old new before now telling events WriteFault = ⊥
-Cause words old new before now telling events Memory = Says words commands.Run ⊎ (new ≡ old)
+Cause words old new before now telling events Memory = AsksForRun words ⊎ (new ≡ old)
 
 -- writing the text or memory failed
 abbrev pub IsCut : Ending → Type 0

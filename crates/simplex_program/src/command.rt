@@ -7,11 +7,16 @@ use std::alloc::{AllocError, Global};
 /// How many events a number is asked for at most.
 pub const MOST_STEPS: u64 = 1_048_576;
 
+/// How many workers step at once at most.
+pub const MOST_WORKERS: u32 = 64;
+
 /// What the words ask for.
 #[derive(Clone, Copy, Debug, PartialEq, Eq)]
 pub enum Command {
     /// `run`: the setup and the events that the source says.
     Run,
+    /// `par WORKERS`: the same, by so many workers.
+    Par { workers: u32 },
     /// `gen NUMBER STEPS`: the events that the number makes, so many of them.
     Gen { number: u64, steps: u64 },
 }
@@ -23,6 +28,7 @@ pub(crate) fn command_of(alloc: Global, words: &[String]) -> Result<Option<Comma
 {
     match words {
         [word] => Ok(run_of(word)),
+        [word, workers] => workers_of(alloc, word, workers),
         [word, number, steps] => generation_of(alloc, word, number, steps),
         _ => Ok(None),
     }
@@ -38,6 +44,25 @@ fn run_of(word: &String) -> Option<Command>
     } else {
         None
     }
+}
+
+// What two words ask for.
+fn workers_of(alloc: Global, word: &String, workers: &String) -> Result<Option<Command>, AllocError>
+    ensures some { IfOk result (λ it. IfSome it (Says (word.now ∷ workers.now ∷ []))) }
+    ensures none { IfOk result (λ it. IfNone it (¬ AreTaken (word.now ∷ workers.now ∷ []))) }
+{
+    if word.as_str() != "par" {
+        return Ok(None);
+    }
+    let Some(workers) = number_in(alloc, workers)? else {
+        return Ok(None);
+    };
+    if workers < 1 || workers > u64::from(MOST_WORKERS) {
+        return Ok(None);
+    }
+    Ok(Some(Command::Par {
+        workers: workers as u32,
+    }))
 }
 
 // What three words ask for.

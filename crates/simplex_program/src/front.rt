@@ -15,7 +15,7 @@ ghost use Rattle.simplex_program.specs.Exit.{Ending, told, text_of};
 ghost use Rattle.simplex_program.specs.declared.command.Command.TheVariants as commands;
 ghost use Rattle.simplex_program.specs.declared.text.Telling.{Telling};
 ghost use Rattle.simplex_program.specs.declared.text.Telling.TheVariants as tellings;
-ghost use Rattle.simplex_program.specs.Words.{Says, AreTaken};
+ghost use Rattle.simplex_program.specs.Words.{Says, AreTaken, AsksForRun};
 ghost use Rattle.simplex_program.specs.Whole.{WholeRun, SaysWhole};
 ghost use Rattle.simplex_program.specs.Cause.{ending_of_run, ending_of, ending_for, events_of, Cause, IsCut, IsFault};
 ghost use Rattle.simplex_generated.specs.Setup.{setup_of};
@@ -24,14 +24,15 @@ ghost use Rattle.simplex_generator.specs.Generated.{generated};
 
 use crate::command::{Command, command_of};
 use crate::exit::Exit;
+use crate::making::{Making, Workers};
 use crate::text::{Telling, text};
 use simplex_form::{Input, read_input};
 use simplex_generator::gen_run;
 use simplex_io::{InputEnd, LIMIT, Sink, SinkError, Source, read_bytes, write_text};
-use simplex_network::run_network;
 use simplex_transcript::{Event, RunError, Setup};
 use simplex_types::Sequence;
 use std::alloc::{AllocError, Global};
+use std::thread::Threads;
 
 /// An exit before its text is written, the events that it tells of, and how it tells of a whole run.
 #[derive(Drop)]
@@ -54,10 +55,12 @@ fn at_once(alloc: Global, exit: Exit) -> Decision
     }
 }
 
-// The exit of a run.
+// The exit of a run that is made in this way.
 #[tactic(auto, using(crate::proofs::Causes::made_whole))]
-fn run_events(
+fn run_events<R: Threads + Sync>(
+    rt: &R,
     alloc: Global,
+    making: Making,
     setup: &Setup,
     events: Sequence<Event>,
     telling: Telling,
@@ -67,7 +70,7 @@ fn run_events(
     ensures telling { IfOk result (λ decision. decision.telling ≡ telling) }
     ensures whole { IfOk result (λ decision. (transcript : Transcript) → decision.exit ≡ Exit.Done transcript → WholeRun setup.now events transcript) }
 {
-    match run_network(alloc, setup, events.as_slice()) {
+    match making.run(rt, alloc, setup, events.as_slice()) {
         Ok(transcript) => Ok(Decision {
             exit: Exit::Done(transcript),
             events,
@@ -91,7 +94,12 @@ fn run_events(
 
 // The exit that an input leads to. The bytes are let go before the run.
 #[tactic(auto, using(crate::proofs::Causes::says_whole))]
-fn answer(alloc: Global, bytes: Vec<u8>) -> Result<Decision, AllocError>
+fn answer<R: Threads + Sync>(
+    rt: &R,
+    alloc: Global,
+    making: Making,
+    bytes: Vec<u8>,
+) -> Result<Decision, AllocError>
     ensures exit { IfOk result (λ decision. ending_of bytes.items ≡ told decision.exit) }
     ensures events { IfOk result (λ decision. events_of bytes.items ≡ decision.events) }
     ensures telling { IfOk result (λ decision. decision.telling ≡ tellings.Lines) }
@@ -102,7 +110,7 @@ fn answer(alloc: Global, bytes: Vec<u8>) -> Result<Decision, AllocError>
     match read {
         Err(place) => Ok(at_once(alloc, Exit::BadInput { place })),
         Ok(Input { setup, events }) => {
-            let decision = run_events(alloc, &setup, events, Telling::Lines)?;
+            let decision = run_events(rt, alloc, making, &setup, events, Telling::Lines)?;
             Ok(decision)
         }
     }
@@ -110,8 +118,13 @@ fn answer(alloc: Global, bytes: Vec<u8>) -> Result<Decision, AllocError>
 
 // The exit that the source leads to.
 #[tactic(auto, using(crate::proofs::Causes::reads))]
-fn answer_source<S: Source>(alloc: Global, source: &mut S) -> Decision
-    ensures cause { (words : List (String Global)) → Says words commands.Run → Cause words (S.left source.old) (S.left source.new)
+fn answer_source<S: Source, R: Threads + Sync>(
+    rt: &R,
+    alloc: Global,
+    making: Making,
+    source: &mut S,
+) -> Decision
+    ensures cause { (words : List (String Global)) → AsksForRun words → Cause words (S.left source.old) (S.left source.new)
         (S.fault_count source.old) (S.fault_count source.new) result.telling result.events (told result.exit) }
     ensures telling { result.telling ≡ tellings.Lines }
     ensures whole { (transcript : Transcript) → result.exit ≡ Exit.Done transcript
@@ -122,7 +135,7 @@ fn answer_source<S: Source>(alloc: Global, source: &mut S) -> Decision
         Err(InputEnd::TooLong) => at_once(alloc, Exit::TooLong),
         Err(InputEnd::ReadFault) => at_once(alloc, Exit::ReadFault),
         Err(InputEnd::Memory) => at_once(alloc, Exit::Memory),
-        Ok(bytes) => match answer(alloc, bytes) {
+        Ok(bytes) => match answer(rt, alloc, making, bytes) {
             Ok(decision) => decision,
             Err(AllocError) => at_once(alloc, Exit::Memory),
         },
@@ -130,27 +143,40 @@ fn answer_source<S: Source>(alloc: Global, source: &mut S) -> Decision
 }
 
 // The exit of the run of so many events that a number makes.
-fn answer_number(alloc: Global, number: u64, steps: u64) -> Result<Decision, AllocError>
+fn answer_number<R: Threads + Sync>(
+    rt: &R,
+    alloc: Global,
+    number: u64,
+    steps: u64,
+) -> Result<Decision, AllocError>
     ensures exit { IfOk result (λ decision. ending_of_run (Run (setup_of number) (generated number steps)) ≡ told decision.exit) }
     ensures events { IfOk result (λ decision. decision.events ≡ generated number steps) }
     ensures telling { IfOk result (λ decision. decision.telling ≡ tellings.Summary) }
     ensures whole { IfOk result (λ decision. (transcript : Transcript) → decision.exit ≡ Exit.Done transcript → WholeRun (setup_of number) (generated number steps) transcript) }
 {
     let (setup, events) = gen_run(alloc, number, steps)?;
-    let decision = run_events(alloc, &setup, Sequence::from_vec(events), Telling::Summary)?;
+    let events = Sequence::from_vec(events);
+    let decision = run_events(
+        rt,
+        alloc,
+        Making::OneByOne,
+        &setup,
+        events,
+        Telling::Summary,
+    )?;
     Ok(decision)
 }
 
 // The exit of a number, where there is memory for it.
 #[tactic(auto, using(crate::proofs::Causes::generates, crate::proofs::Causes::wants_memory))]
-fn generate(alloc: Global, number: u64, steps: u64) -> Decision
+fn generate<R: Threads + Sync>(rt: &R, alloc: Global, number: u64, steps: u64) -> Decision
     ensures cause { (words : List (String Global)) (left : Option (List ℕ)) (faults : ℕ) → Says words (commands.Gen number steps)
         → Cause words left left faults faults result.telling result.events (told result.exit) }
     ensures whole { (transcript : Transcript) → result.exit ≡ Exit.Done transcript
         → (result.telling ≡ tellings.Summary) × (result.events ≡ generated number steps)
         × WholeRun (setup_of number) (generated number steps) transcript }
 {
-    match answer_number(alloc, number, steps) {
+    match answer_number(rt, alloc, number, steps) {
         Ok(decision) => decision,
         Err(AllocError) => at_once(alloc, Exit::Memory),
     }
@@ -158,10 +184,15 @@ fn generate(alloc: Global, number: u64, steps: u64) -> Decision
 
 // The exit, before its text is written.
 #[tactic(auto, using(crate::proofs::Commands::not_both, crate::proofs::Causes::as_asked))]
-fn decide<S: Source>(alloc: Global, words: &[String], source: &mut S) -> Decision
+fn decide<S: Source, R: Threads + Sync>(
+    rt: &R,
+    alloc: Global,
+    words: &[String],
+    source: &mut S,
+) -> Decision
     ensures cause { Cause words.now (S.left source.old) (S.left source.new)
         (S.fault_count source.old) (S.fault_count source.new) result.telling result.events (told result.exit) }
-    ensures whole { (transcript : Transcript) → Says words.now commands.Run → result.exit ≡ Exit.Done transcript
+    ensures whole { (transcript : Transcript) → AsksForRun words.now → result.exit ≡ Exit.Done transcript
         → (result.telling ≡ tellings.Lines)
         × ((bytes : List ℕ) × TakesAll (S.left source.old) bytes (S.left source.new)
         × (SaysWhole bytes transcript × (events_of bytes ≡ result.events))) }
@@ -172,8 +203,12 @@ fn decide<S: Source>(alloc: Global, words: &[String], source: &mut S) -> Decisio
     match command_of(alloc, words) {
         Err(AllocError) => at_once(alloc, Exit::Memory),
         Ok(None) => at_once(alloc, Exit::BadWords),
-        Ok(Some(Command::Run)) => answer_source(alloc, source),
-        Ok(Some(Command::Gen { number, steps })) => generate(alloc, number, steps),
+        Ok(Some(Command::Run)) => answer_source(rt, alloc, Making::OneByOne, source),
+        Ok(Some(Command::Par { workers: count })) => {
+            let making = Making::AtOnce(Workers { count });
+            answer_source(rt, alloc, making, source)
+        }
+        Ok(Some(Command::Gen { number, steps })) => generate(rt, alloc, number, steps),
     }
 }
 
@@ -202,8 +237,10 @@ fn tell<K: Sink>(alloc: Global, decision: Decision, sink: &mut K) -> Exit
 }
 
 /// Does what the words ask for: `run` reads the source to its end, runs the events that it says, and writes the text of the
-/// exit; `gen NUMBER STEPS` reads nothing, runs the events that the number makes, and writes the line that sums them up.
-pub fn program<S: Source, K: Sink>(
+/// exit; `par WORKERS` does the same, by threads that the handle starts; `gen NUMBER STEPS` reads nothing, runs the events
+/// that the number makes, and writes the line that sums them up.
+pub fn program<S: Source, K: Sink, R: Threads + Sync>(
+    rt: &R,
     alloc: Global,
     words: &[String],
     source: &mut S,
@@ -226,7 +263,7 @@ pub fn program<S: Source, K: Sink>(
         × (input_of bytes ≡ Err place) }
 
     // It says a setup and events of which the run is this refusal.
-    ensures refused { (error : RunError) (event : ℕ) → Says words.now commands.Run → told result ≡ endings.Refused error event
+    ensures refused { (error : RunError) (event : ℕ) → AsksForRun words.now → told result ≡ endings.Refused error event
         → (bytes : List ℕ) × TakesAll (S.left source.old) bytes (S.left source.new)
         × ((input : Input) × (input_of bytes ≡ Ok input)
         × (Run input.setup input.events ≡ Err (record { error = error; event = event }))) }
@@ -234,7 +271,7 @@ pub fn program<S: Source, K: Sink>(
     // It says a setup and events of which the run has these entries, one for each event, and this network, and what is
     // printed of them was written. The run is safe: each certificate is backed, no two of them conflict, each vote was
     // stored first, and the votes are those that the rules give.
-    ensures done { (transcript : Transcript) → Says words.now commands.Run → result ≡ Exit.Done transcript
+    ensures done { (transcript : Transcript) → AsksForRun words.now → result ≡ Exit.Done transcript
         → (bytes : List ℕ) × TakesAll (S.left source.old) bytes (S.left source.new)
         × ((says : SaysWhole bytes transcript)
         × Adds (K.written sink.old) (PrintedRun says.input.events transcript.entries) (K.written sink.new)) }
@@ -256,7 +293,7 @@ pub fn program<S: Source, K: Sink>(
         → Rose (K.fault_count sink.old) (K.fault_count sink.new) }
 
     // A source that tells its bytes is answered by the exit that they lead to, unless reading, writing or memory failed.
-    ensures answer { Says words.now commands.Run
+    ensures answer { AsksForRun words.now
         → IfSome (S.left source.old) (λ bytes. (told result ≡ ending_for bytes) ⊎ IsFault (told result)) }
 
     // What is written is the text of the exit, or where writing or memory failed the first part of the text of an
@@ -268,6 +305,6 @@ pub fn program<S: Source, K: Sink>(
         × (((told result ≡ ending) × Adds (K.written sink.old) (text_of telling events ending) (K.written sink.new))
         ⊎ IsCut (told result)))) }
 {
-    let decision = decide(alloc, words, source);
+    let decision = decide(rt, alloc, words, source);
     tell(alloc, decision, sink)
 }

@@ -4,6 +4,7 @@ use simplex_program::{Exit, LIMIT, program};
 use std::alloc::Global;
 use std::fmt::Debug;
 use std::process::Abort;
+use std::thread::Threads;
 
 const USAGE: &str = "usage: run | par WORKERS | gen NUMBER STEPS\n";
 
@@ -49,14 +50,20 @@ fn same<T: PartialEq + Debug>(rt: &impl Abort, case: &str, got: &T, wanted: &T) 
 }
 
 // The status with which the program ends.
-fn status(alloc: Global, words: &[String], source: &mut MemorySource, sink: &mut MemorySink) -> u8 {
-    let exit = program(alloc, words, source, sink);
+fn status<R: Threads + Sync>(
+    rt: &R,
+    alloc: Global,
+    words: &[String],
+    source: &mut MemorySource,
+    sink: &mut MemorySink,
+) -> u8 {
+    let exit = program(rt, alloc, words, source, sink);
     exit.status()
 }
 
 // The program writes this and ends with this status, where such calls fail. The case says which it is.
-pub(crate) fn assert_ends(
-    rt: &impl Abort,
+pub(crate) fn assert_ends<R: Abort + Threads + Sync>(
+    rt: &R,
     alloc: Global,
     case: &str,
     words: &[&str],
@@ -67,7 +74,7 @@ pub(crate) fn assert_ends(
     let words = words_of(rt, alloc, words);
     let mut source = MemorySource::new(input, one(rt, alloc, failing.read));
     let mut sink = MemorySink::new(alloc, one(rt, alloc, failing.write));
-    let status = status(alloc, &words, &mut source, &mut sink);
+    let status = status(rt, alloc, &words, &mut source, &mut sink);
     let wanted = (text.as_bytes(), wanted);
     same(rt, case, &(sink.bytes(), status), &wanted);
 }
@@ -75,7 +82,7 @@ pub(crate) fn assert_ends(
 #[test]
 fn other_words_are_told_the_usage(rt: HostRuntime) {
     let alloc = rt.alloc();
-    let table: [(&str, &[&str]); 18] = [
+    let table: [(&str, &[&str]); 23] = [
         ("no words", &[]),
         ("an empty word", &[""]),
         ("another word", &["walk"]),
@@ -83,7 +90,12 @@ fn other_words_are_told_the_usage(rt: HostRuntime) {
         ("a space", &["run "]),
         ("twice", &["run", "run"]),
         ("an empty word behind", &["run", ""]),
-        ("workers", &["par", "4"]),
+        ("no number of workers", &["par"]),
+        ("no workers", &["par", "0"]),
+        ("too many workers", &["par", "65"]),
+        ("workers with a leading zero", &["par", "02"]),
+        ("a word behind the workers", &["par", "2", "3"]),
+        ("run with workers", &["run", "2"]),
         ("no number", &["gen"]),
         ("no steps", &["gen", "7"]),
         ("a word too many", &["gen", "7", "3", "3"]),
@@ -96,8 +108,10 @@ fn other_words_are_told_the_usage(rt: HostRuntime) {
         ("run with a number", &["run", "7", "3"]),
     ];
     for (case, words) in table {
+        // Nothing is read.
+        let failing = Failing { read: 1, write: 0 };
         let input = spaces(&rt, alloc, 9);
-        assert_ends(&rt, alloc, case, words, input, NOTHING, (USAGE, 2));
+        assert_ends(&rt, alloc, case, words, input, failing, (USAGE, 2));
     }
 }
 

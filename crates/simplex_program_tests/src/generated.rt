@@ -8,6 +8,7 @@ use simplex_transcript::{Event, Node, Ref, RunError, StepSource};
 use simplex_types::{Answer, Digest, Handoff, Sequence};
 use std::alloc::{AllocError, Global};
 use std::process::Abort;
+use std::thread::Threads;
 
 const NUMBER: u64 = 7;
 
@@ -110,11 +111,16 @@ fn input_of(alloc: Global, events: &[Event]) -> Result<Vec<u8>, AllocError> {
 }
 
 // How the program ends with these words and this input, and what it writes.
-fn ended(rt: &impl Abort, alloc: Global, words: &[&str], input: Vec<u8>) -> (Exit, Vec<u8>) {
+fn ended<R: Abort + Threads + Sync>(
+    rt: &R,
+    alloc: Global,
+    words: &[&str],
+    input: Vec<u8>,
+) -> (Exit, Vec<u8>) {
     let words = words_of(rt, alloc, words);
     let mut source = MemorySource::new(input, Vec::new(alloc));
     let mut sink = MemorySink::new(alloc, Vec::new(alloc));
-    let exit = program(alloc, &words, &mut source, &mut sink);
+    let exit = program(rt, alloc, &words, &mut source, &mut sink);
     let written = sink.bytes().to_vec(alloc).expect(rt, "room");
     (exit, written)
 }
@@ -134,6 +140,31 @@ fn the_input_that_has_the_events_of_a_number_has_the_same_entries(rt: HostRuntim
         _ => {
             assert!(rt; false, "both runs are whole");
         }
+    }
+}
+
+// What these words write of this many events of the number, and with which status.
+fn told<R: Abort + Threads + Sync>(
+    rt: &R,
+    alloc: Global,
+    words: &[&str],
+    count: u64,
+) -> (Vec<u8>, u8) {
+    let (_setup, events) = gen_run(alloc, NUMBER, count).expect(rt, "room");
+    let input = input_of(alloc, &events).expect(rt, "room");
+    let (exit, written) = ended(rt, alloc, words, input);
+    (written, exit.status())
+}
+
+#[test]
+fn workers_tell_of_a_long_list_what_one_tells(rt: HostRuntime) {
+    let alloc = rt.alloc();
+    let one = told(&rt, alloc, &["run"], 700);
+    assert!(rt; !one.0.is_empty());
+    assert_eq!(rt; one.1, 0);
+    for workers in ["2", "64"] {
+        let more = told(&rt, alloc, &["par", workers], 700);
+        assert_eq!(rt; more, one, "{workers} workers");
     }
 }
 

@@ -404,6 +404,14 @@ const OTHER_HALF_PROPOSE: &str = r#"{"do":"step","node":[3,1],"source":"propose"
 
 const SECOND_BATCHER: &str = r#"{"do":"step","node":[1,0],"source":"batcher","stop":null}"#;
 
+const THIRD_START: &str = r#"{"do":"start","node":[2,0],"floor":null,"stop":null}"#;
+
+const THIRD_BATCHER: &str = r#"{"do":"step","node":[2,0],"source":"batcher","stop":null}"#;
+
+// The leader was asked once as it started, by event 2.
+const ANSWER_TO_NO_REQUEST: &str =
+    r#"{"do":"answer","node":[1,0],"request":[2,9],"answer":{"payload":"1111111111111111111111111111111111111111111111111111111111111111"}}"#;
+
 const SECOND_HEARS: &str = r#"{"do":"deliver","node":[1,0],"packet":[5,0]}"#;
 
 const SECOND_HEARS_THE_OTHER: &str = r#"{"do":"deliver","node":[1,0],"packet":[6,0]}"#;
@@ -449,6 +457,45 @@ fn halves_of_a_twin_are_told(rt: HostRuntime) {
     for (events, text, status) in table {
         let bytes = with_setup(&rt, alloc, TWIN, events);
         assert_ends(&rt, alloc, text, &["run"], bytes, NOTHING, (text, status));
+    }
+}
+
+// Three members start and step, which may be at once, and one answers a request that was not made.
+const STARTS_AND_STEPS: [&str; 7] = [
+    START,
+    LEADER_START,
+    THIRD_START,
+    BATCHER,
+    SECOND_BATCHER,
+    THIRD_BATCHER,
+    ANSWER_TO_NO_REQUEST,
+];
+
+#[test]
+fn workers_tell_what_one_tells(rt: HostRuntime) {
+    let alloc = rt.alloc();
+    let table: [(&str, &[&str], &str, u8); 4] = [
+        (ALONE, &FINALIZES, FINALIZED, 0),
+        (
+            WITH_SILENT,
+            &STARTS_AND_STEPS,
+            "refused NotPending at 7\n",
+            1,
+        ),
+        (WITH_SILENT, &KEPT, "event 3 node 1.0 stopped cut\n", 0),
+        (
+            WITH_CONFLICTER,
+            &HEARS_BOTH,
+            "event 8 node 0.0 evidence ConflictingNotarize 3 1\n",
+            0,
+        ),
+    ];
+    let ways: [&[&str]; 3] = [&["run"], &["par", "2"], &["par", "8"]];
+    for (members, events, text, status) in table {
+        for words in ways {
+            let bytes = input(&rt, alloc, members, events);
+            assert_ends(&rt, alloc, text, words, bytes, NOTHING, (text, status));
+        }
     }
 }
 
