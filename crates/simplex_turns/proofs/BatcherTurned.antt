@@ -29,7 +29,7 @@ use Rattle.simplex_turns.proofs.Handed.{puts-nothing, puts-then, same-still, han
 abbrev pub Found : List Delivery → Option Message → Option BatcherInput → List Delivery → Type 0
 Found feed taken input left =
     MatchOption taken ((input ≡ option_and_then batcher_input (front feed)) × (left ≡ drop 1 feed))
-        (λ message. (input ≡ Some (inputs.Mail message)) × (left ≡ feed))
+    (λ message. (input ≡ Some (inputs.Mail message)) × (left ≡ feed))
 
 -- a turn is a step on what was found
 pub found-turn : (made : Made) (now : ℕ) (place : BatcherPlace) (taken : Option Message) (input : Option BatcherInput) (left : List Delivery)
@@ -64,7 +64,7 @@ module _ {S : Type 0} {s : scheme.Ghosts S} where
       let timed : ℕ → Timed = λ at_clock. record { input = input; now = at_clock } in (
         answers made place.past stood ∙ ap (λ t. step_out made place.past (timed t)) clock ∙ sym (ap (λ did. did.1) turn),
         subst (λ there. BatcherIsAt new made there) (sym (ap (λ did. did.0) turn))
-          (record { stands = subst (λ t. StandsFor s.verifies s.recovers s.members s.member new.actor made (timed t ∷ place.past)) clock (takes made place.past stood); feed = rest }),
+            (record { stands = subst (λ t. StandsFor s.verifies s.recovers s.members s.member new.actor made (timed t ∷ place.past)) clock (takes made place.past stood); feed = rest }),
       )
 
   pub same-batcher : (old mid new : BatcherThread S s) → IsSameBatcher old mid → IsSameBatcher mid new → IsSameBatcher old new
