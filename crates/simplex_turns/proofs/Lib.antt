@@ -1,0 +1,5 @@
+pub mod BatcherTurned
+pub mod Drained
+pub mod Handed
+pub mod ResolverTurned
+pub mod Turning
