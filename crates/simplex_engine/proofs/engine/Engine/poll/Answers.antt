@@ -15,24 +15,24 @@ returns-clause-gives g c =
 pub returns-clause-accepted : goal.returns-clause-accepted
 unfolding StandsFor
 returns-clause-accepted g c =
-    poll-accepted true _ _ c.poll-result.result _ c.in-Running.is c.poll-result.ensures.accepted
+    poll-accepted true c.args.self.now _ c.poll-result.result _ c.in-Running.is c.poll-result.ensures.accepted
 
 pub returns-clause-refused : goal.returns-clause-refused
 unfolding StandsFor
 returns-clause-refused g c =
-    poll-refused true _ _ _ c.poll-result.result _ c.in-Running.is c.poll-result.ensures.refused
+    poll-refused true c.args.self.now _ _ c.poll-result.result _ c.in-Running.is c.poll-result.ensures.refused
 
 pub returns-clause-stays : goal.returns-clause-stays
 unfolding StandsFor
 returns-clause-stays g c =
-    poll-stays true _ _ _ _ c.poll-result.result _ c.in-Running.is (c.settle.ensures ∙ settles-in _ c.poll-result.result) c.poll-result.ensures.refused
+    poll-stays true c.args.self.now c.settle.new.self _ _ c.poll-result.result _ c.in-Running.is (c.settle.ensures ∙ settles-in _ c.poll-result.result) c.poll-result.ensures.refused
 
 pub returns-clause-failed : goal.returns-clause-failed
 returns-clause-failed g c =
     poll-fails _ _ _ _ c.poll-result.result _ c.in-Running.is (c.settle.ensures ∙ settles-in _ c.poll-result.result) c.poll-result.ensures.refused
 
 pub returns-clause-alive : goal.returns-clause-alive
-returns-clause-alive g c = poll-alive _ _ c.poll-result.result (c.settle.ensures ∙ settles-in _ c.poll-result.result)
+returns-clause-alive g c = poll-alive c.settle.new.self _ c.poll-result.result (c.settle.ensures ∙ settles-in _ c.poll-result.result)
 
 pub returns-clause-over : goal.returns-clause-over
 returns-clause-over g c =
@@ -40,42 +40,42 @@ returns-clause-over g c =
 
 pub returns-clause-faults : goal.returns-clause-faults
 returns-clause-faults g c =
-    poll-faults _ _ _ _ c.poll-result.result c.in-Running.is (c.settle.ensures ∙ settles-in _ c.poll-result.result) c.poll-result.ensures.faults
+    poll-faults c.args.self.now c.settle.new.self _ _ c.poll-result.result c.in-Running.is (c.settle.ensures ∙ settles-in _ c.poll-result.result) c.poll-result.ensures.faults
 
 pub returns-clause-stops : goal.returns-clause-stops
-returns-clause-stops g c = poll-stops _ _ c.poll-result.result (c.settle.ensures ∙ settles-in _ c.poll-result.result)
+returns-clause-stops g c = poll-stops c.settle.new.self _ c.poll-result.result (c.settle.ensures ∙ settles-in _ c.poll-result.result)
 
 pub returns-clause-accepted_over : goal.returns-clause-accepted_over
 unfolding StandsOver
 returns-clause-accepted_over g c =
-    poll-accepted false _ _ c.poll-result.result _ c.in-Running.is c.poll-result.ensures.accepted
+    poll-accepted false c.args.self.now _ c.poll-result.result _ c.in-Running.is c.poll-result.ensures.accepted
 
 pub returns-clause-refused_over : goal.returns-clause-refused_over
 unfolding StandsOver
 returns-clause-refused_over g c =
-    poll-refused false _ _ _ c.poll-result.result _ c.in-Running.is c.poll-result.ensures.refused
+    poll-refused false c.args.self.now _ _ c.poll-result.result _ c.in-Running.is c.poll-result.ensures.refused
 
 pub returns-clause-stays_over : goal.returns-clause-stays_over
 unfolding StandsOver
 returns-clause-stays_over g c =
-    poll-stays false _ _ _ _ c.poll-result.result _ c.in-Running.is (c.settle.ensures ∙ settles-in _ c.poll-result.result) c.poll-result.ensures.refused
+    poll-stays false c.args.self.now c.settle.new.self _ _ c.poll-result.result _ c.in-Running.is (c.settle.ensures ∙ settles-in _ c.poll-result.result) c.poll-result.ensures.refused
 
 pub returns-clause-journal : goal.returns-clause-journal
 returns-clause-journal g c =
-    poll-keeps _ _ _ _ c.poll-result.result _ c.in-Running.is (c.settle.ensures ∙ settles-in _ c.poll-result.result) c.poll-result.ensures.refused
+    poll-keeps c.args.self.now c.settle.new.self _ _ c.poll-result.result _ c.in-Running.is (c.settle.ensures ∙ settles-in _ c.poll-result.result) c.poll-result.ensures.refused
 
 pub returns-in-Waiting-clause-refused : goal.returns-in-Waiting-clause-refused
 unfolding StandsFor
-returns-in-Waiting-clause-refused g c = λ _. waiting-refuses true _ _ c.args.input c.in-Waiting.is
+returns-in-Waiting-clause-refused g c = λ _. waiting-refuses true c.args.self.now _ c.args.input c.in-Waiting.is
 
 pub returns-in-Waiting-clause-refused_over : goal.returns-in-Waiting-clause-refused_over
 unfolding StandsOver
-returns-in-Waiting-clause-refused_over g c = λ _. waiting-refuses false _ _ c.args.input c.in-Waiting.is
+returns-in-Waiting-clause-refused_over g c = λ _. waiting-refuses false c.args.self.now _ c.args.input c.in-Waiting.is
 
 pub returns-in-Stopped-clause-refused : goal.returns-in-Stopped-clause-refused
 unfolding StandsFor
-returns-in-Stopped-clause-refused g c = λ _. stopped-refuses true _ _ c.args.input c.in-Stopped.is
+returns-in-Stopped-clause-refused g c = λ _. stopped-refuses true c.args.self.now _ c.args.input c.in-Stopped.is
 
 pub returns-in-Stopped-clause-refused_over : goal.returns-in-Stopped-clause-refused_over
 unfolding StandsOver
-returns-in-Stopped-clause-refused_over g c = λ _. stopped-refuses false _ _ c.args.input c.in-Stopped.is
+returns-in-Stopped-clause-refused_over g c = λ _. stopped-refuses false c.args.self.now _ c.args.input c.in-Stopped.is

@@ -22,15 +22,15 @@ returns-in_ok-outcome-in-Waiting-clause-over g c =
 
 pub returns-in_ok-outcome-in-Waiting-clause-faults : goal.returns-in_ok-outcome-in-Waiting-clause-faults
 returns-in_ok-outcome-in-Waiting-clause-faults g c =
-    start-faults _ _ _ _ _ _ _ _ _ (sym c.replace.ensures.value ∙ c.in-Waiting.is) c.stage_after.ensures c.in_ok-outcome-in-Waiting.ensures.over c.in_ok-crew-in-Waiting.ensures.journal c.in_ok-outcome-in-Waiting.ensures.faults
+    start-faults c.args.self.now (record c.args.self.now { stage = c.stage_after.result }) _ _ _ _ _ _ _ (sym c.replace.ensures.value ∙ c.in-Waiting.is) c.stage_after.ensures c.in_ok-outcome-in-Waiting.ensures.over c.in_ok-crew-in-Waiting.ensures.journal c.in_ok-outcome-in-Waiting.ensures.faults
 
 pub returns-in_ok-outcome-in-Waiting-clause-stops : goal.returns-in_ok-outcome-in-Waiting-clause-stops
 returns-in_ok-outcome-in-Waiting-clause-stops g c = rw c.stage_after.ensures (settled-stops _ _)
 
 pub returns-in-Running-clause-refused : goal.returns-in-Running-clause-refused
 unfolding StandsFor
-returns-in-Running-clause-refused g c = λ made h. absurd (running-started true _ _ made (sym c.replace.ensures.value ∙ c.in-Running.is) h)
+returns-in-Running-clause-refused g c = λ made h. absurd (running-started true c.args.self.now _ made (sym c.replace.ensures.value ∙ c.in-Running.is) h)
 
 pub returns-in-Running-clause-refused_over : goal.returns-in-Running-clause-refused_over
 unfolding StandsOver
-returns-in-Running-clause-refused_over g c = λ made h. absurd (running-started false _ _ made (sym c.replace.ensures.value ∙ c.in-Running.is) h)
+returns-in-Running-clause-refused_over g c = λ made h. absurd (running-started false c.args.self.now _ made (sym c.replace.ensures.value ∙ c.in-Running.is) h)
