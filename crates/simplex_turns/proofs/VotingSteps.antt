@@ -1,0 +1,154 @@
+-- What the parts of a voter's turn do.
+use Rattle.std.proofs.Common.{◌≡◌, ◌≢◌, refl, sym, ap, ◌∙◌, ℕ, Bool, true, false, List, [], ◌∷◌, ◌++◌, drop, Option, Some, None}
+use Rattle.std.specs.List.{filter_map}
+use Rattle.simplex_wire.specs.declared.scheme.Scheme as scheme
+use Rattle.simplex_types.specs.declared.elector.Elector as elector
+use Rattle.simplex_journal.specs.declared.journal.Journal as journal
+use Rattle.simplex_messages.specs.declared.batcher.Message as batcher_message
+use Rattle.simplex_messages.specs.declared.voter.Message as voter_message
+use Rattle.simplex_messages.specs.declared.resolver.MailboxMessage.{MailboxMessage}
+use Rattle.simplex_messages.specs.declared.voter.VoterInput.{VoterInput}
+use Rattle.simplex_messages.specs.declared.step.StepOut.{StepOut}
+use Rattle.simplex_messages.specs.declared.step.Stop.{Stop}
+use Rattle.simplex_messages.specs.declared.step.Stop.TheVariants as stops
+use Rattle.simplex_messages.specs.declared.step.Outcome.{Outcome}
+use Rattle.simplex_messages.specs.declared.step.Outcome.TheVariants as outcomes
+use Rattle.simplex_messages.specs.Handing.{for_batcher, for_resolver}
+use Rattle.simplex_messages.specs.Step.{no_out}
+use Rattle.simplex_shared.specs.declared.op.Op.TheVariants.{Took}
+use Rattle.simplex_shared.specs.Passes.{Viewer, calls_of}
+use Rattle.simplex_steps.specs.VoterLife.{VoterMade, Given, Stepped, Place, place_of, step_given}
+use Rattle.simplex_voter.specs.declared.actor.Actor.{Actor}
+use Rattle.simplex_voter.specs.Actor.{VoterStands, Takes, TakesOver, Answers, AnswersOver, Gives, Fares, journal_of}
+use Rattle.simplex_voter.specs.Turned.{FaultsAt, step_left}
+use Rattle.simplex_voter.proofs.LivesOver.{held-over}
+use Rattle.simplex_turns.specs.declared.voter.VoterThread.{VoterThread}
+use Rattle.simplex_turns.specs.Handing.{PutsBehind}
+use Rattle.simplex_turns.specs.Voting.{VoterPlace, Found, finds, voter_step, step_outcome, step_leaves, voter_turn, turn_outcome, turn_leaves, unstopped}
+use Rattle.simplex_turns.specs.Threads.{VoterIsAt, KeepsVoter, Finds, VoterSteps, VoterTurns, faults_in}
+use Rattle.simplex_turns.proofs.VotingPlaces.{place-more, step-at, left-at, unstopped-goes}
+
+module _ {S L J : Type 0} {s : scheme.Ghosts S} {l : elector.Ghosts L} {j : journal.Ghosts J} where
+  -- over a journal that tells its order, and over any
+  pub either-takes : (told : Bool) (old new : Actor S L J) (given : Given)
+      → Takes s.attests l.elects j.sections j.order old new given → TakesOver s.attests l.elects j.sections old new given
+      → (made : VoterMade) (past : List Given) → VoterStands s.attests l.elects j.sections j.order told old made past → VoterStands s.attests l.elects j.sections j.order told new made (given ∷ past)
+  either-takes true old new given takes over = takes
+  either-takes false old new given takes over = over
+
+  pub either-answers : {R : Type 0} (told : Bool) (actor : Actor S L J) (rule : VoterMade → List Given → R) (answer : R)
+      → Answers s.attests l.elects j.sections j.order actor rule answer → AnswersOver s.attests l.elects j.sections actor rule answer
+      → (made : VoterMade) (past : List Given) → VoterStands s.attests l.elects j.sections j.order told actor made past → answer ≡ rule made past
+  either-answers true actor rule answer told over = told
+  either-answers false actor rule answer told over = over
+
+  -- ---- a step
+
+  module _ (old new : VoterThread S L J s l j) (input : VoterInput) (stop : Stop) (now : new.now ≡ old.now) (feed : new.feed ≡ old.feed) where
+    -- the place behind the step, where the actor took it
+    step-stands : (told : Bool) (made : VoterMade) (place : VoterPlace) (h : VoterIsAt told old made place)
+        → VoterStands s.attests l.elects j.sections j.order told new.actor made (Stepped input old.now stop ∷ h.given)
+        → VoterIsAt told new made (voter_step made (place, Some input) stop).0
+    step-stands told made place h stands = record {
+      given = Stepped input old.now stop ∷ h.given;
+      stands = stands;
+      place_is = rw (← h.now) (place-more made h.given place.past h.place_is (Stepped input old.now stop));
+      now = now ∙ h.now;
+      feed = ap (λ q. q.items) feed ∙ h.feed;
+    }
+
+    step-is : (told : Bool) (made : VoterMade) (place : VoterPlace) (h : VoterIsAt told old made place)
+        → step_given made h.given input old.now stop ≡ step_given made place.past input place.now stop
+    step-is told made place h = rw (← h.now) (step-at made h.given place.past h.place_is input old.now stop)
+
+    step-left : (told : Bool) (made : VoterMade) (place : VoterPlace) (h : VoterIsAt told old made place)
+        → step_left made h.given input old.now stops.None stop ≡ step_left made place.past input place.now stops.None stop
+    step-left told made place h = rw (← h.now) (left-at made h.given place.past h.place_is input old.now stops.None stop)
+
+  pub step-steps : (old new : VoterThread S L J s l j) (input : VoterInput) (outcome : Outcome) (out : StepOut)
+      → new.now ≡ old.now → new.feed ≡ old.feed
+      → Takes s.attests l.elects j.sections j.order old.actor new.actor (Stepped input old.now stops.None)
+      → Gives s.attests l.elects j.sections j.order old.actor (λ made past. step_given made past input old.now stops.None) outcome out
+      → Fares s.attests l.elects j.sections old.actor new.actor stops.None outcome out (λ turned. Stepped input old.now turned) (λ turned made past. step_given made past input old.now turned) (λ turned made past. step_left made past input old.now stops.None turned)
+      → FaultsAt outcome (faults_in old) (faults_in new)
+      → PutsBehind (filter_map for_batcher out.handed) (calls_of old.batcher) (calls_of new.batcher)
+      → PutsBehind (filter_map for_resolver out.handed) (calls_of old.resolver) (calls_of new.resolver)
+      → VoterSteps old new (Some input) outcome out
+  step-steps old new input outcome out now feed takes gives fares faults to_batcher to_resolver = record {
+    stop = fares.turned;
+    free = fares.becomes;
+    to_batcher = to_batcher;
+    to_resolver = to_resolver;
+    faults = faults;
+    told = λ made place h.
+        let gave = gives made h.given h.stands in
+        let is = step-is old new input stops.None now feed true made place h in
+        (
+          λ broken. unstopped-goes made h.given input old.now (sym gave.0 ∙ broken),
+          gave.1 ∙ ap (λ p. p.out) is,
+          step-stands old new input stops.None now feed true made place h (takes made h.given h.stands),
+        );
+    over = λ made place h.
+        let gave = fares.gives made h.given h.stands in
+        let is = step-is old new input fares.turned now feed false made place h in
+        (
+          gave.0 ∙ ap (λ p. p.outcome) is,
+          gave.1 ∙ ap (λ p. p.out) is,
+          fares.leaves made h.given h.stands ∙ step-left old new input fares.turned now feed false made place h,
+        );
+    stands = λ going made place h. step-stands old new input fares.turned now feed false made place h (fares.stands going made h.given h.stands);
+  }
+
+  -- what the journal of a voter holds
+  pub held-at : (thread : VoterThread S L J s l j) (made : VoterMade) (place : VoterPlace) → VoterIsAt false thread made place
+      → j.sections (journal_of thread.actor) ≡ (place_of made place.past).sections
+  held-at thread made place h = held-over s.attests l.elects j.sections _ _ _ h.stands ∙ ap (λ (p : Place). p.sections) h.place_is
+
+  -- nothing was found
+  pub idle-steps : (thread : VoterThread S L J s l j)
+      → PutsBehind [] (calls_of thread.batcher) (calls_of thread.batcher) → PutsBehind [] (calls_of thread.resolver) (calls_of thread.resolver)
+      → VoterSteps thread thread None outcomes.Idle no_out
+  idle-steps thread to_batcher to_resolver = record {
+    stop = stops.None;
+    free = tt;
+    to_batcher = to_batcher;
+    to_resolver = to_resolver;
+    faults = refl;
+    told = λ made place h. ((λ broken. absurd cc), refl, h);
+    over = λ made place h. (refl, refl, held-at thread made place h);
+    stands = λ going made place h. h;
+  }
+
+  -- ---- a turn
+
+  -- the thread made a call with its own pass
+  abbrev pub with_own : VoterThread S L J s l j → Viewer voter_message.Message → VoterThread S L J s l j
+  with_own thread pass = record thread { own = pass }
+
+  own-at : (told : Bool) (thread : VoterThread S L J s l j) (pass : Viewer voter_message.Message) (made : VoterMade) (place : VoterPlace)
+      → VoterIsAt told thread made place → VoterIsAt told (with_own thread pass) made place
+  own-at told thread pass made place h = record { given = h.given; stands = h.stands; place_is = h.place_is; now = h.now; feed = h.feed }
+
+  pub turn-turns : (old mid new : VoterThread S L J s l j) (own : Viewer voter_message.Message) (taken : Option voter_message.Message) (found : Option VoterInput) (outcome : Outcome) (out : StepOut)
+      → calls_of own ≡ calls_of old.own ++ Took old.own.number taken ∷ []
+      → KeepsVoter (with_own old own) mid → Finds (with_own old own) mid (λ made place. finds made place taken) found
+      → new.own ≡ mid.own → VoterSteps mid new found outcome out
+      → VoterTurns old new outcome out
+  unfolding voter_turn turn_outcome turn_leaves
+  turn-turns old mid new own taken found outcome out took keeps finding same steps = record {
+    turn = (taken, steps.stop);
+    free = steps.free;
+    took = rw (same, keeps.own) took;
+    to_batcher = rw keeps.batcher at steps.to_batcher;
+    to_resolver = rw keeps.resolver at steps.to_resolver;
+    faults = rw keeps.journal at steps.faults;
+    told = λ made place h.
+        let f = finding true made place (own-at true old own made place h) in
+        rw (← f.0) (steps.told made (finds made place taken).0 f.1);
+    over = λ made place h.
+        let f = finding false made place (own-at false old own made place h) in
+        rw (← f.0) (steps.over made (finds made place taken).0 f.1);
+    stands = λ going made place h.
+        let f = finding false made place (own-at false old own made place h) in
+        rw (← f.0) (steps.stands going made (finds made place taken).0 f.1);
+  }
