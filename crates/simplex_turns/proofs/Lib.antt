@@ -1,2 +1,5 @@
 pub mod Handed
 pub mod Turning
+pub mod VotingPlaces
+pub mod VotingSteps
+pub mod VotingTurns
