@@ -1,6 +1,7 @@
 -- A voter's place, by what it was given, and what its turns find there.
 use Rattle.std.proofs.Common.{◌≡◌, ◌≢◌, refl, sym, ap, ◌∙◌, ℕ, max, Bool, true, false, List, [], ◌∷◌, ◌++◌, drop, Option, Some, None}
-use Rattle.std.specs.Option.{option_map, option_map_or, option_to_list, is_some}
+use Rattle.std.specs.Prelude.{if◌then◌else◌}
+use Rattle.std.specs.Option.{option_and_then, option_map, option_map_or, option_to_list, is_some}
 use Rattle.simplex_values.specs.declared.answer.Answer.{Answer}
 use Rattle.simplex_mailbox.specs.Waiting.{front}
 use Rattle.simplex_journal.specs.Journal.{Section}
@@ -74,20 +75,46 @@ abbrev pub is_held : Option ProposalState → Bool
 is_held (Some (Held payload)) = true
 is_held _ = false
 
+is_some-if : {A : Type 0} (b : Bool) (x : A) → is_some (if b then Some x else None) ≡ b
+is_some-if true x = refl
+is_some-if false x = refl
+
 ready-is : (made : Made) (now : ℕ) (s : Standing) (p : Pending) (at : ProposalState) → is_held (Some at) ≡ true → is_some (take_proposal made now s p at) ≡ is_ready s.desk.known p at
-ready-is made now s p (Held payload) h = elim (is_certified s.desk.known (pending_parent p)) as (λ b. is_some (if b then Some _ else None) ≡ b) [ true ↦ refl | false ↦ refl ]
+ready-is made now s p (Held payload) h = is_some-if (is_certified s.desk.known (pending_parent p)) _
 ready-is made now s p at h = absurd cc
 
-module _ (s : Standing) where
-  candidate-by : (made : Made) (now : ℕ) (proposal : Option Pending) → s.desk.proposal ≡ proposal → is_held (option_map (λ p. p.state) s.desk.proposal) ≡ true
-      → is_some (acted made now s inputs.Propose) ≡ holds_candidate s
-  unfolding acted holds_candidate
-  candidate-by made now None is h = absurd (rw is at h)
-  candidate-by made now (Some p) is h = rw is (ready-is made now s p p.state (rw is at h))
+unready-is : (s : Standing) (p : Pending) (at : ProposalState) → is_held (Some at) ≡ false → is_ready s.desk.known p at ≡ false
+unready-is s p (Held payload) h = absurd cc
+unready-is s p at h = refl
 
-  -- where one is held, that is whether a step takes it
-  pub candidate-held : (made : Made) (now : ℕ) → is_held (option_map (λ p. p.state) s.desk.proposal) ≡ true → is_some (acted made now s inputs.Propose) ≡ holds_candidate s
-  candidate-held made now h = candidate-by made now s.desk.proposal refl h
+-- a state that is no held payload
+pub not-held : (at : ProposalState) → ((payload : List ℕ) → at ≡ Held payload → ⊥) → is_held (Some at) ≡ false
+not-held (Held payload) other = absurd (other payload refl)
+not-held at other = refl
+
+module _ (s : Standing) where
+  -- where the proposal stands, if there is one
+  abbrev pub state_in : Option ProposalState
+  state_in = option_map (λ p. p.state) s.desk.proposal
+
+  held-of : (made : Made) (now : ℕ) (proposal : Option Pending) → is_held (option_map (λ p. p.state) proposal) ≡ true
+      → is_some (option_and_then (λ p. take_proposal made now s p p.state) proposal) ≡ option_map_or (λ (p : Pending). is_ready s.desk.known p p.state) proposal false
+  held-of made now None h = absurd cc
+  held-of made now (Some p) h = ready-is made now s p p.state h
+
+  unheld-of : (proposal : Option Pending) → is_held (option_map (λ p. p.state) proposal) ≡ false → option_map_or (λ (p : Pending). is_ready s.desk.known p p.state) proposal false ≡ false
+  unheld-of None h = refl
+  unheld-of (Some p) h = unready-is s p p.state h
+
+  -- where a payload is held, that is whether a step takes it
+  pub candidate-held : (made : Made) (now : ℕ) → is_held state_in ≡ true → is_some (acted made now s inputs.Propose) ≡ holds_candidate s
+  unfolding acted holds_candidate
+  candidate-held made now h = held-of made now s.desk.proposal h
+
+  -- where none is held
+  pub candidate-unheld : is_held state_in ≡ false → holds_candidate s ≡ false
+  unfolding holds_candidate
+  candidate-unheld h = unheld-of s.desk.proposal h
 
 -- ---- what a turn finds
 
@@ -114,9 +141,9 @@ module _ (made : VoterMade) (place : VoterPlace) where
     pub replied-refused : (number : ℕ) → unanswered (place_of made place.past).standing kind ≡ Some number → takes_answer (place_of made place.past).standing number answer ≡ false
         → on_item made place (Some (items.Reply kind answer)) ≡ (place, None)
     unfolding replied
-    replied-refused number is no = rw (is, no) refl
+    replied-refused number is refused = rw (is, refused) refl
 
     pub replied-taken : (number : ℕ) → unanswered (place_of made place.past).standing kind ≡ Some number → takes_answer (place_of made place.past).standing number answer ≡ true
         → on_item made place (Some (items.Reply kind answer)) ≡ (record place { past = Answered number answer ∷ place.past }, Some (taken_by kind))
     unfolding replied
-    replied-taken number is yes = rw (is, yes) refl
+    replied-taken number is taken = rw (is, taken) refl

@@ -18,6 +18,11 @@ use Rattle.simplex_messages.specs.Step.{no_out}
 use Rattle.simplex_shared.specs.declared.op.Op.TheVariants.{Took}
 use Rattle.simplex_shared.specs.Passes.{Viewer, calls_of}
 use Rattle.simplex_steps.specs.VoterLife.{VoterMade, Given, Stepped, Place, place_of, step_given}
+use Rattle.simplex_values.specs.declared.proposal.Subject.{Subject}
+use Rattle.simplex_values.specs.declared.round.Round.{Round}
+use Rattle.simplex_wire.specs.declared.attestation.Attestation.{Attestation}
+use Rattle.simplex_journal.specs.Journal.{Section}
+use Rattle.simplex_journal.specs.Order.{Order}
 use Rattle.simplex_voter.specs.declared.actor.Actor.{Actor}
 use Rattle.simplex_voter.specs.Actor.{VoterStands, Takes, TakesOver, Answers, AnswersOver, Gives, Fares, journal_of}
 use Rattle.simplex_voter.specs.Turned.{FaultsAt, step_left}
@@ -28,19 +33,45 @@ use Rattle.simplex_turns.specs.Voting.{VoterPlace, Found, finds, voter_step, ste
 use Rattle.simplex_turns.specs.Threads.{VoterIsAt, KeepsVoter, Finds, VoterSteps, VoterTurns, faults_in}
 use Rattle.simplex_turns.proofs.VotingPlaces.{place-more, step-at, left-at, unstopped-goes}
 
-module _ {S L J : Type 0} {s : scheme.Ghosts S} {l : elector.Ghosts L} {j : journal.Ghosts J} where
-  -- over a journal that tells its order, and over any
+-- over a journal that tells its order, and over any
+module _ {S L J : Type 0} (attests : S → Subject → Option Attestation) (elects : L → Round → ℕ) (sections : J → List Section) (order : J → Option Order) where
   pub either-takes : (told : Bool) (old new : Actor S L J) (given : Given)
-      → Takes s.attests l.elects j.sections j.order old new given → TakesOver s.attests l.elects j.sections old new given
-      → (made : VoterMade) (past : List Given) → VoterStands s.attests l.elects j.sections j.order told old made past → VoterStands s.attests l.elects j.sections j.order told new made (given ∷ past)
+      → Takes attests elects sections order old new given → TakesOver attests elects sections old new given
+      → (made : VoterMade) (past : List Given) → VoterStands attests elects sections order told old made past → VoterStands attests elects sections order told new made (given ∷ past)
   either-takes true old new given takes over = takes
   either-takes false old new given takes over = over
 
   pub either-answers : {R : Type 0} (told : Bool) (actor : Actor S L J) (rule : VoterMade → List Given → R) (answer : R)
-      → Answers s.attests l.elects j.sections j.order actor rule answer → AnswersOver s.attests l.elects j.sections actor rule answer
-      → (made : VoterMade) (past : List Given) → VoterStands s.attests l.elects j.sections j.order told actor made past → answer ≡ rule made past
+      → Answers attests elects sections order actor rule answer → AnswersOver attests elects sections actor rule answer
+      → (made : VoterMade) (past : List Given) → VoterStands attests elects sections order told actor made past → answer ≡ rule made past
   either-answers true actor rule answer told over = told
   either-answers false actor rule answer told over = over
+
+module _ {S L J : Type 0} {s : scheme.Ghosts S} {l : elector.Ghosts L} {j : journal.Ghosts J} where
+  -- ---- what is told of a voter
+
+  -- what the actor answers by a rule that reads its place, it answers at the thread's place
+  pub told-at : {R : Type 0} (told : Bool) (thread : VoterThread S L J s l j) (rule : VoterMade → Place → R) (answer : R)
+      → Answers s.attests l.elects j.sections j.order thread.actor (λ made past. rule made (place_of made past)) answer
+      → AnswersOver s.attests l.elects j.sections thread.actor (λ made past. rule made (place_of made past)) answer
+      → (made : VoterMade) (place : VoterPlace) → VoterIsAt told thread made place → answer ≡ rule made (place_of made place.past)
+  told-at told thread rule answer stands over made place h =
+      either-answers s.attests l.elects j.sections j.order told thread.actor (λ made past. rule made (place_of made past)) answer stands over made h.given h.stands
+      ∙ ap (rule made) h.place_is
+
+  -- what the actor took itself, whose place is this
+  pub answered-at : (told : Bool) (old new : VoterThread S L J s l j) (given : Given) (past : List Given)
+      → Takes s.attests l.elects j.sections j.order old.actor new.actor given → TakesOver s.attests l.elects j.sections old.actor new.actor given
+      → new.now ≡ old.now → new.feed ≡ old.feed
+      → (made : VoterMade) (place : VoterPlace) → (h : VoterIsAt told old made place) → place_of made (given ∷ h.given) ≡ place_of made past
+      → VoterIsAt told new made (record place { past = past })
+  answered-at told old new given past takes over now feed made place h is = record {
+    given = given ∷ h.given;
+    stands = either-takes s.attests l.elects j.sections j.order told old.actor new.actor given takes over made h.given h.stands;
+    place_is = is;
+    now = now ∙ h.now;
+    feed = ap (λ q. q.items) feed ∙ h.feed;
+  }
 
   -- ---- a step
 

@@ -1,7 +1,7 @@
 -- A voter's turns, one after another.
 use Rattle.std.proofs.Common.{◌≡◌, ◌≢◌, refl, sym, ap, ◌∙◌, ℕ, ◌+◌, ◌<◌, ◌≤◌, Bool, true, false, List, [], ◌∷◌, ◌++◌, All, length, map, Option, Some, None, arith, length-append, append-nil, append_assoc, inl, inr}
 use Rattle.std.proofs.lemmas.List.{map-append}
-use Rattle.std.proofs.lemmas.List.Elements.{All-append}
+use Rattle.std.proofs.lemmas.List.Elements.{All-nil, All-push}
 use Rattle.std.specs.List.{filter_map}
 use Rattle.simplex_wire.specs.declared.scheme.Scheme as scheme
 use Rattle.simplex_types.specs.declared.elector.Elector as elector
@@ -43,6 +43,12 @@ module _ (made : VoterMade) where
   leave-more place (first ∷ []) turn = refl
   leave-more place (first ∷ next ∷ rest) turn = leave-more (voter_turn made place first).0 (next ∷ rest) turn
 
+unbroken-faults : (outcome : Outcome) (before now : ℕ) → FaultsAt outcome before now → IsUnbroken outcome → now ≡ before
+unbroken-faults outcomes.Done before now faults going = faults
+unbroken-faults outcomes.Idle before now faults going = faults
+unbroken-faults outcomes.Cut before now faults going = faults
+unbroken-faults outcomes.Journal before now faults going = absurd (going refl)
+
 module _ {S L J : Type 0} {s : scheme.Ghosts S} {l : elector.Ghosts L} {j : journal.Ghosts J} where
   -- so many turns, none of which a failing call of the journal ended
   pub record Ran (old new : VoterThread S L J s l j) (turns : ℕ) (outs : List StepOut) : Type 0 where
@@ -70,8 +76,8 @@ module _ {S L J : Type 0} {s : scheme.Ghosts S} {l : elector.Ghosts L} {j : jour
     ends = [];
     did_all = refl;
     ended_all = refl;
-    unbroken = tt;
-    free = tt;
+    unbroken = All-nil IsUnbroken;
+    free = All-nil IsFree;
     same = record { own = (refl, refl); batcher = (refl, refl); resolver = (refl, refl) };
     faults = refl;
     took = sym (append-nil (calls_of thread.own));
@@ -81,12 +87,6 @@ module _ {S L J : Type 0} {s : scheme.Ghosts S} {l : elector.Ghosts L} {j : jour
     over = λ made place h. (refl, refl, held-at thread made place h);
     stands = λ made place h. h;
   }
-
-  unbroken-faults : (outcome : Outcome) (before now : ℕ) → FaultsAt outcome before now → IsUnbroken outcome → now ≡ before
-  unbroken-faults outcomes.Done before now faults going = faults
-  unbroken-faults outcomes.Idle before now faults going = faults
-  unbroken-faults outcomes.Cut before now faults going = faults
-  unbroken-faults outcomes.Journal before now faults going = absurd (going refl)
 
   -- ---- one turn more
 
@@ -120,7 +120,7 @@ module _ {S L J : Type 0} {s : scheme.Ghosts S} {l : elector.Ghosts L} {j : jour
     resolver-all = rw (handed_on-behind for_resolver outs out) (puts-then _ _ _ _ _ ran.to_resolver last.to_resolver)
 
     free-all : All IsFree all
-    free-all = All-append IsFree ran.did (last.turn ∷ []) ran.free (last.free, tt)
+    free-all = All-push IsFree ran.did last.turn ran.free last.free
 
     told-all : (made : VoterMade) → Gives (voter_turn made) (λ thread place. VoterIsAt true thread made place) old new (map unstopped (map took_of all)) (outs ++ out ∷ [])
     told-all made =
@@ -146,7 +146,7 @@ module _ {S L J : Type 0} {s : scheme.Ghosts S} {l : elector.Ghosts L} {j : jour
       ends = ran.ends ++ outcome ∷ [];
       did_all = length-append ran.did (last.turn ∷ []) ∙ ap (λ (n : ℕ). n + 1) ran.did_all;
       ended_all = length-append ran.ends (outcome ∷ []) ∙ ap (λ (n : ℕ). n + 1) ran.ended_all;
-      unbroken = All-append IsUnbroken ran.ends (outcome ∷ []) ran.unbroken (going, tt);
+      unbroken = All-push IsUnbroken ran.ends outcome ran.unbroken going;
       free = free-all;
       same = same-all;
       faults = unbroken-faults outcome (faults_in mid) (faults_in new) last.faults going ∙ ran.faults;

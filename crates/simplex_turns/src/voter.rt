@@ -130,10 +130,13 @@ impl<S: Scheme + Drop, L: Elector + Drop, J: Journal + Drop> VoterThread<S, L, J
 
     // Whether a payload is held whose parent is certified.
     fn holds_candidate(&self) -> bool
-        ensures { (told : Bool) (made : VoterMade) (place : VoterPlace) → VoterIsAt told self.now made place → result ≡ holds_candidate (place_of made place.past).standing }
+        ensures { (told : Bool) (made : VoterMade) (place : VoterPlace) → VoterIsAt told self.entry.now made place → result ≡ holds_candidate (place_of made place.past).standing }
     {
-        match self.actor.proposal_state() {
-            Some(ProposalState::Held(_)) => self.actor.holds(&VoterInput::Propose, self.now),
+        let Some(state) = self.actor.proposal_state() else {
+            return false;
+        };
+        match state {
+            ProposalState::Held(_) => self.actor.holds(&VoterInput::Propose, self.now),
             _ => false,
         }
     }
