@@ -1,5 +1,6 @@
 -- A voter's place, by what it was given, and what its turns find there.
-use Rattle.std.proofs.Common.{◌≡◌, ◌≢◌, refl, sym, ap, ◌∙◌, ℕ, max, Bool, true, false, List, [], ◌∷◌, ◌++◌, drop, Option, Some, None}
+use Rattle.std.proofs.Common.{All, ◌<◌, ◌^◌, length, length-drop, arith, ◌≡◌, ◌≢◌, refl, sym, ap, ◌∙◌, ℕ, max, Bool, true, false, List, [], ◌∷◌, ◌++◌, drop, Option, Some, None}
+use Rattle.std.proofs.lemmas.List.Elements.{All-head, All-tail}
 use Rattle.std.specs.Prelude.{if◌then◌else◌}
 use Rattle.std.specs.Option.{option_and_then, option_map, option_map_or, option_to_list, is_some}
 use Rattle.simplex_values.specs.declared.answer.Answer.{Answer}
@@ -24,6 +25,7 @@ use Rattle.simplex_voter.specs.Unanswered.{unanswered}
 use Rattle.simplex_voter.specs.Turned.{step_left}
 use Rattle.simplex_turns.specs.declared.feed.FeedItem.{FeedItem}
 use Rattle.simplex_turns.specs.declared.feed.FeedItem.TheVariants as items
+use Rattle.simplex_turns.specs.Threads.{IsInTime}
 use Rattle.simplex_turns.specs.Voting.{VoterPlace, Found, is_ready, holds_candidate, taken_by, replied, on_item, finds}
 
 -- ---- two histories that lead to one place
@@ -92,6 +94,11 @@ pub not-held : (at : ProposalState) → ((payload : List ℕ) → at ≡ Held pa
 not-held (Held payload) other = absurd (other payload refl)
 not-held at other = refl
 
+-- no state
+pub none-held : (state : Option ProposalState) → ((at : ProposalState) → state ≡ Some at → ⊥) → is_held state ≡ false
+none-held None other = refl
+none-held (Some at) other = absurd (other at refl)
+
 module _ (s : Standing) where
   -- where the proposal stands, if there is one
   abbrev pub state_in : Option ProposalState
@@ -118,10 +125,22 @@ module _ (s : Standing) where
 
 -- ---- what a turn finds
 
--- the first of a list, and the rest
-pub popped-first : {A : Type 0} (before after : List A) (popped : Option A) → before ≡ option_to_list popped ++ after → (popped ≡ None → before ≡ []) → popped ≡ front before
-popped-first before after None is none = rw none refl
-popped-first before after (Some first) is none = rw is refl
+stays-empty : {A : Type 0} (xs : List A) → xs ≡ drop 1 xs → None ≡ front xs
+stays-empty [] e = refl
+stays-empty (x ∷ xs) e = absurd (omega (arith, ap length e, length-drop 1 (x ∷ xs)))
+
+-- what was taken from the front
+pub popped-first : {A : Type 0} (before after : List A) (popped : Option A) → before ≡ option_to_list popped ++ after → after ≡ drop 1 before → popped ≡ front before
+popped-first before after None is rest = stays-empty before (is ∙ rest)
+popped-first before after (Some first) is rest = rw is refl
+
+-- what is left is in time, and so is a clock that was taken
+pub time-left : (before after : List FeedItem) (popped : Option FeedItem) → before ≡ option_to_list popped ++ after → All IsInTime before → All IsInTime after
+time-left before after None is all = rw is at all
+time-left before after (Some first) is all = All-tail IsInTime first after (rw is at all)
+
+pub time-now : (before after : List FeedItem) (ms : ℕ) → before ≡ items.Now ms ∷ after → All IsInTime before → ms < 2 ^ 63
+time-now before after ms is all = All-head IsInTime (items.Now ms) after (rw is at all)
 
 module _ (made : VoterMade) (place : VoterPlace) where
   pub finds-own : holds_candidate (place_of made place.past).standing ≡ true → finds made place None ≡ (place, Some inputs.Propose)

@@ -1,5 +1,5 @@
 -- What the parts of a voter's turn do.
-use Rattle.std.proofs.Common.{◌≡◌, ◌≢◌, refl, sym, ap, ◌∙◌, ℕ, Bool, true, false, List, [], ◌∷◌, ◌++◌, drop, Option, Some, None}
+use Rattle.std.proofs.Common.{◌≡◌, ◌≢◌, refl, sym, ap, ◌∙◌, ℕ, Bool, true, false, List, [], ◌∷◌, ◌++◌, drop, Option, Some, None, subst}
 use Rattle.std.specs.List.{filter_map}
 use Rattle.simplex_wire.specs.declared.scheme.Scheme as scheme
 use Rattle.simplex_types.specs.declared.elector.Elector as elector
@@ -16,7 +16,8 @@ use Rattle.simplex_messages.specs.declared.step.Outcome.TheVariants as outcomes
 use Rattle.simplex_messages.specs.Handing.{for_batcher, for_resolver}
 use Rattle.simplex_messages.specs.Step.{no_out}
 use Rattle.simplex_shared.specs.declared.op.Op.TheVariants.{Took}
-use Rattle.simplex_shared.specs.Passes.{Viewer, calls_of}
+use Rattle.simplex_shared.specs.declared.op.Op.{Op}
+use Rattle.simplex_shared.specs.Passes.{Viewer, IsSamePass, calls_of}
 use Rattle.simplex_steps.specs.VoterLife.{VoterMade, Given, Stepped, Place, place_of, step_given}
 use Rattle.simplex_values.specs.declared.proposal.Subject.{Subject}
 use Rattle.simplex_values.specs.declared.round.Round.{Round}
@@ -30,8 +31,12 @@ use Rattle.simplex_voter.proofs.LivesOver.{held-over}
 use Rattle.simplex_turns.specs.declared.voter.VoterThread.{VoterThread}
 use Rattle.simplex_turns.specs.Handing.{PutsBehind}
 use Rattle.simplex_turns.specs.Voting.{VoterPlace, Found, finds, voter_step, step_outcome, step_leaves, voter_turn, turn_outcome, turn_leaves, unstopped}
-use Rattle.simplex_turns.specs.Threads.{VoterIsAt, KeepsVoter, Finds, VoterSteps, VoterTurns, faults_in}
+use Rattle.simplex_turns.specs.Threads.{IsSameVoter, VoterIsAt, KeepsVoter, Finds, VoterSteps, VoterTurns, faults_in}
 use Rattle.simplex_turns.proofs.VotingPlaces.{place-more, step-at, left-at, unstopped-goes}
+
+-- what was held is put
+pub held-put : {M : Type 0} (messages start held items : List M) (before after : List (Op M)) → start ≡ [] → held ≡ start ++ messages → items ≡ held → PutsBehind items before after → PutsBehind messages before after
+held-put messages start held items before after empty is same put = subst (λ list. PutsBehind list before after) (same ∙ is ∙ ap (λ list. list ++ messages) empty) put
 
 -- over a journal that tells its order, and over any
 module _ {S L J : Type 0} (attests : S → Subject → Option Attestation) (elects : L → Round → ℕ) (sections : J → List Section) (order : J → Option Order) where
@@ -71,6 +76,18 @@ module _ {S L J : Type 0} {s : scheme.Ghosts S} {l : elector.Ghosts L} {j : jour
     place_is = is;
     now = now ∙ h.now;
     feed = ap (λ q. q.items) feed ∙ h.feed;
+  }
+
+  -- an item of the feed was taken, and this is the clock
+  pub moved-at : (told : Bool) (old new : VoterThread S L J s l j) (clock : ℕ) (made : VoterMade) (place : VoterPlace)
+      → new.actor ≡ old.actor → new.now ≡ clock → new.feed.items ≡ drop 1 old.feed.items → VoterIsAt told old made place
+      → VoterIsAt told new made (record place { now = clock; feed = drop 1 place.feed })
+  moved-at told old new clock made place actor now rest h = record {
+    given = h.given;
+    stands = rw actor h.stands;
+    place_is = h.place_is;
+    now = now;
+    feed = rest ∙ ap (drop 1) h.feed;
   }
 
   -- ---- a step
@@ -136,17 +153,17 @@ module _ {S L J : Type 0} {s : scheme.Ghosts S} {l : elector.Ghosts L} {j : jour
   held-at thread made place h = held-over s.attests l.elects j.sections _ _ _ h.stands ∙ ap (λ (p : Place). p.sections) h.place_is
 
   -- nothing was found
-  pub idle-steps : (thread : VoterThread S L J s l j)
+  pub idle-steps : (thread : VoterThread S L J s l j) (out : StepOut) → out ≡ no_out
       → PutsBehind [] (calls_of thread.batcher) (calls_of thread.batcher) → PutsBehind [] (calls_of thread.resolver) (calls_of thread.resolver)
-      → VoterSteps thread thread None outcomes.Idle no_out
-  idle-steps thread to_batcher to_resolver = record {
+      → VoterSteps thread thread None outcomes.Idle out
+  idle-steps thread out empty to_batcher to_resolver = record {
     stop = stops.None;
     free = tt;
-    to_batcher = to_batcher;
-    to_resolver = to_resolver;
+    to_batcher = rw empty to_batcher;
+    to_resolver = rw empty to_resolver;
     faults = refl;
-    told = λ made place h. ((λ broken. absurd cc), refl, h);
-    over = λ made place h. (refl, refl, held-at thread made place h);
+    told = λ made place h. ((λ broken. absurd cc), empty, h);
+    over = λ made place h. (refl, empty, held-at thread made place h);
     stands = λ going made place h. h;
   }
 
@@ -182,4 +199,14 @@ module _ {S L J : Type 0} {s : scheme.Ghosts S} {l : elector.Ghosts L} {j : jour
     stands = λ going made place h.
         let f = finding false made place (own-at false old own made place h) in
         rw (← f.0) (steps.stands going made (finds made place taken).0 f.1);
+  }
+
+  -- the same passes
+  pub turn-same : (old mid new : VoterThread S L J s l j) (own : Viewer voter_message.Message)
+      → IsSamePass old.own own → KeepsVoter (with_own old own) mid → new.own ≡ mid.own → IsSamePass mid.batcher new.batcher → IsSamePass mid.resolver new.resolver
+      → IsSameVoter old new
+  turn-same old mid new own taken keeps same batcher resolver = record {
+    own = (ap (λ p. p.mailbox) (same ∙ keeps.own) ∙ taken.0, ap (λ p. p.number) (same ∙ keeps.own) ∙ taken.1);
+    batcher = (batcher.0 ∙ ap (λ p. p.mailbox) keeps.batcher, batcher.1 ∙ ap (λ p. p.number) keeps.batcher);
+    resolver = (resolver.0 ∙ ap (λ p. p.mailbox) keeps.resolver, resolver.1 ∙ ap (λ p. p.number) keeps.resolver);
   }

@@ -97,6 +97,7 @@ impl<S: Scheme + Drop, L: Elector + Drop, J: Journal + Drop> VoterThread<S, L, J
     }
 
     // The message, else what the voter finds of its own.
+    #[tactic(auto, unfolding(crate::specs::Voting::finds))]
     fn find(&mut self, taken: Option<voter::Message>) -> Option<VoterInput>
         requires clock { (self.old.now < 2 ^ 63) × All IsInTime self.old.feed.items }
         ensures clock { (self.new.now < 2 ^ 63) × All IsInTime self.new.feed.items }
