@@ -1,5 +1,5 @@
 -- Messages that are handed over, by calls behind those before.
-use Rattle.std.proofs.Common.{◌≡◌, ℕ, List, [], ◌∷◌, ◌++◌, Option, refl, sym, ap, ◌∙◌, append_assoc, append-nil}
+use Rattle.std.proofs.Common.{◌≡◌, ℕ, List, [], ◌∷◌, ◌++◌, Option, refl, sym, ap, ◌∙◌, subst, append_assoc, append-nil}
 use Rattle.std.specs.List.{filter_map}
 use Rattle.simplex_values.specs.declared.feedback.Feedback.{Feedback}
 use Rattle.simplex_messages.specs.declared.handed.Handed.{Handed}
@@ -53,6 +53,14 @@ module _ {M : Type 0} where
 
   pub same-still : (old mid new : Viewer M) → IsSamePass old mid → IsSamePass mid new → IsSamePass old new
   same-still old mid new p q = (q.0 ∙ p.0, q.1 ∙ p.1)
+
+  -- a pass puts one message, and others are put behind it
+  pub puts-next : (message : M) (feedback : Feedback) (rest : List M) (old new : Viewer M) (after : List (Op M))
+      → IsSamePass old new → EndsWith old (Put old.number message feedback) new.seen
+      → PutsBehind rest (calls_of new) after → PutsBehind (message ∷ rest) (calls_of old) after
+  puts-next message feedback rest old new after same ends puts =
+      let grown = calls-grow old new (Put old.number message feedback) same refl ends in
+      puts-then (message ∷ []) rest (calls_of old) (calls_of new) after (subst (λ l. PutsBehind (message ∷ []) (calls_of old) l) (sym grown) (puts-message (calls_of old) message old.number feedback)) puts
 
   -- what steps handed on, and one more behind them
   pub handed_on-behind : (for_it : Handed → Option M) (outs : List StepOut) (out : StepOut) → handed_on for_it (outs ++ out ∷ []) ≡ handed_on for_it outs ++ filter_map for_it out.handed

@@ -1,3 +1,4 @@
+pub mod Drained
 pub mod Handed
 pub mod Turning
 pub mod VotingPlaces

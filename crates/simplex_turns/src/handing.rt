@@ -11,10 +11,7 @@ use std::collections::VecDeque;
 use std::sync::Wait;
 
 /// All messages of a mailbox of one thread, in the order in which they are taken.
-pub fn drain<M: Policy>(
-    alloc: Global,
-    mut mailbox: Mailbox<M>,
-) -> Result<VecDeque<M>, AllocError>
+pub fn drain<M: Policy>(alloc: Global, mut mailbox: Mailbox<M>) -> Result<VecDeque<M>, AllocError>
     ensures { IfOk result (λ messages. Drains M.is_skipped mailbox messages.items) }
 {
     let mut messages = VecDeque::new(alloc);
@@ -37,9 +34,9 @@ pub fn put_all<M: Policy + Keep, R: Wait>(
 {
     while let Some(message) = messages.pop_front() {
         // Nobody shuts these mailboxes.
-        if mailbox.enqueue(rt, pass, message).is_err() {
+        let Ok(_) = mailbox.enqueue(rt, pass, message) else {
             return Err(AllocError);
-        }
+        };
     }
     Ok(())
 }
