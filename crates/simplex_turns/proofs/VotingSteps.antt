@@ -169,44 +169,60 @@ module _ {S L J : Type 0} {s : scheme.Ghosts S} {l : elector.Ghosts L} {j : jour
 
   -- ---- a turn
 
-  -- the thread made a call with its own pass
-  abbrev pub with_own : VoterThread S L J s l j → Viewer voter_message.Message → VoterThread S L J s l j
-  with_own thread pass = record thread { own = pass }
+  -- the thread made a call with its own pass, which is this one now
+  pub record Called (old now : VoterThread S L J s l j) (pass : Viewer voter_message.Message) : Type 0 where
+    pub own : now.own ≡ pass
+    pub actor : now.actor ≡ old.actor
+    pub clock : now.now ≡ old.now
+    pub feed : now.feed ≡ old.feed
+    pub batcher : now.batcher ≡ old.batcher
+    pub resolver : now.resolver ≡ old.resolver
 
-  own-at : (told : Bool) (thread : VoterThread S L J s l j) (pass : Viewer voter_message.Message) (made : VoterMade) (place : VoterPlace)
-      → VoterIsAt told thread made place → VoterIsAt told (with_own thread pass) made place
-  own-at told thread pass made place h = record { given = h.given; stands = h.stands; place_is = h.place_is; now = h.now; feed = h.feed }
+  called-at : (told : Bool) (old now : VoterThread S L J s l j) (pass : Viewer voter_message.Message) (called : Called old now pass) (made : VoterMade) (place : VoterPlace)
+      → VoterIsAt told old made place → VoterIsAt told now made place
+  called-at told old now pass called made place h = record {
+    given = h.given;
+    stands = rw called.actor h.stands;
+    place_is = h.place_is;
+    now = called.clock ∙ h.now;
+    feed = ap (λ q. q.items) called.feed ∙ h.feed;
+  }
 
-  pub turn-turns : (old mid new : VoterThread S L J s l j) (own : Viewer voter_message.Message) (taken : Option voter_message.Message) (found : Option VoterInput) (outcome : Outcome) (out : StepOut)
-      → calls_of own ≡ calls_of old.own ++ Took old.own.number taken ∷ []
-      → KeepsVoter (with_own old own) mid → Finds (with_own old own) mid (λ made place. finds made place taken) found
+  pub turn-turns : (old now mid new : VoterThread S L J s l j) (own : Viewer voter_message.Message) (taken : Option voter_message.Message) (found : Option VoterInput) (outcome : Outcome) (out : StepOut)
+      → Called old now own → calls_of own ≡ calls_of old.own ++ Took old.own.number taken ∷ []
+      → KeepsVoter now mid → Finds now mid (λ made place. finds made place taken) found
       → new.own ≡ mid.own → VoterSteps mid new found outcome out
       → VoterTurns old new outcome out
   unfolding voter_turn turn_outcome turn_leaves
-  turn-turns old mid new own taken found outcome out took keeps finding same steps = record {
+  turn-turns old now mid new own taken found outcome out called took keeps finding same steps = record {
     turn = (taken, steps.stop);
     free = steps.free;
-    took = rw (same, keeps.own) took;
-    to_batcher = rw keeps.batcher at steps.to_batcher;
-    to_resolver = rw keeps.resolver at steps.to_resolver;
-    faults = rw keeps.journal at steps.faults;
+    took = rw (same, keeps.own, called.own) took;
+    to_batcher = rw (keeps.batcher, called.batcher) at steps.to_batcher;
+    to_resolver = rw (keeps.resolver, called.resolver) at steps.to_resolver;
+    faults = rw (keeps.journal, called.actor) at steps.faults;
     told = λ made place h.
-        let f = finding true made place (own-at true old own made place h) in
+        let f = finding true made place (called-at true old now own called made place h) in
         rw (← f.0) (steps.told made (finds made place taken).0 f.1);
     over = λ made place h.
-        let f = finding false made place (own-at false old own made place h) in
+        let f = finding false made place (called-at false old now own called made place h) in
         rw (← f.0) (steps.over made (finds made place taken).0 f.1);
     stands = λ going made place h.
-        let f = finding false made place (own-at false old own made place h) in
+        let f = finding false made place (called-at false old now own called made place h) in
         rw (← f.0) (steps.stands going made (finds made place taken).0 f.1);
   }
 
   -- the same passes
-  pub turn-same : (old mid new : VoterThread S L J s l j) (own : Viewer voter_message.Message)
-      → IsSamePass old.own own → KeepsVoter (with_own old own) mid → new.own ≡ mid.own → IsSamePass mid.batcher new.batcher → IsSamePass mid.resolver new.resolver
+  pub turn-same : (old now mid new : VoterThread S L J s l j) (own : Viewer voter_message.Message)
+      → Called old now own → IsSamePass old.own own → KeepsVoter now mid
+      → new.own ≡ mid.own → IsSamePass mid.batcher new.batcher → IsSamePass mid.resolver new.resolver
       → IsSameVoter old new
-  turn-same old mid new own taken keeps same batcher resolver = record {
-    own = (ap (λ p. p.mailbox) (same ∙ keeps.own) ∙ taken.0, ap (λ p. p.number) (same ∙ keeps.own) ∙ taken.1);
-    batcher = (batcher.0 ∙ ap (λ p. p.mailbox) keeps.batcher, batcher.1 ∙ ap (λ p. p.number) keeps.batcher);
-    resolver = (resolver.0 ∙ ap (λ p. p.mailbox) keeps.resolver, resolver.1 ∙ ap (λ p. p.number) keeps.resolver);
-  }
+  turn-same old now mid new own called taken keeps same batcher resolver =
+      let mine : new.own ≡ own = same ∙ keeps.own ∙ called.own in
+      let his : mid.batcher ≡ old.batcher = keeps.batcher ∙ called.batcher in
+      let its : mid.resolver ≡ old.resolver = keeps.resolver ∙ called.resolver in
+      record {
+        own = (ap (λ p. p.mailbox) mine ∙ taken.0, ap (λ p. p.number) mine ∙ taken.1);
+        batcher = (batcher.0 ∙ ap (λ p. p.mailbox) his, batcher.1 ∙ ap (λ p. p.number) his);
+        resolver = (resolver.0 ∙ ap (λ p. p.mailbox) its, resolver.1 ∙ ap (λ p. p.number) its);
+      }

@@ -95,7 +95,8 @@ module _ {S L J : Type 0} {s : scheme.Ghosts S} {l : elector.Ghosts L} {j : jour
     abbrev all : List Turn
     all = ran.did ++ last.turn ∷ []
 
-    same-all : IsSameVoter old new
+    -- the same passes
+    pub same-all : IsSameVoter old new
     same-all = record {
       own = same-still old.own mid.own new.own ran.same.own same.own;
       batcher = same-still old.batcher mid.batcher new.batcher ran.same.batcher same.batcher;
@@ -177,15 +178,15 @@ module _ {S L J : Type 0} {s : scheme.Ghosts S} {l : elector.Ghosts L} {j : jour
     }
 
   -- all were made
-  pub ran-all : (old new : VoterThread S L J s l j) (turns : ℕ) (outs : List StepOut) → Ran old new turns outs → VoterRuns old new turns outs
-  ran-all old new turns outs ran = record {
+  pub ran-all : (old new : VoterThread S L J s l j) (done turns : ℕ) (outs : List StepOut) → done ≡ turns → Ran old new done outs → VoterRuns old new turns outs
+  ran-all old new done turns outs all ran = record {
     did = ran.did;
     ends = ran.ends;
     free = ran.free;
-    ended = inl (ran.faults, ran.ended_all, ran.unbroken);
+    ended = inl (ran.faults, ran.ended_all ∙ all, ran.unbroken);
     took = ran.took;
     to_batcher = ran.to_batcher;
     to_resolver = ran.to_resolver;
-    told = λ made place h. (ran.did_all, ran.told made);
+    told = λ made place h. (ran.did_all ∙ all, ran.told made);
     over = ran.over;
   }

@@ -66,7 +66,7 @@ impl<S: Scheme + Drop, L: Elector + Drop, J: Journal + Drop> VoterThread<S, L, J
             gate.pass(1, turn + 1);
             let (outcome, out) = self.turn(rt, boxes)?;
             outs.push(out)?;
-            if matches!(outcome, Outcome::Journal) {
+            if let Outcome::Journal = outcome {
                 return Ok((self, outs));
             }
         }

@@ -17,15 +17,15 @@ returns-in-Held g c = λ told made place h.
         told-at told c.args.self.now (λ (made : VoterMade) (p : Place). is_some (acted made.rules c.args.self.now.now p.standing inputs.Propose)) c.holds.result c.holds.ensures.told c.holds.ensures.over made place h in
     holds ∙ candidate-held (place_of made place.past).standing made.rules c.args.self.now.now held
 
-pub returns-in_default : goal.returns-in_default
-returns-in_default g c = λ told made place h.
-    let state : c.proposal_state.result ≡ state_in (place_of made place.past).standing =
-        told-at told c.args.self.now (λ (made : VoterMade) (p : Place). state_in p.standing) c.proposal_state.result c.proposal_state.ensures.told c.proposal_state.ensures.over made place h in
-    let unheld : is_held (state_in (place_of made place.past).standing) ≡ false = ap is_held (sym state ∙ c.in-Some.is) ∙ not-held _ c.in_default.not-Held in
-    sym (candidate-unheld (place_of made place.past).standing unheld)
-
 pub returns-in_default-state : goal.returns-in_default-state
 returns-in_default-state g c = λ told made place h.
+    let state : c.proposal_state.result ≡ state_in (place_of made place.past).standing =
+        told-at told c.args.self.now (λ (made : VoterMade) (p : Place). state_in p.standing) c.proposal_state.result c.proposal_state.ensures.told c.proposal_state.ensures.over made place h in
+    let unheld : is_held (state_in (place_of made place.past).standing) ≡ false = ap is_held (sym state ∙ c.in-Some.is) ∙ not-held _ c.in_default-state.not-Held in
+    sym (candidate-unheld (place_of made place.past).standing unheld)
+
+pub returns-in_default : goal.returns-in_default
+returns-in_default g c = λ told made place h.
     let state : c.proposal_state.result ≡ state_in (place_of made place.past).standing =
         told-at told c.args.self.now (λ (made : VoterMade) (p : Place). state_in p.standing) c.proposal_state.result c.proposal_state.ensures.told c.proposal_state.ensures.over made place h in
     let unheld : is_held (state_in (place_of made place.past).standing) ≡ false = ap is_held (sym state) ∙ none-held _ c.in_default.not-Some in
