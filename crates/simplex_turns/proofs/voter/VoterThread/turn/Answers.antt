@@ -18,11 +18,11 @@ returns-in-None-clause-turns g c =
 pub returns-in_ok-given-in-Some-clause-same : goal.returns-in_ok-given-in-Some-clause-same
 returns-in_ok-given-in-Some-clause-same g c =
     turn-same c.args.self.now _ c.find.new.self _ c.recv.new.pass (record { own = refl; actor = refl; clock = refl; feed = refl; batcher = refl; resolver = refl })
-    c.in_ok-taken.ensures.own c.find.ensures.keeps c.in_ok-given.ensures.own c.in_ok-given.ensures.same.0 c.in_ok-given.ensures.same.1
+    c.in_ok-taken.ensures.own c.find.ensures.keeps c.in_ok-given-in-Some.ensures.own c.in_ok-given-in-Some.ensures.same.0 c.in_ok-given-in-Some.ensures.same.1
 
 pub returns-in_ok-given-in-Some-clause-turns : goal.returns-in_ok-given-in-Some-clause-turns
 returns-in_ok-given-in-Some-clause-turns g c =
     turn-turns c.args.self.now _ c.find.new.self _ c.recv.new.pass _ (Some c.in-Some.input) _ _ (record { own = refl; actor = refl; clock = refl; feed = refl; batcher = refl; resolver = refl })
     (calls-grow _ _ _ c.in_ok-taken.ensures.own refl c.in_ok-taken.ensures.ok)
-    c.find.ensures.keeps (rw c.in-Some.is at c.find.ensures.finds) c.in_ok-given.ensures.own
-    c.in_ok-given.ensures.steps
+    c.find.ensures.keeps (rw c.in-Some.is at c.find.ensures.finds) c.in_ok-given-in-Some.ensures.own
+    c.in_ok-given-in-Some.ensures.steps
