@@ -4,6 +4,7 @@ use Rattle.std.specs.List.{filter_map}
 use Rattle.simplex_values.specs.declared.feedback.Feedback.{Feedback}
 use Rattle.simplex_messages.specs.declared.handed.Handed.{Handed}
 use Rattle.simplex_messages.specs.declared.step.StepOut.{StepOut}
+use Rattle.simplex_messages.specs.Step.{no_out}
 use Rattle.simplex_shared.specs.declared.op.Op.{Op}
 use Rattle.simplex_shared.specs.declared.op.Op.TheVariants.{Put, Took, Shut}
 use Rattle.simplex_shared.specs.Calls.{calls_by}
@@ -61,6 +62,11 @@ module _ {M : Type 0} where
   puts-next message feedback rest old new after same ends puts =
       let grown = calls-grow old new (Put old.number message feedback) same refl ends in
       puts-then (message ∷ []) rest (calls_of old) (calls_of new) after (subst (λ l. PutsBehind (message ∷ []) (calls_of old) l) (sym grown) (puts-message (calls_of old) message old.number feedback)) puts
+
+  -- a step that gave nothing handed nothing on
+  pub puts-idle : (for_it : Handed → Option M) (out : StepOut) (before after : List (Op M)) → out ≡ no_out → after ≡ before → PutsBehind (filter_map for_it out.handed) before after
+  puts-idle for_it out before after empty same =
+      subst (λ o. PutsBehind (filter_map for_it o.handed) before after) (sym empty) (subst (λ l. PutsBehind [] before l) (sym same) (puts-nothing before))
 
   -- what steps handed on, and one more behind them
   pub handed_on-behind : (for_it : Handed → Option M) (outs : List StepOut) (out : StepOut) → handed_on for_it (outs ++ out ∷ []) ≡ handed_on for_it outs ++ filter_map for_it out.handed

@@ -1,5 +1,7 @@
+pub mod BatcherTurned
 pub mod Drained
 pub mod Handed
+pub mod ResolverTurned
 pub mod Turning
 pub mod VotingPlaces
 pub mod VotingSteps

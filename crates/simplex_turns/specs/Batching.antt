@@ -30,7 +30,7 @@ batcher_input delivery = heard_on delivery.channel delivery.sender delivery.byte
 abbrev pub batcher_step : Made → ℕ → BatcherPlace → Option BatcherInput → BatcherPlace × StepOut
 batcher_step made now place None = (place, no_out)
 batcher_step made now place (Some input) =
-    let timed = record { input = input; now = now } in
+    let timed : Timed = record { input = input; now = now } in
     (record place { past = timed ∷ place.past }, step_out made place.past timed)
 
 -- a turn takes a message, else the next packet of the feed

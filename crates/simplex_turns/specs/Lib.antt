@@ -1,4 +1,5 @@
 pub mod Batching
+pub mod Finding
 pub mod Handing
 pub mod Resolving
 pub mod Threads

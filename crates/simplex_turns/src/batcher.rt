@@ -1,13 +1,21 @@
 //! A batcher on a thread of its own.
-ghost use Rattle.std.specs.Prelude.{◌≡◌, ◌<◌, ◌^◌, IfOk};
-ghost use Rattle.simplex_turns.specs.Threads.{BatcherTurns, BatcherRuns, IsSameBatcher};
+ghost use Rattle.std.specs.Prelude.{◌≡◌, ◌<◌, ◌^◌, drop, filter_map, IfOk, OnOk, MatchOption, Some};
+ghost use Rattle.std.specs.Option.{option_and_then};
+ghost use Rattle.simplex_mailbox.specs.Waiting.{front};
+ghost use Rattle.simplex_messages.specs.declared.batcher.BatcherInput.TheVariants as inputs;
+ghost use Rattle.simplex_messages.specs.Handing.{for_voter};
+ghost use Rattle.simplex_shared.specs.Passes.{IsSamePass, calls_of};
+ghost use Rattle.simplex_steps.specs.Batcher.{step_out};
+ghost use Rattle.simplex_batcher.specs.Stands.{Takes, Answers};
+ghost use Rattle.simplex_turns.specs.Batching.{batcher_input};
+ghost use Rattle.simplex_turns.specs.Handing.{PutsBehind};
 
 use crate::feed::Delivery;
 use crate::handing::put_all;
 use crate::mailboxes::Mailboxes;
 use simplex_batcher::Actor;
 use simplex_gate::Gate;
-use simplex_mailbox::{Held, posted_are_held};
+use simplex_mailbox::Held;
 use simplex_messages::{BatcherInput, StepOut, batcher, voter};
 use simplex_shared::Pass;
 use simplex_types::{Channel, Scheme};
@@ -33,6 +41,8 @@ pub struct BatcherThread<S: Scheme> {
 }
 
 impl<S: Scheme + Drop> BatcherThread<S> {
+    ghost use Rattle.simplex_turns.specs.Threads.{BatcherTurns, BatcherRuns, IsSameBatcher};
+
     /// Makes so many turns, and passes the gate before each. May wait.
     pub fn run<G: Gate, R: Wait>(
         mut self,
@@ -73,7 +83,12 @@ impl<S: Scheme + Drop> BatcherThread<S> {
     }
 
     // The message, else the next packet of the feed as an input: one of another channel is taken, and is none.
-    fn find(&mut self, taken: Option<batcher::Message>) -> Option<BatcherInput> {
+    fn find(&mut self, taken: Option<batcher::Message>) -> Option<BatcherInput>
+        ensures same { (self.new.actor ≡ self.old.actor) × (self.new.now ≡ self.old.now) }
+        ensures passes { (self.new.own ≡ self.old.own) × (self.new.voter ≡ self.old.voter) }
+        ensures found { MatchOption taken ((result ≡ option_and_then batcher_input (front self.old.feed.items)) × (self.new.feed.items ≡ drop 1 self.old.feed.items))
+            (λ message. (result ≡ Some (inputs.Mail message)) × (self.new.feed.items ≡ self.old.feed.items)) }
+    {
         match taken {
             Some(message) => Some(BatcherInput::Mail(message)),
             None => input_of(self.feed.pop_front()?),
@@ -86,8 +101,15 @@ impl<S: Scheme + Drop> BatcherThread<S> {
         rt: &R,
         boxes: &Mailboxes,
         input: BatcherInput,
-    ) -> Result<StepOut, AllocError> {
-        posted_are_held::<voter::Message>();
+    ) -> Result<StepOut, AllocError>
+        requires clock { self.old.now < 2 ^ 63 }
+        requires own { self.old.voter.mailbox ≡ boxes.now.voter }
+        ensures same { OnOk result ((self.new.own ≡ self.old.own) × (self.new.now ≡ self.old.now) × (self.new.feed.items ≡ self.old.feed.items)) }
+        ensures voter { OnOk result (IsSamePass self.old.voter self.new.voter) }
+        ensures put { IfOk result (λ out. PutsBehind (filter_map for_voter out.handed) (calls_of self.old.voter) (calls_of self.new.voter)) }
+        ensures stands { OnOk result (Takes S.verifies S.recovers S.members S.member self.old.actor self.new.actor (record { input = input; now = self.old.now })) }
+        ensures out { IfOk result (λ out. Answers S.verifies S.recovers S.members S.member self.old.actor (λ made past. step_out made past (record { input = input; now = self.old.now })) out) }
+    {
         let mut out = StepOut::new(self.alloc);
         let mut held = Held::new(self.alloc);
         self.actor.step(input, self.now, &mut held, &mut out)?;
@@ -97,7 +119,9 @@ impl<S: Scheme + Drop> BatcherThread<S> {
 }
 
 // A packet as an input of the batcher, where it is one of its channels.
-fn input_of(delivery: Delivery) -> Option<BatcherInput> {
+fn input_of(delivery: Delivery) -> Option<BatcherInput>
+    ensures { result ≡ batcher_input delivery }
+{
     let Delivery {
         sender,
         channel,

@@ -1,12 +1,19 @@
 //! A resolver on a thread of its own.
-ghost use Rattle.std.specs.Prelude.{◌≡◌, ◌<◌, ◌^◌, IfOk};
-ghost use Rattle.simplex_turns.specs.Threads.{ResolverTurns, ResolverRuns, IsSameResolver};
+ghost use Rattle.std.specs.Prelude.{◌≡◌, ◌<◌, ◌^◌, filter_map, if◌then◌else◌, IfOk, OnOk, None, Some, true};
+ghost use Rattle.simplex_messages.specs.declared.resolver.ResolverInput.TheVariants as inputs;
+ghost use Rattle.simplex_messages.specs.Handing.{for_voter};
+ghost use Rattle.simplex_shared.specs.Passes.{IsSamePass, calls_of};
+ghost use Rattle.simplex_resolving.specs.Resolver.{Stepped, step_out, holds_handled, deadline_after};
+ghost use Rattle.simplex_resolving.specs.Views.{is_reached};
+ghost use Rattle.simplex_resolver.specs.Stands.{Takes, Answers};
+ghost use Rattle.simplex_turns.specs.Handing.{PutsBehind};
+ghost use Rattle.simplex_turns.specs.Resolving.{resolver_input};
 
 use crate::feed::Delivery;
 use crate::handing::put_all;
 use crate::mailboxes::Mailboxes;
 use simplex_gate::Gate;
-use simplex_mailbox::{Held, posted_are_held};
+use simplex_mailbox::Held;
 use simplex_messages::resolver::MailboxMessage;
 use simplex_messages::{ResolverInput, StepOut, voter};
 use simplex_resolver::Actor;
@@ -34,6 +41,9 @@ pub struct ResolverThread<S: Scheme> {
 }
 
 impl<S: Scheme + Drop> ResolverThread<S> {
+    ghost use Rattle.simplex_turns.specs.Finding.{ResolverFinds};
+    ghost use Rattle.simplex_turns.specs.Threads.{ResolverTurns, ResolverRuns, IsSameResolver};
+
     /// Makes so many turns, and passes the gate before each. May wait.
     pub fn run<G: Gate, R: Wait>(
         mut self,
@@ -75,7 +85,10 @@ impl<S: Scheme + Drop> ResolverThread<S> {
     }
 
     // The message, else what the resolver finds of its own.
-    fn find(&mut self, taken: Option<MailboxMessage>) -> Option<ResolverInput> {
+    fn find(&mut self, taken: Option<MailboxMessage>) -> Option<ResolverInput>
+        ensures same { (self.new.own ≡ self.old.own) × (self.new.voter ≡ self.old.voter) × (self.new.now ≡ self.old.now) }
+        ensures finds { ResolverFinds self.old self.new taken result }
+    {
         match taken {
             Some(message) => Some(ResolverInput::Mail(message)),
             None => self.find_own(),
@@ -83,9 +96,12 @@ impl<S: Scheme + Drop> ResolverThread<S> {
     }
 
     // A message of the handler, else the next packet of the feed, else a deadline that is reached.
-    fn find_own(&mut self) -> Option<ResolverInput> {
+    fn find_own(&mut self) -> Option<ResolverInput>
+        ensures same { (self.new.own ≡ self.old.own) × (self.new.voter ≡ self.old.voter) × (self.new.now ≡ self.old.now) }
+        ensures finds { ResolverFinds self.old self.new None result }
+    {
         if self.actor.holds_handler() {
-            return Some(ResolverInput::Handler(self.actor.take_handler()?));
+            return self.find_handled();
         }
         match self.feed.pop_front() {
             Some(delivery) => input_of(delivery),
@@ -93,10 +109,20 @@ impl<S: Scheme + Drop> ResolverThread<S> {
         }
     }
 
+    // The first message of the handler, which holds one.
+    fn find_handled(&mut self) -> Option<ResolverInput>
+        ensures same { (self.new.own ≡ self.old.own) × (self.new.voter ≡ self.old.voter) × (self.new.now ≡ self.old.now) }
+        ensures finds { Answers S.verifies S.members S.member self.old.actor (λ made past. holds_handled made past) true → ResolverFinds self.old self.new None result }
+    {
+        let message = self.actor.take_handler()?;
+        Some(ResolverInput::Handler(message))
+    }
+
     // A deadline of the fetcher that is reached.
-    fn find_deadline(&self) -> Option<ResolverInput> {
-        let deadline = self.actor.next_deadline()?;
-        if deadline <= self.now {
+    fn find_deadline(&self) -> Option<ResolverInput>
+        ensures { Answers S.verifies S.members S.member self.entry.now.actor (λ made past. if is_reached self.entry.now.now (deadline_after made past) then Some inputs.Timer else None) result }
+    {
+        if is_reached(self.now, self.actor.next_deadline()) {
             Some(ResolverInput::Timer)
         } else {
             None
@@ -109,8 +135,15 @@ impl<S: Scheme + Drop> ResolverThread<S> {
         rt: &R,
         boxes: &Mailboxes,
         input: ResolverInput,
-    ) -> Result<StepOut, AllocError> {
-        posted_are_held::<voter::Message>();
+    ) -> Result<StepOut, AllocError>
+        requires clock { self.old.now < 2 ^ 63 }
+        requires own { self.old.voter.mailbox ≡ boxes.now.voter }
+        ensures same { OnOk result ((self.new.own ≡ self.old.own) × (self.new.now ≡ self.old.now) × (self.new.feed.items ≡ self.old.feed.items)) }
+        ensures voter { OnOk result (IsSamePass self.old.voter self.new.voter) }
+        ensures put { IfOk result (λ out. PutsBehind (filter_map for_voter out.handed) (calls_of self.old.voter) (calls_of self.new.voter)) }
+        ensures stands { OnOk result (Takes S.verifies S.members S.member self.old.actor self.new.actor (Stepped input self.old.now)) }
+        ensures out { IfOk result (λ out. Answers S.verifies S.members S.member self.old.actor (λ made past. step_out made past input self.old.now) out) }
+    {
         let mut out = StepOut::new(self.alloc);
         let mut held = Held::new(self.alloc);
         self.actor.step(input, self.now, &mut held, &mut out)?;
@@ -120,7 +153,9 @@ impl<S: Scheme + Drop> ResolverThread<S> {
 }
 
 // A packet as an input of the resolver, where it is one of its channel.
-fn input_of(delivery: Delivery) -> Option<ResolverInput> {
+fn input_of(delivery: Delivery) -> Option<ResolverInput>
+    ensures { result ≡ resolver_input delivery }
+{
     let Delivery {
         sender,
         channel,
@@ -130,4 +165,11 @@ fn input_of(delivery: Delivery) -> Option<ResolverInput> {
         Channel::Vote | Channel::Certificate => None,
         Channel::Resolver => Some(ResolverInput::Packet { sender, bytes }),
     }
+}
+
+// Whether the clock has reached the deadline, if there is one.
+fn is_reached(now: u64, deadline: Option<u64>) -> bool
+    ensures { result ≡ is_reached now deadline }
+{
+    deadline.is_some_and(|deadline| deadline <= now)
 }
