@@ -11,3 +11,4 @@ pub mod Stages
 pub mod Settling
 pub mod Limits
 pub mod Making
+pub mod Told

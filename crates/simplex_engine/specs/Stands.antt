@@ -263,7 +263,7 @@ module _ {S L J : Type 0} {s : scheme.Ghosts S} {l : elector.Ghosts L} {j : jour
 
   -- the clock of the last call that was not refused
   abbrev pub clock_of : Engine S L J s l j → ℕ
-  clock_of engine = engine.clock
+  clock_of engine = engine.clock.ms
 
   -- whether it takes inputs, and why it does not
   abbrev pub is_at_work : Stage S L J s l j → Bool

@@ -18,6 +18,7 @@ ghost use Rattle.simplex_engine.specs.Stands.{StandsOver, StaysOver, AnswersOver
 ghost use Rattle.simplex_voter.specs.Actor as voters;
 
 use crate::boxes::Boxes;
+use crate::clock::Clock;
 use crate::config::EngineConfig;
 use crate::crew::Crew;
 use crate::error::{NewError, PollError};
@@ -36,7 +37,7 @@ use std::mem;
 pub struct Engine<S: Scheme, L: Elector, J: Journal> {
     alloc: Global,
     // of the last call that was not refused
-    clock: u64,
+    clock: Clock,
     stage: Stage<S, L, J>,
 }
 
@@ -111,7 +112,7 @@ impl<S: Scheme + Keep + Drop, L: Elector + Drop, J: Journal + Drop> Engine<S, L,
         };
         Ok(Engine {
             alloc,
-            clock: 0,
+            clock: Clock { ms: 0 },
             stage: Stage::Waiting(unstarted),
         })
     }
@@ -144,7 +145,7 @@ impl<S: Scheme + Drop, L: Elector + Drop, J: Journal + Drop> Engine<S, L, J> {
                 let mut crew = crew_of(unstarted, self.alloc, now)?;
                 let outcome = crew.start(now, stop, out)?;
                 self.stage = stage_after(crew, outcome);
-                self.clock = now;
+                self.clock = Clock { ms: now };
                 Ok(outcome)
             }
             Stage::Running(crew) => {
@@ -301,11 +302,17 @@ impl<S: Scheme + Drop, L: Elector + Drop, J: Journal + Drop> Engine<S, L, J> {
         }
     }
 
+    /// What is known of an engine over a journal that tells that no call of it will fail is known of it over any.
+    pub fn stands_over(&self)
+        ensures { (made : EngineMade) (past : List Did) → StandsFor self.now made past → StandsOver self.now made past }
+    {}
+
     /// The clock of the last call that was not refused, in milliseconds; before the start 0.
     pub fn clock(&self) -> u64
-        ensures { result ≡ clock_of self.now }
+        ensures value { result ≡ clock_of self.now }
+        ensures in_time { result < 2 ^ 63 }
     {
-        self.clock
+        self.clock.ms
     }
 
     /// The view that the voter is in, while the engine runs; before its start 1.
@@ -337,11 +344,12 @@ impl<S: Scheme + Drop, L: Elector + Drop, J: Journal + Drop> Engine<S, L, J> {
 }
 
 // The clock after a poll that ended so: a refused one leaves it.
-fn clock_after(before: u64, given: &Result<Polled, PollError>, now: u64) -> u64
-    ensures { result ≡ clock_after before given.now now }
+fn clock_after(before: Clock, given: &Result<Polled, PollError>, now: u64) -> Clock
+    requires { now < 2 ^ 63 }
+    ensures { result.ms ≡ clock_after before.ms given.now now }
 {
     match given {
-        Ok(_) => now,
+        Ok(_) => Clock { ms: now },
         Err(_) => before,
     }
 }

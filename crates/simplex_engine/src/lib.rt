@@ -7,6 +7,7 @@
 
 mod asking;
 mod boxes;
+mod clock;
 mod config;
 mod crew;
 mod engine;

@@ -8,13 +8,19 @@
 mod batcher;
 mod feed;
 mod handing;
+mod logs;
 mod mailboxes;
+mod opening;
 mod resolver;
+mod team;
 mod voter;
 
 pub use batcher::BatcherThread;
 pub use feed::{Delivery, FeedItem};
 pub use handing::{drain, put_all};
+pub use logs::Logs;
 pub use mailboxes::Mailboxes;
+pub use opening::{open_for_three, open_for_two};
 pub use resolver::ResolverThread;
+pub use team::{Outs, Team};
 pub use voter::VoterThread;

@@ -75,6 +75,7 @@ fn waiting_verify(verify: &Option<OpenRequest>) -> Option<u64>
 }
 
 // The first open Certify that waits for its answer: they stand in the order in which they were opened.
+#[tactic(auto, unfolding(crate::specs::Arrivals::first_waiting))]
 fn waiting_certify(certify: &[OpenRequest]) -> Option<u64>
     ensures { result ≡ first_waiting certify.now }
 {

@@ -1,0 +1,158 @@
+-- From what the turns of the actors did to what a run on threads gives.
+use Rattle.std.proofs.Common.{◌≡◌, ℕ, List, [], ◌∷◌, ◌++◌, Bool, true, false, length, map, Option, refl, sym, ap, subst, ◌∙◌, length-map}
+use Rattle.simplex_wire.specs.declared.scheme.Scheme as scheme
+use Rattle.simplex_types.specs.declared.elector.Elector as elector
+use Rattle.simplex_journal.specs.declared.journal.Journal as journal
+use Rattle.simplex_values.specs.declared.proposal.Subject.{Subject}
+use Rattle.simplex_values.specs.declared.round.Round.{Round}
+use Rattle.simplex_wire.specs.declared.attestation.Attestation.{Attestation}
+use Rattle.simplex_journal.specs.Journal.{Section}
+use Rattle.simplex_journal.specs.Order.{Order}
+use Rattle.simplex_mailbox.specs.Mail.{Mail}
+use Rattle.simplex_mailbox.specs.Waiting.{Waiting}
+use Rattle.simplex_messages.specs.declared.step.StepOut.{StepOut}
+use Rattle.simplex_messages.specs.Handing.{for_batcher, for_voter, for_resolver}
+use Rattle.simplex_shared.specs.declared.op.Op.{Op}
+use Rattle.simplex_shared.specs.declared.op.Op.TheVariants.{Took}
+use Rattle.simplex_shared.specs.declared.terms.Terms.{Terms}
+use Rattle.simplex_shared.specs.Calls.{calls_by}
+use Rattle.simplex_shared.specs.History.{caller_of}
+use Rattle.simplex_shared.specs.Passes.{Viewer, IsSamePass, calls_of}
+use Rattle.simplex_steps.specs.Engine.{none_skipped}
+use Rattle.simplex_steps.specs.VoterLife.{VoterMade, Given, Place, place_of}
+use Rattle.simplex_messages.specs.declared.step.Outcome.{Outcome}
+use Rattle.simplex_voter.specs.declared.actor.Actor.{Actor}
+use Rattle.simplex_voter.specs.Actor.{StandsFor, journal_of}
+use Rattle.simplex_engine.specs.declared.crew.Crew.{Crew}
+use Rattle.simplex_engine.specs.Parts.{Parts}
+use Rattle.simplex_engine.specs.Stands.{Holds, faults_in}
+use Rattle.simplex_turns.specs.declared.mailboxes.Mailboxes.{Mailboxes}
+use Rattle.simplex_turns.specs.declared.team.Team.{Team}
+use Rattle.simplex_turns.specs.declared.team.Outs.{Outs}
+use Rattle.simplex_turns.specs.declared.logs.Logs.{Logs}
+use Rattle.simplex_turns.specs.Turns.{outs_of, after}
+use Rattle.simplex_turns.specs.Handing.{Puts, PutsBehind, Filled, IsRecord, handed_on}
+use Rattle.simplex_turns.specs.Batching.{batcher_turn}
+use Rattle.simplex_turns.specs.Resolving.{resolver_turn}
+use Rattle.simplex_turns.specs.Voting.{voter_turn, outcomes_of, unstopped}
+use Rattle.simplex_turns.specs.Threads.{BatcherIsAt, BatcherRuns, IsSameBatcher, ResolverIsAt, ResolverRuns, IsSameResolver, VoterIsAt, VoterRuns, IsSameVoter, Ended, took_of}
+use Rattle.simplex_turns.specs.Team.{ShareMailboxes, Records, Has}
+use Rattle.simplex_threads.specs.declared.run.Feed.{Feed}
+use Rattle.simplex_threads.specs.declared.run.ThreadRun.{ThreadRun}
+use Rattle.simplex_threads.specs.Ran.{Takes, BatcherRan, ResolverRan, VoterRan, VoterRanWhole, IsHandedOn, batcher_start, resolver_start, voter_start}
+use Rattle.simplex_threads.specs.Ready.{IsReady}
+
+-- the log has the calls of the pass, whatever it was called when it had this number
+by-number : {M : Type 0} (log : List (Op M)) (old new : Viewer M) (number : ℕ) → old.number ≡ number → IsSamePass old new → Has log new
+    → calls_by caller_of number log ≡ calls_of new
+by-number log old new number is same has = ap (λ (n : ℕ). calls_by caller_of n log) (sym (same.1 ∙ is)) ∙ has
+
+-- the calls of the one who takes
+takes-of : {M : Type 0} (skips : M → Bool) (held mailbox : Mail M) (log : List (Op M)) (old new : Viewer M) (taken : List (Option M))
+    → held ≡ mailbox → Filled skips held (calls_of old) → old.number ≡ 0 → IsSamePass old new → Has log new
+    → calls_of new ≡ calls_of old ++ map (Took old.number) taken → Takes skips mailbox taken (calls_by caller_of 0 log)
+takes-of skips held mailbox log old new taken is filled zero same has took =
+    record {
+      first = calls_of old;
+      fills = subst (λ (mail : Mail _). Filled skips mail (calls_of old)) is filled;
+      all = by-number log old new 0 zero same has ∙ took ∙ ap (λ (n : ℕ). calls_of old ++ map (Took n) taken) zero;
+    }
+
+-- the calls of one who puts, which had made none
+puts-of : {M : Type 0} (messages : List M) (log : List (Op M)) (old new : Viewer M) (number : ℕ)
+    → old.number ≡ number → IsSamePass old new → Has log new → calls_of old ≡ [] → PutsBehind messages (calls_of old) (calls_of new)
+    → Puts messages (calls_by caller_of number log)
+puts-of messages log old new number is same has none put =
+    subst (λ (calls : List (Op _)). Puts messages calls) (sym (by-number log old new number is same has ∙ put.1 ∙ ap (λ (calls : List (Op _)). calls ++ put.0) none)) put.2
+
+-- the record is one of a mailbox of this capacity
+record-of : {M : Type 0} (handle : Waiting M → M → Waiting M) (skips : M → Bool) (terms : Terms) (passes : ℕ) (held mailbox : Mail M) (log : List (Op M))
+    → terms ≡ record { capacity = held.capacity; passes = passes } → held ≡ mailbox → IsRecord handle skips terms.capacity terms.passes log → IsRecord handle skips mailbox.capacity passes log
+record-of handle skips terms passes held mailbox log are is kept =
+    subst (λ (terms : Terms). IsRecord handle skips terms.capacity terms.passes log) (are ∙ ap (λ (mail : Mail _). record { capacity = mail.capacity; passes = passes }) is) kept
+
+-- over a journal that tells, the voter's journal holds what its history says
+held-told : {S L J : Type 0} (attests : S → Subject → Option Attestation) (elects : L → Round → ℕ) (sections : J → List Section) (order : J → Option Order) (actor : Actor S L J) (made : VoterMade) (past : List Given)
+    → StandsFor attests elects sections order actor made past → sections (journal_of actor) ≡ (place_of made past).sections
+unfolding StandsFor
+held-told attests elects sections order actor made past stands = stands.sections_are
+
+module _ {S L J : Type 0} {s : scheme.Ghosts S} {l : elector.Ghosts L} {j : journal.Ghosts J} {crew : Crew S L J s l j} {now turns : ℕ} {feed : Feed} {old new : Team S L J s l j} {outs : Outs} {logs : Logs} (ready : IsReady crew now feed old) (boxes : new.boxes ≡ old.boxes) (records : Records new logs) where
+  pub batcher-ran : IsSameBatcher old.batcher new.batcher → BatcherRuns old.batcher new.batcher turns outs.batcher.items → (parts : Parts) → Holds false crew parts
+      → BatcherRan parts now turns feed.batcher.items logs.batcher outs.batcher.items
+  batcher-ran same ran parts h =
+      record {
+        taken = ran.taken;
+        count = ran.count;
+        calls = takes-of none_skipped _ _ logs.batcher _ _ ran.taken h.to_batcher ready.batcher_filled ready.takers.0 same.own records.batcher_own ran.took;
+        gave = subst (λ (clock : ℕ). outs.batcher.items ≡ outs_of (batcher_turn parts.batcher clock) (batcher_start parts feed.batcher.items) ran.taken) ready.clocks.0
+            (ran.gives parts.batcher (batcher_start parts feed.batcher.items) is-at).0;
+        is_record = record-of _ _ _ 2 _ _ logs.batcher (ap (λ (m : Mailboxes). m.batcher.terms) boxes ∙ ready.batcher_terms) h.to_batcher records.batcher;
+      }
+    where
+      is-at : BatcherIsAt old.batcher parts.batcher (batcher_start parts feed.batcher.items)
+      is-at = record { stands = rw ready.batcher h.batcher; feed = ready.batcher_feed }
+
+  pub resolver-ran : IsSameResolver old.resolver new.resolver → ResolverRuns old.resolver new.resolver turns outs.resolver.items → (parts : Parts) → Holds false crew parts
+      → ResolverRan parts now turns feed.resolver.items logs.resolver outs.resolver.items
+  resolver-ran same ran parts h =
+      record {
+        taken = ran.taken;
+        count = ran.count;
+        calls = takes-of none_skipped _ _ logs.resolver _ _ ran.taken h.to_resolver ready.resolver_filled ready.takers.2 same.own records.resolver_own ran.took;
+        gave = subst (λ (clock : ℕ). outs.resolver.items ≡ outs_of (resolver_turn parts.resolver clock) (resolver_start parts feed.resolver.items) ran.taken) ready.clocks.2
+            (ran.gives parts.resolver (resolver_start parts feed.resolver.items) is-at).0;
+        is_record = record-of _ _ _ 2 _ _ logs.resolver (ap (λ (m : Mailboxes). m.resolver.terms) boxes ∙ ready.resolver_terms) h.to_resolver records.resolver;
+      }
+    where
+      is-at : ResolverIsAt old.resolver parts.resolver (resolver_start parts feed.resolver.items)
+      is-at = record { stands = rw ready.resolver h.resolver; feed = ready.resolver_feed }
+
+  voter-at : (told : Bool) (parts : Parts) → Holds told crew parts → VoterIsAt told old.voter parts.voter (voter_start parts now feed.voter.items)
+  voter-at told parts h =
+      record {
+        given = h.voter.given;
+        stands = rw ready.voter h.voter.stands;
+        place_is = h.voter.place;
+        now = ready.clocks.1;
+        feed = ready.voter_feed;
+      }
+
+  pub voter-ran : IsSameVoter old.voter new.voter → VoterRuns old.voter new.voter turns outs.voter.items → (parts : Parts) → Holds false crew parts
+      → VoterRan parts now turns feed.voter.items logs.voter outs.voter.items (faults_in crew) (j.fault_count (journal_of new.voter.actor)) (j.sections (journal_of new.voter.actor))
+  voter-ran same ran parts h =
+      let over = ran.over parts.voter (voter_start parts now feed.voter.items) (voter-at false parts h) in
+      record {
+        did = ran.did;
+        free = ran.free;
+        ended = subst (λ (ends : List Outcome). Ended turns ends (faults_in crew) (j.fault_count (journal_of new.voter.actor))) over.0
+            (subst (λ (actor : Actor S L J). Ended turns ran.ends (j.fault_count (journal_of actor)) (j.fault_count (journal_of new.voter.actor))) ready.voter ran.ended);
+        calls = takes-of none_skipped _ _ logs.voter _ _ (map took_of ran.did) h.to_voter ready.voter_filled ready.takers.1 same.own records.voter_own ran.took;
+        gave = over.1;
+        journal = over.2;
+        is_record = record-of _ _ _ 3 _ _ logs.voter (ap (λ (m : Mailboxes). m.voter.terms) boxes ∙ ready.voter_terms) h.to_voter records.voter;
+      }
+
+  pub voter-ran-whole : IsSameVoter old.voter new.voter → VoterRuns old.voter new.voter turns outs.voter.items → (parts : Parts) → Holds true crew parts
+      → VoterRanWhole parts now turns feed.voter.items logs.voter outs.voter.items (j.sections (journal_of new.voter.actor))
+  voter-ran-whole same ran parts h =
+      let told = ran.told parts.voter (voter_start parts now feed.voter.items) (voter-at true parts h) in
+      record {
+        taken = map took_of ran.did;
+        count = length-map took_of ran.did ∙ told.0;
+        calls = takes-of none_skipped _ _ logs.voter _ _ (map took_of ran.did) h.to_voter ready.voter_filled ready.takers.1 same.own records.voter_own ran.took;
+        gave = told.1.0;
+        journal = held-told s.attests l.elects j.sections j.order _ _ _ told.1.1.stands ∙ ap (λ (place : Place). place.sections) told.1.1.place_is;
+      }
+
+  pub all-handed : (run : ThreadRun J) → run.batcher ≡ outs.batcher → run.voter ≡ outs.voter → run.resolver ≡ outs.resolver → run.logs ≡ logs
+      → IsSameBatcher old.batcher new.batcher → BatcherRuns old.batcher new.batcher turns outs.batcher.items
+      → IsSameVoter old.voter new.voter → VoterRuns old.voter new.voter turns outs.voter.items
+      → IsSameResolver old.resolver new.resolver → ResolverRuns old.resolver new.resolver turns outs.resolver.items → IsHandedOn run
+  all-handed run batched voted resolved logged same-batcher ran-batcher same-voter ran-voter same-resolver ran-resolver =
+      record {
+        voter_to_batcher = rw (voted, logged) (puts-of _ logs.batcher _ _ 1 ready.givers.0 same-voter.batcher records.voter_batcher ready.unused.0 ran-voter.to_batcher);
+        batcher_to_voter = rw (batched, logged) (puts-of _ logs.voter _ _ 1 ready.givers.2 same-batcher.voter records.batcher_voter ready.unused.2 ran-batcher.put);
+        resolver_to_voter = rw (resolved, logged) (puts-of _ logs.voter _ _ 2 ready.givers.3 same-resolver.voter records.resolver_voter ready.unused.3 ran-resolver.put);
+        voter_to_resolver = rw (voted, logged) (puts-of _ logs.resolver _ _ 1 ready.givers.1 same-voter.resolver records.voter_resolver ready.unused.1 ran-voter.to_resolver);
+      }

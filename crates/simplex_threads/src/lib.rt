@@ -1,0 +1,15 @@
+//! An engine on threads: each of its actors on one of its own.
+//!
+//! The actors share their mailboxes, which record what was put into them and taken from them. What each actor gave is what
+//! its rules give, turn by turn, for what the records say that it took. No promise is made that threads run at once, or in
+//! which order.
+#![tactic(auto)]
+
+mod run;
+mod start;
+
+pub use run::{Feed, ThreadRun};
+pub use simplex_gate::{Gate, OpenGate};
+pub use simplex_turns::{Delivery, FeedItem, Logs};
+pub use simplex_voter::AskKind;
+pub use start::start_threads;
