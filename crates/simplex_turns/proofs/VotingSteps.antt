@@ -130,16 +130,14 @@ module _ {S L J : Type 0} {s : scheme.Ghosts S} {l : elector.Ghosts L} {j : jour
     faults = faults;
     told = λ made place h.
         let gave = gives made h.given h.stands in
-        let is = step-is old new input stops.None now feed true made place h in
-        (
+        let is = step-is old new input stops.None now feed true made place h in (
           λ broken. unstopped-goes made h.given input old.now (sym gave.0 ∙ broken),
           gave.1 ∙ ap (λ p. p.out) is,
           step-stands old new input stops.None now feed true made place h (takes made h.given h.stands),
         );
     over = λ made place h.
         let gave = fares.gives made h.given h.stands in
-        let is = step-is old new input fares.turned now feed false made place h in
-        (
+        let is = step-is old new input fares.turned now feed false made place h in (
           gave.0 ∙ ap (λ p. p.outcome) is,
           gave.1 ∙ ap (λ p. p.out) is,
           fares.leaves made h.given h.stands ∙ step-left old new input fares.turned now feed false made place h,

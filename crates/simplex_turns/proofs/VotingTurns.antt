@@ -133,8 +133,7 @@ module _ {S L J : Type 0} {s : scheme.Ghosts S} {l : elector.Ghosts L} {j : jour
         → (ran.ends ++ outcome ∷ [] ≡ outcomes_of made place all) × (outs ++ out ∷ [] ≡ outs_of (voter_turn made) place all) × (j.sections (journal_of new.actor) ≡ leave made place all)
     over-all made place h =
         let so_far = ran.over made place h in
-        let t = last.over made (after (voter_turn made) place ran.did) (ran.stands made place h) in
-        (
+        let t = last.over made (after (voter_turn made) place ran.did) (ran.stands made place h) in (
           ap (λ ends. ends ++ outcome ∷ []) so_far.0 ∙ ap (λ o. outcomes_of made place ran.did ++ o ∷ []) t.0 ∙ sym (outcomes-more made place ran.did last.turn),
           ap (λ list. list ++ out ∷ []) so_far.1 ∙ ap (λ o. outs_of (voter_turn made) place ran.did ++ o ∷ []) t.1 ∙ sym (outs_of-behind (voter_turn made) place ran.did last.turn),
           t.2 ∙ sym (leave-more made place ran.did last.turn),

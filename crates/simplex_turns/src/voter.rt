@@ -75,11 +75,7 @@ impl<S: Scheme + Drop, L: Elector + Drop, J: Journal + Drop> VoterThread<S, L, J
 
     /// Takes a message, else a held payload whose parent is certified, else the next item of its feed, and makes a step on
     /// it. May wait.
-    fn turn<R: Wait>(
-        &mut self,
-        rt: &R,
-        boxes: &Mailboxes,
-    ) -> Result<(Outcome, StepOut), AllocError>
+    fn turn<R: Wait>(&mut self, rt: &R, boxes: &Mailboxes) -> Result<(Outcome, StepOut), AllocError>
         requires clock { (self.old.now < 2 ^ 63) × All IsInTime self.old.feed.items }
         requires own { (self.old.own.mailbox ≡ boxes.now.voter) × (self.old.batcher.mailbox ≡ boxes.now.batcher) × (self.old.resolver.mailbox ≡ boxes.now.resolver) }
         ensures clock { IfOk result (λ _. (self.new.now < 2 ^ 63) × All IsInTime self.new.feed.items) }
