@@ -3,3 +3,6 @@ pub mod Drained
 pub mod Handed
 pub mod ResolverTurned
 pub mod Turning
+pub mod VotingPlaces
+pub mod VotingSteps
+pub mod VotingTurns

@@ -7,8 +7,11 @@ use Rattle.simplex_journal.specs.declared.journal.Journal as journal
 use Rattle.simplex_journal.specs.Faults.{Rose}
 use Rattle.simplex_messages.specs.declared.batcher.Message as batcher_message
 use Rattle.simplex_messages.specs.declared.voter.Message as voter_message
+use Rattle.simplex_messages.specs.declared.voter.VoterInput.{VoterInput}
 use Rattle.simplex_messages.specs.declared.resolver.MailboxMessage.{MailboxMessage}
 use Rattle.simplex_messages.specs.declared.step.StepOut.{StepOut}
+use Rattle.simplex_messages.specs.declared.step.Stop.{Stop}
+use Rattle.simplex_messages.specs.declared.step.Stop.TheVariants as stops
 use Rattle.simplex_messages.specs.declared.step.Outcome.{Outcome}
 use Rattle.simplex_messages.specs.declared.step.Outcome.TheVariants as outcomes
 use Rattle.simplex_messages.specs.Handing.{for_batcher, for_voter, for_resolver}
@@ -30,7 +33,7 @@ use Rattle.simplex_turns.specs.Turns.{outs_of, Gives}
 use Rattle.simplex_turns.specs.Handing.{PutsBehind, handed_on}
 use Rattle.simplex_turns.specs.Batching.{BatcherPlace, batcher_turn}
 use Rattle.simplex_turns.specs.Resolving.{ResolverPlace, resolver_turn}
-use Rattle.simplex_turns.specs.Voting.{VoterPlace, Turn, voter_turn, turn_outcome, turn_leaves, outcomes_of, leave, unstopped}
+use Rattle.simplex_turns.specs.Voting.{VoterPlace, Found, Turn, voter_step, step_outcome, step_leaves, voter_turn, turn_outcome, turn_leaves, outcomes_of, leave, unstopped}
 
 -- a clock that the actors take
 abbrev pub IsInTime : FeedItem → Type 0
@@ -126,9 +129,37 @@ module _ {S L J : Type 0} {s : scheme.Ghosts S} {l : elector.Ghosts L} {j : jour
     pub batcher : IsSamePass old.batcher new.batcher
     pub resolver : IsSamePass old.resolver new.resolver
 
+  -- its passes and its journal are the same
+  pub record KeepsVoter (old new : VoterThread S L J s l j) : Type 0 where
+    pub own : new.own ≡ old.own
+    pub batcher : new.batcher ≡ old.batcher
+    pub resolver : new.resolver ≡ old.resolver
+    pub journal : journal_of new.actor ≡ journal_of old.actor
+
+  -- wherever the old voter is, this is what the rule finds there, and the new one is at the place where its step is made
+  abbrev pub Finds : VoterThread S L J s l j → VoterThread S L J s l j → (VoterMade → VoterPlace → Found) → Option VoterInput → Type 0
+  Finds old new rule found =
+      (told : Bool) (made : VoterMade) (place : VoterPlace) → VoterIsAt told old made place
+      → (found ≡ (rule made place).1) × VoterIsAt told new made (rule made place).0
+
   -- how many calls of the voter's journal failed, and what it holds
   abbrev pub faults_in : VoterThread S L J s l j → ℕ
   faults_in thread = j.fault_count (journal_of thread.actor)
+
+  -- What a step on this did, or an empty one. Where no call of the journal fails it gave what the rule gives. Over any
+  -- journal there is a stop that none became by what the journal did, with which the rule gives that.
+  pub record VoterSteps (old new : VoterThread S L J s l j) (found : Option VoterInput) (outcome : Outcome) (out : StepOut) : Type 0 where
+    pub stop : Stop
+    pub free : IsOfJournal stop
+    pub to_batcher : PutsBehind (filter_map for_batcher out.handed) (calls_of old.batcher) (calls_of new.batcher)
+    pub to_resolver : PutsBehind (filter_map for_resolver out.handed) (calls_of old.resolver) (calls_of new.resolver)
+    pub faults : FaultsAt outcome (faults_in old) (faults_in new)
+    pub told : (made : VoterMade) (place : VoterPlace) → VoterIsAt true old made place
+        → IsUnbroken outcome × (out ≡ (voter_step made (place, found) stops.None).1) × VoterIsAt true new made (voter_step made (place, found) stops.None).0
+    pub over : (made : VoterMade) (place : VoterPlace) → VoterIsAt false old made place
+        → (outcome ≡ step_outcome made (place, found) stop) × (out ≡ (voter_step made (place, found) stop).1) × (j.sections (journal_of new.actor) ≡ step_leaves made (place, found) stop)
+    pub stands : IsUnbroken outcome
+        → (made : VoterMade) (place : VoterPlace) → VoterIsAt false old made place → VoterIsAt false new made (voter_step made (place, found) stop).0
 
   -- A turn took one message, or found none, and handed on what it gave. Where no call of the journal fails it gave what the
   -- rule gives. Over any journal there is a stop that none became by what the journal did, with which the rule gives that;

@@ -1,6 +1,6 @@
 //! A voter on a thread of its own.
-ghost use Rattle.std.specs.Prelude.{◌≡◌, ◌<◌, ◌^◌, All, IfOk};
-ghost use Rattle.simplex_turns.specs.Threads.{VoterTurns, VoterRuns, IsSameVoter, IsInTime};
+ghost use Rattle.std.specs.Prelude.{◌≡◌, ◌<◌, ◌^◌, Bool, All, IfOk, Some, None};
+ghost use Rattle.simplex_turns.specs.Voting.{taken_by};
 
 use crate::feed::FeedItem;
 use crate::handing::put_all;
@@ -41,6 +41,12 @@ pub struct VoterThread<S: Scheme, L: Elector, J: Journal> {
 }
 
 impl<S: Scheme + Drop, L: Elector + Drop, J: Journal + Drop> VoterThread<S, L, J> {
+    ghost use Rattle.simplex_shared.specs.Passes.{IsSamePass};
+    ghost use Rattle.simplex_steps.specs.VoterLife.{VoterMade, place_of};
+    ghost use Rattle.simplex_turns.specs.declared.feed.FeedItem.TheVariants as items;
+    ghost use Rattle.simplex_turns.specs.Threads.{VoterIsAt, KeepsVoter, Finds, VoterSteps, VoterTurns, VoterRuns, IsSameVoter, IsInTime};
+    ghost use Rattle.simplex_turns.specs.Voting.{VoterPlace, finds, on_item, holds_candidate};
+
     /// Makes so many turns, and passes the gate before each. A turn that a failing call of the journal ends is the last.
     /// May wait.
     pub fn run<G: Gate, R: Wait>(
@@ -60,8 +66,8 @@ impl<S: Scheme + Drop, L: Elector + Drop, J: Journal + Drop> VoterThread<S, L, J
             gate.pass(1, turn + 1);
             let (outcome, out) = self.turn(rt, boxes)?;
             outs.push(out)?;
-            if matches!(outcome, Outcome::Journal) {
-                break;
+            if let Outcome::Journal = outcome {
+                return Ok((self, outs));
             }
         }
         Ok((self, outs))
@@ -69,11 +75,7 @@ impl<S: Scheme + Drop, L: Elector + Drop, J: Journal + Drop> VoterThread<S, L, J
 
     /// Takes a message, else a held payload whose parent is certified, else the next item of its feed, and makes a step on
     /// it. May wait.
-    fn turn<R: Wait>(
-        &mut self,
-        rt: &R,
-        boxes: &Mailboxes,
-    ) -> Result<(Outcome, StepOut), AllocError>
+    fn turn<R: Wait>(&mut self, rt: &R, boxes: &Mailboxes) -> Result<(Outcome, StepOut), AllocError>
         requires clock { (self.old.now < 2 ^ 63) × All IsInTime self.old.feed.items }
         requires own { (self.old.own.mailbox ≡ boxes.now.voter) × (self.old.batcher.mailbox ≡ boxes.now.batcher) × (self.old.resolver.mailbox ≡ boxes.now.resolver) }
         ensures clock { IfOk result (λ _. (self.new.now < 2 ^ 63) × All IsInTime self.new.feed.items) }
@@ -91,7 +93,13 @@ impl<S: Scheme + Drop, L: Elector + Drop, J: Journal + Drop> VoterThread<S, L, J
     }
 
     // The message, else what the voter finds of its own.
-    fn find(&mut self, taken: Option<voter::Message>) -> Option<VoterInput> {
+    #[tactic(auto, unfolding(crate::specs::Voting::finds))]
+    fn find(&mut self, taken: Option<voter::Message>) -> Option<VoterInput>
+        requires clock { (self.old.now < 2 ^ 63) × All IsInTime self.old.feed.items }
+        ensures clock { (self.new.now < 2 ^ 63) × All IsInTime self.new.feed.items }
+        ensures keeps { KeepsVoter self.old self.new }
+        ensures finds { Finds self.old self.new (λ made place. finds made place taken) result }
+    {
         match taken {
             Some(message) => Some(VoterInput::Mail(message)),
             None => self.find_own(),
@@ -99,7 +107,12 @@ impl<S: Scheme + Drop, L: Elector + Drop, J: Journal + Drop> VoterThread<S, L, J
     }
 
     // A held payload whose parent is certified, else what the next item of the feed asks for.
-    fn find_own(&mut self) -> Option<VoterInput> {
+    fn find_own(&mut self) -> Option<VoterInput>
+        requires clock { (self.old.now < 2 ^ 63) × All IsInTime self.old.feed.items }
+        ensures clock { (self.new.now < 2 ^ 63) × All IsInTime self.new.feed.items }
+        ensures keeps { KeepsVoter self.old self.new }
+        ensures finds { Finds self.old self.new (λ made place. finds made place None) result }
+    {
         if self.holds_candidate() {
             return Some(VoterInput::Propose);
         }
@@ -113,13 +126,24 @@ impl<S: Scheme + Drop, L: Elector + Drop, J: Journal + Drop> VoterThread<S, L, J
     }
 
     // Whether a payload is held whose parent is certified.
-    fn holds_candidate(&self) -> bool {
-        matches!(self.actor.proposal_state(), Some(ProposalState::Held(_)))
-            && self.actor.holds(&VoterInput::Propose, self.now)
+    fn holds_candidate(&self) -> bool
+        ensures { (told : Bool) (made : VoterMade) (place : VoterPlace) → VoterIsAt told self.entry.now made place → result ≡ holds_candidate (place_of made place.past).standing }
+    {
+        let Some(state) = self.actor.proposal_state() else {
+            return false;
+        };
+        match state {
+            ProposalState::Held(_) => self.actor.holds(&VoterInput::Propose, self.now),
+            _ => false,
+        }
     }
 
     // Answers the oldest open request of this kind that has no answer, and tells the source of the step that takes it.
-    fn reply(&mut self, kind: AskKind, answer: Answer) -> Option<VoterInput> {
+    fn reply(&mut self, kind: AskKind, answer: Answer) -> Option<VoterInput>
+        ensures clock { (self.new.now ≡ self.old.now) × (self.new.feed ≡ self.old.feed) }
+        ensures keeps { KeepsVoter self.old self.new }
+        ensures finds { Finds self.old self.new (λ made place. on_item made place (Some (items.Reply kind answer))) result }
+    {
         let request = self.actor.unanswered(kind)?;
         if !self.actor.answer(request, answer) {
             return None;
@@ -133,7 +157,14 @@ impl<S: Scheme + Drop, L: Elector + Drop, J: Journal + Drop> VoterThread<S, L, J
         rt: &R,
         boxes: &Mailboxes,
         input: VoterInput,
-    ) -> Result<(Outcome, StepOut), AllocError> {
+    ) -> Result<(Outcome, StepOut), AllocError>
+        requires clock { self.old.now < 2 ^ 63 }
+        requires boxes { (self.old.batcher.mailbox ≡ boxes.now.batcher) × (self.old.resolver.mailbox ≡ boxes.now.resolver) }
+        ensures clock { IfOk result (λ _. (self.new.now ≡ self.old.now) × (self.new.feed ≡ self.old.feed)) }
+        ensures own { IfOk result (λ _. self.new.own ≡ self.old.own) }
+        ensures same { IfOk result (λ _. IsSamePass self.old.batcher self.new.batcher × IsSamePass self.old.resolver self.new.resolver) }
+        ensures steps { IfOk result (λ given. VoterSteps self.old self.new (Some input) given.0 given.1) }
+    {
         posted_are_held::<batcher::Message>();
         posted_are_held::<MailboxMessage>();
         let mut out = StepOut::new(self.alloc);
@@ -156,7 +187,9 @@ impl<S: Scheme + Drop, L: Elector + Drop, J: Journal + Drop> VoterThread<S, L, J
 }
 
 // The source of the step that takes the answer to a request of this kind.
-fn taken_by(kind: AskKind) -> VoterInput {
+fn taken_by(kind: AskKind) -> VoterInput
+    ensures { result ≡ taken_by kind }
+{
     match kind {
         AskKind::Prepare | AskKind::Propose => VoterInput::Propose,
         AskKind::Verify => VoterInput::Verify,
