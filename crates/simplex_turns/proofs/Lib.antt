@@ -1,6 +1,7 @@
 pub mod BatcherTurned
 pub mod Drained
 pub mod Handed
+pub mod Passed
 pub mod ResolverTurned
 pub mod Turning
 pub mod VotingPlaces

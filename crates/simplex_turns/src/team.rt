@@ -2,7 +2,7 @@
 ghost use Rattle.std.specs.Prelude.{◌≡◌, ◌<◌, ◌^◌, All, IfOk};
 ghost use Rattle.simplex_voter.specs.Actor.{journal_of};
 ghost use Rattle.simplex_turns.specs.Threads.{BatcherRuns, ResolverRuns, VoterRuns, IsSameBatcher, IsSameResolver, IsSameVoter, IsInTime};
-ghost use Rattle.simplex_turns.specs.Team.{ShareMailboxes, Records};
+ghost use Rattle.simplex_turns.specs.Team.{BatcherMayRun, ResolverMayRun, VoterMayRun, ShareMailboxes, Records};
 
 use crate::batcher::BatcherThread;
 use crate::logs::{Logs, log_of_three, log_of_two};
@@ -62,12 +62,29 @@ impl<S: Scheme + Drop + Send, L: Elector + Drop + Send, J: Journal + Drop + Send
         let shared = &boxes;
         let (batched, (voted, resolved)) = thread::join(
             rt,
-            move || batcher.run(rt, shared, turns, gate),
-            move || {
+            move || -> Result<(BatcherThread<S>, Vec<StepOut>), AllocError>
+                requires { BatcherMayRun batcher shared.now }
+                ensures { IfOk result (λ ran. IsSameBatcher batcher ran.0 × BatcherRuns batcher ran.0 turns ran.1.items) }
+            { batcher.run(rt, shared, turns, gate) },
+            move || -> (
+                Result<(VoterThread<S, L, J>, Vec<StepOut>), AllocError>,
+                Result<(ResolverThread<S>, Vec<StepOut>), AllocError>,
+            )
+                requires voter { VoterMayRun voter shared.now }
+                requires resolver { ResolverMayRun resolver shared.now }
+                ensures voter { IfOk result.0 (λ ran. IsSameVoter voter ran.0 × VoterRuns voter ran.0 turns ran.1.items) }
+                ensures resolver { IfOk result.1 (λ ran. IsSameResolver resolver ran.0 × ResolverRuns resolver ran.0 turns ran.1.items) }
+            {
                 thread::join(
                     rt,
-                    move || voter.run(rt, shared, turns, gate),
-                    move || resolver.run(rt, shared, turns, gate),
+                    move || -> Result<(VoterThread<S, L, J>, Vec<StepOut>), AllocError>
+                        requires { VoterMayRun voter shared.now }
+                        ensures { IfOk result (λ ran. IsSameVoter voter ran.0 × VoterRuns voter ran.0 turns ran.1.items) }
+                    { voter.run(rt, shared, turns, gate) },
+                    move || -> Result<(ResolverThread<S>, Vec<StepOut>), AllocError>
+                        requires { ResolverMayRun resolver shared.now }
+                        ensures { IfOk result (λ ran. IsSameResolver resolver ran.0 × ResolverRuns resolver ran.0 turns ran.1.items) }
+                    { resolver.run(rt, shared, turns, gate) },
                 )
             },
         );

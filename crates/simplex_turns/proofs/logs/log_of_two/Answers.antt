@@ -1,0 +1,8 @@
+use Rattle.simplex_turns.proofs.Passed.{of_two}
+use Rattle.simplex_turns.proofs.logs.log_of_two.Goals as goal
+
+pub returns-clause-first : goal.returns-clause-first
+returns-clause-first g c = (of_two c.finish.result c.args.first c.args.second _ _ _ c.new-passes.ensures.items c.in_ok-push.ensures.items c.in_ok-push-2.ensures.items c.finish.ensures.whole).0
+
+pub returns-clause-second : goal.returns-clause-second
+returns-clause-second g c = (of_two c.finish.result c.args.first c.args.second _ _ _ c.new-passes.ensures.items c.in_ok-push.ensures.items c.in_ok-push-2.ensures.items c.finish.ensures.whole).1
