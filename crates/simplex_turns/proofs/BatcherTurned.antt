@@ -1,5 +1,5 @@
 -- A batcher's turn, and turns one after another.
-use Rattle.std.proofs.Common.{◌≡◌, ℕ, ◌+◌, List, [], ◌∷◌, ◌++◌, Option, Some, None, drop, length, map, MatchOption, refl, sym, ap, ◌∙◌, subst, arith, length-append, append_assoc, append-nil}
+use Rattle.std.proofs.Common.{◌≡◌, ℕ, ◌+◌, List, [], ◌∷◌, ◌++◌, Option, Some, None, drop, map, MatchOption, refl, sym, ap, ◌∙◌, subst, arith, length-append, append_assoc, append-nil}
 use Rattle.std.specs.Option.{option_and_then}
 use Rattle.std.specs.List.{filter_map}
 use Rattle.std.proofs.lemmas.List.{map-append}
@@ -12,13 +12,12 @@ use Rattle.simplex_messages.specs.declared.step.StepOut.{StepOut}
 use Rattle.simplex_messages.specs.Handing.{for_voter}
 use Rattle.simplex_messages.specs.Step.{no_out}
 use Rattle.simplex_shared.specs.declared.op.Op.TheVariants.{Took}
-use Rattle.simplex_shared.specs.Passes.{IsSamePass, calls_of}
+use Rattle.simplex_shared.specs.Passes.{calls_of}
 use Rattle.simplex_steps.specs.Batcher.{Made, Timed, step_out}
 use Rattle.simplex_batcher.specs.declared.actor.Actor.{Actor}
 use Rattle.simplex_batcher.specs.Stands.{StandsFor, Takes, Answers}
 use Rattle.simplex_turns.specs.declared.feed.Delivery.{Delivery}
 use Rattle.simplex_turns.specs.declared.batcher.BatcherThread.{BatcherThread}
-use Rattle.simplex_turns.specs.Turns.{Gives}
 use Rattle.simplex_turns.specs.Handing.{PutsBehind, handed_on}
 use Rattle.simplex_turns.specs.Batching.{BatcherPlace, batcher_input, batcher_step, batcher_turn}
 use Rattle.simplex_turns.specs.Threads.{BatcherIsAt, IsSameBatcher, BatcherTurns, BatcherRuns}

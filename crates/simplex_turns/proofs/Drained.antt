@@ -1,6 +1,6 @@
 -- A mailbox of one thread that is emptied.
-use Rattle.std.proofs.Common.{◌≡◌, ℕ, suc, ◌+◌, ◌-◌, ◌<◌, Bool, List, [], ◌∷◌, ◌++◌, Some, None, length, drop, refl, sym, ap, ◌∙◌, subst, arith, length-append, append_assoc, append-nil}
-use Rattle.simplex_mailbox.specs.Waiting.{Waiting, front, in_turn, drained, undrained}
+use Rattle.std.proofs.Common.{◌≡◌, ℕ, ◌+◌, ◌-◌, ◌<◌, Bool, List, [], ◌∷◌, ◌++◌, Some, None, length, drop, refl, sym, ap, subst, arith, length-append, append_assoc, append-nil}
+use Rattle.simplex_mailbox.specs.Waiting.{front, in_turn, drained, undrained}
 use Rattle.simplex_mailbox.specs.Mail.{Mail, received, taken_from, after_recv}
 use Rattle.simplex_mailbox.proofs.Turns.{drained-undrained}
 use Rattle.simplex_turns.specs.Handing.{Drains}

@@ -13,7 +13,7 @@ use Rattle.simplex_messages.specs.declared.step.StepOut.{StepOut}
 use Rattle.simplex_messages.specs.Handing.{for_voter}
 use Rattle.simplex_messages.specs.Step.{no_out}
 use Rattle.simplex_shared.specs.declared.op.Op.TheVariants.{Took}
-use Rattle.simplex_shared.specs.Passes.{IsSamePass, calls_of}
+use Rattle.simplex_shared.specs.Passes.{calls_of}
 use Rattle.simplex_resolving.specs.Resolver.{Made, Given, Stepped, HandlerTaken, step_out, handler_message, holds_handled, deadline_after, standing_after}
 use Rattle.simplex_resolving.specs.Views.{is_reached}
 use Rattle.simplex_resolver.specs.Stands.{StandsFor, Takes, Answers}

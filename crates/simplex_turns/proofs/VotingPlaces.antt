@@ -1,5 +1,5 @@
 -- A voter's place, by what it was given, and what its turns find there.
-use Rattle.std.proofs.Common.{All, ◌<◌, ◌^◌, length, length-drop, arith, ◌≡◌, ◌≢◌, refl, sym, ap, ◌∙◌, ℕ, max, Bool, true, false, List, [], ◌∷◌, ◌++◌, drop, Option, Some, None}
+use Rattle.std.proofs.Common.{All, ◌<◌, ◌^◌, length, length-drop, arith, ◌≡◌, ◌≢◌, refl, ap, ◌∙◌, ℕ, Bool, true, false, List, [], ◌∷◌, ◌++◌, drop, Option, Some, None}
 use Rattle.std.proofs.lemmas.List.Elements.{All-head, All-tail}
 use Rattle.std.specs.Prelude.{if◌then◌else◌}
 use Rattle.std.specs.Option.{option_and_then, option_map, option_map_or, option_to_list, is_some}
@@ -17,7 +17,7 @@ use Rattle.simplex_rules.specs.Pending.{Pending, pending_parent}
 use Rattle.simplex_rules.specs.declared.request.ProposalState.{ProposalState}
 use Rattle.simplex_rules.specs.declared.request.ProposalState.TheVariants.{Held}
 use Rattle.simplex_steps.specs.Desk.{Doing}
-use Rattle.simplex_steps.specs.Performed.{Performed, performed, stop_place}
+use Rattle.simplex_steps.specs.Performed.{performed, stop_place}
 use Rattle.simplex_steps.specs.Voter.{Standing, takes_answer, answered, acted, stepped, take_proposal}
 use Rattle.simplex_steps.specs.VoterLife.{VoterMade, Given, Started, Stepped, Answered, place_of, step_given, idle}
 use Rattle.simplex_voter.specs.declared.kind.AskKind.{AskKind}
@@ -26,7 +26,7 @@ use Rattle.simplex_voter.specs.Turned.{step_left}
 use Rattle.simplex_turns.specs.declared.feed.FeedItem.{FeedItem}
 use Rattle.simplex_turns.specs.declared.feed.FeedItem.TheVariants as items
 use Rattle.simplex_turns.specs.Threads.{IsInTime}
-use Rattle.simplex_turns.specs.Voting.{VoterPlace, Found, is_ready, holds_candidate, taken_by, replied, on_item, finds}
+use Rattle.simplex_turns.specs.Voting.{VoterPlace, is_ready, holds_candidate, taken_by, replied, on_item, finds}
 
 -- ---- two histories that lead to one place
 

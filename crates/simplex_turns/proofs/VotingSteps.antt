@@ -1,12 +1,10 @@
 -- What the parts of a voter's turn do.
-use Rattle.std.proofs.Common.{◌≡◌, ◌≢◌, refl, sym, ap, ◌∙◌, ℕ, Bool, true, false, List, [], ◌∷◌, ◌++◌, drop, Option, Some, None, subst}
+use Rattle.std.proofs.Common.{◌≡◌, refl, sym, ap, ◌∙◌, ℕ, Bool, true, false, List, [], ◌∷◌, ◌++◌, drop, Option, Some, None, subst}
 use Rattle.std.specs.List.{filter_map}
 use Rattle.simplex_wire.specs.declared.scheme.Scheme as scheme
 use Rattle.simplex_types.specs.declared.elector.Elector as elector
 use Rattle.simplex_journal.specs.declared.journal.Journal as journal
-use Rattle.simplex_messages.specs.declared.batcher.Message as batcher_message
 use Rattle.simplex_messages.specs.declared.voter.Message as voter_message
-use Rattle.simplex_messages.specs.declared.resolver.MailboxMessage.{MailboxMessage}
 use Rattle.simplex_messages.specs.declared.voter.VoterInput.{VoterInput}
 use Rattle.simplex_messages.specs.declared.step.StepOut.{StepOut}
 use Rattle.simplex_messages.specs.declared.step.Stop.{Stop}
@@ -30,7 +28,7 @@ use Rattle.simplex_voter.specs.Turned.{FaultsAt, step_left}
 use Rattle.simplex_voter.proofs.LivesOver.{held-over}
 use Rattle.simplex_turns.specs.declared.voter.VoterThread.{VoterThread}
 use Rattle.simplex_turns.specs.Handing.{PutsBehind}
-use Rattle.simplex_turns.specs.Voting.{VoterPlace, Found, finds, voter_step, step_outcome, step_leaves, voter_turn, turn_outcome, turn_leaves, unstopped}
+use Rattle.simplex_turns.specs.Voting.{VoterPlace, finds, voter_step, voter_turn, turn_outcome, turn_leaves}
 use Rattle.simplex_turns.specs.Threads.{IsSameVoter, VoterIsAt, KeepsVoter, Finds, VoterSteps, VoterTurns, faults_in}
 use Rattle.simplex_turns.proofs.VotingPlaces.{place-more, step-at, left-at, unstopped-goes}
 

@@ -1,21 +1,17 @@
 -- A voter's turns, one after another.
-use Rattle.std.proofs.Common.{◌≡◌, ◌≢◌, refl, sym, ap, ◌∙◌, ℕ, ◌+◌, ◌<◌, ◌≤◌, Bool, true, false, List, [], ◌∷◌, ◌++◌, All, length, map, Option, Some, None, arith, length-append, append-nil, append_assoc, inl, inr}
+use Rattle.std.proofs.Common.{◌≡◌, refl, sym, ap, ◌∙◌, ℕ, ◌+◌, ◌<◌, true, false, List, [], ◌∷◌, ◌++◌, All, length, map, arith, length-append, append-nil, append_assoc, inl, inr}
 use Rattle.std.proofs.lemmas.List.{map-append}
 use Rattle.std.proofs.lemmas.List.Elements.{All-nil, All-push}
-use Rattle.std.specs.List.{filter_map}
 use Rattle.simplex_wire.specs.declared.scheme.Scheme as scheme
 use Rattle.simplex_types.specs.declared.elector.Elector as elector
 use Rattle.simplex_journal.specs.declared.journal.Journal as journal
-use Rattle.simplex_journal.specs.Journal.{Section}
-use Rattle.simplex_messages.specs.declared.voter.Message as voter_message
 use Rattle.simplex_messages.specs.declared.step.StepOut.{StepOut}
 use Rattle.simplex_messages.specs.declared.step.Outcome.{Outcome}
 use Rattle.simplex_messages.specs.declared.step.Outcome.TheVariants as outcomes
 use Rattle.simplex_messages.specs.Handing.{for_batcher, for_resolver}
-use Rattle.simplex_shared.specs.declared.op.Op.{Op}
 use Rattle.simplex_shared.specs.declared.op.Op.TheVariants.{Took}
-use Rattle.simplex_shared.specs.Passes.{IsSamePass, calls_of}
-use Rattle.simplex_steps.specs.VoterLife.{VoterMade, place_of}
+use Rattle.simplex_shared.specs.Passes.{calls_of}
+use Rattle.simplex_steps.specs.VoterLife.{VoterMade}
 use Rattle.simplex_voter.specs.Actor.{journal_of}
 use Rattle.simplex_voter.specs.Turned.{FaultsAt}
 use Rattle.simplex_turns.specs.declared.voter.VoterThread.{VoterThread}

@@ -6,7 +6,7 @@ use Rattle.simplex_mailbox.specs.Mail.{Mail, received, after_recv}
 use Rattle.simplex_messages.specs.declared.handed.Handed.{Handed}
 use Rattle.simplex_messages.specs.declared.step.StepOut.{StepOut}
 use Rattle.simplex_shared.specs.declared.op.Op.{Op}
-use Rattle.simplex_shared.specs.declared.op.Op.TheVariants.{Put, Took, Shut}
+use Rattle.simplex_shared.specs.declared.op.Op.TheVariants.{Put}
 use Rattle.simplex_shared.specs.History.{caller_of, IsLegal}
 
 module _ {M : Type 0} where

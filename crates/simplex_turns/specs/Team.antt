@@ -1,5 +1,5 @@
 -- What holds of the actors of an engine on threads.
-use Rattle.std.specs.Prelude.{◌≡◌, ℕ, ◌<◌, ◌^◌, All, List}
+use Rattle.std.specs.Prelude.{◌≡◌, ◌<◌, ◌^◌, All, List}
 use Rattle.simplex_wire.specs.declared.scheme.Scheme as scheme
 use Rattle.simplex_types.specs.declared.elector.Elector as elector
 use Rattle.simplex_journal.specs.declared.journal.Journal as journal
@@ -22,14 +22,15 @@ use Rattle.simplex_turns.specs.Threads.{IsInTime}
 abbrev pub Has : {M : Type 0} → List (Op M) → Viewer M → Type 0
 Has log pass = calls_by caller_of pass.number log ≡ calls_of pass
 
-module _ {S L J : Type 0} {s : scheme.Ghosts S} {l : elector.Ghosts L} {j : journal.Ghosts J} where
-  -- an actor whose clock is a time, and whose passes are of these mailboxes, may run
+-- an actor whose clock is a time, and whose passes are of these mailboxes, may run
+module _ {S : Type 0} {s : scheme.Ghosts S} where
   abbrev pub BatcherMayRun : BatcherThread S s → Mailboxes → Type 0
   BatcherMayRun thread boxes = (thread.now < 2 ^ 63) × (thread.own.mailbox ≡ boxes.batcher) × (thread.voter.mailbox ≡ boxes.voter)
 
   abbrev pub ResolverMayRun : ResolverThread S s → Mailboxes → Type 0
   ResolverMayRun thread boxes = (thread.now < 2 ^ 63) × (thread.own.mailbox ≡ boxes.resolver) × (thread.voter.mailbox ≡ boxes.voter)
 
+module _ {S L J : Type 0} {s : scheme.Ghosts S} {l : elector.Ghosts L} {j : journal.Ghosts J} where
   abbrev pub VoterMayRun : VoterThread S L J s l j → Mailboxes → Type 0
   VoterMayRun thread boxes =
       (thread.now < 2 ^ 63) × All IsInTime thread.feed.items

@@ -1,4 +1,3 @@
-use Rattle.std.proofs.Common.{ℕ}
 use Rattle.simplex_turns.proofs.Drained.{left_in, Came}
 use Rattle.simplex_turns.proofs.handing.drain.Given as goal
 

@@ -1,7 +1,5 @@
-use Rattle.std.proofs.Common.{◌≡◌, ◌∙◌, sym, ap, true, false, if◌then◌else◌, Some, None}
-use Rattle.simplex_messages.specs.declared.resolver.ResolverInput.{ResolverInput}
+use Rattle.std.proofs.Common.{◌∙◌, sym, ap, if◌then◌else◌, Some, None}
 use Rattle.simplex_messages.specs.declared.resolver.ResolverInput.TheVariants as inputs
-use Rattle.simplex_resolving.specs.Resolver.{deadline_after}
 use Rattle.simplex_resolving.specs.Views.{is_reached}
 use Rattle.simplex_turns.proofs.resolver.ResolverThread.find_deadline.Goals as goal
 

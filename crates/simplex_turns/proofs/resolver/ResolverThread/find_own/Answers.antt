@@ -1,4 +1,4 @@
-use Rattle.std.proofs.Common.{◌≡◌, ◌∙◌, [], refl, sym}
+use Rattle.std.proofs.Common.{◌∙◌, [], refl, sym}
 use Rattle.simplex_turns.proofs.Drained.{none-left}
 use Rattle.simplex_turns.proofs.ResolverTurned.{nothing-handled, found-delivery, found-deadline}
 use Rattle.simplex_turns.proofs.resolver.ResolverThread.find_own.Goals as goal

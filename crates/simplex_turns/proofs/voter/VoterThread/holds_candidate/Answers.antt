@@ -1,5 +1,5 @@
-use Rattle.std.proofs.Common.{◌≡◌, sym, refl, ap, ◌∙◌, true, false, Some, None, Option}
-use Rattle.std.specs.Option.{option_map, is_some}
+use Rattle.std.proofs.Common.{◌≡◌, sym, ap, ◌∙◌, true, false, Some}
+use Rattle.std.specs.Option.{is_some}
 use Rattle.simplex_rules.specs.declared.request.ProposalState.{ProposalState}
 use Rattle.simplex_messages.specs.declared.voter.VoterInput.TheVariants as inputs
 use Rattle.simplex_steps.specs.Voter.{acted}

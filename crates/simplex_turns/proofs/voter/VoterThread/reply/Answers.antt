@@ -1,4 +1,4 @@
-use Rattle.std.proofs.Common.{rules, ◌≡◌, sym, refl, ap, ◌∙◌, true, false, ◌∷◌, Some, None, ℕ, Option}
+use Rattle.std.proofs.Common.{rules, ◌≡◌, sym, refl, ap, ◌∙◌, true, false, ◌∷◌, Some, None}
 use Rattle.simplex_steps.specs.Voter.{takes_answer}
 use Rattle.simplex_steps.specs.VoterLife.{Place, VoterMade, Answered, place_of}
 use Rattle.simplex_voter.specs.Unanswered.{unanswered}

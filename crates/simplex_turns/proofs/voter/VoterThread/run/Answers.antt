@@ -1,4 +1,4 @@
-use Rattle.std.proofs.Common.{rules, ◌≡◌, sym, refl, ap, ◌∙◌, arith}
+use Rattle.std.proofs.Common.{◌∙◌, arith}
 use Rattle.simplex_turns.proofs.VotingTurns.{ran-none, ran-more, ran-broken, ran-all, same-all}
 use Rattle.simplex_turns.proofs.voter.VoterThread.run.Goals as goal
 

@@ -1,4 +1,4 @@
-use Rattle.std.proofs.Common.{◌≡◌, ◌<◌, ◌^◌, All}
+use Rattle.std.proofs.Common.{◌<◌, ◌^◌, All}
 use Rattle.simplex_turns.specs.Threads.{IsInTime}
 use Rattle.simplex_turns.proofs.VotingTurns.{Ran}
 use Rattle.simplex_turns.proofs.voter.VoterThread.run.Given as goal

@@ -1,4 +1,4 @@
-use Rattle.std.proofs.Common.{rules, ◌≡◌, sym, refl, ap, ◌∙◌, [], ◌++◌}
+use Rattle.std.proofs.Common.{refl}
 use Rattle.simplex_turns.proofs.VotingSteps.{step-steps, held-put}
 use Rattle.simplex_turns.proofs.voter.VoterThread.step.Goals as goal
 
