@@ -1,5 +1,7 @@
 -- From what the turns of the actors did to what a run on threads gives.
-use Rattle.std.proofs.Common.{◌≡◌, ℕ, List, [], ◌∷◌, ◌++◌, Bool, true, false, length, map, Option, refl, sym, ap, subst, ◌∙◌, length-map}
+use Rattle.std.proofs.Common.{◌≡◌, ℕ, ◌<◌, ◌^◌, List, [], ◌∷◌, ◌++◌, Bool, true, false, length, map, Option, refl, sym, ap, subst, ◌∙◌}
+use Rattle.std.proofs.lemmas.List.{length-map}
+use Rattle.std.specs.Prelude.{All}
 use Rattle.simplex_wire.specs.declared.scheme.Scheme as scheme
 use Rattle.simplex_types.specs.declared.elector.Elector as elector
 use Rattle.simplex_journal.specs.declared.journal.Journal as journal
@@ -28,18 +30,16 @@ use Rattle.simplex_engine.specs.Parts.{Parts}
 use Rattle.simplex_engine.specs.Stands.{Holds, faults_in}
 use Rattle.simplex_turns.specs.declared.mailboxes.Mailboxes.{Mailboxes}
 use Rattle.simplex_turns.specs.declared.team.Team.{Team}
-use Rattle.simplex_turns.specs.declared.team.Outs.{Outs}
 use Rattle.simplex_turns.specs.declared.logs.Logs.{Logs}
 use Rattle.simplex_turns.specs.Turns.{outs_of, after}
 use Rattle.simplex_turns.specs.Handing.{Puts, PutsBehind, Filled, IsRecord, handed_on}
 use Rattle.simplex_turns.specs.Batching.{batcher_turn}
 use Rattle.simplex_turns.specs.Resolving.{resolver_turn}
 use Rattle.simplex_turns.specs.Voting.{voter_turn, outcomes_of, unstopped}
-use Rattle.simplex_turns.specs.Threads.{BatcherIsAt, BatcherRuns, IsSameBatcher, ResolverIsAt, ResolverRuns, IsSameResolver, VoterIsAt, VoterRuns, IsSameVoter, Ended, took_of}
+use Rattle.simplex_turns.specs.Threads.{IsInTime, BatcherIsAt, BatcherRuns, IsSameBatcher, ResolverIsAt, ResolverRuns, IsSameResolver, VoterIsAt, VoterRuns, IsSameVoter, Ended, took_of}
 use Rattle.simplex_turns.specs.Team.{ShareMailboxes, Records, Has}
 use Rattle.simplex_threads.specs.declared.run.Feed.{Feed}
-use Rattle.simplex_threads.specs.declared.run.ThreadRun.{ThreadRun}
-use Rattle.simplex_threads.specs.Ran.{Takes, BatcherRan, ResolverRan, VoterRan, VoterRanWhole, IsHandedOn, batcher_start, resolver_start, voter_start}
+use Rattle.simplex_threads.specs.Ran.{Takes, BatcherRan, ResolverRan, VoterRan, VoterRanWhole, batcher_start, resolver_start, voter_start}
 use Rattle.simplex_threads.specs.Ready.{IsReady}
 
 -- the log has the calls of the pass, whatever it was called when it had this number
@@ -77,15 +77,33 @@ held-told : {S L J : Type 0} (attests : S → Subject → Option Attestation) (e
 unfolding StandsFor
 held-told attests elects sections order actor made past stands = stands.sections_are
 
-module _ {S L J : Type 0} {s : scheme.Ghosts S} {l : elector.Ghosts L} {j : journal.Ghosts J} {crew : Crew S L J s l j} {now turns : ℕ} {feed : Feed} {old new : Team S L J s l j} {outs : Outs} {logs : Logs} (ready : IsReady crew now feed old) (boxes : new.boxes ≡ old.boxes) (records : Records new logs) where
-  pub batcher-ran : IsSameBatcher old.batcher new.batcher → BatcherRuns old.batcher new.batcher turns outs.batcher.items → (parts : Parts) → Holds false crew parts
-      → BatcherRan parts now turns feed.batcher.items logs.batcher outs.batcher.items
-  batcher-ran same ran parts h =
+voter-at : {S L J : Type 0} {s : scheme.Ghosts S} {l : elector.Ghosts L} {j : journal.Ghosts J} (crew : Crew S L J s l j) (now : ℕ) (feed : Feed) (old : Team S L J s l j) → IsReady crew now feed old
+    → (told : Bool) (parts : Parts) → Holds told crew parts → VoterIsAt told old.voter parts.voter (voter_start parts now feed.voter.items)
+voter-at crew now feed old ready told parts h =
+    record {
+      given = h.voter.given;
+      stands = rw ready.voter h.voter.stands;
+      place_is = h.voter.place;
+      now = ready.clocks.1;
+      feed = ready.voter_feed;
+    }
+
+-- its clocks are times
+pub may-run : {S L J : Type 0} {s : scheme.Ghosts S} {l : elector.Ghosts L} {j : journal.Ghosts J} (crew : Crew S L J s l j) (now : ℕ) (feed : Feed) (team : Team S L J s l j) → IsReady crew now feed team
+    → now < 2 ^ 63 → All IsInTime feed.voter.items
+    → (team.batcher.now < 2 ^ 63) × (team.voter.now < 2 ^ 63) × (team.resolver.now < 2 ^ 63) × All IsInTime team.voter.feed.items
+may-run crew now feed team ready time times =
+    (rw ready.clocks.0 time, rw ready.clocks.1 time, rw ready.clocks.2 time, rw ready.voter_feed times)
+
+module _ {S L J : Type 0} {s : scheme.Ghosts S} {l : elector.Ghosts L} {j : journal.Ghosts J} {crew : Crew S L J s l j} {now turns : ℕ} {feed : Feed} {old new : Team S L J s l j} {logs : Logs} (ready : IsReady crew now feed old) (boxes : new.boxes ≡ old.boxes) (records : Records new logs) where
+  pub batcher-ran : (outs : List StepOut) → IsSameBatcher old.batcher new.batcher → BatcherRuns old.batcher new.batcher turns outs → (parts : Parts) → Holds false crew parts
+      → BatcherRan parts now turns feed.batcher.items logs.batcher outs
+  batcher-ran outs same ran parts h =
       record {
         taken = ran.taken;
         count = ran.count;
         calls = takes-of none_skipped _ _ logs.batcher _ _ ran.taken h.to_batcher ready.batcher_filled ready.takers.0 same.own records.batcher_own ran.took;
-        gave = subst (λ (clock : ℕ). outs.batcher.items ≡ outs_of (batcher_turn parts.batcher clock) (batcher_start parts feed.batcher.items) ran.taken) ready.clocks.0
+        gave = subst (λ (clock : ℕ). outs ≡ outs_of (batcher_turn parts.batcher clock) (batcher_start parts feed.batcher.items) ran.taken) ready.clocks.0
             (ran.gives parts.batcher (batcher_start parts feed.batcher.items) is-at).0;
         is_record = record-of _ _ _ 2 _ _ logs.batcher (ap (λ (m : Mailboxes). m.batcher.terms) boxes ∙ ready.batcher_terms) h.to_batcher records.batcher;
       }
@@ -93,14 +111,14 @@ module _ {S L J : Type 0} {s : scheme.Ghosts S} {l : elector.Ghosts L} {j : jour
       is-at : BatcherIsAt old.batcher parts.batcher (batcher_start parts feed.batcher.items)
       is-at = record { stands = rw ready.batcher h.batcher; feed = ready.batcher_feed }
 
-  pub resolver-ran : IsSameResolver old.resolver new.resolver → ResolverRuns old.resolver new.resolver turns outs.resolver.items → (parts : Parts) → Holds false crew parts
-      → ResolverRan parts now turns feed.resolver.items logs.resolver outs.resolver.items
-  resolver-ran same ran parts h =
+  pub resolver-ran : (outs : List StepOut) → IsSameResolver old.resolver new.resolver → ResolverRuns old.resolver new.resolver turns outs → (parts : Parts) → Holds false crew parts
+      → ResolverRan parts now turns feed.resolver.items logs.resolver outs
+  resolver-ran outs same ran parts h =
       record {
         taken = ran.taken;
         count = ran.count;
         calls = takes-of none_skipped _ _ logs.resolver _ _ ran.taken h.to_resolver ready.resolver_filled ready.takers.2 same.own records.resolver_own ran.took;
-        gave = subst (λ (clock : ℕ). outs.resolver.items ≡ outs_of (resolver_turn parts.resolver clock) (resolver_start parts feed.resolver.items) ran.taken) ready.clocks.2
+        gave = subst (λ (clock : ℕ). outs ≡ outs_of (resolver_turn parts.resolver clock) (resolver_start parts feed.resolver.items) ran.taken) ready.clocks.2
             (ran.gives parts.resolver (resolver_start parts feed.resolver.items) is-at).0;
         is_record = record-of _ _ _ 2 _ _ logs.resolver (ap (λ (m : Mailboxes). m.resolver.terms) boxes ∙ ready.resolver_terms) h.to_resolver records.resolver;
       }
@@ -108,20 +126,10 @@ module _ {S L J : Type 0} {s : scheme.Ghosts S} {l : elector.Ghosts L} {j : jour
       is-at : ResolverIsAt old.resolver parts.resolver (resolver_start parts feed.resolver.items)
       is-at = record { stands = rw ready.resolver h.resolver; feed = ready.resolver_feed }
 
-  voter-at : (told : Bool) (parts : Parts) → Holds told crew parts → VoterIsAt told old.voter parts.voter (voter_start parts now feed.voter.items)
-  voter-at told parts h =
-      record {
-        given = h.voter.given;
-        stands = rw ready.voter h.voter.stands;
-        place_is = h.voter.place;
-        now = ready.clocks.1;
-        feed = ready.voter_feed;
-      }
-
-  pub voter-ran : IsSameVoter old.voter new.voter → VoterRuns old.voter new.voter turns outs.voter.items → (parts : Parts) → Holds false crew parts
-      → VoterRan parts now turns feed.voter.items logs.voter outs.voter.items (faults_in crew) (j.fault_count (journal_of new.voter.actor)) (j.sections (journal_of new.voter.actor))
-  voter-ran same ran parts h =
-      let over = ran.over parts.voter (voter_start parts now feed.voter.items) (voter-at false parts h) in
+  pub voter-ran : (outs : List StepOut) → IsSameVoter old.voter new.voter → VoterRuns old.voter new.voter turns outs → (parts : Parts) → Holds false crew parts
+      → VoterRan parts now turns feed.voter.items logs.voter outs (faults_in crew) (j.fault_count (journal_of new.voter.actor)) (j.sections (journal_of new.voter.actor))
+  voter-ran outs same ran parts h =
+      let over = ran.over parts.voter (voter_start parts now feed.voter.items) (voter-at _ _ _ _ ready false parts h) in
       record {
         did = ran.did;
         free = ran.free;
@@ -133,26 +141,16 @@ module _ {S L J : Type 0} {s : scheme.Ghosts S} {l : elector.Ghosts L} {j : jour
         is_record = record-of _ _ _ 3 _ _ logs.voter (ap (λ (m : Mailboxes). m.voter.terms) boxes ∙ ready.voter_terms) h.to_voter records.voter;
       }
 
-  pub voter-ran-whole : IsSameVoter old.voter new.voter → VoterRuns old.voter new.voter turns outs.voter.items → (parts : Parts) → Holds true crew parts
-      → VoterRanWhole parts now turns feed.voter.items logs.voter outs.voter.items (j.sections (journal_of new.voter.actor))
-  voter-ran-whole same ran parts h =
-      let told = ran.told parts.voter (voter_start parts now feed.voter.items) (voter-at true parts h) in
+  pub voter-ran-whole : (outs : List StepOut) → IsSameVoter old.voter new.voter → VoterRuns old.voter new.voter turns outs → (parts : Parts) → Holds true crew parts
+      → VoterRanWhole parts now turns feed.voter.items logs.voter outs (j.sections (journal_of new.voter.actor))
+  voter-ran-whole outs same ran parts h =
+      let at = voter-at _ _ _ _ ready true parts h in
+      let told = ran.told parts.voter (voter_start parts now feed.voter.items) at in
+      let gives = told.1 (voter_start parts now feed.voter.items) at in
       record {
         taken = map took_of ran.did;
-        count = length-map took_of ran.did ∙ told.0;
+        count = length-map ran.did took_of ∙ told.0;
         calls = takes-of none_skipped _ _ logs.voter _ _ (map took_of ran.did) h.to_voter ready.voter_filled ready.takers.1 same.own records.voter_own ran.took;
-        gave = told.1.0;
-        journal = held-told s.attests l.elects j.sections j.order _ _ _ told.1.1.stands ∙ ap (λ (place : Place). place.sections) told.1.1.place_is;
-      }
-
-  pub all-handed : (run : ThreadRun J) → run.batcher ≡ outs.batcher → run.voter ≡ outs.voter → run.resolver ≡ outs.resolver → run.logs ≡ logs
-      → IsSameBatcher old.batcher new.batcher → BatcherRuns old.batcher new.batcher turns outs.batcher.items
-      → IsSameVoter old.voter new.voter → VoterRuns old.voter new.voter turns outs.voter.items
-      → IsSameResolver old.resolver new.resolver → ResolverRuns old.resolver new.resolver turns outs.resolver.items → IsHandedOn run
-  all-handed run batched voted resolved logged same-batcher ran-batcher same-voter ran-voter same-resolver ran-resolver =
-      record {
-        voter_to_batcher = rw (voted, logged) (puts-of _ logs.batcher _ _ 1 ready.givers.0 same-voter.batcher records.voter_batcher ready.unused.0 ran-voter.to_batcher);
-        batcher_to_voter = rw (batched, logged) (puts-of _ logs.voter _ _ 1 ready.givers.2 same-batcher.voter records.batcher_voter ready.unused.2 ran-batcher.put);
-        resolver_to_voter = rw (resolved, logged) (puts-of _ logs.voter _ _ 2 ready.givers.3 same-resolver.voter records.resolver_voter ready.unused.3 ran-resolver.put);
-        voter_to_resolver = rw (voted, logged) (puts-of _ logs.resolver _ _ 1 ready.givers.1 same-voter.resolver records.voter_resolver ready.unused.1 ran-voter.to_resolver);
+        gave = gives.0;
+        journal = held-told s.attests l.elects j.sections j.order _ _ _ gives.1.stands ∙ ap (λ (place : Place). place.sections) gives.1.place_is;
       }

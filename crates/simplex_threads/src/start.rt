@@ -42,7 +42,9 @@ where
     G: Gate,
     R: Threads + Wait + Sync,
     requires clocks { All IsInTime feed.voter.items }
-    // What each actor gave, turn by turn.
+    // What each actor gave, turn by turn. What the engine stands for over a journal that tells that no call of it will fail,
+    // it stands for over any.
+    ensures over { (made : EngineMade) (past : List Did) → StandsFor engine made past → StandsOver engine made past }
     ensures batcher { IfOk result (λ run. (made : EngineMade) (past : List Did) → StandsOver engine made past
         → BatcherRan (parts_of made past) (clock_of engine) turns feed.batcher.items run.logs.batcher run.batcher.items) }
     ensures resolver { IfOk result (λ run. (made : EngineMade) (past : List Did) → StandsOver engine made past
@@ -58,6 +60,7 @@ where
     ensures runs { (made : EngineMade) (past : List Did) → StandsOver engine made past → is_running engine ≡ runs past }
 {
     engine.stands_over();
+    engine.is_running();
     let now = engine.clock();
     let crew = engine.into_crew()?;
     let run = run_crew(rt, crew, now, feed, turns, gate)?;
@@ -82,10 +85,16 @@ fn team_of<S: Scheme + Drop, L: Elector + Drop, J: Journal + Drop, R: Wait>(
         ..
     } = crew;
     let (for_batcher, batcher_takes, voter_to_batcher) = open_for_two(rt, alloc, boxes.batcher)?;
-    let (for_resolver, resolver_takes, voter_to_resolver) =
-        open_for_two(rt, alloc, boxes.resolver)?;
-    let (for_voter, voter_takes, batcher_to_voter, resolver_to_voter) =
-        open_for_three(rt, alloc, boxes.voter)?;
+    let (for_resolver, resolver_takes, voter_to_resolver) = open_for_two(
+        rt,
+        alloc,
+        boxes.resolver,
+    )?;
+    let (for_voter, voter_takes, batcher_to_voter, resolver_to_voter) = open_for_three(
+        rt,
+        alloc,
+        boxes.voter,
+    )?;
     Ok(Team {
         boxes: Mailboxes {
             batcher: for_batcher,
