@@ -11,6 +11,7 @@
 //! - [`Network`], [`run_network`] and [`run_network_from`]: members of every kind, honest and faulty, under a list of events,
 //!   with the entries that they make; [`run_network_par`]: the same run by several threads, whose steps pass a [`Gate`], which
 //!   is [`OpenGate`] where nobody is to be held;
+//! - [`threads`]: an engine whose actors run on a thread of their own each, over mailboxes that they share;
 //! - [`gen_run`] and [`generated`]: the events that a number makes, and what they are drawn from;
 //! - [`form`] (`read_run`, `read_setup`, `read_event`, `read_value`, ..), [`text`] and [`program`]: such a run as JSON, its
 //!   lines, and both behind one call;
@@ -44,6 +45,7 @@ pub use simplex_report as report;
 pub use simplex_round as round;
 pub use simplex_state as state;
 pub use simplex_text as text;
+pub use simplex_threads as threads;
 pub use simplex_transcript::{
     Entry, Event, Field, MemberKind, Node, Packet, Ref, Refusal, RunError, Setup, SetupRound,
     StepSource, Took,
