@@ -1,5 +1,5 @@
 -- From what the turns of the actors did to what a run on threads gives.
-use Rattle.std.proofs.Common.{◌≡◌, ℕ, ◌<◌, ◌^◌, List, [], ◌∷◌, ◌++◌, Bool, true, false, length, map, Option, refl, sym, ap, subst, ◌∙◌}
+use Rattle.std.proofs.Common.{◌≡◌, ℕ, ◌<◌, ◌^◌, List, [], ◌++◌, Bool, true, false, map, Option, sym, ap, subst, ◌∙◌}
 use Rattle.std.proofs.lemmas.List.{length-map}
 use Rattle.std.specs.Prelude.{All}
 use Rattle.simplex_wire.specs.declared.scheme.Scheme as scheme
@@ -13,7 +13,6 @@ use Rattle.simplex_journal.specs.Order.{Order}
 use Rattle.simplex_mailbox.specs.Mail.{Mail}
 use Rattle.simplex_mailbox.specs.Waiting.{Waiting}
 use Rattle.simplex_messages.specs.declared.step.StepOut.{StepOut}
-use Rattle.simplex_messages.specs.Handing.{for_batcher, for_voter, for_resolver}
 use Rattle.simplex_shared.specs.declared.op.Op.{Op}
 use Rattle.simplex_shared.specs.declared.op.Op.TheVariants.{Took}
 use Rattle.simplex_shared.specs.declared.terms.Terms.{Terms}
@@ -31,13 +30,12 @@ use Rattle.simplex_engine.specs.Stands.{Holds, faults_in}
 use Rattle.simplex_turns.specs.declared.mailboxes.Mailboxes.{Mailboxes}
 use Rattle.simplex_turns.specs.declared.team.Team.{Team}
 use Rattle.simplex_turns.specs.declared.logs.Logs.{Logs}
-use Rattle.simplex_turns.specs.Turns.{outs_of, after}
-use Rattle.simplex_turns.specs.Handing.{Puts, PutsBehind, Filled, IsRecord, handed_on}
+use Rattle.simplex_turns.specs.Turns.{outs_of}
+use Rattle.simplex_turns.specs.Handing.{Puts, PutsBehind, Filled, IsRecord}
 use Rattle.simplex_turns.specs.Batching.{batcher_turn}
 use Rattle.simplex_turns.specs.Resolving.{resolver_turn}
-use Rattle.simplex_turns.specs.Voting.{voter_turn, outcomes_of, unstopped}
 use Rattle.simplex_turns.specs.Threads.{IsInTime, BatcherIsAt, BatcherRuns, IsSameBatcher, ResolverIsAt, ResolverRuns, IsSameResolver, VoterIsAt, VoterRuns, IsSameVoter, Ended, took_of}
-use Rattle.simplex_turns.specs.Team.{ShareMailboxes, Records, Has}
+use Rattle.simplex_turns.specs.Team.{Records, Has}
 use Rattle.simplex_threads.specs.declared.run.Feed.{Feed}
 use Rattle.simplex_threads.specs.Ran.{Takes, BatcherRan, ResolverRan, VoterRan, VoterRanWhole, batcher_start, resolver_start, voter_start}
 use Rattle.simplex_threads.specs.Ready.{IsReady}

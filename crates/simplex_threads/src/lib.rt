@@ -5,9 +5,11 @@
 //! which order.
 #![tactic(auto)]
 
+mod laws;
 mod run;
 mod start;
 
+pub use laws::{turns_send_what_is_synced, turns_vote_by_rule};
 pub use run::{Feed, ThreadRun};
 pub use simplex_gate::{Gate, OpenGate};
 pub use simplex_turns::{Delivery, FeedItem, Logs};

@@ -1,4 +1,3 @@
-use Rattle.std.proofs.Common.{sym}
 use Rattle.simplex_engine.specs.Parts.{parts_of}
 use Rattle.simplex_engine.specs.Stands.{CrewStands}
 use Rattle.simplex_threads.proofs.start.start_threads.Goals as goal
