@@ -1,6 +1,6 @@
 //! The engine of a member alone, and what it is fed.
 use simplex_engine::{Engine, EngineConfig};
-use simplex_journal::MemoryJournal;
+use simplex_journal::{Journal, MemoryJournal};
 use simplex_messages::{Call, Outcome, StepOut, Stop};
 use simplex_threads::{AskKind, Feed, FeedItem};
 use simplex_types::elector::Config as _;
