@@ -7,6 +7,7 @@ use std::thread;
 const LOOKS: u32 = 1_000_000;
 
 const BATCHER: u32 = 0;
+
 const VOTER: u32 = 1;
 
 /// How far the batcher and the voter have come: the number of the turn before which each stands.

@@ -15,7 +15,10 @@ fn threads_meet(rt: HostRuntime) -> Result<(), Fail> {
         .ok()
         .ok_or("a run")?;
     assert_eq!(rt; gate.progress.gave_up(), 0);
-    assert_eq!(rt; (run.batcher.len(), run.voter.len(), run.resolver.len()), (8, 8, 8));
+    assert_eq!(rt;
+        (run.batcher.len(), run.voter.len(), run.resolver.len()),
+        (8, 8, 8)
+    );
     Ok(())
 }
 
@@ -40,7 +43,10 @@ fn a_failing_call_ends_the_turns_of_the_voter(rt: HostRuntime) -> Result<(), Fai
     let run = start_threads(&rt, engine, feed(rt.alloc(), 3)?, 8, &OpenGate)
         .ok()
         .ok_or("a run")?;
-    assert_eq!(rt; (run.batcher.len(), run.voter.len(), run.resolver.len()), (8, 1, 8));
+    assert_eq!(rt;
+        (run.batcher.len(), run.voter.len(), run.resolver.len()),
+        (8, 1, 8)
+    );
     assert_eq!(rt; run.journal.faults(), 1);
     Ok(())
 }
@@ -61,7 +67,10 @@ fn no_turns(rt: HostRuntime) -> Result<(), Fail> {
     let run = start_threads(&rt, engine, feed(rt.alloc(), 0)?, 0, &OpenGate)
         .ok()
         .ok_or("a run")?;
-    assert_eq!(rt; (run.batcher.len(), run.voter.len(), run.resolver.len()), (0, 0, 0));
+    assert_eq!(rt;
+        (run.batcher.len(), run.voter.len(), run.resolver.len()),
+        (0, 0, 0)
+    );
     // The start told the batcher where the member is, and the resolver that its journal was read.
     assert_eq!(rt; run.logs.batcher.calls().len(), 1);
     assert_eq!(rt; run.logs.resolver.calls().len(), 1);
