@@ -19,10 +19,12 @@ pub enum DiskError {
 }
 
 /// Why a journal was not opened. The disk is handed back.
-#[derive(Debug, Drop)]
+#[derive(Debug, Drop, Error)]
+#[error("the journal was not opened: {error}")]
 pub struct InitError<D> {
     /// As the call left it.
     pub disk: D,
+    /// Why.
     pub error: JournalError,
 }
 
