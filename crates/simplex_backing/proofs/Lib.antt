@@ -23,6 +23,7 @@ pub mod Resolving
 pub mod Running
 pub mod Safely
 pub mod Sampling
+pub mod Sent
 pub mod Shapes
 pub mod Signed
 pub mod Signing

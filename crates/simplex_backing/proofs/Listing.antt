@@ -31,13 +31,14 @@ use Rattle.simplex_evidence.proofs.Reading.{whole_on}
 use Rattle.simplex_safety.specs.Faulty.{faulty_of}
 use Rattle.simplex_safety.specs.Histories.{IsRun, calls_of}
 use Rattle.simplex_safety.specs.Sayings.{Each}
-use Rattle.simplex_safety.proofs.Further.{same_self, same_node}
+use Rattle.simplex_safety.proofs.Further.{same_node}
 use Rattle.simplex_safety.proofs.Members.{faulty_listed}
 use Rattle.simplex_safety.proofs.Turns.{entry_turn}
 use Rattle.simplex_backing.specs.MostlyHonest.{IsMostlyHonest}
 use Rattle.simplex_backing.specs.Voting.{read_vote, vote_on, vote_in, sent_votes, HasVoted}
 use Rattle.simplex_backing.specs.WellSent.{Came, AreWellSent}
 use Rattle.simplex_backing.proofs.Owning.{went_own, read_of}
+use Rattle.simplex_backing.proofs.Sent.{same_both}
 use Rattle.simplex_backing.proofs.Shapes.{IsSentBy}
 use Rattle.simplex_backing.proofs.Worlds.{fit_life, floors_hold, IsFitLife}
 use Rattle.simplex_safety.proofs.Nodes.{node_lives}
@@ -102,21 +103,6 @@ none_of_faulty setup member (p ∷ ps) honest t = at (is_same_node (node_of memb
     at false e rest = rest
 
 -- ---- of an entry, and of a run
-
-same_both : (a b : Node) → is_same_node a b ≡ is_same_node b a
-same_both a b = by (is_same_node a b) refl (is_same_node b a) refl
-  where
-    by : (x : Bool) → is_same_node a b ≡ x → (y : Bool) → is_same_node b a ≡ y → x ≡ y
-    by true e true f = refl
-    by false e false f = refl
-    by true e false f = (let same = same_node a b e in absurd (never (sym (subst (λ n. is_same_node n a ≡ true) same (same_self a)) ∙ f)))
-      where
-        never : true ≡ false → ⊥
-        never h = cc
-    by false e true f = (let same = same_node b a f in absurd (never (sym (subst (λ n. is_same_node n b ≡ true) same (same_self b)) ∙ e)))
-      where
-        never : true ≡ false → ⊥
-        never h = cc
 
 -- the votes of the entry are read of its calls, where the entry is of the member's node
 abbrev IsReadOf : ℕ → Noted → Type 0

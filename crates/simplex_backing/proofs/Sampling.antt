@@ -1,7 +1,8 @@
 -- Each word forbids something that all others let pass.
-use Rattle.std.proofs.Common.{◌≡◌, ℕ, zero, suc, ◌^◌, ◌<◌, ◌&&◌, ◌⊎◌, nat_lt, nat_le, Bool, true, false, List, [], ◌∷◌, ◌++◌, map, All, Contains, refl, sym, ap, subst, inl, inr, arith, Some, None, Ok}
+use Rattle.std.proofs.Common.{◌≡◌, ℕ, zero, suc, ◌^◌, ◌<◌, ◌&&◌, ◌⊎◌, nat_lt, nat_le, Bool, true, false, List, [], ◌∷◌, ◌++◌, map, All, Contains, refl, sym, ap, ◌∙◌, subst, inl, inr, arith, Some, None, Ok}
 use Rattle.std.specs.List.{flat_map}
-use Rattle.std.proofs.lemmas.List.Elements.{All-nil, All-cons, All-head}
+use Rattle.std.proofs.lemmas.List.Elements.{All-nil, All-cons, All-head, All-from_recursion}
+use Rattle.std.proofs.lemmas.List.Kept.{AllPairs-cons}
 use Rattle.std.proofs.lemmas.Slice.Eq.{bytes_eq-Decides}
 use Rattle.simplex_values.specs.Quorum.{quorum_of}
 use Rattle.simplex_values.specs.declared.proposal.Proposal.{Proposal}
@@ -12,11 +13,12 @@ use Rattle.simplex_values.specs.declared.plan.Channel.TheVariants as channels
 use Rattle.simplex_values.specs.declared.round.Round.{Round}
 use Rattle.simplex_wire.specs.declared.attestation.Attestation.{Attestation}
 use Rattle.simplex_wire.specs.declared.certificate.Certificate.{Certificate}
+use Rattle.simplex_wire.specs.declared.certificate.Certificate.TheVariants as certificates
 use Rattle.simplex_wire.specs.declared.vote.Vote.{Vote}
 use Rattle.simplex_wire.specs.declared.vote.Vote.TheVariants as votes
 use Rattle.simplex_wire.specs.Certified.{is_certified}
 use Rattle.simplex_wire.specs.Fields.{vote_subject, vote_attestation, certificate_subject, subject_round}
-use Rattle.simplex_wire.specs.Fits.{FitsVote}
+use Rattle.simplex_wire.specs.Fits.{FitsProposal, FitsVote}
 use Rattle.simplex_wire.specs.Message as format
 use Rattle.simplex_wire.specs.Signatures.{rises_from}
 use Rattle.simplex_wire.proofs.Formats.{whole_again}
@@ -33,28 +35,31 @@ use Rattle.simplex_run.specs.Samples.{alone, at}
 use Rattle.simplex_run.specs.Life.{Noted, life_in, sections_in}
 use Rattle.simplex_run.specs.Entries.{node_of, entry_of, made_of, noted_packets}
 use Rattle.simplex_agreement.specs.Conflict.{Conflict}
+use Rattle.simplex_agreement.specs.World as agreement
+use Rattle.simplex_agreement.specs.World.{Sent, MayStand, MayFollow, KnowsNullified}
+use Rattle.simplex_agreement.proofs.SmallWorlds.{all_three, pairs_none, pairs_three}
 use Rattle.simplex_agreement.proofs.ListFacts.{not_in_empty, Contains-here, Contains-there, Contains-cons_cases}
-use Rattle.simplex_conduct.specs.Life.{voted}
+use Rattle.simplex_conduct.specs.Life.{statement_of, taken, voted}
 use Rattle.simplex_conduct.specs.Storing.{IsStored, IsRepeated, record_of_vote, IsOwn}
-use Rattle.simplex_evidence.specs.Evidence.{blames, BlameNot}
+use Rattle.simplex_evidence.specs.Evidence.{blames, BlameNot, subjects_of, AreInOrder}
 use Rattle.simplex_safety.specs.Faulty.{faulty_of}
 use Rattle.simplex_safety.specs.Histories.{IsRun, IsHeld, AreStored, calls_of}
 use Rattle.simplex_safety.specs.Ruled.{AreByRule}
+use Rattle.simplex_safety.specs.Sayings.{Each}
 use Rattle.simplex_wire.specs.declared.artifact.Artifact.TheVariants as artifacts
 use Rattle.simplex_wire.specs.declared.vote.Nullify.{Nullify}
 use Rattle.simplex_values.specs.declared.plan.Recipients.TheVariants as recipients
 use Rattle.simplex_types.specs.declared.activity.Activity.TheVariants as activities
-use Rattle.simplex_backing.specs.Backed.{of_call, IsBackedIn, AreBacked, StandsIn}
+use Rattle.simplex_backing.specs.Backed.{of_call, of_packet, IsVerifying, IsBackedIn, AreBacked, StandsIn}
 use Rattle.simplex_backing.specs.Blame.{AreBlameless}
 use Rattle.simplex_backing.specs.Founded.{IsOn, IsNotarized}
 use Rattle.simplex_backing.specs.MostlyHonest.{IsMostlyHonest}
-use Rattle.simplex_backing.specs.Safe.{AgreeAll, AllName, AreFounded}
-use Rattle.simplex_backing.specs.Samples.{signed, near, far, bytes_of, block, own_notarize, own_nullify, notarized, nullified, packet_of, send, apart, its, sample, with_silent, noise, after_tick, after_noise}
-use Rattle.simplex_backing.specs.Voting.{vote_in, sent_votes, HasSigned}
-use Rattle.simplex_backing.specs.Words.{Word, Backed, Agrees, Named, Founded, Stored, Ruled, Blameless, Says, AllBut}
+use Rattle.simplex_backing.specs.Safe.{Stands, AgreeAll, AllName, AreFounded}
+use Rattle.simplex_backing.specs.Samples.{signed, near, far, bytes_of, block_at, block, notarize_of, finalize_of, own_notarize, own_nullify, notarization_of, finalization_of, notarized, nullified, bare_notarization, bare_nullification, packet_of, send, apart, its, skipping, skipped_votes, skipped_records, sample, with_silent, noise, after_tick, after_noise}
+use Rattle.simplex_backing.specs.Voting.{read_vote, vote_in, sent_votes, HasSigned}
+use Rattle.simplex_backing.specs.WellSent.{Came, AreWellSent, AllWellSent}
+use Rattle.simplex_backing.specs.Words.{Word, Backed, Agrees, Named, Founded, Stored, Ruled, Ordered, Blameless, Says, AllBut}
 use Rattle.simplex_backing.proofs.Good.{AllBytes, to_bytes, signature_raw}
-use Rattle.simplex_backing.proofs.Naming.{in_map}
-use Rattle.simplex_backing.proofs.Testing.{in_flat, vote_here}
 use Rattle.simplex_run.specs.Members.{rules_of}
 use Rattle.simplex_safety.proofs.Further.{same_node}
 use Rattle.simplex_backing.proofs.Signing.{plain_attests}
@@ -84,20 +89,78 @@ all_bytes (suc n) byte h = (h, all_bytes n byte h)
 nullify_fits : (epoch view : ℕ) → epoch < 2 ^ 64 → view < 2 ^ 64 → FitsVote (votes.Nullify (own_nullify (record { epoch = epoch; view = view })))
 nullify_fits epoch view e v = ((e, v), (omega arith, signature_raw 1 0 (subjects.Nullify (record { epoch = epoch; view = view }))))
 
-notarize_fits : (byte : ℕ) → byte < 256 → FitsVote (votes.Notarize (own_notarize byte))
-notarize_fits byte h =
-    (((omega arith, omega arith), (omega arith, record { len = refl; each = to_bytes (bytes_of 32 byte) (all_bytes 32 byte h) })), (omega arith, signature_raw 1 0 (subjects.Notarize (block byte))))
+block_fits : (view byte : ℕ) → view < 2 ^ 64 → byte < 256 → FitsProposal (block_at view byte)
+block_fits view byte v h = ((omega arith, v), (omega arith, record { len = refl; each = to_bytes (bytes_of 32 byte) (all_bytes 32 byte h) }))
 
-read_sent : (noted : Noted) (before : List Noted) (out : List Vote) (v : Vote) → noted.entry.packets ≡ map packet_of out → Contains out v → FitsVote v → Contains (sent_votes (noted ∷ before) 0) v
+notarize_fits : (view byte : ℕ) → view < 2 ^ 64 → byte < 256 → FitsVote (votes.Notarize (notarize_of (block_at view byte)))
+notarize_fits view byte v h = (block_fits view byte v h, (omega arith, signature_raw 1 0 (subjects.Notarize (block_at view byte))))
+
+finalize_fits : (view byte : ℕ) → view < 2 ^ 64 → byte < 256 → FitsVote (votes.Finalize (finalize_of (block_at view byte)))
+finalize_fits view byte v h = (block_fits view byte v h, (omega arith, signature_raw 1 0 (subjects.Finalize (block_at view byte))))
+
+-- packets of these votes are read as them
+read_out : (out : List Vote) → Each FitsVote out → flat_map (vote_in 0) (map packet_of out) ≡ out
+read_out [] fits = refl
+read_out (v ∷ out) fits =
+    subst (λ r. read_vote r ++ flat_map (vote_in 0) (map packet_of out) ≡ v ∷ out) (sym (whole_again format.vote FitsVote vote_is v fits.0)) (ap (λ vs. v ∷ vs) (read_out out fits.1))
+
+-- all that it sent, where nothing went out before
+sent_apart : (xs : List Certificate) (out : List Vote) (cs : List Call) (before : List Noted) → sent_votes before 0 ≡ [] → Each FitsVote out → sent_votes (apart xs out cs ∷ before) 0 ≡ out
 unfolding sent_votes
-read_sent noted before out v e k fits =
-    subst (λ ps. Contains (sent_votes before 0 ++ flat_map (vote_in 0) ps) v) (sym e)
-    (behind (sent_votes before 0) (flat_map (vote_in 0) (map packet_of out)) v
-    (in_flat (vote_in 0) (map packet_of out) (packet_of v) v (in_map packet_of out v k) (vote_here 0 (packet_of v) v refl refl (whole_again format.vote FitsVote vote_is v fits))))
-  where
-    behind : {A : Type 0} (xs ys : List A) (y : A) → Contains ys y → Contains (xs ++ ys) y
-    behind [] ys y h = h
-    behind (x ∷ xs) ys y h = Contains-there x (xs ++ ys) y (behind xs ys y h)
+sent_apart xs out cs before e fits = subst (λ old. old ++ flat_map (vote_in 0) (map packet_of out) ≡ out) (sym e) (read_out out fits)
+
+nothing_sent : sent_votes [] 0 ≡ []
+unfolding sent_votes
+nothing_sent = refl
+
+its_unsent : (outcome : Outcome) (cs : List Call) → sent_votes (its outcome cs ∷ []) 0 ≡ []
+unfolding sent_votes
+its_unsent outcome cs = refl
+
+-- so each vote that went out is among them
+read_sent : (noted : List Noted) (out : List Vote) (v : Vote) → sent_votes noted 0 ≡ out → Contains out v → Contains (sent_votes noted 0) v
+read_sent noted out v e k = subst (λ vs. Contains vs v) (sym e) k
+
+-- ---- the order of its votes
+
+-- what it knew at a vote, what the vote needs by itself, and what one before it asks
+abbrev Knew : List Noted → Sent → Type 0
+Knew noted s = All (Came noted (node_of 0)) s.known
+
+abbrev Alone : Sent → Type 0
+Alone s = MayStand 1 s.subject s.known
+
+abbrev Behind : Sent → Sent → Type 0
+Behind s t = MayFollow 1 s.subject t.subject t.known
+
+zero_is : (member : ℕ) → member < 1 → 0 ≡ member
+zero_is member h = omega (arith, h)
+
+of_all : (noted : List Noted) → AreWellSent alone noted 0 → AllWellSent alone noted
+of_all noted w member below good = subst (AreWellSent alone noted) (zero_is member below) w
+
+no_vote : (noted : List Noted) → sent_votes noted 0 ≡ [] → AllWellSent alone noted
+no_vote noted e =
+    of_all noted (record { votes = []; same = ap (map vote_subject) (sym e); came = All-nil (Knew noted); alone = All-nil Alone; order = pairs_none Behind })
+
+abbrev knowing_nothing : Subject → Sent
+knowing_nothing s = record { subject = s; known = [] }
+
+one_vote : (noted : List Noted) (v : Vote) → sent_votes noted 0 ≡ v ∷ [] → MayStand 1 (vote_subject v) [] → AllWellSent alone noted
+one_vote noted v e stands =
+    let s = knowing_nothing (vote_subject v) in
+    of_all noted (
+    record {
+      votes = s ∷ [];
+      same = ap (map vote_subject) (sym e);
+      came = All-cons (Knew noted) s [] (All-nil (Came noted (node_of 0))) (All-nil (Knew noted));
+      alone = All-cons Alone s [] stands (All-nil Alone);
+      order = AllPairs-cons Behind s [] (All-nil (Behind s)) (pairs_none Behind);
+    }
+    )
+
+none_between : (x : ℕ) → 0 < x → x < 1 → ⊥
+none_between x low high = omega (arith, low, high)
 
 -- a certificate of the one member, whose vote was sent
 module _ (noted : List Noted) (s : Subject) (v : Vote) (sent : Contains (sent_votes noted 0) v) (on : vote_subject v ≡ s) (by : vote_attestation v ≡ signed s) where
@@ -125,15 +188,15 @@ on_nothing r p (inr e) = cc
 same_block : (p : Proposal) → ¬ (Conflict 1 (subjects.Notarize p) (subjects.Notarize p))
 same_block p c = c.1 refl
 
+not_two : ◌≡◌ {A = ℕ} 1 2 → ⊥
+not_two e = omega (arith, e)
+
 other_block : ¬ (block 1 ≡ block 2)
-other_block e = heads (ap (λ (p : Proposal). first p.payload) e)
+other_block e = not_two (ap (λ (p : Proposal). first p.payload) e)
   where
     first : List ℕ → ℕ
     first [] = 0
     first (x ∷ xs) = x
-
-    heads : ◌≡◌ {A = ℕ} 1 2 → ⊥
-    heads h = omega (arith, h)
 
 -- ---- an entry of no node has no say in what is stored and due
 
@@ -199,16 +262,16 @@ bare_its outcome cs e =
     none : (c : Certificate) → ¬ (Contains (flat_map of_call cs ++ []) c)
     none c k = not_in_empty c (subst (λ xs. Contains (xs ++ []) c) e k)
 
-bare_apart : (cs : List Call) → flat_map of_call cs ≡ [] → IsBare (apart [] [] cs ∷ [])
+bare_apart : (out : List Vote) (cs : List Call) → flat_map of_call cs ++ flat_map of_packet (map packet_of out) ≡ [] → IsBare (apart [] out cs ∷ [])
 unfolding AreBacked StandsIn
-bare_apart cs e =
+bare_apart out cs e =
     record {
       backed = ((λ c k v. absurd (none c k)), tt);
       nothing = λ c k. elim k [ inl here ↦ none c here | inr r ↦ r ];
     }
   where
-    none : (c : Certificate) → ¬ (Contains (flat_map of_call cs ++ []) c)
-    none c k = not_in_empty c (subst (λ xs. Contains (xs ++ []) c) e k)
+    none : (c : Certificate) → ¬ (Contains (flat_map of_call cs ++ flat_map of_packet (map packet_of out)) c)
+    none c k = not_in_empty c (subst (λ xs. Contains xs c) e k)
 
 bare_agrees : (noted : List Noted) → IsBare noted → AgreeAll alone noted
 bare_agrees noted b x y sx sy = absurd (b.nothing x sx.0)
@@ -263,9 +326,13 @@ unbacked = record { others = others; fails = λ h. elim (All-head P (signed s) [
     others Founded n = λ c p st on. absurd (lone_bare near (λ x. ¬ (IsOn (certificate_subject x) p)) (on_nothing near p) c st.0 on)
     others Stored n = λ node h. stored_apart (nullified near ∷ []) [] [] [] node (nothing_stored node)
     others Ruled n = λ node h. ruled_apart (nullified near ∷ []) [] [] [] node (nothing_ruled node)
+    others Ordered n = no_vote (sample Backed) refl
     others Blameless n = no_blame (apart (nullified near ∷ []) [] []) [] silent nobody_blamed
 
 -- a vote that went out, and its nullification, are backed
+lone_out : (r : Round) → FitsVote (votes.Nullify (own_nullify r)) → sent_votes (lone r (votes.Nullify (own_nullify r) ∷ [])) 0 ≡ votes.Nullify (own_nullify r) ∷ []
+lone_out r fits = sent_apart (nullified r ∷ []) (votes.Nullify (own_nullify r) ∷ []) [] [] nothing_sent (fits, tt)
+
 lone_backed : (r : Round) → FitsVote (votes.Nullify (own_nullify r)) → AreBacked alone (lone r (votes.Nullify (own_nullify r) ∷ []))
 unfolding AreBacked
 lone_backed r fits = ((λ c k v. one (IsBackedIn alone (lone r (votes.Nullify (own_nullify r) ∷ []))) (nullified r) backed c k), tt)
@@ -276,7 +343,7 @@ lone_backed r fits = ((λ c k v. one (IsBackedIn alone (lone r (votes.Nullify (o
     backed : IsBackedIn alone (lone r (votes.Nullify (own_nullify r) ∷ [])) (nullified r)
     backed =
         counted (lone r (votes.Nullify (own_nullify r) ∷ [])) (subjects.Nullify r) (votes.Nullify (own_nullify r))
-        (read_sent (apart (nullified r ∷ []) (votes.Nullify (own_nullify r) ∷ []) []) [] (votes.Nullify (own_nullify r) ∷ []) (votes.Nullify (own_nullify r)) refl (Contains-here (votes.Nullify (own_nullify r)) []) fits) refl refl
+        (read_sent (lone r (votes.Nullify (own_nullify r) ∷ [])) (votes.Nullify (own_nullify r) ∷ []) (votes.Nullify (own_nullify r)) (lone_out r fits) (Contains-here (votes.Nullify (own_nullify r)) [])) refl refl
 
 unnamed : AllBut (at_epoch_genesis alone) (sample Named) Named
 unfolding AreBacked StandsIn sent_votes AreStored AreByRule AreBlameless voted calls_of life_in journal.kept
@@ -298,6 +365,7 @@ unnamed = record { others = others; fails = λ h. seven (h (nullified far) (stan
     others Founded n = λ c p st on. absurd (lone_sent far (λ x. ¬ (IsOn (certificate_subject x) p)) (on_nothing far p) c st.0 on)
     others Stored n = λ node h. stored_apart (nullified far ∷ []) (votes.Nullify (own_nullify far) ∷ []) [] [] node (nothing_stored node)
     others Ruled n = λ node h. ruled_apart (nullified far ∷ []) (votes.Nullify (own_nullify far) ∷ []) [] [] node (nothing_ruled node)
+    others Ordered n = one_vote (sample Named) (votes.Nullify (own_nullify far)) (lone_out far (nullify_fits 7 1 (omega arith) (omega arith))) tt
     others Blameless n = no_blame (apart (nullified far ∷ []) (votes.Nullify (own_nullify far) ∷ []) []) [] silent nobody_blamed
 
 unfounded : AllBut (at_epoch_genesis alone) (sample Founded) Founded
@@ -313,6 +381,9 @@ unfounded = record { others = others; fails = λ h. (let f = h (notarized 1) (bl
     none : (member : ℕ) → ¬ (Contains (voted (calls_of (node_of member) (sample Founded))) (subjects.Notarize (block 1)))
     none member k = not_in_empty _ k
 
+    out : sent_votes (sample Founded) 0 ≡ votes.Notarize (own_notarize 1) ∷ []
+    out = sent_apart (notarized 1 ∷ []) (votes.Notarize (own_notarize 1) ∷ []) [] [] nothing_sent (notarize_fits 1 1 (omega arith) (omega arith), tt)
+
     which : (P : Certificate → Type 0) → P (notarized 1) → (c : Certificate) → StandsIn (sample Founded) c → P c
     which P p c k = elim k [ inl here ↦ one P (notarized 1) p c here | inr r ↦ absurd r ]
 
@@ -320,7 +391,7 @@ unfounded = record { others = others; fails = λ h. (let f = h (notarized 1) (bl
     backed = (
       (λ c k w. one (IsBackedIn alone (sample Founded)) (notarized 1)
           (counted (sample Founded) (subjects.Notarize (block 1)) (votes.Notarize (own_notarize 1))
-          (read_sent (apart (notarized 1 ∷ []) (votes.Notarize (own_notarize 1) ∷ []) []) [] (votes.Notarize (own_notarize 1) ∷ []) (votes.Notarize (own_notarize 1)) refl (Contains-here (votes.Notarize (own_notarize 1)) []) (notarize_fits 1 (omega arith))) refl refl) c k),
+          (read_sent (sample Founded) (votes.Notarize (own_notarize 1) ∷ []) (votes.Notarize (own_notarize 1)) out (Contains-here (votes.Notarize (own_notarize 1)) [])) refl refl) c k),
       tt,
     )
 
@@ -332,81 +403,210 @@ unfounded = record { others = others; fails = λ h. (let f = h (notarized 1) (bl
     others Named n = λ c st. which (λ x. (subject_round (certificate_subject x)).epoch ≡ 0) refl c st.0
     others Stored n = λ node h. stored_apart (notarized 1 ∷ []) (votes.Notarize (own_notarize 1) ∷ []) [] [] node (nothing_stored node)
     others Ruled n = λ node h. ruled_apart (notarized 1 ∷ []) (votes.Notarize (own_notarize 1) ∷ []) [] [] node (nothing_ruled node)
+    others Ordered n = one_vote (sample Founded) (votes.Notarize (own_notarize 1)) out (λ x low high. absurd (none_between x low high))
     others Blameless n = no_blame (apart (notarized 1 ∷ []) (votes.Notarize (own_notarize 1) ∷ []) []) [] silent nobody_blamed
 
--- the two votes that were appended and went out
-abbrev vote_of : ℕ → Vote
-vote_of byte = votes.Notarize (own_notarize byte)
+-- ---- a final view that is skipped
 
-abbrev both_out : List Vote
-both_out = vote_of 1 ∷ vote_of 2 ∷ []
+abbrev final : Certificate
+final = finalization_of (block 1)
 
-abbrev appends : List Call
-appends = calls.Append 1 (artifacts.Notarize (own_notarize 1)) ∷ calls.Append 1 (artifacts.Notarize (own_notarize 2)) ∷ []
+abbrev later : Certificate
+later = notarization_of skipping
 
-divided : AllBut (at_epoch_genesis alone) (sample Agrees) Agrees
+-- what the member took for certificates of view 1, its votes, and what it knew at each
+abbrev took_notarization : Certificate
+took_notarization = certificates.Notarization bare_notarization
+
+abbrev took_nullification : Certificate
+took_nullification = certificates.Nullification bare_nullification
+
+abbrev saw_notarization : agreement.Certificate
+saw_notarization = statement_of took_notarization
+
+abbrev saw_nullification : agreement.Certificate
+saw_nullification = statement_of took_nullification
+
+abbrev first_vote : Vote
+first_vote = votes.Notarize (own_notarize 1)
+
+abbrev second_vote : Vote
+second_vote = votes.Finalize (finalize_of (block 1))
+
+abbrev third_vote : Vote
+third_vote = votes.Notarize (notarize_of skipping)
+
+abbrev at_notarize : Sent
+at_notarize = knowing_nothing (subjects.Notarize (block 1))
+
+abbrev at_finalize : Sent
+at_finalize = record { subject = subjects.Finalize (block 1); known = saw_notarization ∷ [] }
+
+abbrev at_skip : Sent
+at_skip = record { subject = subjects.Notarize skipping; known = saw_nullification ∷ [] }
+
+abbrev skipped_sent : List Sent
+skipped_sent = at_notarize ∷ at_finalize ∷ at_skip ∷ []
+
+unsigned : (s : Subject) → ¬ (is_certified (keyed_verifies 1 1 s) 1 [] ≡ true)
+unfolding is_certified
+unsigned s e = never e
+  where
+    never : false ≡ true → ⊥
+    never h = cc
+
+one_is : (x : ℕ) → 0 < x → x < 2 → 1 ≡ x
+one_is x low high = omega (arith, low, high)
+
+skipped_out : sent_votes (sample Agrees) 0 ≡ skipped_votes
+skipped_out =
+    sent_apart (final ∷ later ∷ []) skipped_votes [] (its outcomes.Cut skipped_records ∷ []) (its_unsent outcomes.Cut skipped_records)
+    (notarize_fits 1 1 (omega arith) (omega arith), (finalize_fits 1 1 (omega arith) (omega arith), (notarize_fits 2 1 (omega arith) (omega arith), tt)))
+
+-- its votes are in order, by what it took
+skipped_order : AllWellSent alone (sample Agrees)
+unfolding calls_of taken
+skipped_order =
+    of_all noted (
+    record {
+      votes = skipped_sent;
+      same = ap (map vote_subject) (sym skipped_out);
+      came = all_three (Knew noted) at_notarize at_finalize at_skip (All-nil (Came noted (node_of 0)))
+          (knew saw_notarization (inl (Contains-here saw_notarization (saw_nullification ∷ []))))
+          (knew saw_nullification
+          (inl (Contains-there saw_notarization (saw_nullification ∷ []) saw_nullification (Contains-here saw_nullification []))));
+      alone = all_three Alone at_notarize at_finalize at_skip (λ x low high. absurd (none_between x low high)) ([], Contains-here saw_notarization [])
+          (λ x low high. subst (KnowsNullified 1 (saw_nullification ∷ [])) (one_is x low high) (near, ([], Contains-here saw_nullification []), (refl, omega arith)));
+      order = pairs_three Behind at_notarize at_finalize at_skip tt (λ e. absurd (not_two e)) tt;
+    }
+    )
+  where
+    noted : List Noted
+    noted = sample Agrees
+
+    knew : (c : agreement.Certificate) → Came (sample Agrees) (node_of 0) c → All (Came (sample Agrees) (node_of 0)) (c ∷ [])
+    knew c k = All-cons (Came (sample Agrees) (node_of 0)) c [] k (All-nil (Came (sample Agrees) (node_of 0)))
+
+skipped : AllBut (at_epoch_genesis alone) (sample Agrees) Agrees
 unfolding AreBacked StandsIn sent_votes AreStored AreByRule AreBlameless voted calls_of life_in journal.kept
-divided =
+skipped =
     record {
       others = others;
-      fails = λ h. h (notarized 1) (notarized 2) (stands 1 (Contains-here (notarized 1) (notarized 2 ∷ [])), certified (subjects.Notarize (block 1)))
-          (stands 2 (Contains-there (notarized 1) (notarized 2 ∷ []) (notarized 2) (Contains-here (notarized 2) [])), certified (subjects.Notarize (block 2))) (refl, other_block);
+      fails = λ h. h final later (inl (Contains-here final (later ∷ [])), certified (subjects.Finalize (block 1)))
+          (inl (Contains-there final (later ∷ []) later (Contains-here later [])), certified (subjects.Notarize skipping)) (inr (omega arith, omega arith));
     }
   where
-    stands : (byte : ℕ) → Contains (notarized 1 ∷ notarized 2 ∷ []) (notarized byte) → StandsIn (sample Agrees) (notarized byte)
-    stands byte k = inl k
+    bare : (c : Certificate) → Contains (took_notarization ∷ took_nullification ∷ []) c → ¬ (IsVerifying alone c)
+    bare c k = two (λ x. ¬ (IsVerifying alone x)) took_notarization took_nullification (unsigned (subjects.Notarize (block 1))) (unsigned (subjects.Nullify near)) c k
 
-    which : (P : Certificate → Type 0) → P (notarized 1) → P (notarized 2) → (c : Certificate) → StandsIn (sample Agrees) c → P c
-    which P p q c k = elim k [
-      | inl here ↦ two P (notarized 1) (notarized 2) p q c here
-      | inr rest ↦ elim rest [ inl its_own ↦ absurd (not_in_empty c its_own) | inr r ↦ absurd r ]
+    which : (P : Certificate → Type 0) → P final → P later → (c : Certificate) → Stands alone (sample Agrees) c → P c
+    which P p q c st = elim st.0 [
+      | inl here ↦ two P final later p q c here
+      | inr rest ↦ elim rest [ inl its_own ↦ absurd (bare c its_own st.1) | inr r ↦ absurd r ]
     ]
 
-    sent : (byte : ℕ) → byte < 256 → Contains both_out (vote_of byte) → Contains (sent_votes (sample Agrees) 0) (vote_of byte)
-    sent byte h k = read_sent (apart (notarized 1 ∷ notarized 2 ∷ []) both_out []) (its outcomes.Cut appends ∷ []) both_out (vote_of byte) refl k (notarize_fits byte h)
+    notarized_first : Contains (sent_votes (sample Agrees) 0) first_vote
+    notarized_first = read_sent (sample Agrees) skipped_votes first_vote skipped_out (Contains-here first_vote (second_vote ∷ third_vote ∷ []))
 
-    backed_by : (byte : ℕ) → byte < 256 → Contains both_out (vote_of byte) → IsBackedIn alone (sample Agrees) (notarized byte)
-    backed_by byte h k = counted (sample Agrees) (subjects.Notarize (block byte)) (vote_of byte) (sent byte h k) refl refl
+    finalized_then : Contains (sent_votes (sample Agrees) 0) second_vote
+    finalized_then = read_sent (sample Agrees) skipped_votes second_vote skipped_out (Contains-there first_vote (second_vote ∷ third_vote ∷ []) second_vote (Contains-here second_vote (third_vote ∷ [])))
+
+    notarized_last : Contains (sent_votes (sample Agrees) 0) third_vote
+    notarized_last = read_sent (sample Agrees) skipped_votes third_vote skipped_out
+        (Contains-there first_vote (second_vote ∷ third_vote ∷ []) third_vote (Contains-there second_vote (third_vote ∷ []) third_vote (Contains-here third_vote [])))
 
     backed : AreBacked alone (sample Agrees)
     backed = (
-      (λ c k w. two (IsBackedIn alone (sample Agrees)) (notarized 1) (notarized 2)
-          (backed_by 1 (omega arith) (Contains-here (vote_of 1) (vote_of 2 ∷ [])))
-          (backed_by 2 (omega arith) (Contains-there (vote_of 1) (vote_of 2 ∷ []) (vote_of 2) (Contains-here (vote_of 2) []))) c k),
-      ((λ c k w. absurd (not_in_empty c k)), tt),
+      (λ c k w. two (IsBackedIn alone (sample Agrees)) final later
+          (counted (sample Agrees) (subjects.Finalize (block 1)) second_vote finalized_then refl refl)
+          (counted (sample Agrees) (subjects.Notarize skipping) third_vote notarized_last refl refl) c k),
+      ((λ c k w. absurd (bare c k w)), tt),
     )
 
-    first_two : List Subject
-    first_two = subjects.Notarize (block 1) ∷ subjects.Notarize (block 2) ∷ []
+    founded_first : IsNotarized alone (sample Agrees) (block 1)
+    founded_first = record { member = 0; below = omega arith; honest = honest; appended = Contains-here (subjects.Notarize (block 1)) (subjects.Notarize skipping ∷ []); sent = (first_vote, notarized_first, refl) }
 
-    noted : (byte : ℕ) → byte < 256 → Contains both_out (vote_of byte) → Contains first_two (subjects.Notarize (block byte)) → IsNotarized alone (sample Agrees) (block byte)
-    noted byte h out k = record { member = 0; below = omega arith; honest = honest; appended = k; sent = (vote_of byte, sent byte h out, refl) }
+    founded_last : IsNotarized alone (sample Agrees) skipping
+    founded_last =
+        record {
+          member = 0;
+          below = omega arith;
+          honest = honest;
+          appended = Contains-there (subjects.Notarize (block 1)) (subjects.Notarize skipping ∷ []) (subjects.Notarize skipping) (Contains-here (subjects.Notarize skipping) []);
+          sent = (third_vote, notarized_last, refl);
+        }
 
-    founded_by : (byte : ℕ) (p : Proposal) → IsNotarized alone (sample Agrees) (block byte) → IsOn (subjects.Notarize (block byte)) p → IsNotarized alone (sample Agrees) p
-    founded_by byte p f (inl e) = (let same : block byte ≡ p = cc in subst (IsNotarized alone (sample Agrees)) same f)
-    founded_by byte p f (inr e) = cc
+    first_by : (p : Proposal) → IsOn (subjects.Finalize (block 1)) p → IsNotarized alone (sample Agrees) p
+    first_by p (inl e) = cc
+    first_by p (inr e) = (let same : block 1 ≡ p = cc in subst (IsNotarized alone (sample Agrees)) same founded_first)
 
-    stored : (node : Node) → AreStored (at_epoch_genesis alone) node (its outcomes.Cut appends ∷ [])
+    last_by : (p : Proposal) → IsOn (subjects.Notarize skipping) p → IsNotarized alone (sample Agrees) p
+    last_by p (inl e) = (let same : skipping ≡ p = cc in subst (IsNotarized alone (sample Agrees)) same founded_last)
+    last_by p (inr e) = cc
+
+    stored : (node : Node) → AreStored (at_epoch_genesis alone) node (its outcomes.Cut skipped_records ∷ [])
     stored node = ((λ e before behind to bytes place. absurd (unsent before behind to bytes place)), tt)
       where
-        unsent : (before behind : List Call) (to : Recipients) (bytes : List ℕ) → ¬ (appends ≡ before ++ (calls.Send channels.Vote to bytes ∷ behind))
+        unsent : (before behind : List Call) (to : Recipients) (bytes : List ℕ) → ¬ (skipped_records ≡ before ++ (calls.Send channels.Vote to bytes ∷ behind))
         unsent [] behind to bytes e = cc
         unsent (x ∷ []) behind to bytes e = cc
         unsent (x ∷ y ∷ []) behind to bytes e = cc
-        unsent (x ∷ y ∷ z ∷ more) behind to bytes e = cc
+        unsent (x ∷ y ∷ z ∷ []) behind to bytes e = cc
+        unsent (x ∷ y ∷ z ∷ w ∷ []) behind to bytes e = cc
+        unsent (x ∷ y ∷ z ∷ w ∷ u ∷ more) behind to bytes e = cc
+
+    blame_not : (member : ℕ) → BlameNot member skipped_records
+    blame_not member = All-from_recursion (λ (call : Call). blames call member ≡ false) skipped_records (refl, (refl, (refl, (refl, tt))))
 
     others : (other : Word) → ¬ (other ≡ Agrees) → Says (at_epoch_genesis alone) (sample Agrees) other
     others Agrees n = absurd (n refl)
     others Backed n = backed
-    others Named n = λ c st. which (λ x. (subject_round (certificate_subject x)).epoch ≡ 0) refl refl c st.0
-    others Founded n = λ c p st on. which (λ x. IsOn (certificate_subject x) p → IsNotarized alone (sample Agrees) p)
-        (founded_by 1 p (noted 1 (omega arith) (Contains-here (vote_of 1) (vote_of 2 ∷ [])) (Contains-here (subjects.Notarize (block 1)) (subjects.Notarize (block 2) ∷ []))))
-        (founded_by 2 p (noted 2 (omega arith) (Contains-there (vote_of 1) (vote_of 2 ∷ []) (vote_of 2) (Contains-here (vote_of 2) [])) (Contains-there (subjects.Notarize (block 1)) (subjects.Notarize (block 2) ∷ []) (subjects.Notarize (block 2)) (Contains-here (subjects.Notarize (block 2)) [])))) c st.0 on
-    others Stored n = λ node h. stored_apart (notarized 1 ∷ notarized 2 ∷ []) both_out [] (its outcomes.Cut appends ∷ []) node (stored node)
-    others Ruled n = λ node h. ruled_apart (notarized 1 ∷ notarized 2 ∷ []) both_out [] (its outcomes.Cut appends ∷ []) node (ruled_broken appends node)
-    others Blameless n =
-        no_blame (apart (notarized 1 ∷ notarized 2 ∷ []) both_out []) (its outcomes.Cut appends ∷ []) silent
-        (no_blame (its outcomes.Cut appends) [] (λ member. and_call member (calls.Append 1 (artifacts.Notarize (own_notarize 1))) (calls.Append 1 (artifacts.Notarize (own_notarize 2)) ∷ []) refl (and_call member (calls.Append 1 (artifacts.Notarize (own_notarize 2))) [] refl (silent member))) nobody_blamed)
+    others Named n = which (λ x. (subject_round (certificate_subject x)).epoch ≡ 0) refl refl
+    others Founded n = λ c p st on. which (λ x. IsOn (certificate_subject x) p → IsNotarized alone (sample Agrees) p) (first_by p) (last_by p) c st on
+    others Stored n = λ node h. stored_apart (final ∷ later ∷ []) skipped_votes [] (its outcomes.Cut skipped_records ∷ []) node (stored node)
+    others Ruled n = λ node h. ruled_apart (final ∷ later ∷ []) skipped_votes [] (its outcomes.Cut skipped_records ∷ []) node (ruled_broken skipped_records node)
+    others Ordered n = skipped_order
+    others Blameless n = no_blame (apart (final ∷ later ∷ []) skipped_votes []) (its outcomes.Cut skipped_records ∷ []) silent (no_blame (its outcomes.Cut skipped_records) [] blame_not nobody_blamed)
+
+-- ---- two notarizes of one view
+
+abbrev rivals : List Vote
+rivals = votes.Notarize (own_notarize 1) ∷ votes.Notarize (own_notarize 2) ∷ []
+
+not_both : (sent : List Sent) → subjects_of sent ≡ map vote_subject rivals → AreInOrder 1 sent → ⊥
+not_both [] e order = cc
+not_both (a ∷ []) e order = cc
+not_both (a ∷ b ∷ rest) e order =
+    let first : a.subject ≡ subjects.Notarize (block 1) = cc in
+    let second : b.subject ≡ subjects.Notarize (block 2) = cc in
+    let may : MayFollow 1 a.subject b.subject b.known = order 0 1 a (omega arith) (omega arith) in
+    let asks : MayFollow 1 (subjects.Notarize (block 1)) (subjects.Notarize (block 2)) b.known =
+    subst (λ s. MayFollow 1 s (subjects.Notarize (block 2)) b.known) first (subst (λ s. MayFollow 1 a.subject s b.known) second may) in
+    other_block (asks refl)
+
+disordered : AllBut (at_epoch_genesis alone) (sample Ordered) Ordered
+unfolding AreBacked StandsIn sent_votes AreStored AreByRule AreBlameless voted calls_of life_in journal.kept
+disordered =
+    record {
+      others = others;
+      fails = λ h. (let w = h 0 (omega arith) honest in not_both w.votes (w.same ∙ ap (map vote_subject) out) w.order);
+    }
+  where
+    out : sent_votes (sample Ordered) 0 ≡ rivals
+    out = sent_apart [] rivals [] [] nothing_sent (notarize_fits 1 1 (omega arith) (omega arith), (notarize_fits 1 2 (omega arith) (omega arith), tt))
+
+    bare : IsBare (sample Ordered)
+    bare = bare_apart rivals [] refl
+
+    others : (other : Word) → ¬ (other ≡ Ordered) → Says (at_epoch_genesis alone) (sample Ordered) other
+    others Ordered n = absurd (n refl)
+    others Backed n = bare.backed
+    others Agrees n = bare_agrees (sample Ordered) bare
+    others Named n = bare_named (sample Ordered) bare
+    others Founded n = bare_founded (sample Ordered) bare
+    others Stored n = λ node h. stored_apart [] rivals [] [] node (nothing_stored node)
+    others Ruled n = λ node h. ruled_apart [] rivals [] [] node (nothing_ruled node)
+    others Blameless n = no_blame (apart [] rivals []) [] silent nobody_blamed
 
 abbrev own : Vote
 own = votes.Nullify (own_nullify near)
@@ -440,6 +640,7 @@ unstored = record { others = others; fails = λ h. fails (h (node_of 0) honest) 
     others Named n = bare_named (sample Stored) bare
     others Founded n = bare_founded (sample Stored) bare
     others Ruled n = λ node h. ruled_broken (send own ∷ []) node
+    others Ordered n = no_vote (sample Stored) refl
     others Blameless n = no_blame (its outcomes.Cut (send own ∷ [])) [] (λ member. and_call member (send own) [] refl (silent member)) nobody_blamed
 
 signed_own : IsOwn (rules_of (at_epoch_genesis alone) 0 0) own
@@ -486,6 +687,7 @@ undue = record { others = others; fails = λ h. fails (h (node_of 0) honest) }
     others Named n = bare_named (sample Ruled) bare
     others Founded n = bare_founded (sample Ruled) bare
     others Stored n = λ node h. stored node
+    others Ordered n = no_vote (sample Ruled) refl
     others Blameless n =
         no_blame (its outcomes.Done storing) [] (λ member. and_call member (calls.Append 1 (artifacts.Nullify (own_nullify near))) (calls.Sync 1 ∷ send own ∷ []) refl (and_call member (calls.Sync 1) (send own ∷ []) refl (and_call member (send own) [] refl (silent member)))) nobody_blamed
 
@@ -497,7 +699,7 @@ unfolding AreBacked StandsIn sent_votes AreStored AreByRule AreBlameless voted c
 blamed = record { others = others; fails = fails }
   where
     bare : IsBare (sample Blameless)
-    bare = bare_apart (report ∷ []) refl
+    bare = bare_apart [] (report ∷ []) refl
 
     fails : ¬ (AreBlameless alone (sample Blameless))
     fails h = (let e = All-head (λ (call : Call). blames call 0 ≡ false) report [] (h.0 0 honest) in cc)
@@ -510,14 +712,16 @@ blamed = record { others = others; fails = fails }
     others Founded n = bare_founded (sample Blameless) bare
     others Stored n = λ node h. stored_apart [] [] (report ∷ []) [] node (nothing_stored node)
     others Ruled n = λ node h. ruled_apart [] [] (report ∷ []) [] node (nothing_ruled node)
+    others Ordered n = no_vote (sample Blameless) refl
 
 pub each_word : (word : Word) → AllBut (at_epoch_genesis alone) (sample word) word
 each_word Backed = unbacked
-each_word Agrees = divided
+each_word Agrees = skipped
 each_word Named = unnamed
 each_word Founded = unfounded
 each_word Stored = unstored
 each_word Ruled = undue
+each_word Ordered = disordered
 each_word Blameless = blamed
 
 -- ---- the premises

@@ -1,8 +1,7 @@
 -- Each signature in the packets of faulty members is of a faulty member, or of one that sent a vote on its subject: the
 -- run is refused else.
-use Rattle.std.proofs.Common.{◌≡◌, ℕ, ◌<◌, ◌&&◌, ◌||◌, ◌⊎◌, not, Bool, true, false, List, [], ◌∷◌, ◌++◌, map, find, All, Contains, Option, Some, None, Result, Ok, Err, inl, inr, refl, sym, ap, subst, if◌then◌else◌, arith}
-use Rattle.std.specs.List.{flat_map, filter_map, list_any}
-use Rattle.std.specs.Result.{result_ok}
+use Rattle.std.proofs.Common.{◌≡◌, ℕ, ◌<◌, ◌&&◌, ◌⊎◌, not, Bool, true, false, List, [], ◌∷◌, ◌++◌, map, find, All, Contains, Option, Some, None, Result, Ok, Err, inl, inr, refl, sym, subst, if◌then◌else◌, arith}
+use Rattle.std.specs.List.{flat_map}
 use Rattle.std.proofs.lemmas.List.Elements.{All-nil, All-cons, Contains-append_left, Contains-append_right}
 use Rattle.std.proofs.lemmas.Bool.Decides.{nat_tests}
 use Rattle.std.proofs.lemmas.Grind.{common_steps}
@@ -21,26 +20,23 @@ use Rattle.simplex_wire.specs.Format.{whole}
 use Rattle.simplex_wire.specs.Message as format
 use Rattle.simplex_wire.specs.ResolverMessage.{resolver_message}
 use Rattle.simplex_types.specs.Keyed.{keyed_verifies}
-use Rattle.simplex_round.specs.Votes.{is_same_subject}
 use Rattle.simplex_transcript.specs.declared.entry.Packet.{Packet}
 use Rattle.simplex_transcript.specs.declared.event.Event.{Event}
 use Rattle.simplex_transcript.specs.declared.refusal.RunError.{RunError}
 use Rattle.simplex_transcript.specs.declared.setup.Setup.{Setup}
-use Rattle.simplex_batcher_laws.proofs.Certifying.{subjects-same}
 use Rattle.simplex_run.specs.Setting.{Setting}
 use Rattle.simplex_run.specs.Kinds.{members_of, is_honest, is_faulty_member, is_same_node, node_of}
 use Rattle.simplex_run.specs.Life.{Noted}
-use Rattle.simplex_run.specs.SentVotes.{is_for_votes, vote_sent, has_sent}
-use Rattle.simplex_run.specs.SentVotes as sent
+use Rattle.simplex_run.specs.SentVotes.{has_sent}
 use Rattle.simplex_run.specs.Forged.{Signed, signed, signed_in_vote, signed_in_certificate, signed_in_body, signed_in_message, signed_in, is_forged, signed_by_faulty, first_forged, unless, unless_forged}
 use Rattle.simplex_run.specs.Entries.{made_of, entry_of}
-use Rattle.simplex_agreement.proofs.ListFacts.{not_in_empty, Contains-here, Contains-there, Contains-cons_cases}
+use Rattle.simplex_agreement.proofs.ListFacts.{not_in_empty, Contains-here, Contains-cons_cases}
 use Rattle.simplex_safety.specs.Faulty.{faulty_of}
 use Rattle.simplex_safety.specs.Sayings.{Each}
-use Rattle.simplex_safety.proofs.Further.{same_self, same_node}
 use Rattle.simplex_safety.proofs.Members.{unhonest_faulty, faulty_listed}
 use Rattle.simplex_backing.specs.Backed.{read_certificate, in_body, in_response, certificate_on}
-use Rattle.simplex_backing.specs.Voting.{read_vote, vote_on, vote_in, sent_votes, HasVoted}
+use Rattle.simplex_backing.specs.Voting.{read_vote, vote_on, vote_in, HasVoted}
+use Rattle.simplex_backing.proofs.Sent.{voted}
 
 -- ---- what passes the test
 
@@ -78,91 +74,6 @@ vote_here member p v n c e =
     subst (λ (b : Bool). Contains (if b then vote_on p.channel p.bytes else []) v) (sym n)
     (subst (λ (x : Channel). Contains (vote_on x p.bytes) v) (sym c)
     (subst (λ r. Contains (read_vote r) v) (sym e) (Contains-here v [])))
-
--- the packet that is this vote of the member
-record IsSentIn (member : ℕ) (p : Packet) (v : Vote) : Type 0 where
-  pub from : p.from ≡ node_of member
-  pub channel : p.channel ≡ channels.Vote
-  pub read : whole format.vote p.bytes ≡ Ok v
-
-sent_in : (member : ℕ) (p : Packet) (v : Vote) → vote_sent member p ≡ Some v → IsSentIn member p v
-sent_in member p v e = on p.channel refl e
-  where
-    reading : (r : Result Vote DecodeError) → result_ok r ≡ Some v → r ≡ Ok v
-    reading (Ok w) h = (let same : w ≡ v = cc in ap Ok same)
-    reading (Err error) h = cc
-
-    from : (b : Bool) → is_same_node p.from (node_of member) ≡ b → p.channel ≡ channels.Vote → (if b then result_ok (whole format.vote p.bytes) else None) ≡ Some v → IsSentIn member p v
-    from true h c k = record { from = same_node p.from (node_of member) h; channel = c; read = reading (whole format.vote p.bytes) k }
-    from false h c k = cc
-
-    on : (c : Channel) → p.channel ≡ c → (if is_for_votes c && is_same_node p.from (node_of member) then result_ok (whole format.vote p.bytes) else None) ≡ Some v → IsSentIn member p v
-    on channels.Vote h k = from (is_same_node p.from (node_of member)) refl h k
-    on channels.Certificate h k = cc
-    on channels.Resolver h k = cc
-
-module _ {A : Type 0} where
-  any_append : (test : A → Bool) (xs ys : List A) → list_any test (xs ++ ys) ≡ true → (list_any test xs ≡ true) ⊎ (list_any test ys ≡ true)
-  any_append test [] ys e = inr e
-  any_append test (x ∷ xs) ys e = at (test x) e (any_append test xs ys)
-    where
-      at : (b : Bool) → (b || list_any test (xs ++ ys)) ≡ true → (list_any test (xs ++ ys) ≡ true → (list_any test xs ≡ true) ⊎ (list_any test ys ≡ true))
-          → ((b || list_any test xs) ≡ true) ⊎ (list_any test ys ≡ true)
-      at true h old = inl refl
-      at false h old = old h
-
--- one of these packets is a vote of the member that passes
-record IsFound (member : ℕ) (test : Vote → Bool) (ps : List Packet) : Type 0 where
-  pub packet : Packet
-  pub vote : Vote
-  pub stands : Contains ps packet
-  pub sent : vote_sent member packet ≡ Some vote
-  pub passes : test vote ≡ true
-
-found_later : (member : ℕ) (test : Vote → Bool) (p : Packet) (ps : List Packet) → IsFound member test ps → IsFound member test (p ∷ ps)
-found_later member test p ps f = record { packet = f.packet; vote = f.vote; stands = Contains-there p ps f.packet f.stands; sent = f.sent; passes = f.passes }
-
-any_packet : (member : ℕ) (test : Vote → Bool) (ps : List Packet) → list_any test (filter_map (vote_sent member) ps) ≡ true → IsFound member test ps
-any_packet member test [] e = cc
-any_packet member test (p ∷ ps) e = at (vote_sent member p) refl (any_packet member test ps)
-  where
-    none : vote_sent member p ≡ None → filter_map (vote_sent member) (p ∷ ps) ≡ filter_map (vote_sent member) ps
-    none h = grind (arith, nat_tests, common_steps, h)
-
-    some : (v : Vote) → vote_sent member p ≡ Some v → filter_map (vote_sent member) (p ∷ ps) ≡ v ∷ filter_map (vote_sent member) ps
-    some v h = grind (arith, nat_tests, common_steps, h)
-
-    first : (v : Vote) → vote_sent member p ≡ Some v → (b : Bool) → test v ≡ b → (b || list_any test (filter_map (vote_sent member) ps)) ≡ true
-        → (list_any test (filter_map (vote_sent member) ps) ≡ true → IsFound member test ps) → IsFound member test (p ∷ ps)
-    first v h true t k more = record { packet = p; vote = v; stands = Contains-here p ps; sent = h; passes = t }
-    first v h false t k more = found_later member test p ps (more k)
-
-    at : (o : Option Vote) → vote_sent member p ≡ o → (list_any test (filter_map (vote_sent member) ps) ≡ true → IsFound member test ps) → IsFound member test (p ∷ ps)
-    at None h more = found_later member test p ps (more (subst (λ xs. list_any test xs ≡ true) (none h) e))
-    at (Some v) h more = first v h (test v) refl (subst (λ xs. list_any test xs ≡ true) (some v h) e) more
-
--- whom the run's test finds to have sent a vote on the subject did
-voted : (before : List Noted) (member : ℕ) (subject : Subject) → has_sent before member subject ≡ true → HasVoted before member subject
-unfolding has_sent sent.sent_votes sent_votes
-voted [] member subject e = cc
-voted (noted ∷ before) member subject e =
-    elim (any_append test (filter_map (vote_sent member) noted.entry.packets) (sent.sent_votes before member) e) [
-      | inl new ↦
-          let f = any_packet member test noted.entry.packets new in
-          let i = sent_in member f.packet f.vote f.sent in
-          let is : is_same_node (node_of member) f.packet.from ≡ true = subst (λ n. is_same_node (node_of member) n ≡ true) (sym i.from) (same_self (node_of member)) in (
-            f.vote,
-            Contains-append_right (sent_votes before member) (flat_map (vote_in member) noted.entry.packets) f.vote
-                (in_flat (vote_in member) noted.entry.packets f.packet f.vote f.stands (vote_here member f.packet f.vote is i.channel i.read)),
-            subjects-same (vote_subject f.vote) subject f.passes,
-          )
-      | inr old ↦
-          let h = voted before member subject old in
-          (h.0, Contains-append_left (sent_votes before member) (flat_map (vote_in member) noted.entry.packets) h.0 h.1, h.2)
-    ]
-  where
-    test : Vote → Bool
-    test v = is_same_subject (vote_subject v) subject
 
 -- ---- the run's own test
 

@@ -16,6 +16,7 @@ use Rattle.simplex_safety.specs.Ruled.{AreByRule}
 use Rattle.simplex_backing.specs.Backed.{IsVerifying, AreBacked, StandsIn}
 use Rattle.simplex_backing.specs.Blame.{AreBlameless}
 use Rattle.simplex_backing.specs.Founded.{IsOn, IsNotarized}
+use Rattle.simplex_backing.specs.WellSent.{AllWellSent}
 
 -- one of the entries has the certificate, and it verifies
 abbrev pub Stands : Setup → List Noted → Certificate → Type 0
@@ -40,7 +41,8 @@ EachHonest setup P = (node : Node) → ¬ (Contains (faulty_of setup) node.membe
 
 -- Each signer of a certificate that verifies is faulty or had sent the signed vote; no two such certificates conflict, and
 -- each names the setup's epoch; an honest member notarized each proposal that they name; it signs a vote and stores it
--- before it sends it, and sends in each whole step exactly the votes that the rules give; and no evidence names it
+-- before it sends it, and sends in each whole step exactly the votes that the rules give; over all its lives each of its
+-- votes may stand by itself and may follow all that it sent before; and no evidence names it
 pub record IsSafe (setting : Setting) (noted : List Noted) : Type 0 where
   pub backed : AreBacked setting.setup noted
   pub agrees : AgreeAll setting.setup noted
@@ -48,6 +50,7 @@ pub record IsSafe (setting : Setting) (noted : List Noted) : Type 0 where
   pub founded : AreFounded setting.setup noted
   pub stored : EachHonest setting.setup (λ node. AreStored setting node noted)
   pub ruled : EachHonest setting.setup (λ node. AreByRule setting node noted)
+  pub ordered : AllWellSent setting.setup noted
   pub blameless : AreBlameless setting.setup noted
 
 -- so it is with the entries that these events make

@@ -10,6 +10,9 @@ use Rattle.simplex_wire.specs.declared.artifact.Artifact.TheVariants as artifact
 use Rattle.simplex_wire.specs.declared.attestation.Attestation.{Attestation}
 use Rattle.simplex_wire.specs.declared.certificate.Certificate.{Certificate}
 use Rattle.simplex_wire.specs.declared.certificate.Certificate.TheVariants as certificates
+use Rattle.simplex_wire.specs.declared.certificate.Notarization.{Notarization}
+use Rattle.simplex_wire.specs.declared.certificate.Nullification.{Nullification}
+use Rattle.simplex_wire.specs.declared.vote.Finalize.{Finalize}
 use Rattle.simplex_wire.specs.declared.vote.Notarize.{Notarize}
 use Rattle.simplex_wire.specs.declared.vote.Nullify.{Nullify}
 use Rattle.simplex_wire.specs.declared.vote.Vote.{Vote}
@@ -28,7 +31,7 @@ use Rattle.simplex_transcript.specs.declared.event.Event.TheVariants as events
 use Rattle.simplex_transcript.specs.declared.event.StepSource.TheVariants as sources
 use Rattle.simplex_run.specs.Entries.{node_of, noted_blank, noted_packets}
 use Rattle.simplex_run.specs.Life.{Noted}
-use Rattle.simplex_backing.specs.Words.{Word, Backed, Agrees, Named, Founded, Stored, Ruled, Blameless}
+use Rattle.simplex_backing.specs.Words.{Word, Backed, Agrees, Named, Founded, Stored, Ruled, Ordered, Blameless}
 use Rattle.simplex_run.specs.Samples.{with_last, injects, at}
 use Rattle.simplex_transcript.specs.declared.setup.MemberKind.TheVariants as kinds
 use Rattle.simplex_transcript.specs.declared.setup.Setup.{Setup}
@@ -49,21 +52,43 @@ abbrev pub bytes_of : ℕ → ℕ → List ℕ
 bytes_of zero byte = []
 bytes_of (suc n) byte = byte ∷ bytes_of n byte
 
--- a proposal for view 1, by its payload
+-- a proposal on view 0, by its view and its payload; and one for view 1
+abbrev pub block_at : ℕ → ℕ → Proposal
+block_at view byte = record { round = record { epoch = 0; view = view }; parent = 0; payload = bytes_of 32 byte }
+
 abbrev pub block : ℕ → Proposal
-block byte = record { round = near; parent = 0; payload = bytes_of 32 byte }
+block byte = block_at 1 byte
+
+abbrev pub notarize_of : Proposal → Notarize
+notarize_of p = record { proposal = p; attestation = signed (subjects.Notarize p) }
+
+abbrev pub finalize_of : Proposal → Finalize
+finalize_of p = record { proposal = p; attestation = signed (subjects.Finalize p) }
 
 abbrev pub own_notarize : ℕ → Notarize
-own_notarize byte = record { proposal = block byte; attestation = signed (subjects.Notarize (block byte)) }
+own_notarize byte = notarize_of (block byte)
 
 abbrev pub own_nullify : Round → Nullify
 own_nullify r = record { round = r; attestation = signed (subjects.Nullify r) }
 
+abbrev pub notarization_of : Proposal → Certificate
+notarization_of p = certificates.Notarization (record { proposal = p; certificate = signed (subjects.Notarize p) ∷ [] })
+
+abbrev pub finalization_of : Proposal → Certificate
+finalization_of p = certificates.Finalization (record { proposal = p; certificate = signed (subjects.Finalize p) ∷ [] })
+
 abbrev pub notarized : ℕ → Certificate
-notarized byte = certificates.Notarization (record { proposal = block byte; certificate = signed (subjects.Notarize (block byte)) ∷ [] })
+notarized byte = notarization_of (block byte)
 
 abbrev pub nullified : Round → Certificate
 nullified r = certificates.Nullification (record { round = r; certificate = signed (subjects.Nullify r) ∷ [] })
+
+-- certificates of view 1 that nobody signed: they do not verify
+abbrev pub bare_notarization : Notarization
+bare_notarization = record { proposal = block 1; certificate = [] }
+
+abbrev pub bare_nullification : Nullification
+bare_nullification = record { round = near; certificate = [] }
 
 abbrev pub packet_of : Vote → Packet
 packet_of v = record { from = node_of 0; channel = channels.Vote; to = []; bytes = format.vote.spelling v }
@@ -98,19 +123,31 @@ apart = entry_of (events.Tick 0) outcomes.Done
 abbrev pub its : Outcome → List Call → Noted
 its outcome made = entry_of (events.Step (node_of 0) sources.Batcher stops.None) outcome [] [] made
 
--- The word forbids: a nullification that nobody voted for; two notarizations of one view; a certificate of another
--- epoch; a notarization whose vote nobody stored; a vote that goes out and is not stored; one that is stored and not due;
--- and a report that the member contradicts itself
+-- view 1 is skipped: its block is final, and a block for view 2 stands on view 0
+abbrev pub skipping : Proposal
+skipping = block_at 2 1
+
+abbrev pub skipped_votes : List Vote
+skipped_votes = votes.Notarize (own_notarize 1) ∷ votes.Finalize (finalize_of (block 1)) ∷ votes.Notarize (notarize_of skipping) ∷ []
+
+-- the member appended its notarizes, and two certificates that nobody signed
+abbrev pub skipped_records : List Call
+skipped_records =
+    calls.Append 1 (artifacts.Notarize (own_notarize 1)) ∷ calls.Append 2 (artifacts.Notarize (notarize_of skipping))
+    ∷ calls.Append 1 (artifacts.Notarization bare_notarization) ∷ calls.Append 1 (artifacts.Nullification bare_nullification) ∷ []
+
+-- The word forbids: a nullification that nobody voted for; a final view that is skipped; a certificate of another epoch;
+-- a notarization whose vote nobody stored; a vote that goes out and is not stored; one that is stored and not due; two
+-- notarizes of one view; and a report that the member contradicts itself
 abbrev pub sample : Word → List Noted
 sample Backed = apart (nullified near ∷ []) [] [] ∷ []
-sample Agrees =
-    apart (notarized 1 ∷ notarized 2 ∷ []) (votes.Notarize (own_notarize 1) ∷ votes.Notarize (own_notarize 2) ∷ []) []
-    ∷ its outcomes.Cut (calls.Append 1 (artifacts.Notarize (own_notarize 1)) ∷ calls.Append 1 (artifacts.Notarize (own_notarize 2)) ∷ []) ∷ []
+sample Agrees = apart (finalization_of (block 1) ∷ notarization_of skipping ∷ []) skipped_votes [] ∷ its outcomes.Cut skipped_records ∷ []
 sample Named = apart (nullified far ∷ []) (votes.Nullify (own_nullify far) ∷ []) [] ∷ []
 sample Founded = apart (notarized 1 ∷ []) (votes.Notarize (own_notarize 1) ∷ []) [] ∷ []
 sample Stored = its outcomes.Cut (send (votes.Nullify (own_nullify near)) ∷ []) ∷ []
 sample Ruled =
     its outcomes.Done (calls.Append 1 (artifacts.Nullify (own_nullify near)) ∷ calls.Sync 1 ∷ send (votes.Nullify (own_nullify near)) ∷ []) ∷ []
+sample Ordered = apart [] (votes.Notarize (own_notarize 1) ∷ votes.Notarize (own_notarize 2) ∷ []) [] ∷ []
 sample Blameless = apart [] [] (calls.Report (activities.ConflictingNotarize (record { first = own_notarize 1; second = own_notarize 2 })) ∷ []) ∷ []
 
 -- of four members the last is silent: the clock goes on, and bytes that are nothing go out under that member's name

@@ -7,6 +7,7 @@ use Rattle.simplex_safety.specs.Ruled.{AreByRule}
 use Rattle.simplex_backing.specs.Backed.{AreBacked}
 use Rattle.simplex_backing.specs.Blame.{AreBlameless}
 use Rattle.simplex_backing.specs.Safe.{AgreeAll, AllName, AreFounded, EachHonest}
+use Rattle.simplex_backing.specs.WellSent.{AllWellSent}
 
 pub data Word : Type 0 where
   Backed : Word
@@ -15,6 +16,7 @@ pub data Word : Type 0 where
   Founded : Word
   Stored : Word
   Ruled : Word
+  Ordered : Word
   Blameless : Word
 
 -- what it says of a run
@@ -25,6 +27,7 @@ Says setting noted Named = AllName setting.setup noted
 Says setting noted Founded = AreFounded setting.setup noted
 Says setting noted Stored = EachHonest setting.setup (λ node. AreStored setting node noted)
 Says setting noted Ruled = EachHonest setting.setup (λ node. AreByRule setting node noted)
+Says setting noted Ordered = AllWellSent setting.setup noted
 Says setting noted Blameless = AreBlameless setting.setup noted
 
 -- all others hold, and it does not

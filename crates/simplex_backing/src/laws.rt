@@ -1,10 +1,12 @@
 //! Runs of many members, of whom few are faulty.
-ghost use Rattle.std.specs.Prelude.{ℕ, ◌≡◌, List, ◌∷◌, length};
+ghost use Rattle.std.specs.Prelude.{ℕ, ◌≡◌, ◌↔◌, true, List, ◌∷◌, length, reverse};
+ghost use Rattle.simplex_values.specs.declared.proposal.Subject.{Subject};
 ghost use Rattle.simplex_wire.specs.declared.certificate.Certificate.{Certificate};
 ghost use Rattle.simplex_wire.specs.Fields.{certificate_subject};
 ghost use Rattle.simplex_transcript.specs.declared.setup.Setup.{Setup};
 ghost use Rattle.simplex_run.specs.Setting.{Setting};
 ghost use Rattle.simplex_run.specs.Life.{Noted};
+ghost use Rattle.simplex_run.specs.SentVotes as tested;
 ghost use Rattle.simplex_run.specs.Setups.{faulty_in};
 ghost use Rattle.simplex_agreement.specs.Conflict.{Conflict};
 ghost use Rattle.simplex_backing.specs.Backed.{IsVerifying, AreBacked, StandsIn};
@@ -15,6 +17,7 @@ ghost use Rattle.simplex_safety.specs.Sayings.{Each};
 ghost use Rattle.simplex_steps.specs.Batcher.{Made, Timed, step_out};
 ghost use Rattle.simplex_safety.specs.Faulty.{faulty_of};
 ghost use Rattle.simplex_backing.specs.Safe.{AllName, IsSafe};
+ghost use Rattle.simplex_backing.specs.Voting.{sent_votes, HasVoted};
 ghost use Rattle.simplex_backing.specs.WellSent.{AllWellSent};
 
 /// Each certificate that stands in an entry and verifies has signers that are faulty, or sent the signed vote in this
@@ -54,4 +57,12 @@ pub fn proposals_name_the_epoch()
 /// sent before, by the certificates that had come to its node.
 pub fn honest_votes_keep_order()
     ensures { (setting : Setting) (noted : List Noted) → IsMostlyHonest setting noted → AllWellSent setting.setup noted }
+{}
+
+/// The run, which tells by it what is forged, and the words of a safe run read the same votes of a member: one list, where
+/// the run's is read over the entries in the other order. And the run finds a vote on a subject exactly where the member
+/// sent one.
+pub fn sent_votes_are_the_same()
+    ensures listed { (noted : List Noted) (member : ℕ) → tested.sent_votes (reverse noted) member ≡ sent_votes noted member }
+    ensures found { (noted : List Noted) (member : ℕ) (subject : Subject) → (tested.has_sent noted member subject ≡ true) ↔ HasVoted noted member subject }
 {}
