@@ -1,6 +1,10 @@
 -- A list whose items are changed one after another.
-use Rattle.std.proofs.Common.{◌≡◌, ◌∙◌, ap, refl, ℕ, zero, suc, ◌+◌, ◌<◌, ◌++◌, List, [], ◌∷◌, map, take, drop, length, slice_index_or, slice_set, arith}
-use Rattle.std.specs.Prelude.{Result, Ok, Err, OnErr}
+use Rattle.std.proofs.Common.{◌≡◌, ◌∙◌, ap, refl, ℕ, zero, suc, ◌+◌, ◌-◌, ◌<◌, ◌++◌, List, [], ◌∷◌, map, take, drop, length, slice_index_or, slice_set, replicate, length-append, arith}
+use Rattle.std.proofs.Math.Seq.{take-append_seam}
+use Rattle.std.proofs.lemmas.List.{length-replicate}
+use Rattle.simplex_values.specs.declared.plan.Recipients.{Recipients}
+use Rattle.simplex_mocks.specs.declared.relayed.Relayed.{Relayed}
+use Rattle.simplex_mocks.specs.Relay.{Place, times_for, with_relayed, taken_back}
 
 -- so many items are changed
 abbrev pub changed : {A : Type 0} → (A → A) → ℕ → List A → List A
@@ -29,6 +33,18 @@ pub all_changed : {A : Type 0} (f : A → A) (xs : List A) → changed f (length
 all_changed f [] = refl
 all_changed f (x ∷ xs) = ap (λ ys. f x ∷ ys) (all_changed f xs)
 
-pub on_err : {T E : Type 0} (r : Result T E) (P : Type 0) → P → OnErr r P
-on_err (Ok x) P p = tt
-on_err (Err e) P p = p
+-- what is taken back from those that were changed is as it was
+pub changed_back : {A : Type 0} (f g : A → A) → ((x : A) → g (f x) ≡ x) → (i : ℕ) (xs : List A) → changed g i (changed f i xs) ≡ xs
+changed_back f g back zero xs = refl
+changed_back f g back (suc i) [] = refl
+changed_back f g back (suc i) (x ∷ xs) = ap (λ y. y ∷ changed g i (changed f i xs)) (back x) ∙ ap (λ ys. x ∷ ys) (changed_back f g back i xs)
+
+cut_back : {A : Type 0} (xs : List A) (n : ℕ) (x : A) → take (length (xs ++ replicate n x) - n) (xs ++ replicate n x) ≡ xs
+cut_back xs n x =
+    let e : length (xs ++ replicate n x) - n ≡ length xs = omega (arith, length-append xs (replicate n x), length-replicate n x) in
+    ap (λ k. take k (xs ++ replicate n x)) e ∙ take-append_seam xs (replicate n x)
+
+-- what an inbox gave back leaves it as it was
+pub gives_back : (sender : ℕ) (to : Recipients) (relayed : Relayed) (place : Place) → taken_back sender to (with_relayed sender to relayed place) ≡ place
+gives_back sender to relayed place =
+    ap (λ holds. record { member = place.member; holds = holds }) (cut_back place.holds (times_for sender to place.member) relayed)

@@ -1,5 +1,5 @@
 -- A relay of payloads: its inboxes, by their numbers.
-use Rattle.std.specs.Prelude.{ℕ, ◌==◌, List, [], ◌∷◌, ◌++◌, length, map, filter, replicate, slice_get, slice_set, Option, Some, None, option_and_then, if◌then◌else◌}
+use Rattle.std.specs.Prelude.{ℕ, ◌-◌, ◌==◌, List, [], ◌∷◌, ◌++◌, length, map, filter, take, replicate, slice_get, slice_set, Option, Some, None, option_and_then, if◌then◌else◌}
 use Rattle.simplex_values.specs.declared.plan.Recipients.{Recipients}
 use Rattle.simplex_values.specs.declared.plan.Recipients.TheVariants as recipients
 use Rattle.simplex_mocks.specs.declared.relayed.Relayed.{Relayed}
@@ -34,6 +34,10 @@ times_for sender to (Some member) = if member == sender then 0 else times_named 
 -- last into the inbox of a recipient other than the sender, once for each time that it is named
 abbrev pub with_relayed : ℕ → Recipients → Relayed → Place → Place
 with_relayed sender to relayed place = record place { holds = place.holds ++ replicate (times_for sender to place.member) relayed }
+
+-- without its newest, as many as the times that it is named
+abbrev pub taken_back : ℕ → Recipients → Place → Place
+taken_back sender to place = record place { holds = take (length place.holds - times_for sender to place.member) place.holds }
 
 unfoldable pub broadcast : List Place → ℕ → Recipients → Relayed → List Place
 broadcast relay sender to relayed = map (with_relayed sender to relayed) relay

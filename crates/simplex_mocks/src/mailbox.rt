@@ -1,5 +1,6 @@
 //! The mailbox of an application.
 ghost use Rattle.std.specs.Prelude.{◌≡◌, IfOk, OnOk, OnErr};
+ghost use Rattle.std.specs.Option.{option_copied};
 ghost use Rattle.simplex_values.specs.declared.feedback.Feedback.TheVariants as feedback;
 ghost use Rattle.simplex_mocks.specs.declared.message.Message.TheVariants as messages;
 ghost use Rattle.simplex_mocks.specs.Queue.{empty_queue, asked, told, after_take, first_of, Asks, Tells};
@@ -49,6 +50,13 @@ impl Mailbox {
         self.waiting.push_back(message)?;
         self.next = number.wrapping_add(1);
         Ok(number)
+    }
+
+    /// The message that waited longest.
+    pub fn first(&self) -> Option<&Message>
+        ensures { option_copied result ≡ first_of self.now.waiting }
+    {
+        self.waiting.front()
     }
 
     /// Takes the message that waited longest.

@@ -1,7 +1,9 @@
 //! A relay of payloads between applications.
-ghost use Rattle.std.specs.Prelude.{◌≡◌, ◌++◌, [], ℕ, length, map, take, drop, option_map, IfOk, OnOk, OnErr};
-ghost use Rattle.simplex_mocks.specs.Relay.{cleared, registered, deregistered, broadcast, front, after_take};
+ghost use Rattle.std.specs.Prelude.{◌≡◌, ◌≤◌, ◌++◌, [], length, map, take, drop, option_map, IfOk, OnOk, OnErr};
+ghost use Rattle.std.specs.Option.{option_copied};
+ghost use Rattle.simplex_mocks.specs.Relay.{cleared, registered, deregistered, taken_back, broadcast, front, after_take};
 
+use crate::relayed::Relayed;
 use crate::slot::Slot;
 use simplex_types::{Bytes, Digest, Participant, Recipients};
 use std::alloc::{AllocError, Global};
@@ -48,7 +50,17 @@ fn clear_each(slots: &mut [Slot])
     }
 }
 
-/// Gives the payload to each. Want of memory leaves those from some place on as they were.
+/// Takes back from each of the first ones its newest, as many as the times that it is named.
+fn take_back_each(slots: &mut [Slot], given: usize, sender: Participant, recipients: &Recipients)
+    requires { given ≤ length slots.old }
+    ensures { slots.new ≡ map (taken_back sender recipients.now) (take given slots.old) ++ drop given slots.old }
+{
+    for place in 0..given {
+        slots[place].take_back(sender, recipients);
+    }
+}
+
+/// Gives the payload to each. Want of memory leaves all as they were: those that have it already give it back.
 #[tactic(auto, unfolding(crate::specs::Relay::broadcast), using(crate::proofs::Slots::all_changed))]
 fn give_each(
     alloc: Global,
@@ -59,10 +71,13 @@ fn give_each(
     contents: &[u8],
 ) -> Result<(), AllocError>
     ensures ok { OnOk result (slots.new ≡ broadcast slots.old sender recipients.now (record { payload = payload; contents = contents.now })) }
-    ensures err { OnErr result ((n : ℕ) × (slots.new ≡ broadcast (take n slots.old) sender recipients.now (record { payload = payload; contents = contents.now }) ++ drop n slots.old)) }
+    ensures err { OnErr result (slots.new ≡ slots.old) }
 {
     for place in 0..slots.len() {
-        slots[place].receive(alloc, sender, recipients, payload, contents)?;
+        if let Err(error) = slots[place].receive(alloc, sender, recipients, payload, contents) {
+            take_back_each(slots, place, sender, recipients);
+            return Err(error);
+        }
     }
     Ok(())
 }
@@ -98,7 +113,7 @@ impl Relay {
     }
 
     /// Puts the payload last into each inbox of each recipient other than the sender, once for each time that it is
-    /// named. Want of memory leaves the inboxes from some number on as they were.
+    /// named. Want of memory leaves the relay as it was.
     pub fn broadcast(
         &mut self,
         alloc: Global,
@@ -108,10 +123,18 @@ impl Relay {
         contents: &[u8],
     ) -> Result<(), AllocError>
         ensures ok { OnOk result (self.new ≡ broadcast self.old sender recipients.now (record { payload = payload; contents = contents.now })) }
-        ensures err { OnErr result ((n : ℕ) × (self.new ≡ broadcast (take n self.old) sender recipients.now (record { payload = payload; contents = contents.now }) ++ drop n self.old)) }
+        ensures err { OnErr result (self.new ≡ self.old) }
     {
         let slots = self.slots.as_mut_slice();
         give_each(alloc, slots, sender, recipients, payload, contents)
+    }
+
+    /// The oldest payload of the inbox, with its contents.
+    #[tactic(auto, unfolding(crate::specs::Relay::front))]
+    pub fn front(&self, inbox: Inbox) -> Option<&Relayed>
+        ensures { option_copied result ≡ front self.now inbox }
+    {
+        self.slots.get(inbox.0)?.first()
     }
 
     /// Takes the oldest payload of the inbox, with its contents.

@@ -1,6 +1,7 @@
 //! One inbox of a relay.
 ghost use Rattle.std.specs.Prelude.{◌≡◌, [], length, filter, replicate, ◌==◌, IfOk, OnOk, OnErr, None, Some};
-ghost use Rattle.simplex_mocks.specs.Relay.{cleared, times_named, times_for, with_relayed, first_of, rest_of};
+ghost use Rattle.std.specs.Option.{option_copied};
+ghost use Rattle.simplex_mocks.specs.Relay.{cleared, times_named, times_for, with_relayed, taken_back, first_of, rest_of};
 
 use crate::relayed::Relayed;
 use simplex_types::{Bytes, Digest, Participant, Recipients};
@@ -111,6 +112,22 @@ impl Slot {
         let times = self.times_for(sender, recipients);
         let mut made = copies(alloc, times, payload, contents)?;
         self.holds.append(&mut made)
+    }
+
+    /// Takes back the newest, as many as the times that the inbox is named.
+    pub(crate) fn take_back(&mut self, sender: Participant, recipients: &Recipients)
+        ensures { self.new ≡ taken_back sender recipients.now self.old }
+    {
+        let times = self.times_for(sender, recipients);
+        let kept = self.holds.len().saturating_sub(times);
+        self.holds.truncate(kept);
+    }
+
+    /// The oldest.
+    pub(crate) fn first(&self) -> Option<&Relayed>
+        ensures { option_copied result ≡ first_of self.now.holds }
+    {
+        self.holds.front()
     }
 
     /// Takes the oldest.
