@@ -1,0 +1,4 @@
+pub mod Sending
+pub mod Entries
+pub mod Transcripts
+pub mod Sampling
