@@ -1,5 +1,7 @@
-//! That the limit is one.
-ghost use Rattle.std.specs.Prelude.{◌≤◌, ◌<◌, ℕ, length};
+//! What follows from the definitions alone.
+ghost use Rattle.std.specs.Prelude.{◌≡◌, ◌≤◌, ◌<◌, ℕ, length};
+ghost use Rattle.simplex_values.specs.declared.feedback.Feedback.{Feedback};
+ghost use Rattle.simplex_values.specs.declared.feedback.Feedback.TheVariants as feedback;
 ghost use Rattle.simplex_wire.specs.declared.vote.Vote.{Vote};
 ghost use Rattle.simplex_wire.specs.declared.certificate.Certificate.{Certificate};
 ghost use Rattle.simplex_wire.specs.declared.resolver.ResolverBody.TheVariants.{Request, Response, Error};
@@ -7,7 +9,19 @@ ghost use Rattle.simplex_wire.specs.Fields.{certificate_signatures};
 ghost use Rattle.simplex_wire.specs.Fits.{FitsVote, FitsCertificate};
 ghost use Rattle.simplex_wire.specs.Message.{vote, certificate};
 ghost use Rattle.simplex_wire.specs.ResolverMessage.{resolver_message};
+ghost use Rattle.simplex_report.specs.Combined.{worse};
 ghost use Rattle.simplex_report.specs.Limit.{longest_payload};
+
+/// The worse of several answers is the same in every order and in every grouping. `Ok` changes no other answer,
+/// behind `Closed` nothing is worse, and an answer beside itself stays.
+#[tactic(auto, unfolding(crate::specs::Combined::worse))]
+pub fn order_of_answers_does_not_matter()
+    ensures order { (a b : Feedback) → worse a b ≡ worse b a }
+    ensures grouping { (a b c : Feedback) → worse (worse a b) c ≡ worse a (worse b c) }
+    ensures same { (a : Feedback) → worse a a ≡ a }
+    ensures least { (a : Feedback) → worse feedback.Ok a ≡ a }
+    ensures greatest { (a : Feedback) → worse feedback.Closed a ≡ feedback.Closed }
+{}
 
 /// Among n members, at least one and at most 1,024, no vote is longer than the limit, no certificate of at
 /// most n attestations, no request and no error, and no response that carries such a certificate.
