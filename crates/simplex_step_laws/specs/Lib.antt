@@ -1,0 +1,4 @@
+pub mod Journal
+pub mod Batcher
+pub mod Resolver
+pub mod Samples
