@@ -69,8 +69,10 @@ done <"$here/examples.txt"
 count unread "$(stream 5 'simplex_net: standard input could not be read' / "$written")"
 count unwritten "$(stream 6 'simplex_net: standard output could not be written' "$here/examples/one-member-finalizes.json" /dev/full)"
 for folder in "$@"; do
-    for input in "$folder"/*.json; do
-        count "$(basename "$folder")/$(basename "$input" .json)" "$(fault "${input%.json}")"
+    mapfile -t names < <(ls "$folder" | sed -nE 's/\.(json|out|status|words)$//p' | sort -u)
+    ((${#names[@]} > 0)) || count "$folder" "no example is there"
+    for name in "${names[@]}"; do
+        count "$(basename "$folder")/$name" "$(fault "$folder/$name")"
     done
 done
 echo "examples: $passed passed, $failed failed"

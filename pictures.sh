@@ -25,7 +25,7 @@ proved() {
 
 # Each input is a case of rt try, which builds the program once, and writes what a case wrote behind a line with its name.
 unproved() {
-    local cases input name
+    local input name
     cases=$(mktemp -d)
     trap 'rm -rf "$cases"' EXIT
     for input in "${inputs[@]}"; do

@@ -15,9 +15,9 @@ done
 
 scratch=$(mktemp -d)
 trap 'rm -rf "$scratch"' EXIT
-(cd "$here" && tar -cf - --exclude=out crates crates.txt HANDLES) | tar -xf - -C "$scratch"
+(cd "$here" && tar -cf - --exclude=out crates crates.txt HANDLES) | tar -xf - -C "$scratch" || exit
 for crate in "${crates[@]}"; do
-    mkdir -p "$scratch/crates/$crate/must-fail"
-    cp "$edits/$crate"/*.edit "$scratch/crates/$crate/must-fail/"
+    mkdir -p "$scratch/crates/$crate/must-fail" || exit
+    cp "$edits/$crate"/*.edit "$scratch/crates/$crate/must-fail/" || exit
 done
 cd "$scratch" && rt must-fail "${crates[@]}"

@@ -45,6 +45,8 @@ def line(cost, turns, members, views):
 
 
 def main():
+    if not os.path.exists(PROGRAM):
+        sys.exit("batcher.py: crates/bench_actors is missing, or not built")
     words = [word for word in sys.argv[1:] if word != "--count"]
     counts = "--count" in sys.argv
     cost, turns = (instructions, 1) if counts else (seconds, 25)

@@ -11,6 +11,7 @@ go to standard error.
 """
 import collections
 import os
+import signal
 import subprocess
 import sys
 import time
@@ -97,9 +98,14 @@ def main():
     top = os.path.dirname(os.path.dirname(os.path.abspath(__file__)))
     gate = subprocess.Popen(["rt", "ci", *sys.argv[1:]], cwd=top, stdout=sys.stderr, start_new_session=True)
     clock = Clock(gate.pid)
-    while gate.poll() is None:
-        clock.look()
-        time.sleep(0.2)
+    try:
+        while gate.poll() is None:
+            clock.look()
+            time.sleep(0.2)
+    except KeyboardInterrupt:
+        # The gate has a session of its own, which a break does not reach.
+        os.killpg(gate.pid, signal.SIGTERM)
+        gate.wait()
     print("\n".join(table(clock.seconds())))
     sys.exit(gate.returncode)
 

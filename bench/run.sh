@@ -5,14 +5,25 @@
 # bench/run.sh wire|mailbox|journal|shared|fetch|round|state|repair|batcher|voter|resolver [TIMES].
 set -euo pipefail
 cd "$(dirname "$0")"
-what=${1:?wire, mailbox, journal, shared, fetch, round, state, repair, batcher, voter or resolver}
+what=${1:-}
 case $what in
 wire | mailbox | journal) program=bench_base ;;
 fetch | round | state | repair) program=bench_parts ;;
 shared) program=bench_shared ;;
-*) program=bench_actors ;;
+batcher | voter | resolver) program=bench_actors ;;
+*)
+    echo "usage: bench/run.sh wire|mailbox|journal|shared|fetch|round|state|repair|batcher|voter|resolver [TIMES]"
+    exit 2
+    ;;
 esac
 proved=../crates/$program/out/$program
+if [ ! -d "../crates/$program" ]; then
+    echo "run.sh: there is no program for $what in the repository: crates/$program is missing"
+    exit 1
+elif [ ! -x "$proved" ]; then
+    echo "run.sh: the program is not built. Do so by: cd crates/$program && rt run"
+    exit 1
+fi
 
 # How often a program does the work in a second of user time: that of so many turns, less that of none,
 # the least of five runs each. The words are the program's, without the number of turns.

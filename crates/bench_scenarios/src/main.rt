@@ -1,6 +1,6 @@
 //! Every scenario of four members and two rounds, the last of the members a twin: `bench_scenarios FROM TO` runs those from
 //! number FROM to TO, without TO, in the order of `Scenario::all`, and prints how many there were, how many events they took, how
-//! many views were finalized, and how many runs showed two certificates that conflict. `bench/scenarios.sh` runs all.
+//! many views were finalized, and how many runs showed two certificates that conflict. `bench/scenarios.py` runs all.
 //!
 //! It may assume nothing of its words, and owes nothing but that it is safe and ends.
 #![tactic(auto)]
