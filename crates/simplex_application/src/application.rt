@@ -17,7 +17,6 @@ use crate::settings::Settings;
 use crate::state::State;
 use crate::verdict::Verdict;
 use crate::verify_observer::VerifyObserver;
-use simplex_mocks::Relayed;
 use simplex_mocks::application::{Certifier, Mailbox, Message};
 use simplex_mocks::relay::{Inbox, Relay};
 use simplex_types::{Answer, Context, Digest, Handoff, Participant, Plan, Round, Sequence};
@@ -299,7 +298,7 @@ impl Application {
         answered(alloc, request, answer)
     }
 
-    /// A payload is to be relayed.
+    /// A payload is to be relayed. Want of memory leaves the relay as it was.
     fn broadcast(
         &mut self,
         alloc: Global,
@@ -309,6 +308,7 @@ impl Application {
     ) -> Result<AppStep, AllocError>
         ensures step { IfOk result (λ step. Shows (on_broadcast self.old.state payload plan.now) step self.new.state) }
         ensures relay { OnOk result (relay.new ≡ relayed_by relay.old self.old.me (on_broadcast self.old.state payload plan.now).relays) }
+        ensures err { OnErr result (relay.new ≡ relay.old) }
         ensures rest { self.new ≡ record self.old { state = self.new.state } }
     {
         let outcome = self.state.broadcast(alloc, relay, self.me, payload, plan)?;
@@ -330,13 +330,13 @@ impl Application {
         self.should_certify.certify(round, payload)
     }
 
-    /// Does what the message asks for, with the random word.
+    /// Does what the message asks for, with the random word. Want of memory leaves the relay as it was.
     fn handle(
         &mut self,
         alloc: Global,
         relay: &mut Relay,
         word: u64,
-        message: Message,
+        message: &Message,
     ) -> Result<AppStep, AllocError>
         ensures step { IfOk result (λ step. Handles (record {
           controls = MayAnswer (λ by. Control.post by.decide) self.old.handoff_controller;
@@ -348,30 +348,31 @@ impl Application {
               × (self.old.should_certify ≡ certifiers.Pending → leaves_open round payload answer);
           told = λ context. IfSome self.old.propose_observer (λ by. Tell.post by.observe context tt);
           told_of = λ context payload. IfSome self.old.verify_observer (λ by. TellOf.post by.observe context payload tt);
-        }) self.old.me self.old.state word relay.old message step self.new.state relay.new) }
+        }) self.old.me self.old.state word relay.old message.now step self.new.state relay.new) }
+        ensures err { OnErr result (relay.new ≡ relay.old) }
         ensures rest { self.new ≡ record self.old { state = self.new.state } }
     {
         // As in `answered`.
         let _named: Option<Handoff<Digest>> = None;
         match message {
-            Message::Prepare { context, request } => self.prepare(alloc, context, request, word),
-            Message::Propose { context, request } => self.propose(alloc, context, request, word),
+            Message::Prepare { context, request } => self.prepare(alloc, *context, *request, word),
+            Message::Propose { context, request } => self.propose(alloc, *context, *request, word),
             Message::Verify {
                 context,
                 payload,
                 request,
-            } => self.verify(alloc, context, payload, request),
+            } => self.verify(alloc, *context, *payload, *request),
             Message::Certify {
                 round,
                 payload,
                 request,
-            } => answered(alloc, request, self.certify(round, payload)),
-            Message::Broadcast { payload, plan } => self.broadcast(alloc, relay, payload, &plan),
+            } => answered(alloc, *request, self.certify(*round, *payload)),
+            Message::Broadcast { payload, plan } => self.broadcast(alloc, relay, *payload, plan),
         }
     }
 
-    /// Takes one message of the mailbox, and does what it asks for, with the random word. For want of memory the
-    /// message may be lost, and what the application knows may have changed.
+    /// Takes one message of the mailbox, and does what it asks for, with the random word. Want of memory leaves the
+    /// mailbox and the relay as they were, and what the application knows may have changed.
     pub fn step(
         &mut self,
         alloc: Global,
@@ -392,37 +393,41 @@ impl Application {
               told = λ context. IfSome self.old.propose_observer (λ by. Tell.post by.observe context tt);
               told_of = λ context payload. IfSome self.old.verify_observer (λ by. TellOf.post by.observe context payload tt);
             }) self.old.me self.old.state word relay.old message step self.new.state relay.new)) }
-        ensures mailbox { mailbox.new ≡ after_take mailbox.old }
+        ensures mailbox { OnOk result (mailbox.new ≡ after_take mailbox.old) }
+        ensures err { OnErr result ((mailbox.new ≡ mailbox.old) × (relay.new ≡ relay.old)) }
         ensures rest { self.new ≡ record self.old { state = self.new.state } }
     {
         // As in `answered`.
         let _named: Option<Handoff<Digest>> = None;
-        match mailbox.take() {
-            None => Ok(idle(alloc)),
-            Some(message) => self.handle(alloc, relay, word, message),
-        }
+        let step = match mailbox.first() {
+            None => return Ok(idle(alloc)),
+            Some(message) => self.handle(alloc, relay, word, message)?,
+        };
+        mailbox.take();
+        Ok(step)
     }
 
-    /// Takes one payload that was relayed to it, and answers the verifications that wait for it. For want of memory the
-    /// payload may be lost, and what the application knows may have changed.
+    /// Takes one payload that was relayed to it, and answers the verifications that wait for it. Want of memory leaves the
+    /// relay as it was, and what the application knows may have changed.
     #[tactic(auto, unfolding(crate::specs::Application::on_relayed))]
     pub fn hear(&mut self, alloc: Global, relay: &mut Relay) -> Result<AppStep, AllocError>
         ensures step { IfOk result (λ step. MatchOption (front relay.old self.old.inbox)
             (Idles self.old.state step self.new.state)
             (λ relayed. Shows (on_relayed self.old.state relayed) step self.new.state)) }
-        ensures relay { relay.new ≡ after_relay_take relay.old self.old.inbox }
+        ensures relay { OnOk result (relay.new ≡ after_relay_take relay.old self.old.inbox) }
+        ensures err { OnErr result (relay.new ≡ relay.old) }
         ensures rest { self.new ≡ record self.old { state = self.new.state } }
     {
-        match relay.take(self.inbox) {
-            None => Ok(idle(alloc)),
-            Some((payload, contents)) => {
-                let verdicts = self.state.hear(alloc, Relayed { payload, contents })?;
-                Ok(AppStep {
-                    replies: replies_of(alloc, verdicts.as_slice())?,
-                    broadcast: None,
-                    took: true,
-                })
-            }
-        }
+        let verdicts = match relay.front(self.inbox) {
+            None => return Ok(idle(alloc)),
+            Some(relayed) => self.state.hear(alloc, relayed)?,
+        };
+        let replies = replies_of(alloc, verdicts.as_slice())?;
+        relay.take(self.inbox);
+        Ok(AppStep {
+            replies,
+            broadcast: None,
+            took: true,
+        })
     }
 }

@@ -1,5 +1,5 @@
 //! What an application knows, and its rules.
-ghost use Rattle.std.specs.Prelude.{◌≡◌, ◌∷◌, ◌++◌, [], IfOk, OnOk, Some, map, filter, not};
+ghost use Rattle.std.specs.Prelude.{◌≡◌, ◌∷◌, ◌++◌, [], IfOk, OnOk, OnErr, Some, map, filter, not};
 ghost use Rattle.std.specs.Option.{option_or};
 ghost use Rattle.simplex_application.specs.Application.{payload_for, keeps, staged, prepared, after_prepare, proposed, after_propose, verified, after_verify, on_broadcast, verdicts_on, after_relayed, if_known, if_pending, relayed_by, is_valid, waits_for, judged_by};
 ghost use Rattle.simplex_application.specs.Contents.{contents_in};
@@ -14,7 +14,7 @@ use crate::waiter::Waiter;
 use simplex_mocks::Relayed;
 use simplex_mocks::relay::Relay;
 use simplex_types::{
-    Answer, Bytes, Context, Digest, Handoff, Participant, Plan, Recipients, Sequence,
+    Answer, Bytes, Context, Digest, Handoff, Keep, Participant, Plan, Recipients, Sequence,
 };
 use std::alloc::{AllocError, Global};
 use std::marker::Model;
@@ -241,7 +241,7 @@ impl State {
         Ok(answer)
     }
 
-    /// Sends the contents, where there are any, and has seen them then.
+    /// Sends the contents, where there are any, and has seen them then. Want of memory leaves the relay as it was.
     fn send(
         &mut self,
         alloc: Global,
@@ -254,18 +254,20 @@ impl State {
         ensures outcome { IfOk result (λ outcome. Some outcome ≡ (if_known self.old recipients.now payload contents).outcome) }
         ensures app { OnOk result (self.new ≡ (if_known self.old recipients.now payload contents).app) }
         ensures relay { OnOk result (relay.new ≡ relayed_by relay.old sender (if_known self.old recipients.now payload contents).relays) }
+        ensures err { OnErr result (relay.new ≡ relay.old) }
     {
         match contents {
             None => Ok(Broadcast::MissingPayload),
             Some(contents) => {
+                self.seen.insert(payload, contents.keep(alloc)?)?;
                 relay.broadcast(alloc, sender, recipients, payload, contents.as_slice())?;
-                self.seen.insert(payload, contents)?;
                 Ok(Broadcast::Sent)
             }
         }
     }
 
-    /// The payload is proposed: it is no longer pending, and is sent unless it was seen before.
+    /// The payload is proposed: it is no longer pending, and is sent unless it was seen before. Want of memory leaves the
+    /// relay as it was.
     fn send_once(
         &mut self,
         alloc: Global,
@@ -276,6 +278,7 @@ impl State {
         ensures outcome { IfOk result (λ outcome. Some outcome ≡ (if_pending self.old payload (contents_in self.old.pending payload)).outcome) }
         ensures app { OnOk result (self.new ≡ (if_pending self.old payload (contents_in self.old.pending payload)).app) }
         ensures relay { OnOk result (relay.new ≡ relayed_by relay.old sender (if_pending self.old payload (contents_in self.old.pending payload)).relays) }
+        ensures err { OnErr result (relay.new ≡ relay.old) }
     {
         if !self.pending.contains(&payload) {
             return Ok(Broadcast::MissingPayload);
@@ -300,7 +303,7 @@ impl State {
         }
     }
 
-    /// The payload is to be relayed.
+    /// The payload is to be relayed. Want of memory leaves the relay as it was.
     #[tactic(auto, unfolding(crate::specs::Application::on_broadcast))]
     pub(crate) fn broadcast(
         &mut self,
@@ -313,6 +316,7 @@ impl State {
         ensures outcome { IfOk result (λ outcome. Some outcome ≡ (on_broadcast self.old payload plan.now).outcome) }
         ensures app { OnOk result (self.new ≡ (on_broadcast self.old payload plan.now).app) }
         ensures relay { OnOk result (relay.new ≡ relayed_by relay.old sender (on_broadcast self.old payload plan.now).relays) }
+        ensures err { OnErr result (relay.new ≡ relay.old) }
     {
         match plan {
             Plan::Prepare { .. } => {
@@ -332,16 +336,16 @@ impl State {
     pub(crate) fn hear(
         &mut self,
         alloc: Global,
-        relayed: Relayed,
+        relayed: &Relayed,
     ) -> Result<Sequence<Verdict>, AllocError>
-        ensures verdicts { IfOk result (λ verdicts. verdicts ≡ verdicts_on self.old relayed) }
-        ensures app { OnOk result (self.new ≡ after_relayed self.old relayed) }
+        ensures verdicts { IfOk result (λ verdicts. verdicts ≡ verdicts_on self.old relayed.now) }
+        ensures app { OnOk result (self.new ≡ after_relayed self.old relayed.now) }
     {
         let waiters = self.waiters.as_slice();
-        let verdicts = judge_each(alloc, &self.settings, waiters, &relayed)?;
-        let Relayed { payload, contents } = relayed;
-        self.seen.insert(payload, contents)?;
-        drop_judged(&mut self.waiters, &payload);
+        let verdicts = judge_each(alloc, &self.settings, waiters, relayed)?;
+        self.seen
+            .insert(relayed.payload, relayed.contents.keep(alloc)?)?;
+        drop_judged(&mut self.waiters, &relayed.payload);
         Ok(verdicts)
     }
 }
