@@ -1,6 +1,6 @@
 //! Applications, step by step.
 use simplex_application::{
-    AppStep, Application, Broadcast, Certifier, Config, ControlFn, Mailbox, Reply,
+    AppStep, Application, Broadcast, Certifier, CertifyFn, Config, ControlFn, Mailbox, Reply,
 };
 use simplex_mocks::relay::Relay;
 use simplex_types::{
@@ -272,4 +272,27 @@ fn requests_are_answered_as_set(rt: HostRuntime) {
     mailbox.propose(context(5)).expect(&rt, "memory");
     let step = app.step(alloc, &mut mailbox, &mut relay, 7);
     assert_did(&rt, "stalled", step, &[], None);
+}
+
+/// What may be certified is what the closure says of the round and the payload.
+#[test]
+fn a_closure_certifies(rt: HostRuntime) {
+    let alloc = rt.alloc();
+    let mut relay = Relay::new(alloc);
+    let config = Config {
+        me: Participant(0),
+        should_certify: Certifier::Custom(CertifyFn::new(Box::new(
+            alloc,
+            |round: Round, payload: Digest| round.view == View(5) && payload.0[0] == 30,
+        )
+        .expect(&rt, "memory"))),
+    };
+    let (mut app, mut mailbox) = Application::new(alloc, config, &mut relay).expect(&rt, "memory");
+    for (view, byte, may) in [(5, 30, true), (5, 31, false), (6, 30, false)] {
+        let payload = Digest([byte; 32]);
+        let request = mailbox.certify(round(view), payload).expect(&rt, "memory");
+        let step = app.step(alloc, &mut mailbox, &mut relay, 0);
+        let certified = reply(request, Answer::Verdict(may));
+        assert_did(&rt, "certified", step, &certified, None);
+    }
 }
