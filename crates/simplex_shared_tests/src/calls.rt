@@ -99,3 +99,30 @@ fn a_shut_mailbox_names_the_front(rt: HostRuntime) -> Result<(), Fail> {
     assert!(rt; log.calls() == wanted.as_slice());
     Ok(())
 }
+
+#[test]
+fn a_pass_meets_one_that_saw_more(rt: HostRuntime) -> Result<(), Fail> {
+    let alloc = rt.alloc();
+    let (mailbox, mut first, mut second) = pair(&rt, alloc, 4);
+    let put = mailbox.enqueue(&rt, &mut first, proposed(2));
+    same(&rt, "there is room for the first", &put, &Ok(Feedback::Ok));
+    let put = mailbox.enqueue(&rt, &mut first, proposed(4));
+    same(&rt, "and for the second", &put, &Ok(Feedback::Ok));
+    same(&rt, "the second pass saw no call", &second.seen(), &0);
+    mailbox.meet(&mut second, &mut first);
+    same(
+        &rt,
+        "the second pass saw the puts of the first",
+        &(second.number(), second.seen()),
+        &(1, 2),
+    );
+    same(
+        &rt,
+        "the first pass is as it was",
+        &(first.number(), first.seen()),
+        &(0, 2),
+    );
+    let log = mailbox.finish(&rt, vec![in alloc; first, second]?);
+    same(&rt, "a meeting is no call", &log.calls().len(), &2);
+    Ok(())
+}

@@ -178,7 +178,7 @@ fn assert_met(rt: &impl Abort, log: &Log<Letter>, gate: &Gate, writers: [u32; 2]
 }
 
 #[test]
-fn threads_meet(rt: HostRuntime) -> Result<(), Fail> {
+fn two_threads_put_in_turn(rt: HostRuntime) -> Result<(), Fail> {
     let gate = Gate::new();
     let log = led_by_the_first(&rt, rt.alloc(), &gate);
     assert_met(&rt, &log, &gate, [0, 1]);
