@@ -206,9 +206,17 @@ fn a_stream_is_a_sink(rt: HostRuntime) {
     same(&rt, "faults", &sink.faults(), &2);
 }
 
+/// A test has no input.
 #[test]
 fn standard_streams_are_a_source_and_a_sink(rt: HostRuntime) {
-    let input = StdinSource::new(rt.alloc(), rt.stdin());
+    let alloc = rt.alloc();
+    let mut input = StdinSource::new(alloc, rt.stdin());
+    same(
+        &rt,
+        "the end of the input",
+        &input.read(9),
+        &Ok(Vec::new(alloc)),
+    );
     same(&rt, "faults of the input", &input.faults(), &0);
     let mut output = StdoutSink::new(rt.stdout());
     let answer = write_text(&mut output, "written\n".as_bytes());
