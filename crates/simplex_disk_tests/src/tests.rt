@@ -1,7 +1,7 @@
 //! The bytes of a file, each disk call failing in turn, each image that a crash may leave, and orders.
 use crate::images::{Found, images_at};
 use crate::runs::{forty, may_be, new_journal, opened, record};
-use simplex_disk::{Disk, DiskJournal, MemoryDisk};
+use simplex_disk::{Disk, DiskError, DiskJournal, InitError, MemoryDisk};
 use simplex_journal::{Journal, JournalError, MemoryJournal};
 use simplex_wire::Artifact;
 use std::alloc::Global;
@@ -75,6 +75,64 @@ fn a_file_byte_by_byte(rt: HostRuntime) {
         &kept.as_slice(),
         &[1, 4, 2, 0, 1, 1, 0].as_slice(),
     );
+}
+
+// A synced record and a pending one, of which a byte is wanting: an opened journal would cut the file.
+const TORN: [u8; 11] = [1, 4, 2, 0, 1, 1, 0, 4, 2, 0, 1];
+
+// The same of section 2, of which no record is whole.
+const TORN_AT_ONCE: [u8; 4] = [0, 4, 2, 0];
+
+/// A disk with two torn files, whose third call fails: that is the first when a journal is opened.
+fn torn_disk(alloc: Global) -> Result<MemoryDisk, DiskError> {
+    let mut disk = MemoryDisk::new(alloc, vec![in alloc; 3u64]?);
+    disk.write_at(1, 0, &TORN)?;
+    disk.write_at(2, 0, &TORN_AT_ONCE)?;
+    Ok(disk)
+}
+
+/// The disk that is handed back, and why no journal was opened on it.
+fn refused(disk: MemoryDisk, alloc: Global) -> Option<InitError<MemoryDisk>> {
+    disk.may_be_settled();
+    DiskJournal::init(disk, alloc).err()
+}
+
+#[test]
+fn a_disk_is_handed_back(rt: HostRuntime) -> Result<(), Fail> {
+    let alloc = rt.alloc();
+    let disk = torn_disk(alloc)?;
+    let InitError { disk, error } = refused(disk, alloc).ok_or("a call fails")?;
+    same(&rt, "why", &error, &JournalError::Failed);
+    same(&rt, "how often", &disk.faults(), &1);
+    let mut disk = disk;
+    same(
+        &rt,
+        "its files",
+        &disk.files(alloc)?.as_slice(),
+        &[1, 2].as_slice(),
+    );
+    same(
+        &rt,
+        "file 1",
+        &disk.read(alloc, 1)?.as_slice(),
+        &TORN.as_slice(),
+    );
+    same(
+        &rt,
+        "file 2",
+        &disk.read(alloc, 2)?.as_slice(),
+        &TORN_AT_ONCE.as_slice(),
+    );
+    let mut journal = opened(disk, alloc)?;
+    let records = journal.replay(alloc)?;
+    same(
+        &rt,
+        "what is read",
+        &records.as_slice(),
+        &[record(1)].as_slice(),
+    );
+    same(&rt, "no other call failed", &journal.faults(), &1);
+    Ok(())
 }
 
 /// What is left of a run.
