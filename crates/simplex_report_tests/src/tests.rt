@@ -7,7 +7,7 @@ use simplex_report::{
 };
 use simplex_transcript::Entry;
 use simplex_types::{Activity, Hidden, Keyed, Reporter};
-use simplex_values::{Digest, Epoch, Feedback, Participant, Proposal, Round, Sequence, View};
+use simplex_values::{Digest, Epoch, Feedback, Keep, Participant, Proposal, Round, Sequence, View};
 use simplex_wire::{Notarization, Notarize, Scheme, Signatures};
 use std::alloc::{AllocError, Global};
 use std::fmt::Debug;
@@ -40,6 +40,15 @@ impl Reporter for Counting {
         drop(activity);
         self.told = self.told.saturating_add(1);
         Ok(self.answer)
+    }
+}
+
+impl Keep for Counting {
+    fn keep(&self, _alloc: Global) -> Result<Counting, AllocError> {
+        Ok(Counting {
+            answer: self.answer,
+            told: self.told,
+        })
     }
 }
 
@@ -110,7 +119,25 @@ fn unsigned(alloc: Global) -> Notarization {
     }
 }
 
-/// Whether a reporter that answers `Backoff` is told of the activity.
+/// Whether the reporter inside, which answers `Backoff`, is told of the activity.
+fn check_told<S: Scheme + Drop>(
+    rt: &impl Abort,
+    case: &str,
+    reporter: AttributableReporter<S, Counting>,
+    activity: Activity,
+    passes: bool,
+) {
+    let mut reporter = reporter;
+    let answer = reporter.report(activity).expect(rt, "no memory is taken");
+    let wanted = if passes {
+        (Feedback::Backoff, 1)
+    } else {
+        (Feedback::Ok, 0)
+    };
+    same(rt, case, &(answer, reporter.reporter.told), &wanted);
+}
+
+/// The same of a reporter with this scheme that was told nothing yet.
 fn check_passes<S: Scheme + Drop>(
     rt: &impl Abort,
     case: &str,
@@ -119,14 +146,8 @@ fn check_passes<S: Scheme + Drop>(
     activity: Activity,
     passes: bool,
 ) {
-    let mut reporter = AttributableReporter::new(scheme, answering(Feedback::Backoff), verify);
-    let answer = reporter.report(activity).expect(rt, "no memory is taken");
-    let wanted = if passes {
-        (Feedback::Backoff, 1)
-    } else {
-        (Feedback::Ok, 0)
-    };
-    same(rt, case, &(answer, reporter.reporter.told), &wanted);
+    let reporter = AttributableReporter::new(scheme, answering(Feedback::Backoff), verify);
+    check_told(rt, case, reporter, activity, passes);
 }
 
 #[test]
@@ -176,6 +197,22 @@ fn what_others_can_be_shown(rt: HostRuntime) {
     }
 }
 
+#[test]
+fn a_copy_passes_what_the_copied_does(rt: HostRuntime) {
+    let alloc = rt.alloc();
+    for (case, verify, base, passes) in [
+        ("a notarize", true, BASE, true),
+        ("a notarize with other keys", true, OTHER, false),
+        ("a notarize that is not verified", false, OTHER, true),
+    ] {
+        let scheme = keyed(&rt, alloc, BASE);
+        let reporter = AttributableReporter::new(scheme, answering(Feedback::Backoff), verify);
+        let copy = reporter.keep(alloc).expect(&rt, "room for keys");
+        check_told(&rt, case, copy, notarize(&rt, alloc, base), passes);
+        same(&rt, case, &reporter.reporter.told, &0);
+    }
+}
+
 /// What two reporters answer, and how much each is told.
 fn check_pair(
     rt: &impl Abort,
@@ -202,6 +239,44 @@ fn two_reporters(rt: HostRuntime) {
     check_pair(&rt, alloc, "the second", second, (Feedback::Backoff, 0, 1));
     let none = Pair::from((None, None));
     check_pair(&rt, alloc, "none", none, (Feedback::Ok, 0, 0));
+}
+
+/// What a copy that is made behind one report answers to another, and how much it was told then. The reporters that were copied
+/// are told of no other.
+fn check_copy(
+    rt: &impl Abort,
+    alloc: Global,
+    case: &str,
+    pair: Pair<Counting, Counting>,
+    wanted: (Feedback, u64, u64),
+    copied: (u64, u64),
+) {
+    let mut reporters = Reporters::new(alloc, pair);
+    let activity = Activity::Notarization(unsigned(alloc));
+    let _answer = reporters.report(activity).expect(rt, "room for a copy");
+    let mut copy = reporters.keep(alloc).expect(rt, "no memory is taken");
+    let activity = Activity::Notarization(unsigned(alloc));
+    let answer = copy.report(activity).expect(rt, "room for a copy");
+    let (first, second) = (told(&copy.pair.first), told(&copy.pair.second));
+    same(rt, case, &(answer, first, second), &wanted);
+    let (first, second) = (told(&reporters.pair.first), told(&reporters.pair.second));
+    same(rt, case, &(first, second), &copied);
+}
+
+#[test]
+fn a_copy_of_two_reporters(rt: HostRuntime) {
+    let alloc = rt.alloc();
+    let both = Pair::from((answering(Feedback::Backoff), answering(Feedback::Closed)));
+    check_copy(&rt, alloc, "both", both, (Feedback::Closed, 2, 2), (1, 1));
+    let second = Pair::from((None, answering(Feedback::Backoff)));
+    check_copy(
+        &rt,
+        alloc,
+        "the second",
+        second,
+        (Feedback::Backoff, 0, 2),
+        (0, 1),
+    );
 }
 
 /// Keeps what it is told, and asks for a pause at the first alone.
