@@ -1,6 +1,8 @@
-//! A member that is behind and its peers, worked out by hand from the rules, and a member alone whose journal fails.
+//! A member that is behind and its peers, worked out by hand from the rules, a member alone whose journal fails, and
+//! configurations of which no engine is made.
 mod behind;
 mod failures;
+mod limits;
 mod papers;
 mod peers;
 mod seat;
