@@ -11,8 +11,8 @@ ghost use Rattle.simplex_recording.specs.Stands.{StandsFor};
 use crate::record::Record;
 use simplex_types::elector::Elector;
 use simplex_types::{
-    Activity, Digest, Feedback, Finalization, Notarization, Nullification, Participant, Scheme,
-    View,
+    Activity, Digest, Feedback, Finalization, Monitor, Notarization, Nullification, Participant,
+    Scheme, View,
 };
 use std::alloc::{AllocError, Global};
 
@@ -203,5 +203,17 @@ impl<S: Scheme, L: Elector> simplex_types::Reporter for Reporter<S, L> {
             self.invalid_votes = self.invalid_votes.saturating_add(1);
         }
         Ok(Feedback::Ok)
+    }
+}
+
+impl<S: Scheme, L: Elector> Monitor for Reporter<S, L> {
+    ghost latest = { λ reporter. reporter.kept.seen.latest };
+
+    /// The view of the finalization that was reported last, or genesis.
+    fn latest(&self) -> View
+        ensures kept { result ≡ self.now.kept.seen.latest }
+        ensures told { (made : Made) (told : List Activity) → StandsFor S.verifies S.members L.elects L.cuts self.now made told → result ≡ latest_seen (recorded made told) }
+    {
+        self.kept.seen.latest()
     }
 }

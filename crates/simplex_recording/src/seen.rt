@@ -44,7 +44,8 @@ impl Seen {
 
     /// The view of the last finalization, or genesis.
     pub(crate) fn latest(&self) -> View
-        ensures { (all : List Activity) → SeenOf self.now all → result ≡ latest_seen all }
+        ensures kept { result ≡ self.now.latest }
+        ensures seen { (all : List Activity) → SeenOf self.now all → result ≡ latest_seen all }
     {
         self.latest
     }

@@ -2,7 +2,7 @@
 use simplex_recording::{Config, Reporter};
 use simplex_types::elector::Config as Electing;
 use simplex_types::{
-    Activity, ConflictingNotarize, Digest, Epoch, Feedback, Finalization, Finalize, Keyed,
+    Activity, ConflictingNotarize, Digest, Epoch, Feedback, Finalization, Finalize, Keyed, Monitor,
     Notarization, Notarize, Nullification, Nullify, Participant, Proposal, Reporter as Reporting,
     Round, RoundRobin, RoundRobinElector, Scheme, Signatures, Subject, TermLength, Terms, View,
 };
@@ -102,15 +102,22 @@ fn tell(rt: &impl Abort, reporter: &mut Reporter<Keyed, RoundRobinElector>, acti
     );
 }
 
+/// How far the monitor tells that a member is.
+fn watched<M: Monitor>(monitor: &M) -> View {
+    monitor.latest()
+}
+
 /// Finalizations of view 5, then 3, then 5 again: the last need not be the greatest.
 #[test]
 fn finalizations_are_seen_in_order(rt: HostRuntime) {
     let alloc = rt.alloc();
     let mut reporter = reporter(&rt, alloc);
     assert_eq!(rt; reporter.latest(), View(0), "nothing yet");
+    assert_eq!(rt; watched(&reporter), View(0), "nor watched");
     for (view, count) in [(5, 1), (3, 1), (5, 2)] {
         tell(&rt, &mut reporter, finalization(&rt, alloc, 1, view));
         assert_eq!(rt; reporter.latest(), View(view), "the last");
+        assert_eq!(rt; watched(&reporter), View(view), "watched");
         let (_, told) = reporter.finalization(View(view)).expect(&rt, "it is there");
         assert_eq!(rt; told, count, "how often");
     }
