@@ -1,1 +1,4 @@
+pub mod Apart
+pub mod Entered
 pub mod Keys
+pub mod Pushed

@@ -1,5 +1,5 @@
 -- What is kept by view, payload and member.
-use Rattle.std.specs.Prelude.{ℕ, Bool, List, [], Option, Some, None}
+use Rattle.std.specs.Prelude.{ℕ, Bool, false, List, [], Option, Some, None, unwrap_or}
 use Rattle.std.specs.Global.{Vec}
 use Rattle.std.specs.List.{list_any}
 use Rattle.std.specs.Ordering.{nat_cmp, ordering_then}
@@ -9,6 +9,8 @@ use Rattle.std.specs.BTreeMap.{BTreeMap, is_at}
 use Rattle.std.specs.BTreeMap as tree
 use Rattle.std.specs.BTreeSet.{BTreeSet}
 use Rattle.simplex_types.specs.declared.activity.Activity.{Activity}
+use Rattle.simplex_values.specs.Maps.{found}
+use Rattle.simplex_recording.specs.declared.at_view.AtView.{AtView}
 use Rattle.simplex_recording.specs.declared.finalized.Finalized.{Finalized}
 
 -- by view, then payload, then member
@@ -26,6 +28,14 @@ pair_cmp x y = ordering_then (nat_cmp x.0 y.0) (nat_cmp x.1 y.1)
 -- whether the member gave the view up
 unfoldable pub has_pair : BTreeSet (ℕ × ℕ) → ℕ → ℕ → Bool
 has_pair pairs view signer = list_any (is_at (pair_cmp (view, signer))) pairs.keys
+
+-- no certificates
+abbrev pub nothing : AtView
+nothing = record { is_certified = false; notarization = None; certification = None; nullification = None; finalization = None }
+
+-- the certificates that are kept of the view
+unfoldable pub kept_at : BTreeMap ℕ AtView → ℕ → AtView
+kept_at views view = unwrap_or (found views view) nothing
 
 -- how many finalizations there were
 abbrev pub count_in : Option Finalized → ℕ

@@ -1,12 +1,14 @@
 -- What was recorded, the newest first, by what is kept of it.
 use Rattle.std.specs.Prelude.{◌≡◌, ℕ, Bool, List, option_map}
 use Rattle.std.specs.List.{list_any}
+use Rattle.std.specs.Option.{option_or}
 use Rattle.simplex_values.specs.declared.proposal.Subject.{Subject}
 use Rattle.simplex_values.specs.declared.round.Round.{Round}
 use Rattle.simplex_values.specs.declared.terms.Terms.{Terms}
-use Rattle.simplex_values.specs.Maps.{found, has}
+use Rattle.simplex_values.specs.Maps.{found}
 use Rattle.simplex_wire.specs.declared.attestation.Attestation.{Attestation}
 use Rattle.simplex_types.specs.declared.activity.Activity.{Activity}
+use Rattle.simplex_recording.specs.declared.at_view.AtView.{AtView}
 use Rattle.simplex_recording.specs.declared.certificates.Certificates.{Certificates}
 use Rattle.simplex_recording.specs.declared.faults.Faults.{Faults}
 use Rattle.simplex_recording.specs.declared.finalized.Finalized.{Finalized}
@@ -15,7 +17,7 @@ use Rattle.simplex_recording.specs.declared.reporter.Reporter.{Reporter}
 use Rattle.simplex_recording.specs.declared.seen.Seen.{Seen}
 use Rattle.simplex_recording.specs.declared.unlocked.Unlocked.{Unlocked}
 use Rattle.simplex_recording.specs.declared.votes.Votes.{Votes}
-use Rattle.simplex_recording.specs.Kept.{has_cast, has_pair, count_in, evidence_in}
+use Rattle.simplex_recording.specs.Kept.{has_cast, has_pair, kept_at, count_in, evidence_in}
 use Rattle.simplex_recording.specs.Recording.{Made, is_notarize_at, is_nullify_at, is_finalize_at, notarization_at, certification_at, nullification_at, finalization_at, finalizations_at, has_certificate, leader_at, views_seen, latest_seen, faults_of, has_faults, recorded, invalid_votes_of, invalid_certificates_of}
 
 pub record VotesOf (votes : Votes) (all : List Activity) : Type 0 where
@@ -23,15 +25,19 @@ pub record VotesOf (votes : Votes) (all : List Activity) : Type 0 where
   pub nullifies_are : (view signer : ℕ) → has_pair votes.nullifies view signer ≡ list_any (is_nullify_at view signer) all
   pub finalizes_are : (view : ℕ) (payload : List ℕ) (signer : ℕ) → has_cast votes.finalizes view payload signer ≡ list_any (is_finalize_at view payload signer) all
 
+-- the certificates of a view. A certification that came behind the last notarization is the last one
+pub record AtViewOf (kept : AtView) (all : List Activity) (view : ℕ) : Type 0 where
+  pub certified_is : kept.is_certified ≡ has_certificate all view
+  pub notarization_is : option_or kept.notarization kept.certification ≡ notarization_at all view
+  pub certification_is : kept.certification ≡ certification_at all view
+  pub nullification_is : kept.nullification ≡ nullification_at all view
+  pub finalization_is : option_map (λ (f : Finalized). f.first) kept.finalization ≡ finalization_at all view
+  pub count_is : count_in kept.finalization ≡ finalizations_at all view
+
 pub record CertificatesOf (kept : Certificates) (all : List Activity) : Type 0 where
-  pub notarization_is : (view : ℕ) → found kept.notarizations view ≡ notarization_at all view
-  pub certification_is : (view : ℕ) → found kept.certifications view ≡ certification_at all view
-  pub nullification_is : (view : ℕ) → found kept.nullifications view ≡ nullification_at all view
-  pub finalization_is : (view : ℕ) → option_map (λ (f : Finalized). f.first) (found kept.finalizations view) ≡ finalization_at all view
-  pub count_is : (view : ℕ) → count_in (found kept.finalizations view) ≡ finalizations_at all view
+  pub views_are : (view : ℕ) → AtViewOf (kept_at kept.views view) all view
 
 pub record UnlockedOf (unlocked : Unlocked) (made : Made) (all : List Activity) : Type 0 where
-  pub certified_is : (view : ℕ) → has unlocked.certified view ≡ has_certificate all view
   pub leader_is : (view : ℕ) → found unlocked.leaders view ≡ leader_at made all view
 
 pub record SeenOf (kept : Seen) (all : List Activity) : Type 0 where

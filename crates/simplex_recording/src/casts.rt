@@ -1,7 +1,7 @@
 //! Who voted for what.
 #![tactic(auto, unfolding(crate::specs::Kept::has_cast, crate::specs::Kept::has_pair), using(crate::proofs::Keys::cast_at, crate::proofs::Keys::pair_at))]
 
-ghost use Rattle.std.specs.Prelude.{◌≡◌, ◌==◌, ◌||◌, ◌&&◌, ℕ, List, false, filter, IfOk, OnOk};
+ghost use Rattle.std.specs.Prelude.{◌≡◌, ◌==◌, ◌||◌, ◌&&◌, ℕ, List, false, filter, IfOk, OnOk, OnErr};
 ghost use Rattle.std.specs.List.{range_with_len};
 ghost use Rattle.simplex_recording.specs.Kept.{has_cast, has_pair};
 ghost use Rattle.simplex_recording.specs.Recording.{is_for};
@@ -36,7 +36,8 @@ pub(crate) fn add_cast(
     proposal: &Proposal,
     by: Participant,
 ) -> Result<(), AllocError>
-    ensures { OnOk result ((view : ℕ) (payload : List ℕ) (signer : ℕ) → has_cast casts.new view payload signer ≡ (is_for proposal.now by view payload signer || has_cast casts.old view payload signer)) }
+    ensures ok { OnOk result ((view : ℕ) (payload : List ℕ) (signer : ℕ) → has_cast casts.new view payload signer ≡ (is_for proposal.now by view payload signer || has_cast casts.old view payload signer)) }
+    ensures err { OnErr result ((view : ℕ) (payload : List ℕ) (signer : ℕ) → has_cast casts.new view payload signer ≡ has_cast casts.old view payload signer) }
 {
     casts.insert((proposal.round.view.0, proposal.payload.0, by.0))?;
     Ok(())
@@ -44,7 +45,8 @@ pub(crate) fn add_cast(
 
 /// The member gave the view up.
 pub(crate) fn add_pair(pairs: &mut Pairs, of: View, by: Participant) -> Result<(), AllocError>
-    ensures { OnOk result ((view signer : ℕ) → has_pair pairs.new view signer ≡ ((of == view && by == signer) || has_pair pairs.old view signer)) }
+    ensures ok { OnOk result ((view signer : ℕ) → has_pair pairs.new view signer ≡ ((of == view && by == signer) || has_pair pairs.old view signer)) }
+    ensures err { OnErr result ((view signer : ℕ) → has_pair pairs.new view signer ≡ has_pair pairs.old view signer) }
 {
     pairs.insert((of.0, by.0))?;
     Ok(())

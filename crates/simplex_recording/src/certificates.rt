@@ -1,26 +1,25 @@
 //! The certificates that were recorded.
-#![tactic(auto, unfolding(simplex_values::specs::Maps::found, crate::specs::Recording::notarization_at, crate::specs::Recording::certification_at, crate::specs::Recording::nullification_at, crate::specs::Recording::finalization_at, crate::specs::Recording::finalizations_at))]
+#![tactic(auto, unfolding(simplex_values::specs::Maps::found, crate::specs::Kept::kept_at))]
 
-ghost use Rattle.std.specs.Prelude.{◌≡◌, ◌∷◌, [], List, OnOk, Option, Some, None, MatchOption};
-ghost use Rattle.std.specs.Option.{option_copied};
+ghost use Rattle.std.specs.Prelude.{◌≡◌, ◌∷◌, [], ℕ, List, OnOk, Option, Some, None, true, MatchOption};
+ghost use Rattle.std.specs.Option.{option_copied, is_some};
+ghost use Rattle.simplex_values.specs.Maps.{found};
+ghost use Rattle.simplex_types.specs.Evidence.{was_verified, activity_round};
 ghost use Rattle.simplex_types.specs.declared.activity.Activity.{Activity};
-ghost use Rattle.simplex_types.specs.declared.activity.Activity.TheVariants as activities;
-ghost use Rattle.simplex_recording.specs.Recording.{notarization_at, certification_at, nullification_at, finalization_at, finalizations_at};
-ghost use Rattle.simplex_recording.specs.Stands.{CertificatesOf};
+ghost use Rattle.simplex_recording.specs.Kept.{kept_at, nothing};
+ghost use Rattle.simplex_recording.specs.Recording.{has_certificate, notarization_at, certification_at, nullification_at, finalization_at, finalizations_at};
+ghost use Rattle.simplex_recording.specs.Stands.{AtViewOf, CertificatesOf};
 
-use crate::finalized::Finalized;
-use simplex_types::{Activity, Finalization, Keep, Notarization, Nullification, View};
+use crate::at_view::AtView;
+use simplex_types::{Activity, Finalization, Notarization, Nullification, View};
 use simplex_values::maps::{empty_map, put};
 use std::alloc::{AllocError, Global};
 use std::collections::BTreeMap;
 
-/// Certificates by view: the last of each kind, and the first finalization.
+/// Certificates by view. A view may stand here without any.
 #[derive(Debug, Drop)]
 pub(crate) struct Certificates {
-    notarizations: BTreeMap<u64, Notarization>,
-    certifications: BTreeMap<u64, Notarization>,
-    nullifications: BTreeMap<u64, Nullification>,
-    finalizations: BTreeMap<u64, Finalized>,
+    views: BTreeMap<u64, AtView>,
 }
 
 impl Certificates {
@@ -29,58 +28,47 @@ impl Certificates {
         ensures { CertificatesOf result [] }
     {
         Certificates {
-            notarizations: empty_map(alloc),
-            certifications: empty_map(alloc),
-            nullifications: empty_map(alloc),
-            finalizations: empty_map(alloc),
+            views: empty_map(alloc),
         }
     }
 
-    /// A payload was certified, and so it was notarized.
-    fn certify(&mut self, alloc: Global, it: Notarization) -> Result<(), AllocError>
-        ensures { OnOk result ((all : List Activity) → CertificatesOf self.old all → CertificatesOf self.new (activities.Certification it ∷ all)) }
+    /// Makes room for certificates of the view.
+    pub(crate) fn make_room(&mut self, view: View) -> Result<(), AllocError>
+        ensures room { OnOk result (is_some (found self.new.views view) ≡ true) }
+        ensures same { (q : ℕ) → kept_at self.new.views q ≡ kept_at self.old.views q }
     {
-        let view = it.proposal.round.view.0;
-        put(&mut self.notarizations, view, it.keep(alloc)?)?;
-        put(&mut self.certifications, view, it)
+        if !self.views.contains_key(&view.0) {
+            put(&mut self.views, view.0, AtView::new())?;
+        }
+        Ok(())
     }
 
-    /// A finalization was recorded.
-    fn finalize(&mut self, it: Finalization) -> Result<(), AllocError>
-        ensures { OnOk result ((all : List Activity) → CertificatesOf self.old all → CertificatesOf self.new (activities.Finalization it ∷ all)) }
+    /// The certificate was recorded.
+    pub(crate) fn enter(&mut self, activity: Activity)
+        requires certificate { was_verified activity ≡ true }
+        requires room { is_some (found self.old.views (activity_round activity).view) ≡ true }
+        ensures { (all : List Activity) → CertificatesOf self.old all → CertificatesOf self.new (activity ∷ all) }
     {
-        let view = it.proposal.round.view.0;
-        match self.finalizations.get_mut(&view) {
-            Some(kept) => {
-                kept.count = kept.count.saturating_add(1);
-                Ok(())
-            }
-            None => {
-                let kept = Finalized {
-                    first: it,
-                    count: 1,
-                };
-                put(&mut self.finalizations, view, kept)
-            }
+        let view = activity.view();
+        if let Some(kept) = self.views.get_mut(&view.0) {
+            kept.enter(activity);
         }
     }
 
-    /// The activity was recorded.
-    pub(crate) fn enter(&mut self, alloc: Global, activity: Activity) -> Result<(), AllocError>
-        ensures { OnOk result ((all : List Activity) → CertificatesOf self.old all → CertificatesOf self.new (activity ∷ all)) }
+    /// What is kept of the view, if anything.
+    fn at(&self, view: View) -> Option<&AtView>
+        ensures { (all : List Activity) → CertificatesOf self.now all → MatchOption result (AtViewOf nothing all view) (λ kept. AtViewOf kept.now all view) }
     {
-        match activity {
-            Activity::Notarization(it) => {
-                let view = it.proposal.round.view.0;
-                put(&mut self.notarizations, view, it)
-            }
-            Activity::Certification(it) => self.certify(alloc, it),
-            Activity::Nullification(it) => {
-                let view = it.round.view.0;
-                put(&mut self.nullifications, view, it)
-            }
-            Activity::Finalization(it) => self.finalize(it),
-            _ => Ok(()),
+        self.views.get(&view.0)
+    }
+
+    /// Whether the view has a certificate.
+    pub(crate) fn is_certified(&self, view: View) -> bool
+        ensures { (all : List Activity) → CertificatesOf self.now all → result ≡ has_certificate all view }
+    {
+        match self.at(view) {
+            None => false,
+            Some(kept) => kept.is_certified(),
         }
     }
 
@@ -88,28 +76,27 @@ impl Certificates {
     pub(crate) fn notarization(&self, view: View) -> Option<&Notarization>
         ensures { (all : List Activity) → CertificatesOf self.now all → option_copied result ≡ notarization_at all view }
     {
-        self.notarizations.get(&view.0)
+        self.at(view)?.notarization()
     }
 
     /// The last certification of the view.
     pub(crate) fn certification(&self, view: View) -> Option<&Notarization>
         ensures { (all : List Activity) → CertificatesOf self.now all → option_copied result ≡ certification_at all view }
     {
-        self.certifications.get(&view.0)
+        self.at(view)?.certification()
     }
 
     /// The last nullification of the view.
     pub(crate) fn nullification(&self, view: View) -> Option<&Nullification>
         ensures { (all : List Activity) → CertificatesOf self.now all → option_copied result ≡ nullification_at all view }
     {
-        self.nullifications.get(&view.0)
+        self.at(view)?.nullification()
     }
 
     /// The first finalization of the view, and how many there were.
     pub(crate) fn finalization(&self, view: View) -> Option<(&Finalization, u64)>
         ensures { (all : List Activity) → CertificatesOf self.now all → MatchOption result (finalization_at all view ≡ None) (λ kept. (finalization_at all view ≡ Some kept.0.now) × (kept.1 ≡ finalizations_at all view)) }
     {
-        let kept = self.finalizations.get(&view.0)?;
-        Some((&kept.first, kept.count))
+        self.at(view)?.finalization()
     }
 }

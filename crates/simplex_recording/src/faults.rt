@@ -1,14 +1,14 @@
 //! The evidence that was recorded.
 #![tactic(auto, unfolding(crate::specs::Recording::faults_of, crate::specs::Recording::has_faults))]
 
-ghost use Rattle.std.specs.Prelude.{◌≡◌, ◌∷◌, [], ℕ, ◌==◌, ◌&&◌, List, Some, OnOk, not, if◌then◌else◌};
+ghost use Rattle.std.specs.Prelude.{◌≡◌, ◌∷◌, [], ℕ, ◌==◌, ◌&&◌, List, Some, OnOk, OnErr, not, if◌then◌else◌};
 ghost use Rattle.simplex_types.specs.declared.activity.Activity.{Activity};
 ghost use Rattle.simplex_recording.specs.Kept.{evidence_in};
 ghost use Rattle.simplex_recording.specs.Recording.{against, faults_of, has_faults, with_evidence};
 ghost use Rattle.simplex_recording.specs.Stands.{FaultsOf};
 
 use crate::evidence::is_known;
-use simplex_types::{Activity, Keep, Participant, View};
+use simplex_types::{Activity, Participant, View};
 use std::alloc::{AllocError, Global};
 use std::collections::BTreeMap;
 
@@ -23,7 +23,7 @@ pub(crate) struct Faults {
 }
 
 /// Whom evidence is against. Other activities are against nobody.
-fn against(activity: &Activity) -> Option<Participant>
+pub(crate) fn against(activity: &Activity) -> Option<Participant>
     ensures { result ≡ against activity.now }
 {
     match activity {
@@ -42,57 +42,52 @@ fn no_lists(alloc: Global) -> Lists
     BTreeMap::new(alloc)
 }
 
-/// Takes the evidence of the view and the member out.
-#[tactic(auto, unfolding(crate::specs::Kept::evidence_in))]
-fn take_known(alloc: Global, lists: &mut Lists, view: View, member: Participant) -> Vec<Activity>
-    ensures known { result.items ≡ evidence_in lists.old view member }
-    ensures others { (v m : ℕ) → evidence_in lists.new v m ≡ (if view == v && member == m then [] else evidence_in lists.old v m) }
-{
-    match lists.remove(&(view.0, member.0)) {
-        None => Vec::new(alloc),
-        Some(known) => known,
-    }
-}
-
 /// Puts the evidence last, unless it is there.
-fn push_new(alloc: Global, known: &mut Vec<Activity>, evidence: &Activity) -> Result<(), AllocError>
-    ensures { OnOk result (known.new.items ≡ with_evidence evidence.now known.old.items) }
+fn push_new(known: &mut Vec<Activity>, evidence: Activity) -> Result<(), AllocError>
+    ensures ok { OnOk result (known.new.items ≡ with_evidence evidence known.old.items) }
+    ensures err { OnErr result (known.new.items ≡ known.old.items) }
 {
-    if is_known(evidence, known.as_slice()) {
+    if is_known(&evidence, known.as_slice()) {
         return Ok(());
     }
-    known.push(evidence.keep(alloc)?)?;
+    known.push(evidence)?;
     Ok(())
 }
 
-/// Makes this the evidence of the view and the member.
+/// Makes this all the evidence of the view and the member, where there is none.
 #[tactic(auto, unfolding(crate::specs::Kept::evidence_in))]
-fn put_known(
+fn put_first(
+    alloc: Global,
     lists: &mut Lists,
     view: View,
     member: Participant,
-    known: Vec<Activity>,
+    evidence: Activity,
 ) -> Result<(), AllocError>
-    ensures { OnOk result ((v m : ℕ) → evidence_in lists.new v m ≡ (if view == v && member == m then known.items else evidence_in lists.old v m)) }
+    ensures ok { OnOk result ((v m : ℕ) → evidence_in lists.new v m ≡ (if view == v && member == m then evidence ∷ [] else evidence_in lists.old v m)) }
+    ensures err { OnErr result ((v m : ℕ) → evidence_in lists.new v m ≡ evidence_in lists.old v m) }
 {
+    let mut known = Vec::new(alloc);
+    known.push(evidence)?;
     lists.insert((view.0, member.0), known)?;
     Ok(())
 }
 
 /// Puts the evidence last in the list of the view and the member, unless it is there.
-#[tactic(auto)]
+#[tactic(auto, unfolding(crate::specs::Kept::evidence_in))]
 fn add_evidence(
     alloc: Global,
     lists: &mut Lists,
     view: View,
     member: Participant,
-    evidence: &Activity,
+    evidence: Activity,
 ) -> Result<(), AllocError>
-    ensures { OnOk result ((v m : ℕ) → evidence_in lists.new v m ≡ (if view == v && member == m then with_evidence evidence.now (evidence_in lists.old v m) else evidence_in lists.old v m)) }
+    ensures ok { OnOk result ((v m : ℕ) → evidence_in lists.new v m ≡ (if view == v && member == m then with_evidence evidence (evidence_in lists.old v m) else evidence_in lists.old v m)) }
+    ensures err { OnErr result ((v m : ℕ) → evidence_in lists.new v m ≡ evidence_in lists.old v m) }
 {
-    let mut known = take_known(alloc, lists, view, member);
-    push_new(alloc, &mut known, evidence)?;
-    put_known(lists, view, member, known)
+    match lists.get_mut(&(view.0, member.0)) {
+        Some(known) => push_new(known, evidence),
+        None => put_first(alloc, lists, view, member, evidence),
+    }
 }
 
 /// The evidence of the view and the member.
@@ -117,14 +112,20 @@ impl Faults {
         }
     }
 
-    /// The activity was recorded.
-    pub(crate) fn enter(&mut self, alloc: Global, activity: &Activity) -> Result<(), AllocError>
-        ensures { OnOk result ((all : List Activity) → FaultsOf self.old all → FaultsOf self.new (activity.now ∷ all)) }
+    /// The evidence against the member was recorded.
+    pub(crate) fn enter(
+        &mut self,
+        alloc: Global,
+        member: Participant,
+        evidence: Activity,
+    ) -> Result<(), AllocError>
+        requires { against evidence ≡ Some member }
+        ensures ok { OnOk result ((all : List Activity) → FaultsOf self.old all → FaultsOf self.new (evidence ∷ all)) }
+        ensures err { OnErr result ((all : List Activity) → FaultsOf self.old all → FaultsOf self.new all) }
     {
-        if let Some(member) = against(activity) {
-            self.any = true;
-            add_evidence(alloc, &mut self.lists, activity.view(), member, activity)?;
-        }
+        let view = evidence.view();
+        add_evidence(alloc, &mut self.lists, view, member, evidence)?;
+        self.any = true;
         Ok(())
     }
 

@@ -1,6 +1,7 @@
 //! A reporter that records what it is told.
 #![tactic(auto)]
 
+mod at_view;
 mod casts;
 mod certificates;
 mod evidence;

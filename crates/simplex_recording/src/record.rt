@@ -1,11 +1,12 @@
 //! What was recorded.
-ghost use Rattle.std.specs.Prelude.{◌≡◌, ◌∷◌, [], List, OnOk};
+ghost use Rattle.std.specs.Prelude.{◌≡◌, ◌∷◌, [], List, true, OnOk, OnErr};
+ghost use Rattle.simplex_types.specs.Evidence.{was_verified};
 ghost use Rattle.simplex_types.specs.declared.activity.Activity.{Activity};
 ghost use Rattle.simplex_recording.specs.Recording.{Made};
 ghost use Rattle.simplex_recording.specs.Stands.{RecordOf};
 
 use crate::certificates::Certificates;
-use crate::faults::Faults;
+use crate::faults::{Faults, against};
 use crate::seen::Seen;
 use crate::unlocked::Unlocked;
 use crate::votes::Votes;
@@ -37,20 +38,38 @@ impl Record {
         }
     }
 
-    /// Records the activity.
+    /// Records the certificate: all that may want memory comes first.
+    fn certify<L: Elector>(&mut self, elector: &L, activity: Activity) -> Result<(), AllocError>
+        requires { was_verified activity ≡ true }
+        ensures ok { OnOk result ((made : Made) (all : List Activity) → made.leader ≡ L.elects elector.now → made.term ≡ (L.cuts elector.now).length
+            → RecordOf self.old made all → RecordOf self.new made (activity ∷ all)) }
+        ensures err { OnErr result ((made : Made) (all : List Activity) → RecordOf self.old made all → RecordOf self.new made all) }
+    {
+        self.certificates.make_room(activity.view())?;
+        self.seen.make_room()?;
+        self.unlocked.enter(elector, &activity)?;
+        self.seen.enter(&activity);
+        self.certificates.enter(activity);
+        Ok(())
+    }
+
+    /// Records the activity, or leaves the record as it reads.
     pub(crate) fn enter<L: Elector>(
         &mut self,
         alloc: Global,
         elector: &L,
         activity: Activity,
     ) -> Result<(), AllocError>
-        ensures { OnOk result ((made : Made) (all : List Activity) → made.leader ≡ L.elects elector.now → made.term ≡ (L.cuts elector.now).length
+        ensures ok { OnOk result ((made : Made) (all : List Activity) → made.leader ≡ L.elects elector.now → made.term ≡ (L.cuts elector.now).length
             → RecordOf self.old made all → RecordOf self.new made (activity ∷ all)) }
+        ensures err { OnErr result ((made : Made) (all : List Activity) → RecordOf self.old made all → RecordOf self.new made all) }
     {
-        self.votes.enter(&activity)?;
-        self.unlocked.enter(elector, &activity)?;
-        self.seen.enter(&activity)?;
-        self.faults.enter(alloc, &activity)?;
-        self.certificates.enter(alloc, activity)
+        if activity.verified() {
+            return self.certify(elector, activity);
+        }
+        match against(&activity) {
+            None => self.votes.enter(&activity),
+            Some(member) => self.faults.enter(alloc, member, activity),
+        }
     }
 }

@@ -1,7 +1,7 @@
 //! The reporter.
 #![tactic(auto, unfolding(crate::specs::Stands::StandsFor, crate::specs::Recording::notarizes_of, crate::specs::Recording::nullifies_of, crate::specs::Recording::finalizes_of, crate::specs::Recording::recorded, crate::specs::Recording::invalid_votes_of, crate::specs::Recording::invalid_certificates_of))]
 
-ghost use Rattle.std.specs.Prelude.{◌≡◌, ◌∷◌, [], ◌==◌, ◌&&◌, not, drop, List, Option, Some, None, IfOk, OnOk, MatchOption};
+ghost use Rattle.std.specs.Prelude.{◌≡◌, ◌∷◌, [], ◌==◌, ◌&&◌, not, drop, List, Option, Some, None, IfOk, OnOk, OnErr, MatchOption};
 ghost use Rattle.std.specs.Option.{option_copied};
 ghost use Rattle.simplex_values.specs.declared.feedback.Feedback.TheVariants as feedback;
 ghost use Rattle.simplex_types.specs.declared.activity.Activity.{Activity};
@@ -29,7 +29,7 @@ pub struct Config<S, L> {
 
 /// A reporter that verifies what it is told, and records it. What fails to verify is counted and recorded nowhere.
 ///
-/// All is recorded by view, whatever the epoch. After an error it may only be dropped.
+/// All is recorded by view, whatever the epoch. What it answers an error to counts as not reported.
 #[derive(Debug, Drop)]
 pub struct Reporter<S, L> {
     alloc: Global,
@@ -70,7 +70,7 @@ impl<S: Scheme, L: Elector> Reporter<S, L> {
     pub fn certified(&self, view: View) -> bool
         ensures { (made : Made) (told : List Activity) → StandsFor S.verifies S.members L.elects L.cuts self.now made told → result ≡ has_certificate (recorded made told) view }
     {
-        self.kept.unlocked.is_certified(view)
+        self.kept.certificates.is_certified(view)
     }
 
     /// Who notarized the payload in the view, in rising order.
@@ -192,7 +192,8 @@ impl<S: Scheme, L: Elector> simplex_types::Reporter for Reporter<S, L> {
 
     ghost reports = { λ before activity answer after. IfOk answer (λ told. told ≡ feedback.Ok)
         × ((made : Made) (told : List Activity) → StandsFor S.verifies S.members L.elects L.cuts before made told
-        → OnOk answer (StandsFor S.verifies S.members L.elects L.cuts after made (activity ∷ told))) };
+        → OnOk answer (StandsFor S.verifies S.members L.elects L.cuts after made (activity ∷ told))
+        × OnErr answer (StandsFor S.verifies S.members L.elects L.cuts after made told)) };
 
     fn report(&mut self, activity: Activity) -> Result<Feedback, AllocError> {
         if activity.verify(&self.scheme) {

@@ -1,7 +1,7 @@
 //! The views of finalizations.
 #![tactic(auto, unfolding(crate::specs::Recording::views_seen, crate::specs::Recording::latest_seen))]
 
-ghost use Rattle.std.specs.Prelude.{◌≡◌, ◌∷◌, [], List, drop, OnOk};
+ghost use Rattle.std.specs.Prelude.{◌≡◌, ◌<◌, ◌∷◌, [], List, drop, OnOk, vec_len, vec_capacity};
 ghost use Rattle.simplex_types.specs.declared.activity.Activity.{Activity};
 ghost use Rattle.simplex_recording.specs.Recording.{views_seen, latest_seen};
 ghost use Rattle.simplex_recording.specs.Stands.{SeenOf};
@@ -27,18 +27,23 @@ impl Seen {
         }
     }
 
-    /// The activity was recorded.
-    pub(crate) fn enter(&mut self, activity: &Activity) -> Result<(), AllocError>
-        ensures { OnOk result ((all : List Activity) → SeenOf self.old all → SeenOf self.new (activity.now ∷ all)) }
+    /// Makes room for one view more.
+    pub(crate) fn make_room(&mut self) -> Result<(), AllocError>
+        ensures room { OnOk result (vec_len self.new.views < vec_capacity self.new.views) }
+        ensures same { (all : List Activity) → SeenOf self.old all → SeenOf self.new all }
     {
-        match activity {
-            Activity::Finalization(it) => {
-                let view = it.proposal.round.view;
-                self.views.push(view)?;
-                self.latest = view;
-                Ok(())
-            }
-            _ => Ok(()),
+        self.views.reserve(1)
+    }
+
+    /// The activity was recorded.
+    pub(crate) fn enter(&mut self, activity: &Activity)
+        requires { vec_len self.old.views < vec_capacity self.old.views }
+        ensures { (all : List Activity) → SeenOf self.old all → SeenOf self.new (activity.now ∷ all) }
+    {
+        if let Activity::Finalization(it) = activity {
+            let view = it.proposal.round.view;
+            self.views.push(view).unwrap();
+            self.latest = view;
         }
     }
 

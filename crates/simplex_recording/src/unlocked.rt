@@ -1,23 +1,23 @@
-//! The views that certificates unlock.
-#![tactic(auto, unfolding(simplex_values::specs::Maps::found, crate::specs::Recording::has_certificate, crate::specs::Recording::leader_at))]
+//! The leaders of the views that certificates unlock.
+#![tactic(auto, unfolding(simplex_values::specs::Maps::found, crate::specs::Recording::leader_at))]
 
-ghost use Rattle.std.specs.Prelude.{◌≡◌, ◌∷◌, [], ℕ, ◌==◌, List, Option, Some, None, OnOk, if◌then◌else◌};
+ghost use Rattle.std.specs.Prelude.{◌≡◌, ◌∷◌, [], ℕ, ◌==◌, List, Option, Some, None, OnOk, OnErr, true, if◌then◌else◌};
 ghost use Rattle.std.specs.Option.{option_or};
 ghost use Rattle.simplex_values.specs.Maps.{found};
+ghost use Rattle.simplex_types.specs.Evidence.{was_verified};
 ghost use Rattle.simplex_types.specs.declared.activity.Activity.{Activity};
-ghost use Rattle.simplex_recording.specs.Recording.{Made, has_certificate, leader_at, unlocked_by};
+ghost use Rattle.simplex_recording.specs.Recording.{Made, leader_at, unlocked_by};
 ghost use Rattle.simplex_recording.specs.Stands.{UnlockedOf};
 
 use simplex_types::elector::Elector;
 use simplex_types::{Activity, Participant, Round, TermLength, View};
-use simplex_values::maps::{add, contains, empty_map, empty_set, put};
+use simplex_values::maps::{empty_map, put};
 use std::alloc::{AllocError, Global};
-use std::collections::{BTreeMap, BTreeSet};
+use std::collections::BTreeMap;
 
-/// The views that have a certificate, and the leaders of the views that certificates unlock.
+/// The leader of each view that a certificate unlocked.
 #[derive(Debug, Drop)]
 pub(crate) struct Unlocked {
-    certified: BTreeSet<u64>,
     leaders: BTreeMap<u64, Participant>,
 }
 
@@ -37,7 +37,8 @@ fn put_new(
     view: u64,
     leader: Participant,
 ) -> Result<(), AllocError>
-    ensures { OnOk result ((q : ℕ) → found leaders.new q ≡ option_or (found leaders.old q) (if view == q then Some leader else None)) }
+    ensures ok { OnOk result ((q : ℕ) → found leaders.new q ≡ option_or (found leaders.old q) (if view == q then Some leader else None)) }
+    ensures err { OnErr result ((q : ℕ) → found leaders.new q ≡ found leaders.old q) }
 {
     if leaders.contains_key(&view) {
         return Ok(());
@@ -51,38 +52,27 @@ impl Unlocked {
         ensures { (made : Made) → UnlockedOf result made [] }
     {
         Unlocked {
-            certified: empty_set(alloc),
             leaders: empty_map(alloc),
         }
     }
 
-    /// The activity was recorded.
+    /// The certificate was recorded.
     pub(crate) fn enter<L: Elector>(
         &mut self,
         elector: &L,
         activity: &Activity,
     ) -> Result<(), AllocError>
-        ensures { OnOk result ((made : Made) (all : List Activity) → made.leader ≡ L.elects elector.now → made.term ≡ (L.cuts elector.now).length
+        requires { was_verified activity.now ≡ true }
+        ensures ok { OnOk result ((made : Made) (all : List Activity) → made.leader ≡ L.elects elector.now → made.term ≡ (L.cuts elector.now).length
             → UnlockedOf self.old made all → UnlockedOf self.new made (activity.now ∷ all)) }
+        ensures err { OnErr result ((made : Made) (all : List Activity) → UnlockedOf self.old made all → UnlockedOf self.new made all) }
     {
-        if !activity.verified() {
-            return Ok(());
-        }
-        let round = activity.round();
-        add(&mut self.certified, round.view.0)?;
         let view = unlocked_by(elector.terms().length, activity);
         let leader = elector.elect(Round {
-            epoch: round.epoch,
+            epoch: activity.epoch(),
             view,
         });
         put_new(&mut self.leaders, view.0, leader)
-    }
-
-    /// Whether the view has a certificate.
-    pub(crate) fn is_certified(&self, view: View) -> bool
-        ensures { (made : Made) (all : List Activity) → UnlockedOf self.now made all → result ≡ has_certificate all view }
-    {
-        contains(&self.certified, view.0)
     }
 
     /// The leader of the view, where it was unlocked.

@@ -1,5 +1,5 @@
 //! The votes that were recorded.
-ghost use Rattle.std.specs.Prelude.{◌≡◌, ◌∷◌, [], List, IfOk, OnOk};
+ghost use Rattle.std.specs.Prelude.{◌≡◌, ◌∷◌, [], List, IfOk, OnOk, OnErr};
 ghost use Rattle.simplex_types.specs.declared.activity.Activity.{Activity};
 ghost use Rattle.simplex_recording.specs.Recording.{signers_by, is_notarize_at, is_nullify_at, is_finalize_at};
 ghost use Rattle.simplex_recording.specs.Stands.{VotesOf};
@@ -30,7 +30,8 @@ impl Votes {
 
     /// The activity was recorded.
     pub(crate) fn enter(&mut self, activity: &Activity) -> Result<(), AllocError>
-        ensures { OnOk result ((all : List Activity) → VotesOf self.old all → VotesOf self.new (activity.now ∷ all)) }
+        ensures ok { OnOk result ((all : List Activity) → VotesOf self.old all → VotesOf self.new (activity.now ∷ all)) }
+        ensures err { OnErr result ((all : List Activity) → VotesOf self.old all → VotesOf self.new all) }
     {
         match activity {
             Activity::Notarize(it) => {

@@ -4,9 +4,9 @@ use Rattle.simplex_recording.specs.Kept.{has_cast}
 use Rattle.simplex_recording.proofs.Keys.{cast_at}
 use Rattle.simplex_recording.proofs.casts.add_cast.Goals as goal
 
-pub returns : goal.returns
+pub returns-clause-ok : goal.returns-clause-ok
 unfolding has_cast
-returns c = λ view payload signer.
+returns-clause-ok c = λ view payload signer.
     grind (
       arith,
       common_steps,

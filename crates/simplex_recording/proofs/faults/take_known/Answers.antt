@@ -1,9 +1,0 @@
-use Rattle.std.proofs.Common.{arith}
-use Rattle.std.proofs.lemmas.Grind.{common_steps}
-use Rattle.simplex_recording.specs.Kept.{evidence_in}
-use Rattle.simplex_recording.proofs.Keys.{pair_at}
-use Rattle.simplex_recording.proofs.faults.take_known.Goals as goal
-
-pub returns-in-Some-clause-others : goal.returns-in-Some-clause-others
-unfolding evidence_in
-returns-in-Some-clause-others c = λ v m. grind (arith, common_steps, c.remove.ensures.updates.0 (v, m), pair_at c.args.view c.args.member (v, m))
