@@ -17,16 +17,22 @@
 //!   lines, and both behind one call;
 //! - [`mocks`], [`twins`]: members that break the rules, an application and a relay to try engines with, a reporter that
 //!   records, and scripts for twins;
-//! - [`report`]: two reporters in one, and reports of schemes whose signatures prove nothing;
-//! - [`state`], [`round`], [`repair`], [`fetch`]: the parts of which the actors are made.
+//! - [`report`]: two reporters in one, and reports of schemes whose signatures prove nothing; [`hand_reports`] gives them what
+//!   a step reported;
+//! - [`state`], [`round`], [`repair`], [`fetch`]: the parts of which the actors are made;
+//! - [`laws`]: what is proved of the definitions themselves.
 //!
-//! Whoever writes contracts finds the definitions that `run_network` and `program` promise in this crate's `specs/`. It may
-//! assume nothing, and owes nothing but the names: each clause is that of the crate below.
+//! Whoever writes contracts finds the definitions that these promise in this crate's `specs/`. `Network::lend` and `enter` and
+//! `Engine::into_crew` serve [`run_network_par`] and [`threads`], and their types stay below. The crate may assume nothing, and
+//! owes nothing but the names: each clause is that of the crate below.
 #![tactic(auto)]
 
 pub mod actors;
 pub mod journal;
+pub mod laws;
+pub mod mailbox;
 pub mod mocks;
+pub mod repair;
 
 pub use simplex_engine::{
     Engine, EngineConfig, EngineField, Input, NewError, PollError, Polled, TakenInside,
@@ -36,12 +42,11 @@ pub use simplex_form as form;
 pub use simplex_generated as generated;
 pub use simplex_generator::gen_run;
 pub use simplex_io as io;
-pub use simplex_mailbox as mailbox;
 pub use simplex_network::{Network, NodeEngine, Transcript, run_network, run_network_from};
 pub use simplex_par::{Gate, OpenGate, run_network_par};
 pub use simplex_program::{Command, Exit, LIMIT, MOST_STEPS, MOST_WORKERS, program};
-pub use simplex_repair as repair;
 pub use simplex_report as report;
+pub use simplex_report::hand_reports;
 pub use simplex_round as round;
 pub use simplex_state as state;
 pub use simplex_text as text;

@@ -1,0 +1,3 @@
+//! What a resolver knows of the certificates that its member lacks, and what it is told to do about them.
+pub use simplex_repair::RepairState;
+pub use simplex_rules::Effect;
