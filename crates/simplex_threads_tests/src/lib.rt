@@ -1,0 +1,5 @@
+//! Tests of an engine whose actors run on threads.
+#![tactic(auto)]
+
+#[cfg(test)]
+mod tests;
