@@ -34,8 +34,8 @@ pub fn run_network(alloc: Global, setup: &Setup, events: &[Event]) -> Result<Tra
     ensures network { IfOk result (λ transcript. MadeBy transcript.network (at_epoch_genesis setup.now) (runs.run (at_epoch_genesis setup.now) [] events.now)) }
     ensures refused { IfErr result (λ refusal. is_memory refusal.error ≡ false → runs.Run setup.now events.now ≡ Err refusal) }
     // Each certificate that stands in the transcript and verifies is backed and of the setup's epoch, no two of them
-    // conflict; of each honest member each vote was stored first, and the votes of each event that no stop broke are those
-    // that the rules give; and no honest member is blamed.
+    // conflict; of each honest member each vote was stored first, the votes of each event that no stop broke are those that
+    // the rules give, and over all its lives they keep their order; and no honest member is blamed.
     ensures safe { IfOk result (λ transcript. RunsSafely (at_epoch_genesis setup.now) events.now) }
     // One entry for each event: as many, numbered from 1, each of the node that its event names.
     ensures entries { IfOk result (λ transcript. IsOneEach transcript.entries events.now) }
