@@ -12,6 +12,7 @@ pub struct Config<S> {
     pub view_retention: ViewDelta,
     /// Whether a leader that seems to be gone is hinted at.
     pub skip: SkipPolicy,
+    /// The epoch whose votes and certificates count.
     pub epoch: Epoch,
     /// How many messages the mailbox holds.
     pub mailbox_size: u32,

@@ -9,8 +9,11 @@ use std::alloc::{AllocError, Global};
 /// The mailbox of each actor, with what it was handed and did not take yet.
 #[derive(Drop)]
 pub struct Boxes {
+    /// What waits for the batcher.
     pub batcher: Mailbox<batcher::Message>,
+    /// What waits for the voter.
     pub voter: Mailbox<voter::Message>,
+    /// What waits for the resolver.
     pub resolver: Mailbox<resolver::MailboxMessage>,
 }
 

@@ -33,6 +33,7 @@ pub struct EngineConfig<S, L> {
     pub genesis: Digest,
     /// Where the engine starts.
     pub floor: Floor,
+    /// The epoch whose votes and certificates count.
     pub epoch: Epoch,
     /// How many milliseconds a view has for its proposal.
     pub leader_timeout: u64,

@@ -10,10 +10,15 @@ use std::alloc::Global;
 /// The actors of a started engine, and the mail between them, for whoever steps each of them itself.
 #[derive(Drop)]
 pub struct Crew<S: Scheme, L: Elector, J: Journal> {
+    /// Where the actors take memory.
     pub alloc: Global,
+    /// The voter, with the journal.
     pub voter: simplex_voter::Actor<S, L, J>,
+    /// The batcher, with its round states.
     pub batcher: simplex_batcher::Actor<S>,
+    /// The resolver, with its fetcher.
     pub resolver: simplex_resolver::Actor<S>,
+    /// The mail between them.
     pub boxes: Boxes,
     // true of any three: contracts read from a crew's type what its scheme, its elector and its journal do
     ghost by_scheme: { (s : S) → S.members s ≡ S.members s },

@@ -44,8 +44,8 @@ impl Model for Fetcher {
 }
 
 impl Fetcher {
-    #[tactic(auto, unfolding(simplex_resolving::specs::Views::entry_at))]
     /// A fetcher that nothing was asked of.
+    #[tactic(auto, unfolding(simplex_resolving::specs::Views::entry_at))]
     pub fn new(alloc: Global, config: FetchConfig) -> Fetcher
         requires { IsSoundConfig config }
         ensures { result ≡ no_fetches config }
@@ -66,8 +66,8 @@ impl Fetcher {
         self.next_id < ROOM && self.next_serve < ROOM
     }
 
-    #[tactic(auto, unfolding(simplex_resolving::specs::Fetcher::peer_of))]
     /// Whom the next attempt of the view asks.
+    #[tactic(auto, unfolding(simplex_resolving::specs::Fetcher::peer_of))]
     fn peer_of(
         &self,
         alloc: Global,
@@ -88,8 +88,8 @@ impl Fetcher {
         Ok(Some(other_at(&self.config.me, place)))
     }
 
-    #[tactic(auto, unfolding(simplex_resolving::specs::Fetcher::attempted, simplex_resolving::specs::Fetcher::asking))]
     /// The next attempt of the view, with this entry, which was taken out.
+    #[tactic(auto, unfolding(simplex_resolving::specs::Fetcher::attempted, simplex_resolving::specs::Fetcher::asking))]
     fn attempt(
         &mut self,
         alloc: Global,
@@ -211,8 +211,8 @@ impl Fetcher {
         self.views.put(view, entry)
     }
 
-    #[tactic(auto, unfolding(simplex_resolving::specs::Fetcher::retrying))]
     /// The view, with this entry, which was taken out, waits the retry delay.
+    #[tactic(auto, unfolding(simplex_resolving::specs::Fetcher::retrying))]
     fn retry(&mut self, view: u64, entry: Entry, now: u64) -> Result<(), AllocError>
         requires absent { entry_at self.old.views view ≡ None }
         requires sound { IsSoundEntry self.old.next_id entry }
@@ -268,8 +268,8 @@ impl Fetcher {
         Ok(outs)
     }
 
-    #[tactic(auto, unfolding(simplex_resolving::specs::Fetcher::fetched_beside))]
     /// Asks for what is wanted of the view.
+    #[tactic(auto, unfolding(simplex_resolving::specs::Fetcher::fetched_beside))]
     pub fn fetch(&mut self, alloc: Global, fetch: Fetch, now: u64) -> Result<Vec<Out>, AllocError>
         requires early { now < 2 ^ 63 }
         requires ids { self.old.next_id < 2 ^ 62 }
@@ -281,8 +281,8 @@ impl Fetcher {
         self.start(alloc, new, now)
     }
 
-    #[tactic(auto, unfolding(simplex_resolving::specs::Fetcher::fetched_beside))]
     /// Asks for what is wanted of the view, this member alone.
+    #[tactic(auto, unfolding(simplex_resolving::specs::Fetcher::fetched_beside))]
     pub fn fetch_targeted(
         &mut self,
         alloc: Global,
@@ -300,8 +300,8 @@ impl Fetcher {
         self.start(alloc, new, now)
     }
 
-    #[tactic(auto, unfolding(simplex_resolving::specs::Fetcher::fetched_beside))]
     /// Asks for all that is wanted.
+    #[tactic(auto, unfolding(simplex_resolving::specs::Fetcher::fetched_beside))]
     pub fn fetch_all(
         &mut self,
         alloc: Global,
@@ -334,8 +334,8 @@ impl Fetcher {
         Ok(outs)
     }
 
-    #[tactic(auto, unfolding(simplex_resolving::specs::Fetcher::heard, simplex_resolving::specs::Fetcher::heard_message))]
     /// Bytes of a peer.
+    #[tactic(auto, unfolding(simplex_resolving::specs::Fetcher::heard, simplex_resolving::specs::Fetcher::heard_message))]
     pub fn hear(
         &mut self,
         alloc: Global,
@@ -401,8 +401,8 @@ impl Fetcher {
         only(alloc, out)
     }
 
-    #[tactic(auto, unfolding(simplex_resolving::specs::Fetcher::answered, simplex_resolving::specs::Fetcher::delivered))]
     /// An answer is delivered, where it was asked for.
+    #[tactic(auto, unfolding(simplex_resolving::specs::Fetcher::answered, simplex_resolving::specs::Fetcher::delivered))]
     fn hear_response(
         &mut self,
         alloc: Global,
@@ -438,8 +438,8 @@ impl Fetcher {
         )
     }
 
-    #[tactic(auto, unfolding(simplex_resolving::specs::Fetcher::refused, simplex_resolving::specs::Fetcher::retried))]
     /// An error of a peer, which has no answer.
+    #[tactic(auto, unfolding(simplex_resolving::specs::Fetcher::refused, simplex_resolving::specs::Fetcher::retried))]
     fn hear_error(&mut self, sender: &Participant, id: u64, now: u64) -> Result<(), AllocError>
         requires early { now < 2 ^ 63 }
         ensures { OnOk result (self.new ≡ refused now self.old (asked_view id sender.now self.old.views)) }
@@ -453,8 +453,8 @@ impl Fetcher {
         }
     }
 
-    #[tactic(auto, unfolding(simplex_resolving::specs::Fetcher::judged, simplex_resolving::specs::Fetcher::judged_at, simplex_resolving::specs::Fetcher::judged_entry))]
     /// What became of the answer that was delivered under this number.
+    #[tactic(auto, unfolding(simplex_resolving::specs::Fetcher::judged, simplex_resolving::specs::Fetcher::judged_at, simplex_resolving::specs::Fetcher::judged_entry))]
     pub fn verdict(
         &mut self,
         alloc: Global,
@@ -604,8 +604,8 @@ fn answer_body(bytes: Option<Vec<u8>>) -> ResolverBody
     }
 }
 
-#[tactic(auto, unfolding(simplex_resolving::specs::Fetcher::message_bytes))]
 /// The bytes of a request or an answer.
+#[tactic(auto, unfolding(simplex_resolving::specs::Fetcher::message_bytes))]
 fn message_bytes(alloc: Global, id: u64, body: ResolverBody) -> Result<Bytes, AllocError>
     ensures { IfOk result (λ bytes. bytes ≡ message_bytes id body) }
 {
@@ -637,8 +637,8 @@ fn other_at(me: &Participant, place: u32) -> Participant
     }
 }
 
-#[tactic(auto, using(crate::proofs::Sums::sum_modulo))]
 /// The sum modulo a number, also where the sum has no room.
+#[tactic(auto, using(crate::proofs::Sums::sum_modulo))]
 fn sum_modulo(a: u64, b: u64, n: u32) -> u32
     requires { 0 < n }
     ensures { result ≡ (a + b) % n }

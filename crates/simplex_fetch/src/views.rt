@@ -80,8 +80,8 @@ impl Views {
         self.entries.get(&view)
     }
 
-    #[tactic(auto, unfolding(simplex_resolving::specs::Views::entry_at, simplex_resolving::specs::Views::with_entry, simplex_resolving::specs::Views::without_entry))]
     /// Takes the view's entry out, if the view is asked for.
+    #[tactic(auto, unfolding(simplex_resolving::specs::Views::entry_at, simplex_resolving::specs::Views::with_entry, simplex_resolving::specs::Views::without_entry))]
     pub(crate) fn take(&mut self, view: u64) -> Option<Entry>
         ensures entry { result ≡ entry_at self.old view }
         ensures without { self.new ≡ without_entry view self.old }
@@ -101,8 +101,8 @@ impl Views {
         Some(entry)
     }
 
-    #[tactic(auto, unfolding(simplex_resolving::specs::Views::entry_at, simplex_resolving::specs::Views::with_entry))]
     /// Puts an entry at a view that has none.
+    #[tactic(auto, unfolding(simplex_resolving::specs::Views::entry_at, simplex_resolving::specs::Views::with_entry))]
     pub(crate) fn put(&mut self, view: u64, entry: Entry) -> Result<(), AllocError>
         requires absent { entry_at self.old view ≡ None }
         requires free { IsFree (id_of entry.state) self.old }

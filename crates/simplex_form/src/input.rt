@@ -16,7 +16,9 @@ use std::alloc::{AllocError, Global};
 /// A setup, and what happens in the run.
 #[derive(Debug, PartialEq, Eq, Drop)]
 pub struct Input {
+    /// What all members are made with.
     pub setup: Setup,
+    /// What happens, in order.
     pub events: Sequence<Event>,
 }
 

@@ -3,6 +3,8 @@
 
 /// Is passed before each turn: by `who`, the thread or the place that takes it, with the turn's number.
 pub trait Gate: Sync {
+    /// Called before a step, by the thread that makes it; it may hold the thread as long as it likes. Who passes, and what
+    /// the turn counts, is said by the call that takes the gate.
     fn pass(&self, who: u32, turn: u64);
 }
 

@@ -17,6 +17,8 @@ pub const SOURCES: [StepSource; 9] = [
 /// A source that holds something.
 #[derive(Clone, Copy, Debug, PartialEq, Eq)]
 pub struct Held {
+    /// The node that would step.
     pub node: Node,
+    /// What the step would take from.
     pub source: StepSource,
 }

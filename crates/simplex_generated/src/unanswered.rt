@@ -14,11 +14,13 @@ use std::alloc::{AllocError, Global};
 /// A request that is open and was not answered.
 #[derive(Clone, Copy, Debug, PartialEq, Eq)]
 pub struct Unanswered {
+    /// The node that asked.
     pub node: Node,
     /// Where it stands.
     pub request: Ref,
     /// Its number since its node's last start, from 0.
     pub number: u64,
+    /// What it asked for.
     pub asked: Asked,
 }
 

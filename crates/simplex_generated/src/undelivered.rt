@@ -18,7 +18,9 @@ const MOST: usize = 64;
 /// A packet, and a node that it may be delivered to.
 #[derive(Clone, Copy, Debug, PartialEq, Eq)]
 pub struct Parcel {
+    /// The event that sent the packet, and its place there.
     pub packet: Ref,
+    /// A node that it may be delivered to.
     pub node: Node,
 }
 

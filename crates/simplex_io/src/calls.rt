@@ -1,4 +1,4 @@
-// The calls of a source or a sink in memory: which fail, how many were made, and how many failed.
+//! The calls of a source or a sink in memory: which fail, how many were made, and how many failed.
 ghost use Rattle.std.specs.Prelude.{◌≡◌, ◌≤◌};
 ghost use Rattle.simplex_io.specs.Memory.{CallCount, no_calls, next_fails, after_call};
 

@@ -1,4 +1,4 @@
-// A sink in memory, whose writes fail as it is told.
+//! A sink in memory, whose writes fail as it is told.
 ghost use Rattle.std.specs.Prelude.{◌≡◌, ◌≤◌, ◌↔◌, Some, [], length, take, IfOk, OnErr, IsErrOf, IsTrue};
 ghost use Rattle.simplex_io.specs.Io.{Adds, Stays, Rose};
 ghost use Rattle.simplex_io.specs.Memory.{SinkContent, no_calls, next_fails, after_call};

@@ -1,4 +1,4 @@
-// A source in memory, whose reads fail as it is told.
+//! A source in memory, whose reads fail as it is told.
 ghost use Rattle.std.specs.Prelude.{◌≡◌, ◌≤◌, ◌+◌, ◌↔◌, ◌++◌, Some, [], length, take, drop, vec_len, IfOk, OnErr, IsErrOf, IsTrue};
 ghost use Rattle.simplex_io.specs.Io.{Takes, TakesAll, Stays, Rose};
 ghost use Rattle.simplex_io.specs.Memory.{SourceContent, no_calls, next_fails, after_call};

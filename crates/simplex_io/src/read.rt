@@ -1,4 +1,4 @@
-// Reading a source to its end.
+//! Reading a source to its end.
 ghost use Rattle.std.specs.Prelude.{◌≡◌, ◌≤◌, ◌+◌, IfOk, IsErrOf, vec_len};
 ghost use Rattle.simplex_io.specs.Io.{TakesAll, TakesOver, TakesWithin, Rose};
 
@@ -12,10 +12,13 @@ pub const LIMIT: u32 = 67_108_864;
 /// Why the input was not read to its end.
 #[derive(Clone, Copy, Debug, PartialEq, Eq, Error)]
 pub enum InputEnd {
+    /// More bytes than [`LIMIT`] were taken.
     #[error("the input is longer than its limit")]
     TooLong,
+    /// A read failed.
     #[error("the input could not be read")]
     ReadFault,
+    /// Want of memory.
     #[error("there is no memory left for the input")]
     Memory,
 }

@@ -1,4 +1,4 @@
-// Where bytes go.
+//! Where bytes go.
 ghost use Rattle.std.specs.Prelude.{◌≡◌, ◌≤◌, List, ℕ, Option, length, take, IfOk, OnErr, IsErrOf};
 ghost use Rattle.simplex_io.specs.Io.{Adds, Stays, Rose};
 
@@ -7,8 +7,10 @@ use thiserror::Error;
 /// Why a write took no bytes.
 #[derive(Clone, Copy, Debug, PartialEq, Eq, Error)]
 pub enum SinkError {
+    /// Want of memory.
     #[error("there is no memory left for the bytes that were to be written")]
     Memory,
+    /// The sink failed, and its count of faults rose.
     #[error("the write failed")]
     Failed,
 }

@@ -1,4 +1,4 @@
-// Where bytes come from.
+//! Where bytes come from.
 ghost use Rattle.std.specs.Prelude.{◌≡◌, ◌≤◌, List, [], ℕ, Option, IfOk, OnErr, IsErrOf, vec_len};
 ghost use Rattle.simplex_io.specs.Io.{Takes, TakesAll, Stays, Rose};
 
@@ -7,8 +7,10 @@ use thiserror::Error;
 /// Why a read gave no bytes.
 #[derive(Clone, Copy, Debug, PartialEq, Eq, Error)]
 pub enum SourceError {
+    /// Want of memory.
     #[error("there is no memory left for the bytes that were to be read")]
     Memory,
+    /// The source failed, and its count of faults rose.
     #[error("the read failed")]
     Failed,
 }

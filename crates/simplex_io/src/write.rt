@@ -1,4 +1,4 @@
-// Writing the whole of some bytes.
+//! Writing the whole of some bytes.
 ghost use Rattle.std.specs.Prelude.{◌≡◌, ◌≤◌, length, drop, OnErr, OnOk, IsErrOf};
 ghost use Rattle.simplex_io.specs.Io.{Adds, AddsPart, Rose};
 

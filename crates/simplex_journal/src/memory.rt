@@ -32,8 +32,8 @@ impl Model for MemoryJournal {
 }
 
 impl MemoryJournal {
-    #[tactic(auto, unfolding(crate::specs::Memory::sections_of))]
     /// A journal with no section and no order.
+    #[tactic(auto, unfolding(crate::specs::Memory::sections_of))]
     pub fn new(alloc: Global) -> MemoryJournal
         ensures { result ≡ record { sections = []; faults = 0; order = no_order } }
     {

@@ -82,8 +82,8 @@ pub(crate) fn drop_below(sections: &mut Sections, least: u64)
     drop_first(sections, all, least);
 }
 
-#[tactic(auto, unfolding(crate::specs::Journal::replayed, crate::specs::Memory::sections_of))]
 /// Copies of all records, section by section.
+#[tactic(auto, unfolding(crate::specs::Journal::replayed, crate::specs::Memory::sections_of))]
 pub(crate) fn copies_of(alloc: Global, sections: &Sections) -> Result<Vec<Artifact>, AllocError>
     ensures { IfOk result (λ copies. copies.items ≡ replayed (sections_of sections.now.entries)) }
 {

@@ -29,9 +29,13 @@ pub enum Fate {
 pub struct Arrow {
     /// The event that sent it, and its place there.
     pub packet: Ref,
+    /// The node that sent it.
     pub from: Node,
+    /// The node that it is drawn to.
     pub to: Node,
+    /// What it says.
     pub message: Message,
+    /// Where the arrow ends.
     pub fate: Fate,
 }
 

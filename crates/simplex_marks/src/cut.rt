@@ -11,8 +11,11 @@ use simplex_types::Sequence;
 /// where none is named.
 #[derive(Debug, PartialEq, Eq, Drop)]
 pub struct Cut {
+    /// The number of the first event that is drawn, from 1.
     pub first: u64,
+    /// The number of the last event that is drawn.
     pub last: u64,
+    /// The nodes that are drawn; none named: all.
     pub nodes: Sequence<Node>,
 }
 

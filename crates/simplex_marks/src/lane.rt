@@ -11,7 +11,9 @@ use std::alloc::{AllocError, Global};
 /// The lane of a node.
 #[derive(Clone, Copy, Debug, PartialEq, Eq)]
 pub struct Lane {
+    /// The node.
     pub node: Node,
+    /// How the node's member behaves.
     pub kind: MemberKind,
     /// The view that the node is in as the picture begins: none where it is stopped, or has no engine.
     pub view: Option<View>,

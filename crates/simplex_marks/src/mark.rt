@@ -12,13 +12,19 @@ use std::alloc::{AllocError, Global};
 /// What happened.
 #[derive(Clone, Copy, Debug, PartialEq, Eq)]
 pub enum Deed {
+    /// The node was started.
     Start,
     /// The clock went on by so many milliseconds.
     Tick(u64),
+    /// A packet was delivered to it.
     Deliver,
+    /// It made a step, and took from this source.
     Step(StepSource),
+    /// Its application answered a request.
     Answer,
+    /// It was stopped.
     Crash,
+    /// It was made to send bytes.
     Inject,
 }
 
@@ -29,7 +35,9 @@ pub struct Mark {
     pub event: u64,
     /// The node on whose lane it stands: none for a tick.
     pub node: Option<Node>,
+    /// What happened.
     pub deed: Deed,
+    /// How the step ended.
     pub outcome: Outcome,
     /// The view that the node entered by it, if it entered one: the last one.
     pub entered: Option<View>,

@@ -16,6 +16,7 @@ use std::alloc::{AllocError, Global};
 pub enum Message {
     /// A vote, by the certificate that votes of its kind make, and its view.
     Vote(CertificateKind, View),
+    /// A certificate of this kind, and its view.
     Certificate(CertificateKind, View),
     /// A certificate for the view is asked for.
     Request(View),

@@ -13,8 +13,11 @@ use std::alloc::{AllocError, Global};
 /// What a picture of a run shows.
 #[derive(Debug, PartialEq, Eq, Drop)]
 pub struct Picture {
+    /// One for each node that is drawn, in order of nodes.
     pub lanes: Sequence<Lane>,
+    /// One for each thing that happened at a node, in order of events.
     pub marks: Sequence<Mark>,
+    /// The packets between them.
     pub arrows: Sequence<Arrow>,
 }
 

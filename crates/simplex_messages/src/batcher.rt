@@ -46,6 +46,7 @@ impl Keep for Message {
 /// What a step of the batcher takes.
 #[derive(Debug, PartialEq, Eq, Drop)]
 pub enum BatcherInput {
+    /// The next message of its mailbox.
     Mail(Message),
     /// A packet of the vote channel.
     Vote { sender: Participant, bytes: Bytes },

@@ -6,9 +6,13 @@ use std::alloc::{AllocError, Global};
 /// A message, and the mailbox that it was put into.
 #[derive(Debug, PartialEq, Eq, Drop)]
 pub enum Handed {
+    /// To the batcher.
     Batcher(batcher::Message),
+    /// To the voter.
     Voter(voter::Message),
+    /// To the resolver.
     Resolver(resolver::MailboxMessage),
+    /// To the handler of the resolver's fetcher.
     Handler(resolver::HandlerMessage),
 }
 

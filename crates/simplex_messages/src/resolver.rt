@@ -116,7 +116,9 @@ impl Keep for HandlerMessage {
 /// What a step of the resolver takes.
 #[derive(Debug, PartialEq, Eq, Drop)]
 pub enum ResolverInput {
+    /// The next message of its mailbox.
     Mail(MailboxMessage),
+    /// The next message of its fetcher's handler.
     Handler(HandlerMessage),
     /// A packet of the resolver channel.
     Packet { sender: Participant, bytes: Bytes },

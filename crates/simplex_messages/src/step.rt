@@ -75,6 +75,7 @@ pub enum Outcome {
 /// An order to stop inside a step. Calls are counted from 1; a number past the last call changes nothing.
 #[derive(Clone, Copy, Debug, PartialEq, Eq)]
 pub enum Stop {
+    /// The step is made whole.
     None,
     /// The step ends just before the call of this number. Of each section the journal then keeps the synced
     /// records and so many pending ones.

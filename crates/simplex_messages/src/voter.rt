@@ -40,6 +40,7 @@ impl Keep for Message {
 /// What a step of the voter takes.
 #[derive(Debug, PartialEq, Eq, Drop)]
 pub enum VoterInput {
+    /// The next message of its mailbox.
     Mail(Message),
     /// The deadline, where the clock has reached it.
     Timer,

@@ -14,7 +14,9 @@ use std::alloc::{AllocError, Global};
 /// What does not pass is dropped, and all is well.
 #[derive(Debug, Drop)]
 pub struct AttributableReporter<S, R> {
+    /// What activities are verified with.
     pub scheme: S,
+    /// Who is told.
     pub reporter: R,
     /// Whether votes and evidence are verified here.
     pub verify: bool,

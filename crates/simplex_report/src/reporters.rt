@@ -10,7 +10,9 @@ use std::alloc::{AllocError, Global};
 /// Two reporters, of which either may be missing.
 #[derive(Debug, Drop)]
 pub struct Pair<R1, R2> {
+    /// Who is told first, if anybody.
     pub first: Option<R1>,
+    /// Who is told behind the first, if anybody.
     pub second: Option<R2>,
 }
 
@@ -67,6 +69,7 @@ impl<R1, R2> From<(R1, R2)> for Pair<R1, R2> {
 #[derive(Drop)]
 pub struct Reporters<R1, R2> {
     alloc: Global,
+    /// The two that are told.
     pub pair: Pair<R1, R2>,
 }
 

@@ -6,6 +6,7 @@ use simplex_types::{Epoch, TermLength};
 pub struct Config<S> {
     /// Verifies certificates, and tells who this member is.
     pub scheme: S,
+    /// The epoch whose votes and certificates count.
     pub epoch: Epoch,
     /// How many messages the mailbox holds.
     pub mailbox_size: u32,

@@ -14,7 +14,9 @@ use std::marker::Model;
 /// An ask as it came: with the member that it named, if it named one.
 #[derive(Clone, Copy, Debug, PartialEq, Eq)]
 pub struct Arrival {
+    /// What is asked for.
     pub ask: Ask,
+    /// The member that is to be asked, where one was named.
     pub target: Option<Participant>,
 }
 

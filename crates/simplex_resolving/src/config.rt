@@ -17,6 +17,8 @@ pub struct FetchConfig {
 /// Something that is asked for of a view.
 #[derive(Clone, Copy, Debug, PartialEq, Eq)]
 pub struct Fetch {
+    /// The view.
     pub view: View,
+    /// What of it, and for how long.
     pub ask: Ask,
 }

@@ -74,15 +74,17 @@ impl State {
 /// A view with asks.
 #[derive(Debug, Drop)]
 pub struct Entry {
+    /// Its asks, as they came.
     pub arrivals: Arrivals,
     /// How many attempts were made.
     pub attempts: u64,
+    /// Where it stands.
     pub state: State,
 }
 
 impl Entry {
-    #[tactic(auto, using(crate::proofs::Kept::without_none))]
     /// Drops the asks that the judged answer was delivered for.
+    #[tactic(auto, using(crate::proofs::Kept::without_none))]
     pub fn drop_delivered(&mut self)
         ensures { self.new ≡ without (holds_ask (delivered_of self.old.state)) self.old }
     {
@@ -96,6 +98,7 @@ impl Entry {
 /// A peer's request that is to be answered.
 #[derive(Clone, Copy, Debug, PartialEq, Eq)]
 pub struct Serving {
+    /// The member that asks.
     pub sender: Participant,
     /// The request's own number.
     pub request: u64,

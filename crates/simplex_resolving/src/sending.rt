@@ -13,7 +13,9 @@ use std::alloc::{AllocError, Global};
 pub struct Sending {
     /// The view that they ask for.
     pub view: u64,
+    /// The member.
     pub to: Participant,
+    /// The message, as bytes.
     pub bytes: Bytes,
 }
 

@@ -10,7 +10,9 @@ use simplex_wire::Vote;
 /// An accepted vote, and what checking its signature found.
 #[derive(Clone, Copy, Debug, PartialEq, Eq)]
 pub struct Ballot {
+    /// The vote.
     pub vote: Vote,
+    /// Whether its signature verifies; none: it was not checked yet.
     pub found: Option<bool>,
 }
 

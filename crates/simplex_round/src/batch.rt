@@ -7,7 +7,9 @@ use std::alloc::Global;
 /// What a round reports, and whom it blocks.
 #[derive(Debug, Drop)]
 pub struct RoundOut {
+    /// What is reported, in order.
     pub reports: Sequence<Activity>,
+    /// The members that are blocked, in order.
     pub blocks: Sequence<Participant>,
 }
 

@@ -51,6 +51,7 @@ pub enum Verify {
 /// For a notarized proposal of a view, its parent's notarization is missing.
 #[derive(Clone, Copy, Debug, PartialEq, Eq)]
 pub struct CertificateFetch {
+    /// The view of the proposal.
     pub proposal: View,
     /// The parent.
     pub view: View,
@@ -59,9 +60,13 @@ pub struct CertificateFetch {
 /// A request to the application.
 #[derive(Clone, Copy, Debug, PartialEq, Eq)]
 pub enum Asked {
+    /// A payload for the next term, before its parent is certified.
     Prepare(Context),
+    /// A payload.
     Propose(Context),
+    /// Whether this payload of another member is valid.
     Verify(Context, Digest),
+    /// Whether this notarized payload may be certified.
     Certify(Round, Digest),
 }
 

@@ -20,7 +20,9 @@ const LOOKS: u32 = 500;
 /// drawn, word 2 those served, and the slot has the value.
 #[derive(Drop)]
 pub struct Lock<D: Logged<E>, E> {
+    /// The words, the slot, and what each seat knows.
     pub table: Table<Option<D>, View<E>, Terms, InTurn, Global>,
+    /// Where those wait whose turn has not come.
     pub bells: Bells,
     ghost shape: { (table.shared.table_id.words ≡ 3) × (table.shared.table_id.slots ≡ 1) },
 }

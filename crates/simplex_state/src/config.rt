@@ -8,6 +8,7 @@ pub struct StateConfig<S, L> {
     pub scheme: S,
     /// Elects the leaders.
     pub elector: L,
+    /// The epoch of its rounds.
     pub epoch: Epoch,
     /// How many views below the last final one are kept.
     pub view_retention: ViewDelta,

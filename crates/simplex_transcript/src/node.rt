@@ -6,7 +6,9 @@ use std::fmt;
 /// A member and a half: half 0 of every member, half 1 of a twin alone.
 #[derive(Clone, Copy, Debug, PartialEq, Eq, PartialOrd, Ord, Hash)]
 pub struct Node {
+    /// The member, from 0.
     pub member: u64,
+    /// 0, or 1 for the second half of a twin.
     pub half: u64,
 }
 
@@ -27,6 +29,8 @@ impl Keep for Node {
 /// An event's number, from 1, and a place among the packets or the requests of its entry, from 0.
 #[derive(Clone, Copy, Debug, PartialEq, Eq, PartialOrd, Ord, Hash)]
 pub struct Ref {
+    /// The number of the event, from 1.
     pub event: u64,
+    /// The place in its entry, from 0.
     pub place: u64,
 }

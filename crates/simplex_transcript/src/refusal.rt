@@ -63,6 +63,8 @@ impl From<AllocError> for RunError {
 #[derive(Clone, Copy, Debug, PartialEq, Eq, Error)]
 #[error("refused {error} at {event}")]
 pub struct Refusal {
+    /// Which condition is not met.
     pub error: RunError,
+    /// The number of the event, from 1; 0 for the setup.
     pub event: u64,
 }

@@ -40,8 +40,11 @@ impl Keep for MemberKind {
 /// A scripted round of twins: its leader, and which members each half sees, as bits.
 #[derive(Clone, Copy, Debug, PartialEq, Eq)]
 pub struct SetupRound {
+    /// The member that leads the term.
     pub leader: u64,
+    /// Whom half 0 of a twin talks with: member m where bit m is set.
     pub primary: u64,
+    /// Whom half 1 of a twin talks with, likewise.
     pub secondary: u64,
 }
 
@@ -54,9 +57,11 @@ impl Keep for SetupRound {
 /// What all members of a run are made with. Times are in milliseconds.
 #[derive(Debug, PartialEq, Eq, Drop)]
 pub struct Setup {
+    /// The epoch of all views.
     pub epoch: u64,
     /// What the members' keys are made from.
     pub key_base: u64,
+    /// How each member behaves: member 0 first.
     pub members: Sequence<MemberKind>,
     /// How many views a term has.
     pub term: u64,
@@ -72,7 +77,9 @@ pub struct Setup {
     pub stall: Option<u64>,
     /// How many views below the last final one are kept.
     pub retention: u64,
+    /// Whether views whose leader seems to be gone expire at once.
     pub skip: SkipPolicy,
+    /// To whom notarized payloads are forwarded.
     pub forward: ForwardPolicy,
     /// How many messages a mailbox holds before its policy rules.
     pub mailbox: u64,
@@ -84,6 +91,7 @@ pub struct Setup {
     pub fetch_timeout: u64,
     /// How long after a failed request the next is made.
     pub fetch_retry: u64,
+    /// The scripted rounds of twins, for the first terms; none: nothing is scripted.
     pub scenario: Sequence<SetupRound>,
 }
 

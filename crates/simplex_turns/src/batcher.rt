@@ -26,7 +26,9 @@ use std::sync::Wait;
 /// A batcher between two of its turns.
 #[derive(Drop)]
 pub struct BatcherThread<S: Scheme> {
+    /// Where it takes memory.
     pub alloc: Global,
+    /// The batcher.
     pub actor: Actor<S>,
     /// The clock of all its steps, in milliseconds.
     pub now: u64,

@@ -5,8 +5,11 @@ use simplex_voter::AskKind;
 /// A packet of another member.
 #[derive(Debug, PartialEq, Eq, Drop)]
 pub struct Delivery {
+    /// The member that it is from.
     pub sender: Participant,
+    /// The channel that it came by.
     pub channel: Channel,
+    /// What it says.
     pub bytes: Bytes,
 }
 

@@ -16,8 +16,11 @@ use std::sync::Wait;
 /// batcher's and of the resolver's mailbox is the voter's; passes 1 and 2 of the voter's are the batcher's and the resolver's.
 #[derive(Drop)]
 pub struct Logs {
+    /// Of the batcher's mailbox.
     pub batcher: Log<batcher::Message>,
+    /// Of the voter's.
     pub voter: Log<voter::Message>,
+    /// Of the resolver's.
     pub resolver: Log<resolver::MailboxMessage>,
 }
 

@@ -26,7 +26,9 @@ use std::sync::Wait;
 /// A resolver between two of its turns. The mailbox of its handler is its own.
 #[derive(Drop)]
 pub struct ResolverThread<S: Scheme> {
+    /// Where it takes memory.
     pub alloc: Global,
+    /// The resolver.
     pub actor: Actor<S>,
     /// The clock of all its steps, in milliseconds.
     pub now: u64,

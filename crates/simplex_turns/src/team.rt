@@ -22,17 +22,24 @@ use std::thread::Threads;
 /// The actors of an engine between two of their turns, and the mailboxes that they share.
 #[derive(Drop)]
 pub struct Team<S: Scheme, L: Elector, J: Journal> {
+    /// The mailboxes.
     pub boxes: Mailboxes,
+    /// The batcher, and what comes to it.
     pub batcher: BatcherThread<S>,
+    /// The voter, and what comes to it.
     pub voter: VoterThread<S, L, J>,
+    /// The resolver, and what comes to it.
     pub resolver: ResolverThread<S>,
 }
 
 /// What the turns of each actor gave.
 #[derive(Drop)]
 pub struct Outs {
+    /// One for each turn of the batcher.
     pub batcher: Vec<StepOut>,
+    /// One for each turn of the voter, up to a failed call of its journal.
     pub voter: Vec<StepOut>,
+    /// One for each turn of the resolver.
     pub resolver: Vec<StepOut>,
 }
 

@@ -22,7 +22,9 @@ use std::sync::Wait;
 /// A voter between two of its turns.
 #[derive(Drop)]
 pub struct VoterThread<S: Scheme, L: Elector, J: Journal> {
+    /// Where it takes memory.
     pub alloc: Global,
+    /// The voter.
     pub actor: Actor<S, L, J>,
     /// Its clock, in milliseconds.
     pub now: u64,

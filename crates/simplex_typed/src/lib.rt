@@ -9,7 +9,7 @@ use simplex_messages::{Call, Handed, batcher};
 use simplex_transcript::{Entry, Packet};
 use simplex_types::{Artifact, Proposal, Round, Vote};
 
-/// Reads the numbers of the round.
+/// The numbers of a round keep to their type.
 pub fn round_fits(round: &Round)
     ensures { FitsRound round.now }
 {
@@ -17,7 +17,7 @@ pub fn round_fits(round: &Round)
     let _view = round.view.0;
 }
 
-/// 32 bytes are 32 bytes.
+/// A digest has 32 bytes, each below 256.
 pub fn raw_fits(bytes: &[u8; 32])
     ensures { IsRaw 32 bytes.now }
 {
@@ -25,7 +25,7 @@ pub fn raw_fits(bytes: &[u8; 32])
     are_bytes(slice);
 }
 
-/// Reads the numbers of the proposal.
+/// The numbers of a proposal keep to their types.
 pub fn proposal_fits(proposal: &Proposal)
     ensures { FitsProposal proposal.now }
 {
@@ -34,7 +34,7 @@ pub fn proposal_fits(proposal: &Proposal)
     raw_fits(&proposal.payload.0);
 }
 
-/// Reads the numbers of an own vote.
+/// The numbers of a record of an own vote keep to their types.
 pub fn record_fits(artifact: &Artifact)
     ensures { RecordFits artifact.now }
 {
@@ -46,7 +46,7 @@ pub fn record_fits(artifact: &Artifact)
     }
 }
 
-/// So of a call.
+/// The numbers of a vote that a call appends keep to their types.
 pub fn call_fits(call: &Call)
     ensures { CallFits call.now }
 {
@@ -55,7 +55,7 @@ pub fn call_fits(call: &Call)
     }
 }
 
-/// And of each of them.
+/// So it is of each call.
 pub fn calls_fit(calls: &[Call])
     ensures { Each CallFits calls.now }
 {
@@ -64,7 +64,7 @@ pub fn calls_fit(calls: &[Call])
     }
 }
 
-/// So of a message.
+/// The numbers of an own vote that the batcher is told of keep to their types.
 pub fn handed_fits(message: &Handed)
     ensures { HandedFits message.now }
 {
@@ -77,12 +77,12 @@ pub fn handed_fits(message: &Handed)
     }
 }
 
-/// A slice of bytes is of bytes.
+/// Each byte of a slice is below 256.
 pub fn are_bytes(bytes: &[u8])
     ensures { IsBytes bytes.now }
 {}
 
-/// And of each of them.
+/// So it is of each message.
 pub fn messages_fit(messages: &[Handed])
     ensures { Each HandedFits messages.now }
 {
@@ -91,14 +91,14 @@ pub fn messages_fit(messages: &[Handed])
     }
 }
 
-/// A packet is of bytes.
+/// Each byte of a packet is below 256.
 pub fn packet_is_bytes(packet: &Packet)
     ensures { IsOfBytes packet.now }
 {
     are_bytes(packet.bytes.as_slice());
 }
 
-/// And so is each of them.
+/// So it is of each packet.
 pub fn packets_are_bytes(packets: &[Packet])
     ensures { Each IsOfBytes packets.now }
 {
@@ -116,7 +116,7 @@ pub fn entry_is_typed(entry: &Entry)
     packets_are_bytes(entry.packets.as_slice());
 }
 
-/// And of each of them.
+/// So it is of each entry.
 pub fn entries_are_typed(entries: &[Entry])
     ensures { Each IsTyped entries.now }
 {

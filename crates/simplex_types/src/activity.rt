@@ -11,16 +11,25 @@ use std::alloc::{AllocError, Global};
 /// A vote, a certificate or evidence that an engine saw.
 #[derive(Debug, PartialEq, Eq, Drop)]
 pub enum Activity {
+    /// A vote to notarize a proposal.
     Notarize(Notarize),
+    /// A quorum notarized a proposal.
     Notarization(Notarization),
     /// The application certified the notarized proposal.
     Certification(Notarization),
+    /// A vote to give a view up.
     Nullify(Nullify),
+    /// A quorum gave a view up.
     Nullification(Nullification),
+    /// A vote to finalize a proposal.
     Finalize(Finalize),
+    /// A quorum finalized a proposal.
     Finalization(Finalization),
+    /// Evidence: a member notarized two proposals of a view.
     ConflictingNotarize(ConflictingNotarize),
+    /// Evidence: a member finalized two proposals of a view.
     ConflictingFinalize(ConflictingFinalize),
+    /// Evidence: a member gave a view up and finalized it.
     NullifyFinalize(NullifyFinalize),
 }
 

@@ -8,21 +8,27 @@ use std::alloc::{AllocError, Global};
 /// Notarizes for two proposals of one round.
 #[derive(Clone, Copy, Debug, PartialEq, Eq)]
 pub struct ConflictingNotarize {
+    /// The vote that came first.
     pub first: Notarize,
+    /// The vote that conflicts with it.
     pub second: Notarize,
 }
 
 /// Finalizes for two proposals of one round.
 #[derive(Clone, Copy, Debug, PartialEq, Eq)]
 pub struct ConflictingFinalize {
+    /// The vote that came first.
     pub first: Finalize,
+    /// The vote that conflicts with it.
     pub second: Finalize,
 }
 
 /// A nullify and a finalize of one round.
 #[derive(Clone, Copy, Debug, PartialEq, Eq)]
 pub struct NullifyFinalize {
+    /// The vote that gives the view up.
     pub nullify: Nullify,
+    /// The vote that finalizes in it.
     pub finalize: Finalize,
 }
 

@@ -9,7 +9,9 @@ use std::alloc::{AllocError, Global};
 /// What can be asked for of a view.
 #[derive(Clone, Copy, Debug, PartialEq, Eq, PartialOrd, Ord, Hash)]
 pub enum Kind {
+    /// A nullification of it.
     Nullification,
+    /// A notarization of it.
     Notarization,
 }
 
@@ -25,7 +27,9 @@ pub enum Until {
 /// What is asked for of a view, and for how long.
 #[derive(Clone, Copy, Debug, PartialEq, Eq, PartialOrd, Ord, Hash)]
 pub struct Ask {
+    /// What is asked for.
     pub kind: Kind,
+    /// For how long.
     pub until: Until,
 }
 
@@ -73,6 +77,8 @@ pub enum Outcome {
 /// How much of what was asked for is settled.
 #[derive(Clone, Copy, Debug, PartialEq, Eq)]
 pub enum Resolution {
+    /// All of it.
     Complete,
+    /// A part of it: the rest is asked for on.
     Partial,
 }

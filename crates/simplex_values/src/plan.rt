@@ -8,8 +8,11 @@ use std::alloc::{AllocError, Global};
 /// The three channels of the network.
 #[derive(Clone, Copy, Debug, PartialEq, Eq)]
 pub enum Channel {
+    /// Of votes.
     Vote,
+    /// Of certificates.
     Certificate,
+    /// Of requests and responses of resolvers.
     Resolver,
 }
 
@@ -68,8 +71,12 @@ impl Keep for Plan {
 /// Which halves of a twin a message reaches.
 #[derive(Clone, Copy, Debug, PartialEq, Eq)]
 pub enum SplitTarget {
+    /// Neither.
     None,
+    /// Half 0 alone.
     Primary,
+    /// Half 1 alone.
     Secondary,
+    /// Both.
     Both,
 }

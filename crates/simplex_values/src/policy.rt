@@ -5,7 +5,9 @@ ghost use Rattle.simplex_values.specs.Policy.{budget_of, is_enabled};
 /// Whether a view whose leader seems to be gone expires at once.
 #[derive(Clone, Copy, Debug, PartialEq, Eq)]
 pub enum SkipPolicy {
+    /// It never does.
     Disabled,
+    /// It does while the budget lasts.
     Enabled {
         /// After how many milliseconds without a packet a member counts as inactive.
         timeout: u64,

@@ -7,8 +7,11 @@ use crate::view::View;
 /// A payload for a round, which stands on the payload of an earlier view.
 #[derive(Clone, Copy, Debug, PartialEq, Eq, PartialOrd, Ord, Hash)]
 pub struct Proposal {
+    /// The round that it is proposed in.
     pub round: Round,
+    /// The view that it stands on, below its own.
     pub parent: View,
+    /// What is proposed: the digest of it.
     pub payload: Digest,
 }
 

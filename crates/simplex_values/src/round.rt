@@ -10,7 +10,9 @@ use std::fmt;
 /// A view of an epoch.
 #[derive(Clone, Copy, Debug, PartialEq, Eq, PartialOrd, Ord, Hash)]
 pub struct Round {
+    /// The epoch.
     pub epoch: Epoch,
+    /// The view.
     pub view: View,
 }
 
@@ -29,14 +31,19 @@ impl fmt::Display for Round {
 /// The view whose payload a proposal stands on, and this payload.
 #[derive(Clone, Copy, Debug, PartialEq, Eq)]
 pub struct Parent {
+    /// The view, below that of the proposal.
     pub view: View,
+    /// Its payload.
     pub payload: Digest,
 }
 
 /// What an application is told with a request: the round, its leader, and the parent.
 #[derive(Clone, Copy, Debug, PartialEq, Eq)]
 pub struct Context {
+    /// The round that the payload is for.
     pub round: Round,
+    /// The member that leads it.
     pub leader: Participant,
+    /// What the payload is to stand on.
     pub parent: Parent,
 }

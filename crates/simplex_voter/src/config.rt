@@ -8,6 +8,7 @@ pub struct Config<S, L> {
     pub scheme: S,
     /// Elects the leaders.
     pub elector: L,
+    /// The epoch whose votes and certificates count.
     pub epoch: Epoch,
     /// What is final when it starts.
     pub floor: Floor,

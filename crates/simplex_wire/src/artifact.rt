@@ -12,14 +12,17 @@ use std::alloc::{AllocError, Global};
 pub enum Artifact {
     /// An own vote.
     Notarize(Notarize),
+    /// A notarization that the member knows.
     Notarization(Notarization),
     /// The application's verdict on the notarization of a round.
     Certification(Round, bool),
     /// An own vote.
     Nullify(Nullify),
+    /// A nullification that the member knows.
     Nullification(Nullification),
     /// An own vote.
     Finalize(Finalize),
+    /// A finalization that the member knows.
     Finalization(Finalization),
 }
 

@@ -5,7 +5,9 @@ use std::alloc::{AllocError, Global};
 /// A signature, and whose it is.
 #[derive(Clone, Copy, Debug, PartialEq, Eq)]
 pub struct Attestation {
+    /// The member that signed.
     pub signer: Participant,
+    /// Its signature.
     pub signature: [u8; 32],
 }
 

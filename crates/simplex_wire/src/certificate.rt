@@ -9,37 +9,49 @@ use std::alloc::{AllocError, Global};
 /// A quorum notarized the proposal.
 #[derive(Debug, PartialEq, Eq, Drop)]
 pub struct Notarization {
+    /// What the quorum agrees on.
     pub proposal: Proposal,
+    /// The signatures of the quorum.
     pub certificate: Signatures,
 }
 
 /// A quorum gave the round up.
 #[derive(Debug, PartialEq, Eq, Drop)]
 pub struct Nullification {
+    /// The round that is given up.
     pub round: Round,
+    /// The signatures of the quorum.
     pub certificate: Signatures,
 }
 
 /// A quorum finalized the proposal.
 #[derive(Debug, PartialEq, Eq, Drop)]
 pub struct Finalization {
+    /// What the quorum agrees on.
     pub proposal: Proposal,
+    /// The signatures of the quorum.
     pub certificate: Signatures,
 }
 
 /// A certificate of any kind.
 #[derive(Debug, PartialEq, Eq, Drop)]
 pub enum Certificate {
+    /// A quorum notarized a proposal.
     Notarization(Notarization),
+    /// A quorum gave a view up.
     Nullification(Nullification),
+    /// A quorum finalized a proposal.
     Finalization(Finalization),
 }
 
 /// Which of the three certificates, or votes.
 #[derive(Clone, Copy, Debug, PartialEq, Eq, PartialOrd, Ord, Hash)]
 pub enum CertificateKind {
+    /// Of a proposal that was notarized.
     Notarization,
+    /// Of a view that was given up.
     Nullification,
+    /// Of a proposal that is final.
     Finalization,
 }
 

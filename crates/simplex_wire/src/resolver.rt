@@ -7,6 +7,7 @@ use std::alloc::{AllocError, Global};
 pub struct ResolverMessage {
     /// The number of the request, which the answer repeats.
     pub id: u64,
+    /// What it says.
     pub body: ResolverBody,
 }
 

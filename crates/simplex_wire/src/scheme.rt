@@ -86,8 +86,8 @@ pub trait Scheme {
     fn is_attributable() -> bool
         ensures { result ≡ attributable };
 
-    #[tactic(auto, unfolding(crate::specs::Certified::is_certified))]
     /// Whether a quorum of members signed the subject, each once and with an attestation that verifies.
+    #[tactic(auto, unfolding(crate::specs::Certified::is_certified))]
     final fn verify_certificate(&self, subject: &Subject, certificate: &Signatures) -> bool
         ensures { result ≡ is_certified (verifies self.now subject.now) (members self.now) certificate.now }
     {

@@ -10,29 +10,38 @@ use std::alloc::{AllocError, Global};
 /// A vote that the proposal is its view's.
 #[derive(Clone, Copy, Debug, PartialEq, Eq)]
 pub struct Notarize {
+    /// What is voted for.
     pub proposal: Proposal,
+    /// Who votes, and the signature.
     pub attestation: Attestation,
 }
 
 /// A vote to give the round up.
 #[derive(Clone, Copy, Debug, PartialEq, Eq)]
 pub struct Nullify {
+    /// The round that is given up.
     pub round: Round,
+    /// Who votes, and the signature.
     pub attestation: Attestation,
 }
 
 /// A vote that the proposal is final.
 #[derive(Clone, Copy, Debug, PartialEq, Eq)]
 pub struct Finalize {
+    /// What is voted for.
     pub proposal: Proposal,
+    /// Who votes, and the signature.
     pub attestation: Attestation,
 }
 
 /// A vote of any kind.
 #[derive(Clone, Copy, Debug, PartialEq, Eq)]
 pub enum Vote {
+    /// To notarize a proposal.
     Notarize(Notarize),
+    /// To give a view up.
     Nullify(Nullify),
+    /// To finalize a proposal.
     Finalize(Finalize),
 }
 
