@@ -1,3 +1,4 @@
+pub mod Agreeing
 pub mod Answering
 pub mod Backers
 pub mod Beginning
@@ -6,14 +7,20 @@ pub mod Delivered
 pub mod Engines
 pub mod Epochs
 pub mod Fetching
+pub mod Floored
 pub mod Founding
+pub mod Genuine
 pub mod Good
 pub mod Handing
 pub mod Hearing
+pub mod Held
+pub mod InTime
+pub mod Keeping
 pub mod Listing
 pub mod Mailing
 pub mod Naming
 pub mod Offering
+pub mod OneChain
 pub mod Owning
 pub mod Packets
 pub mod Quiet

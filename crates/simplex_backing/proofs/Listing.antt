@@ -36,11 +36,11 @@ use Rattle.simplex_safety.proofs.Members.{faulty_listed}
 use Rattle.simplex_safety.proofs.Turns.{entry_turn}
 use Rattle.simplex_backing.specs.MostlyHonest.{IsMostlyHonest}
 use Rattle.simplex_backing.specs.Voting.{read_vote, vote_on, vote_in, sent_votes, HasVoted}
-use Rattle.simplex_backing.specs.WellSent.{Came, AreWellSent}
+use Rattle.simplex_backing.specs.WellSent.{Came, AreWellSent, AllWellSent}
 use Rattle.simplex_backing.proofs.Owning.{went_own, read_of}
 use Rattle.simplex_backing.proofs.Sent.{same_both}
 use Rattle.simplex_backing.proofs.Shapes.{IsSentBy}
-use Rattle.simplex_backing.proofs.Worlds.{fit_life, floors_hold, IsFitLife}
+use Rattle.simplex_backing.proofs.Worlds.{earlier, fit_life, floors_hold, IsFitLife}
 use Rattle.simplex_safety.proofs.Nodes.{node_lives}
 
 -- ---- what is read of calls
@@ -212,7 +212,7 @@ pub lived_voted : (setting : Setting) (noted : List Noted) (member : ℕ) (s : S
 lived_voted setting noted member s o below honest f k =
     voted_of (sent_votes noted member) s (subst (λ (list : List Subject). Contains list s) (life_sent setting noted member o below honest f) k)
 
-pub run_well_sent : (setting : Setting) (noted : List Noted) (member : ℕ) → IsMostlyHonest setting noted → member < members_of setting.setup → ¬ (Contains (faulty_of setting.setup) member) → AreWellSent setting.setup noted member
+run_well_sent : (setting : Setting) (noted : List Noted) (member : ℕ) → IsMostlyHonest setting noted → member < members_of setting.setup → ¬ (Contains (faulty_of setting.setup) member) → AreWellSent setting.setup noted member
 run_well_sent setting noted member o below honest =
     let node = node_of member in
     let f = fit_life setting noted node o.epoch o.typed (node_lives setting noted node o.term honest o.ran (floors_hold setting noted o)) in
@@ -225,3 +225,9 @@ run_well_sent setting noted member o below honest =
       alone = sent_alone setting.setup.term o.term lived.calls lived.legal;
       order = sent_in_order setting.setup.term o.term lived.calls lived.legal;
     }
+
+-- and behind each entry, since those before it are a run
+pub all_well_sent : (setting : Setting) (noted : List Noted) → IsMostlyHonest setting noted → AllWellSent setting.setup noted
+unfolding AllWellSent
+all_well_sent setting [] o = tt
+all_well_sent setting (noted ∷ before) o = ((λ member. run_well_sent setting (noted ∷ before) member o), all_well_sent setting before (earlier setting noted before o))

@@ -69,6 +69,13 @@ in_map g (y ∷ xs) x k = elim (Contains-cons_cases y xs x k) [
   | inr r ↦ Contains-there (g y) (map g xs) (g x) (in_map g xs x r)
 ]
 
+pub from_map : {A B : Type 0} (f : A → B) (xs : List A) (y : B) → Contains (map f xs) y → (x : A) × Contains xs x × (f x ≡ y)
+from_map f [] y k = absurd (not_in_empty y k)
+from_map f (x ∷ xs) y k = elim (Contains-cons_cases (f x) (map f xs) y k) [
+  | inl e ↦ (x, Contains-here x xs, e)
+  | inr r ↦ (let g = from_map f xs y r in (g.0, Contains-there x xs g.0 g.1, g.2))
+]
+
 -- a certificate that is backed has an honest signer, whose vote names the epoch
 pub backed_names : (setting : Setting) (noted : List Noted) (p : IsPeopled setting noted) (c : agreement.Certificate) → 0 < members_of setting.setup → length (faulty_of setting.setup) ≤ max_faulty (members_of setting.setup)
     → OwnName setting.setup noted → IsBacked (world_of setting noted p) c → Names setting.setup.epoch c.subject

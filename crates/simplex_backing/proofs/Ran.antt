@@ -42,11 +42,11 @@ run_is_run setting before (event ∷ events) noted ran e =
 
 -- ---- what is not refused
 
-not_refused : {A E : Type 0} (b : Bool) (x : E) (r : Result A E) (a : A) → (if not b then Err x else r) ≡ Ok a → (b ≡ true) × (r ≡ Ok a)
+pub not_refused : {A E : Type 0} (b : Bool) (x : E) (r : Result A E) (a : A) → (if not b then Err x else r) ≡ Ok a → (b ≡ true) × (r ≡ Ok a)
 not_refused true x r a e = (refl, e)
 not_refused false x r a e = cc
 
-unbad : (o : Option Field) (r : Result (List Entry) Refusal) (entries : List Entry) → unless_bad o r ≡ Ok entries → (o ≡ None) × (r ≡ Ok entries)
+pub unbad : (o : Option Field) (r : Result (List Entry) Refusal) (entries : List Entry) → unless_bad o r ≡ Ok entries → (o ≡ None) × (r ≡ Ok entries)
 unbad None r entries e = (refl, e)
 unbad (Some field) r entries e = cc
 

@@ -11,7 +11,8 @@ use Rattle.simplex_backing.proofs.Blameless.{run_blameless}
 use Rattle.simplex_backing.proofs.Epochs.{run_names}
 use Rattle.simplex_backing.proofs.Owning.{run_backed}
 use Rattle.simplex_backing.proofs.Founding.{run_founded}
-use Rattle.simplex_backing.proofs.Listing.{run_well_sent}
+use Rattle.simplex_backing.proofs.Genuine.{run_genuine}
+use Rattle.simplex_backing.proofs.Listing.{all_well_sent}
 use Rattle.simplex_backing.proofs.Worlds.{run_agrees, floors_hold}
 use Rattle.simplex_safety.specs.Faulty.{faulty_from}
 use Rattle.simplex_safety.proofs.Nodes.{node_lives}
@@ -21,12 +22,13 @@ pub mostly_honest_is_safe : (setting : Setting) (noted : List Noted) → IsMostl
 mostly_honest_is_safe setting noted o =
     record {
       backed = run_backed setting noted o;
+      genuine = run_genuine setting noted o;
       agrees = λ a b sa sb. run_agrees setting noted a b o sa.0 sb.0 sa.1 sb.1;
       named = run_names setting noted o;
       founded = λ c p stands on. run_founded setting noted c p o stands on;
       stored = λ node honest. (let lived = node_lives setting noted node o.term honest o.ran (floors_hold setting noted o) in lived.stored);
       ruled = λ node honest. run_by_rule setting noted node honest o.ran;
-      ordered = λ member. run_well_sent setting noted member o;
+      ordered = all_well_sent setting noted o;
       blameless = run_blameless setting noted o;
     }
 

@@ -1,7 +1,7 @@
 -- Each word forbids something that all others let pass.
 use Rattle.std.proofs.Common.{◌≡◌, ℕ, zero, suc, ◌^◌, ◌<◌, ◌&&◌, ◌⊎◌, nat_lt, nat_le, Bool, true, false, List, [], ◌∷◌, ◌++◌, map, All, Contains, refl, sym, ap, ◌∙◌, subst, inl, inr, arith, Some, None, Ok}
 use Rattle.std.specs.List.{flat_map}
-use Rattle.std.proofs.lemmas.List.Elements.{All-nil, All-cons, All-head, All-from_recursion}
+use Rattle.std.proofs.lemmas.List.Elements.{All-nil, All-cons, All-head, All-contains}
 use Rattle.std.proofs.lemmas.List.Kept.{AllPairs-cons}
 use Rattle.std.proofs.lemmas.Slice.Eq.{bytes_eq-Decides}
 use Rattle.simplex_values.specs.Quorum.{quorum_of}
@@ -36,14 +36,14 @@ use Rattle.simplex_run.specs.Life.{Noted, life_in, sections_in}
 use Rattle.simplex_run.specs.Entries.{node_of, entry_of, made_of, noted_packets}
 use Rattle.simplex_agreement.specs.Conflict.{Conflict}
 use Rattle.simplex_agreement.specs.World as agreement
-use Rattle.simplex_agreement.specs.World.{Sent, MayStand, MayFollow, KnowsNullified}
-use Rattle.simplex_agreement.proofs.SmallWorlds.{all_three, pairs_none, pairs_three}
-use Rattle.simplex_agreement.proofs.ListFacts.{not_in_empty, Contains-here, Contains-there, Contains-cons_cases}
-use Rattle.simplex_conduct.specs.Life.{statement_of, taken, voted}
+use Rattle.simplex_agreement.specs.World.{Sent, MayStand, MayFollow}
+use Rattle.simplex_agreement.proofs.SmallWorlds.{pairs_none}
+use Rattle.simplex_agreement.proofs.ListFacts.{not_in_empty, Contains-here, Contains-cons_cases}
+use Rattle.simplex_conduct.specs.Life.{voted, statement_of, taken}
 use Rattle.simplex_conduct.specs.Storing.{IsStored, IsRepeated, record_of_vote, IsOwn}
 use Rattle.simplex_evidence.specs.Evidence.{blames, BlameNot, subjects_of, AreInOrder}
 use Rattle.simplex_safety.specs.Faulty.{faulty_of}
-use Rattle.simplex_safety.specs.Histories.{IsRun, IsHeld, AreStored, calls_of}
+use Rattle.simplex_safety.specs.Histories.{IsRun, IsHeld, AreStored, calls_of, floors_of}
 use Rattle.simplex_safety.specs.Ruled.{AreByRule}
 use Rattle.simplex_safety.specs.Sayings.{Each}
 use Rattle.simplex_wire.specs.declared.artifact.Artifact.TheVariants as artifacts
@@ -52,13 +52,15 @@ use Rattle.simplex_values.specs.declared.plan.Recipients.TheVariants as recipien
 use Rattle.simplex_types.specs.declared.activity.Activity.TheVariants as activities
 use Rattle.simplex_backing.specs.Backed.{of_call, of_packet, IsVerifying, IsBackedIn, AreBacked, StandsIn}
 use Rattle.simplex_backing.specs.Blame.{AreBlameless}
-use Rattle.simplex_backing.specs.Founded.{IsOn, IsNotarized}
+use Rattle.simplex_backing.specs.Founded.{IsOn}
+use Rattle.simplex_backing.specs.Genuine.{floor_in, said_in, AreGenuine}
+use Rattle.simplex_backing.specs.Late.{own_finalize, its_notarization, hasty_votes, hasty, late}
 use Rattle.simplex_backing.specs.MostlyHonest.{IsMostlyHonest}
 use Rattle.simplex_backing.specs.Safe.{Stands, AgreeAll, AllName, AreFounded}
-use Rattle.simplex_backing.specs.Samples.{signed, near, far, bytes_of, block_at, block, notarize_of, finalize_of, own_notarize, own_nullify, notarization_of, finalization_of, notarized, nullified, bare_notarization, bare_nullification, packet_of, send, apart, its, skipping, skipped_votes, skipped_records, sample, with_silent, noise, after_tick, after_noise}
+use Rattle.simplex_backing.specs.Samples.{signed, near, far, bytes_of, block_at, block, notarize_of, own_notarize, own_nullify, notarized, nullified, bare_nullification, packet_of, send, apart, its, sample, with_silent, noise, after_tick, after_noise}
 use Rattle.simplex_backing.specs.Voting.{read_vote, vote_in, sent_votes, HasSigned}
-use Rattle.simplex_backing.specs.WellSent.{Came, AreWellSent, AllWellSent}
-use Rattle.simplex_backing.specs.Words.{Word, Backed, Agrees, Named, Founded, Stored, Ruled, Ordered, Blameless, Says, AllBut}
+use Rattle.simplex_backing.specs.WellSent.{Came, AreWellSent, EachWellSent, AllWellSent}
+use Rattle.simplex_backing.specs.Words.{Word, Backed, Genuine, Named, Founded, Stored, Ruled, Ordered, Blameless, Says, AllBut}
 use Rattle.simplex_backing.proofs.Good.{AllBytes, to_bytes, signature_raw}
 use Rattle.simplex_run.specs.Members.{rules_of}
 use Rattle.simplex_safety.proofs.Further.{same_node}
@@ -94,9 +96,6 @@ block_fits view byte v h = ((omega arith, v), (omega arith, record { len = refl;
 
 notarize_fits : (view byte : ℕ) → view < 2 ^ 64 → byte < 256 → FitsVote (votes.Notarize (notarize_of (block_at view byte)))
 notarize_fits view byte v h = (block_fits view byte v h, (omega arith, signature_raw 1 0 (subjects.Notarize (block_at view byte))))
-
-finalize_fits : (view byte : ℕ) → view < 2 ^ 64 → byte < 256 → FitsVote (votes.Finalize (finalize_of (block_at view byte)))
-finalize_fits view byte v h = (block_fits view byte v h, (omega arith, signature_raw 1 0 (subjects.Finalize (block_at view byte))))
 
 -- packets of these votes are read as them
 read_out : (out : List Vote) → Each FitsVote out → flat_map (vote_in 0) (map packet_of out) ≡ out
@@ -136,24 +135,25 @@ Behind s t = MayFollow 1 s.subject t.subject t.known
 zero_is : (member : ℕ) → member < 1 → 0 ≡ member
 zero_is member h = omega (arith, h)
 
-of_all : (noted : List Noted) → AreWellSent alone noted 0 → AllWellSent alone noted
-of_all noted w member below good = subst (AreWellSent alone noted) (zero_is member below) w
+of_all : (n : Noted) → AreWellSent alone (n ∷ []) 0 → AllWellSent alone (n ∷ [])
+unfolding AllWellSent
+of_all n w = ((λ member below good. subst (AreWellSent alone (n ∷ [])) (zero_is member below) w), tt)
 
-no_vote : (noted : List Noted) → sent_votes noted 0 ≡ [] → AllWellSent alone noted
-no_vote noted e =
-    of_all noted (record { votes = []; same = ap (map vote_subject) (sym e); came = All-nil (Knew noted); alone = All-nil Alone; order = pairs_none Behind })
+no_vote : (n : Noted) → sent_votes (n ∷ []) 0 ≡ [] → AllWellSent alone (n ∷ [])
+no_vote n e =
+    of_all n (record { votes = []; same = ap (map vote_subject) (sym e); came = All-nil (Knew (n ∷ [])); alone = All-nil Alone; order = pairs_none Behind })
 
 abbrev knowing_nothing : Subject → Sent
 knowing_nothing s = record { subject = s; known = [] }
 
-one_vote : (noted : List Noted) (v : Vote) → sent_votes noted 0 ≡ v ∷ [] → MayStand 1 (vote_subject v) [] → AllWellSent alone noted
-one_vote noted v e stands =
+one_vote : (n : Noted) (v : Vote) → sent_votes (n ∷ []) 0 ≡ v ∷ [] → MayStand 1 (vote_subject v) [] → AllWellSent alone (n ∷ [])
+one_vote n v e stands =
     let s = knowing_nothing (vote_subject v) in
-    of_all noted (
+    of_all n (
     record {
       votes = s ∷ [];
       same = ap (map vote_subject) (sym e);
-      came = All-cons (Knew noted) s [] (All-nil (Came noted (node_of 0))) (All-nil (Knew noted));
+      came = All-cons (Knew (n ∷ [])) s [] (All-nil (Came (n ∷ []) (node_of 0))) (All-nil (Knew (n ∷ [])));
       alone = All-cons Alone s [] stands (All-nil Alone);
       order = AllPairs-cons Behind s [] (All-nil (Behind s)) (pairs_none Behind);
     }
@@ -173,8 +173,14 @@ module _ (noted : List Noted) (s : Subject) (v : Vote) (sent : Contains (sent_vo
 one : (P : Certificate → Type 0) (x : Certificate) → P x → (c : Certificate) → Contains (x ∷ []) c → P c
 one P x p c k = elim (Contains-cons_cases x [] c k) [ inl e ↦ subst P e p | inr r ↦ absurd (not_in_empty c r) ]
 
-two : (P : Certificate → Type 0) (x y : Certificate) → P x → P y → (c : Certificate) → Contains (x ∷ y ∷ []) c → P c
-two P x y p q c k = elim (Contains-cons_cases x (y ∷ []) c k) [ inl e ↦ subst P e p | inr r ↦ one P y q c r ]
+-- ---- what is said verifies
+
+genuine_said : (n : Noted) → floor_in n.event ≡ [] → ((c : Certificate) → Contains (said_in n) c → IsVerifying alone c) → AreGenuine alone (n ∷ [])
+unfolding AreGenuine
+genuine_said n e f = (record { verifies = f; stood = λ c k. absurd (not_in_empty c (subst (λ xs. Contains xs c) e k)) }, tt)
+
+nothing_said : (n : Noted) → floor_in n.event ≡ [] → said_in n ≡ [] → AreGenuine alone (n ∷ [])
+nothing_said n e f = genuine_said n e (λ c k. absurd (not_in_empty c (subst (λ xs. Contains xs c) f k)))
 
 -- ---- what holds of two conflicting certificates, and of a nullification
 
@@ -308,7 +314,7 @@ apart_agree a b x y c = not_itself x.0 y.0 (subst (λ s. Conflict 1 s (subjects.
 
 unbacked : AllBut (at_epoch_genesis alone) (sample Backed) Backed
 unfolding AreBacked StandsIn sent_votes AreStored AreByRule AreBlameless voted calls_of life_in journal.kept
-unbacked = record { others = others; fails = λ h. elim (All-head P (signed s) [] (h.0 (nullified near) (Contains-here (nullified near) []) (certified s))) [ inl bad ↦ honest bad | inr v ↦ none v.0 v.1 ] }
+unbacked = record { others = others; agrees = λ a b sa sb. apart_agree a b (lone_bare near IsNullified (near, refl) a sa.0) (lone_bare near IsNullified (near, refl) b sb.0); fails = λ h. elim (All-head P (signed s) [] (h.0 (nullified near) (Contains-here (nullified near) []) (certified s))) [ inl bad ↦ honest bad | inr v ↦ none v.0 v.1 ] }
   where
     s : Subject
     s = subjects.Nullify near
@@ -321,12 +327,12 @@ unbacked = record { others = others; fails = λ h. elim (All-head P (signed s) [
 
     others : (other : Word) → ¬ (other ≡ Backed) → Says (at_epoch_genesis alone) (sample Backed) other
     others Backed n = absurd (n refl)
-    others Agrees n = λ a b sa sb. apart_agree a b (lone_bare near IsNullified (near, refl) a sa.0) (lone_bare near IsNullified (near, refl) b sb.0)
+    others Genuine n = genuine_said (apart (nullified near ∷ []) [] []) refl (λ c k. one (IsVerifying alone) (nullified near) (certified (subjects.Nullify near)) c k)
     others Named n = λ c st. lone_bare near (λ x. (subject_round (certificate_subject x)).epoch ≡ 0) refl c st.0
     others Founded n = λ c p st on. absurd (lone_bare near (λ x. ¬ (IsOn (certificate_subject x) p)) (on_nothing near p) c st.0 on)
     others Stored n = λ node h. stored_apart (nullified near ∷ []) [] [] [] node (nothing_stored node)
     others Ruled n = λ node h. ruled_apart (nullified near ∷ []) [] [] [] node (nothing_ruled node)
-    others Ordered n = no_vote (sample Backed) refl
+    others Ordered n = no_vote (apart (nullified near ∷ []) [] []) refl
     others Blameless n = no_blame (apart (nullified near ∷ []) [] []) [] silent nobody_blamed
 
 -- a vote that went out, and its nullification, are backed
@@ -347,7 +353,7 @@ lone_backed r fits = ((λ c k v. one (IsBackedIn alone (lone r (votes.Nullify (o
 
 unnamed : AllBut (at_epoch_genesis alone) (sample Named) Named
 unfolding AreBacked StandsIn sent_votes AreStored AreByRule AreBlameless voted calls_of life_in journal.kept
-unnamed = record { others = others; fails = λ h. seven (h (nullified far) (stands, certified (subjects.Nullify far))) }
+unnamed = record { others = others; agrees = λ a b sa sb. apart_agree a b (lone_sent far IsNullified (far, refl) a sa.0) (lone_sent far IsNullified (far, refl) b sb.0); fails = λ h. seven (h (nullified far) (stands, certified (subjects.Nullify far))) }
   where
     out : List Vote
     out = votes.Nullify (own_nullify far) ∷ []
@@ -361,16 +367,16 @@ unnamed = record { others = others; fails = λ h. seven (h (nullified far) (stan
     others : (other : Word) → ¬ (other ≡ Named) → Says (at_epoch_genesis alone) (sample Named) other
     others Named n = absurd (n refl)
     others Backed n = lone_backed far (nullify_fits 7 1 (omega arith) (omega arith))
-    others Agrees n = λ a b sa sb. apart_agree a b (lone_sent far IsNullified (far, refl) a sa.0) (lone_sent far IsNullified (far, refl) b sb.0)
+    others Genuine n = genuine_said (apart (nullified far ∷ []) (votes.Nullify (own_nullify far) ∷ []) []) refl (λ c k. one (IsVerifying alone) (nullified far) (certified (subjects.Nullify far)) c k)
     others Founded n = λ c p st on. absurd (lone_sent far (λ x. ¬ (IsOn (certificate_subject x) p)) (on_nothing far p) c st.0 on)
     others Stored n = λ node h. stored_apart (nullified far ∷ []) (votes.Nullify (own_nullify far) ∷ []) [] [] node (nothing_stored node)
     others Ruled n = λ node h. ruled_apart (nullified far ∷ []) (votes.Nullify (own_nullify far) ∷ []) [] [] node (nothing_ruled node)
-    others Ordered n = one_vote (sample Named) (votes.Nullify (own_nullify far)) (lone_out far (nullify_fits 7 1 (omega arith) (omega arith))) tt
+    others Ordered n = one_vote (apart (nullified far ∷ []) (votes.Nullify (own_nullify far) ∷ []) []) (votes.Nullify (own_nullify far)) (lone_out far (nullify_fits 7 1 (omega arith) (omega arith))) tt
     others Blameless n = no_blame (apart (nullified far ∷ []) (votes.Nullify (own_nullify far) ∷ []) []) [] silent nobody_blamed
 
 unfounded : AllBut (at_epoch_genesis alone) (sample Founded) Founded
 unfolding AreBacked StandsIn sent_votes AreStored AreByRule AreBlameless voted calls_of life_in journal.kept
-unfounded = record { others = others; fails = λ h. (let f = h (notarized 1) (block 1) (stands, certified (subjects.Notarize (block 1))) (inl refl) in none f.member f.appended) }
+unfounded = record { others = others; agrees = λ a b sa sb. which (λ x. ¬ (Conflict 1 (certificate_subject x) (certificate_subject b))) (which (λ y. ¬ (Conflict 1 (subjects.Notarize (block 1)) (certificate_subject y))) (same_block (block 1)) b sb.0) a sa.0; fails = λ h. (let f = h (notarized 1) (block 1) (stands, certified (subjects.Notarize (block 1))) (inl refl) in none f.member f.appended) }
   where
     v : Vote
     v = votes.Notarize (own_notarize 1)
@@ -398,55 +404,20 @@ unfounded = record { others = others; fails = λ h. (let f = h (notarized 1) (bl
     others : (other : Word) → ¬ (other ≡ Founded) → Says (at_epoch_genesis alone) (sample Founded) other
     others Founded n = absurd (n refl)
     others Backed n = backed
-    others Agrees n = λ a b sa sb.
-        which (λ x. ¬ (Conflict 1 (certificate_subject x) (certificate_subject b))) (which (λ y. ¬ (Conflict 1 (subjects.Notarize (block 1)) (certificate_subject y))) (same_block (block 1)) b sb.0) a sa.0
+    others Genuine n = genuine_said (apart (notarized 1 ∷ []) (votes.Notarize (own_notarize 1) ∷ []) []) refl (λ c k. one (IsVerifying alone) (notarized 1) (certified (subjects.Notarize (block 1))) c k)
     others Named n = λ c st. which (λ x. (subject_round (certificate_subject x)).epoch ≡ 0) refl c st.0
     others Stored n = λ node h. stored_apart (notarized 1 ∷ []) (votes.Notarize (own_notarize 1) ∷ []) [] [] node (nothing_stored node)
     others Ruled n = λ node h. ruled_apart (notarized 1 ∷ []) (votes.Notarize (own_notarize 1) ∷ []) [] [] node (nothing_ruled node)
-    others Ordered n = one_vote (sample Founded) (votes.Notarize (own_notarize 1)) out (λ x low high. absurd (none_between x low high))
+    others Ordered n = one_vote (apart (notarized 1 ∷ []) (votes.Notarize (own_notarize 1) ∷ []) []) (votes.Notarize (own_notarize 1)) out (λ x low high. absurd (none_between x low high))
     others Blameless n = no_blame (apart (notarized 1 ∷ []) (votes.Notarize (own_notarize 1) ∷ []) []) [] silent nobody_blamed
 
--- ---- a final view that is skipped
+-- ---- a record of a nullification that nobody signed
 
-abbrev final : Certificate
-final = finalization_of (block 1)
+abbrev took : Certificate
+took = certificates.Nullification bare_nullification
 
-abbrev later : Certificate
-later = notarization_of skipping
-
--- what the member took for certificates of view 1, its votes, and what it knew at each
-abbrev took_notarization : Certificate
-took_notarization = certificates.Notarization bare_notarization
-
-abbrev took_nullification : Certificate
-took_nullification = certificates.Nullification bare_nullification
-
-abbrev saw_notarization : agreement.Certificate
-saw_notarization = statement_of took_notarization
-
-abbrev saw_nullification : agreement.Certificate
-saw_nullification = statement_of took_nullification
-
-abbrev first_vote : Vote
-first_vote = votes.Notarize (own_notarize 1)
-
-abbrev second_vote : Vote
-second_vote = votes.Finalize (finalize_of (block 1))
-
-abbrev third_vote : Vote
-third_vote = votes.Notarize (notarize_of skipping)
-
-abbrev at_notarize : Sent
-at_notarize = knowing_nothing (subjects.Notarize (block 1))
-
-abbrev at_finalize : Sent
-at_finalize = record { subject = subjects.Finalize (block 1); known = saw_notarization ∷ [] }
-
-abbrev at_skip : Sent
-at_skip = record { subject = subjects.Notarize skipping; known = saw_nullification ∷ [] }
-
-abbrev skipped_sent : List Sent
-skipped_sent = at_notarize ∷ at_finalize ∷ at_skip ∷ []
+abbrev unsigned_record : List Call
+unsigned_record = calls.Append 1 (artifacts.Nullification bare_nullification) ∷ []
 
 unsigned : (s : Subject) → ¬ (is_certified (keyed_verifies 1 1 s) 1 [] ≡ true)
 unfolding is_certified
@@ -455,118 +426,38 @@ unsigned s e = never e
     never : false ≡ true → ⊥
     never h = cc
 
-one_is : (x : ℕ) → 0 < x → x < 2 → 1 ≡ x
-one_is x low high = omega (arith, low, high)
-
-skipped_out : sent_votes (sample Agrees) 0 ≡ skipped_votes
-skipped_out =
-    sent_apart (final ∷ later ∷ []) skipped_votes [] (its outcomes.Cut skipped_records ∷ []) (its_unsent outcomes.Cut skipped_records)
-    (notarize_fits 1 1 (omega arith) (omega arith), (finalize_fits 1 1 (omega arith) (omega arith), (notarize_fits 2 1 (omega arith) (omega arith), tt)))
-
--- its votes are in order, by what it took
-skipped_order : AllWellSent alone (sample Agrees)
-unfolding calls_of taken
-skipped_order =
-    of_all noted (
-    record {
-      votes = skipped_sent;
-      same = ap (map vote_subject) (sym skipped_out);
-      came = all_three (Knew noted) at_notarize at_finalize at_skip (All-nil (Came noted (node_of 0)))
-          (knew saw_notarization (inl (Contains-here saw_notarization (saw_nullification ∷ []))))
-          (knew saw_nullification
-          (inl (Contains-there saw_notarization (saw_nullification ∷ []) saw_nullification (Contains-here saw_nullification []))));
-      alone = all_three Alone at_notarize at_finalize at_skip (λ x low high. absurd (none_between x low high)) ([], Contains-here saw_notarization [])
-          (λ x low high. subst (KnowsNullified 1 (saw_nullification ∷ [])) (one_is x low high) (near, ([], Contains-here saw_nullification []), (refl, omega arith)));
-      order = pairs_three Behind at_notarize at_finalize at_skip tt (λ e. absurd (not_two e)) tt;
-    }
-    )
-  where
-    noted : List Noted
-    noted = sample Agrees
-
-    knew : (c : agreement.Certificate) → Came (sample Agrees) (node_of 0) c → All (Came (sample Agrees) (node_of 0)) (c ∷ [])
-    knew c k = All-cons (Came (sample Agrees) (node_of 0)) c [] k (All-nil (Came (sample Agrees) (node_of 0)))
-
-skipped : AllBut (at_epoch_genesis alone) (sample Agrees) Agrees
-unfolding AreBacked StandsIn sent_votes AreStored AreByRule AreBlameless voted calls_of life_in journal.kept
-skipped =
+untrue : AllBut (at_epoch_genesis alone) (sample Genuine) Genuine
+unfolding AreBacked AreGenuine StandsIn sent_votes AreStored AreByRule AreBlameless voted calls_of life_in journal.kept
+untrue =
     record {
       others = others;
-      fails = λ h. h final later (inl (Contains-here final (later ∷ [])), certified (subjects.Finalize (block 1)))
-          (inl (Contains-there final (later ∷ []) later (Contains-here later [])), certified (subjects.Notarize skipping)) (inr (omega arith, omega arith));
+      agrees = λ a b sa sb. absurd (nothing a sa);
+      fails = λ h. (let it = h.0 in bare took (Contains-here took []) (it.verifies took (Contains-here took [])));
     }
   where
-    bare : (c : Certificate) → Contains (took_notarization ∷ took_nullification ∷ []) c → ¬ (IsVerifying alone c)
-    bare c k = two (λ x. ¬ (IsVerifying alone x)) took_notarization took_nullification (unsigned (subjects.Notarize (block 1))) (unsigned (subjects.Nullify near)) c k
+    bare : (c : Certificate) → Contains (took ∷ []) c → ¬ (IsVerifying alone c)
+    bare c k = one (λ x. ¬ (IsVerifying alone x)) took (unsigned (subjects.Nullify near)) c k
 
-    which : (P : Certificate → Type 0) → P final → P later → (c : Certificate) → Stands alone (sample Agrees) c → P c
-    which P p q c st = elim st.0 [
-      | inl here ↦ two P final later p q c here
-      | inr rest ↦ elim rest [ inl its_own ↦ absurd (bare c its_own st.1) | inr r ↦ absurd r ]
-    ]
+    nothing : (c : Certificate) → ¬ (Stands alone (sample Genuine) c)
+    nothing c st = elim st.0 [ inl its_own ↦ bare c its_own st.1 | inr r ↦ r ]
 
-    notarized_first : Contains (sent_votes (sample Agrees) 0) first_vote
-    notarized_first = read_sent (sample Agrees) skipped_votes first_vote skipped_out (Contains-here first_vote (second_vote ∷ third_vote ∷ []))
-
-    finalized_then : Contains (sent_votes (sample Agrees) 0) second_vote
-    finalized_then = read_sent (sample Agrees) skipped_votes second_vote skipped_out (Contains-there first_vote (second_vote ∷ third_vote ∷ []) second_vote (Contains-here second_vote (third_vote ∷ [])))
-
-    notarized_last : Contains (sent_votes (sample Agrees) 0) third_vote
-    notarized_last = read_sent (sample Agrees) skipped_votes third_vote skipped_out
-        (Contains-there first_vote (second_vote ∷ third_vote ∷ []) third_vote (Contains-there second_vote (third_vote ∷ []) third_vote (Contains-here third_vote [])))
-
-    backed : AreBacked alone (sample Agrees)
-    backed = (
-      (λ c k w. two (IsBackedIn alone (sample Agrees)) final later
-          (counted (sample Agrees) (subjects.Finalize (block 1)) second_vote finalized_then refl refl)
-          (counted (sample Agrees) (subjects.Notarize skipping) third_vote notarized_last refl refl) c k),
-      ((λ c k w. absurd (bare c k w)), tt),
-    )
-
-    founded_first : IsNotarized alone (sample Agrees) (block 1)
-    founded_first = record { member = 0; below = omega arith; honest = honest; appended = Contains-here (subjects.Notarize (block 1)) (subjects.Notarize skipping ∷ []); sent = (first_vote, notarized_first, refl) }
-
-    founded_last : IsNotarized alone (sample Agrees) skipping
-    founded_last =
-        record {
-          member = 0;
-          below = omega arith;
-          honest = honest;
-          appended = Contains-there (subjects.Notarize (block 1)) (subjects.Notarize skipping ∷ []) (subjects.Notarize skipping) (Contains-here (subjects.Notarize skipping) []);
-          sent = (third_vote, notarized_last, refl);
-        }
-
-    first_by : (p : Proposal) → IsOn (subjects.Finalize (block 1)) p → IsNotarized alone (sample Agrees) p
-    first_by p (inl e) = cc
-    first_by p (inr e) = (let same : block 1 ≡ p = cc in subst (IsNotarized alone (sample Agrees)) same founded_first)
-
-    last_by : (p : Proposal) → IsOn (subjects.Notarize skipping) p → IsNotarized alone (sample Agrees) p
-    last_by p (inl e) = (let same : skipping ≡ p = cc in subst (IsNotarized alone (sample Agrees)) same founded_last)
-    last_by p (inr e) = cc
-
-    stored : (node : Node) → AreStored (at_epoch_genesis alone) node (its outcomes.Cut skipped_records ∷ [])
+    stored : (node : Node) → AreStored (at_epoch_genesis alone) node (sample Genuine)
     stored node = ((λ e before behind to bytes place. absurd (unsent before behind to bytes place)), tt)
       where
-        unsent : (before behind : List Call) (to : Recipients) (bytes : List ℕ) → ¬ (skipped_records ≡ before ++ (calls.Send channels.Vote to bytes ∷ behind))
+        unsent : (before behind : List Call) (to : Recipients) (bytes : List ℕ) → ¬ (unsigned_record ≡ before ++ (calls.Send channels.Vote to bytes ∷ behind))
         unsent [] behind to bytes e = cc
         unsent (x ∷ []) behind to bytes e = cc
-        unsent (x ∷ y ∷ []) behind to bytes e = cc
-        unsent (x ∷ y ∷ z ∷ []) behind to bytes e = cc
-        unsent (x ∷ y ∷ z ∷ w ∷ []) behind to bytes e = cc
-        unsent (x ∷ y ∷ z ∷ w ∷ u ∷ more) behind to bytes e = cc
+        unsent (x ∷ y ∷ more) behind to bytes e = cc
 
-    blame_not : (member : ℕ) → BlameNot member skipped_records
-    blame_not member = All-from_recursion (λ (call : Call). blames call member ≡ false) skipped_records (refl, (refl, (refl, (refl, tt))))
-
-    others : (other : Word) → ¬ (other ≡ Agrees) → Says (at_epoch_genesis alone) (sample Agrees) other
-    others Agrees n = absurd (n refl)
-    others Backed n = backed
-    others Named n = which (λ x. (subject_round (certificate_subject x)).epoch ≡ 0) refl refl
-    others Founded n = λ c p st on. which (λ x. IsOn (certificate_subject x) p → IsNotarized alone (sample Agrees) p) (first_by p) (last_by p) c st on
-    others Stored n = λ node h. stored_apart (final ∷ later ∷ []) skipped_votes [] (its outcomes.Cut skipped_records ∷ []) node (stored node)
-    others Ruled n = λ node h. ruled_apart (final ∷ later ∷ []) skipped_votes [] (its outcomes.Cut skipped_records ∷ []) node (ruled_broken skipped_records node)
-    others Ordered n = skipped_order
-    others Blameless n = no_blame (apart (final ∷ later ∷ []) skipped_votes []) (its outcomes.Cut skipped_records ∷ []) silent (no_blame (its outcomes.Cut skipped_records) [] blame_not nobody_blamed)
+    others : (other : Word) → ¬ (other ≡ Genuine) → Says (at_epoch_genesis alone) (sample Genuine) other
+    others Genuine n = absurd (n refl)
+    others Backed n = ((λ c k w. absurd (bare c k w)), tt)
+    others Named n = λ c st. absurd (nothing c st)
+    others Founded n = λ c p st on. absurd (nothing c st)
+    others Stored n = λ node h. stored node
+    others Ruled n = λ node h. ruled_broken unsigned_record node
+    others Ordered n = no_vote (its outcomes.Cut unsigned_record) refl
+    others Blameless n = no_blame (its outcomes.Cut unsigned_record) [] (λ member. and_call member (calls.Append 1 (artifacts.Nullification bare_nullification)) [] refl (silent member)) nobody_blamed
 
 -- ---- two notarizes of one view
 
@@ -585,11 +476,12 @@ not_both (a ∷ b ∷ rest) e order =
     other_block (asks refl)
 
 disordered : AllBut (at_epoch_genesis alone) (sample Ordered) Ordered
-unfolding AreBacked StandsIn sent_votes AreStored AreByRule AreBlameless voted calls_of life_in journal.kept
+unfolding AllWellSent AreBacked StandsIn sent_votes AreStored AreByRule AreBlameless voted calls_of life_in journal.kept
 disordered =
     record {
       others = others;
-      fails = λ h. (let w = h 0 (omega arith) honest in not_both w.votes (w.same ∙ ap (map vote_subject) out) w.order);
+      agrees = bare_agrees (sample Ordered) bare;
+      fails = λ h. (let w = h.0 0 (omega arith) honest in not_both w.votes (w.same ∙ ap (map vote_subject) out) w.order);
     }
   where
     out : sent_votes (sample Ordered) 0 ≡ rivals
@@ -601,7 +493,7 @@ disordered =
     others : (other : Word) → ¬ (other ≡ Ordered) → Says (at_epoch_genesis alone) (sample Ordered) other
     others Ordered n = absurd (n refl)
     others Backed n = bare.backed
-    others Agrees n = bare_agrees (sample Ordered) bare
+    others Genuine n = nothing_said (apart [] rivals []) refl refl
     others Named n = bare_named (sample Ordered) bare
     others Founded n = bare_founded (sample Ordered) bare
     others Stored n = λ node h. stored_apart [] rivals [] [] node (nothing_stored node)
@@ -613,7 +505,7 @@ own = votes.Nullify (own_nullify near)
 
 unstored : AllBut (at_epoch_genesis alone) (sample Stored) Stored
 unfolding AreBacked StandsIn sent_votes AreStored AreByRule AreBlameless voted calls_of life_in journal.kept
-unstored = record { others = others; fails = λ h. fails (h (node_of 0) honest) }
+unstored = record { others = others; agrees = bare_agrees (sample Stored) bare; fails = λ h. fails (h (node_of 0) honest) }
   where
     bare : IsBare (sample Stored)
     bare = bare_its outcomes.Cut (send own ∷ []) refl
@@ -636,11 +528,11 @@ unstored = record { others = others; fails = λ h. fails (h (node_of 0) honest) 
     others : (other : Word) → ¬ (other ≡ Stored) → Says (at_epoch_genesis alone) (sample Stored) other
     others Stored n = absurd (n refl)
     others Backed n = bare.backed
-    others Agrees n = bare_agrees (sample Stored) bare
+    others Genuine n = nothing_said (its outcomes.Cut (send own ∷ [])) refl refl
     others Named n = bare_named (sample Stored) bare
     others Founded n = bare_founded (sample Stored) bare
     others Ruled n = λ node h. ruled_broken (send own ∷ []) node
-    others Ordered n = no_vote (sample Stored) refl
+    others Ordered n = no_vote (its outcomes.Cut (send own ∷ [])) refl
     others Blameless n = no_blame (its outcomes.Cut (send own ∷ [])) [] (λ member. and_call member (send own) [] refl (silent member)) nobody_blamed
 
 signed_own : IsOwn (rules_of (at_epoch_genesis alone) 0 0) own
@@ -655,7 +547,7 @@ storing = calls.Append 1 (artifacts.Nullify (own_nullify near)) ∷ calls.Sync 1
 
 undue : AllBut (at_epoch_genesis alone) (sample Ruled) Ruled
 unfolding AreBacked StandsIn sent_votes AreStored AreByRule AreBlameless voted calls_of life_in journal.kept
-undue = record { others = others; fails = λ h. fails (h (node_of 0) honest) }
+undue = record { others = others; agrees = bare_agrees (sample Ruled) bare; fails = λ h. fails (h (node_of 0) honest) }
   where
     bare : IsBare (sample Ruled)
     bare = bare_its outcomes.Done storing refl
@@ -683,11 +575,11 @@ undue = record { others = others; fails = λ h. fails (h (node_of 0) honest) }
     others : (other : Word) → ¬ (other ≡ Ruled) → Says (at_epoch_genesis alone) (sample Ruled) other
     others Ruled n = absurd (n refl)
     others Backed n = bare.backed
-    others Agrees n = bare_agrees (sample Ruled) bare
+    others Genuine n = nothing_said (its outcomes.Done storing) refl refl
     others Named n = bare_named (sample Ruled) bare
     others Founded n = bare_founded (sample Ruled) bare
     others Stored n = λ node h. stored node
-    others Ordered n = no_vote (sample Ruled) refl
+    others Ordered n = no_vote (its outcomes.Done storing) refl
     others Blameless n =
         no_blame (its outcomes.Done storing) [] (λ member. and_call member (calls.Append 1 (artifacts.Nullify (own_nullify near))) (calls.Sync 1 ∷ send own ∷ []) refl (and_call member (calls.Sync 1) (send own ∷ []) refl (and_call member (send own) [] refl (silent member)))) nobody_blamed
 
@@ -696,7 +588,7 @@ report = calls.Report (activities.ConflictingNotarize (record { first = own_nota
 
 blamed : AllBut (at_epoch_genesis alone) (sample Blameless) Blameless
 unfolding AreBacked StandsIn sent_votes AreStored AreByRule AreBlameless voted calls_of life_in journal.kept
-blamed = record { others = others; fails = fails }
+blamed = record { others = others; agrees = bare_agrees (sample Blameless) bare; fails = fails }
   where
     bare : IsBare (sample Blameless)
     bare = bare_apart [] (report ∷ []) refl
@@ -707,22 +599,82 @@ blamed = record { others = others; fails = fails }
     others : (other : Word) → ¬ (other ≡ Blameless) → Says (at_epoch_genesis alone) (sample Blameless) other
     others Blameless n = absurd (n refl)
     others Backed n = bare.backed
-    others Agrees n = bare_agrees (sample Blameless) bare
+    others Genuine n = nothing_said (apart [] [] (report ∷ [])) refl refl
     others Named n = bare_named (sample Blameless) bare
     others Founded n = bare_founded (sample Blameless) bare
     others Stored n = λ node h. stored_apart [] [] (report ∷ []) [] node (nothing_stored node)
     others Ruled n = λ node h. ruled_apart [] [] (report ∷ []) [] node (nothing_ruled node)
-    others Ordered n = no_vote (sample Blameless) refl
+    others Ordered n = no_vote (apart [] [] (report ∷ [])) refl
 
 pub each_word : (word : Word) → AllBut (at_epoch_genesis alone) (sample word) word
 each_word Backed = unbacked
-each_word Agrees = skipped
+each_word Genuine = untrue
 each_word Named = unnamed
 each_word Founded = unfounded
 each_word Stored = unstored
 each_word Ruled = undue
 each_word Ordered = disordered
 each_word Blameless = blamed
+
+-- ---- a notarization that comes late
+
+abbrev saw : agreement.Certificate
+saw = statement_of (certificates.Notarization its_notarization)
+
+abbrev at_notarize : Sent
+at_notarize = knowing_nothing (subjects.Notarize (block 1))
+
+abbrev at_finalize : Sent
+at_finalize = record { subject = subjects.Finalize (block 1); known = saw ∷ [] }
+
+finalize_fits : FitsVote (votes.Finalize own_finalize)
+finalize_fits = (block_fits 1 1 (omega arith) (omega arith), (omega arith, signature_raw 1 0 (subjects.Finalize (block 1))))
+
+hasty_out : sent_votes (hasty ∷ []) 0 ≡ hasty_votes
+hasty_out = sent_apart [] hasty_votes [] [] nothing_sent (notarize_fits 1 1 (omega arith) (omega arith), (finalize_fits, tt))
+
+late_out : sent_votes late 0 ≡ hasty_votes
+unfolding sent_votes
+late_out = ap (λ (vs : List Vote). vs ++ []) hasty_out
+
+-- over all entries it knew what it needs
+pub late_whole : EachWellSent alone late
+unfolding calls_of taken
+late_whole member below good = subst (AreWellSent alone late) (zero_is member below) sent
+  where
+    knew : All (Knew late) (at_notarize ∷ at_finalize ∷ [])
+    knew =
+        All-cons (Knew late) at_notarize (at_finalize ∷ []) (All-nil (Came late (node_of 0)))
+        (All-cons (Knew late) at_finalize [] (All-cons (Came late (node_of 0)) saw [] (inl (Contains-here saw [])) (All-nil (Came late (node_of 0)))) (All-nil (Knew late)))
+
+    sent : AreWellSent alone late 0
+    sent =
+        record {
+          votes = at_notarize ∷ at_finalize ∷ [];
+          same = ap (map vote_subject) (sym late_out);
+          came = knew;
+          alone = All-cons Alone at_notarize (at_finalize ∷ []) (λ x low high. absurd (none_between x low high)) (All-cons Alone at_finalize [] (0 ∷ [], Contains-here saw []) (All-nil Alone));
+          order = AllPairs-cons Behind at_notarize (at_finalize ∷ []) (All-cons (Behind at_notarize) at_finalize [] tt (All-nil (Behind at_notarize)))
+              (AllPairs-cons Behind at_finalize [] (All-nil (Behind at_finalize)) (pairs_none Behind));
+        }
+
+nothing_came : (c : agreement.Certificate) → ¬ (Came (hasty ∷ []) (node_of 0) c)
+unfolding calls_of taken floors_of
+nothing_came c (inl k) = not_in_empty c k
+nothing_came c (inr k) = not_in_empty c k
+
+too_hasty : (sent : List Sent) → subjects_of sent ≡ map vote_subject hasty_votes → All (Knew (hasty ∷ [])) sent → All Alone sent → ⊥
+too_hasty [] e came may = cc
+too_hasty (a ∷ []) e came may = cc
+too_hasty (a ∷ b ∷ rest) e came may =
+    let second : b.subject ≡ subjects.Finalize (block 1) = cc in
+    let needs : MayStand 1 (subjects.Finalize (block 1)) b.known = subst (λ s. MayStand 1 s b.known) second (may 1 a (omega arith)) in
+    nothing_came _ (All-contains (Came (hasty ∷ []) (node_of 0)) b.known _ (came 1 a (omega arith)) needs.1)
+
+-- and not behind the entry that sends the finalize
+pub late_refused : ¬ (AllWellSent alone late)
+unfolding AllWellSent
+late_refused h = (let w = h.1.0 0 (omega arith) honest in too_hasty w.votes (w.same ∙ ap (map vote_subject) hasty_out) w.came w.alone)
 
 -- ---- the premises
 

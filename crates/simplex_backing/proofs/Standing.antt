@@ -1,5 +1,5 @@
--- Each certificate that stands in an entry and verifies is good.
-use Rattle.std.proofs.Common.{◌≡◌, ℕ, ◌++◌, List, [], ◌∷◌, Contains, Result, Ok, Err, refl, subst, inl, inr}
+-- Each certificate that stands in an entry and verifies is good, and so is each that an engine says.
+use Rattle.std.proofs.Common.{◌≡◌, ℕ, ◌++◌, List, [], ◌∷◌, Contains, Result, Ok, Err, Some, None, refl, subst, inl, inr}
 use Rattle.std.specs.List.{flat_map}
 use Rattle.std.proofs.lemmas.List.Elements.{Contains-append_cases}
 use Rattle.simplex_values.specs.declared.plan.Channel.{Channel}
@@ -19,12 +19,15 @@ use Rattle.simplex_messages.specs.declared.handed.Handed.TheVariants as handed
 use Rattle.simplex_messages.specs.declared.resolver.MailboxMessage.TheVariants as resolver
 use Rattle.simplex_messages.specs.declared.voter.Message.TheVariants as voter
 use Rattle.simplex_transcript.specs.declared.entry.Packet.{Packet}
+use Rattle.simplex_transcript.specs.declared.event.Event.{Event}
+use Rattle.simplex_transcript.specs.declared.event.Event.TheVariants as events
 use Rattle.simplex_run.specs.Life.{Noted}
 use Rattle.simplex_agreement.proofs.ListFacts.{not_in_empty, Contains-cons_cases}
 use Rattle.simplex_safety.specs.Sayings.{Each, InCall, InRecord, InReport, InMessage}
-use Rattle.simplex_safety.specs.Saying.{InNoted}
+use Rattle.simplex_safety.specs.Saying.{InStart, InNoted}
 use Rattle.simplex_backing.proofs.Backers.{Backers}
 use Rattle.simplex_backing.specs.Backed.{of_record, of_report, of_call, of_message, read_certificate, certificate_on, of_packet, standing_in, IsVerifying, StandsIn}
+use Rattle.simplex_backing.specs.Genuine.{floor_in, said_in}
 use Rattle.simplex_backing.proofs.Good.{IsGood}
 use Rattle.simplex_backing.proofs.Packets.{FineOn, IsFinePacket}
 
@@ -80,6 +83,30 @@ module _ (P : Certificate → Type 0) where
   in_added : (xs : List Certificate) (c : Certificate) → Each P xs → Contains xs c → P c
   in_added [] c h k = absurd (not_in_empty c k)
   in_added (x ∷ xs) c h k = elim (Contains-cons_cases x xs c k) [ inl e ↦ subst P e h.0 | inr r ↦ in_added xs c h.1 r ]
+
+  pub in_start : (event : Event) (c : Certificate) → InStart P event → Contains (floor_in event) c → P c
+  in_start (events.Start node (Some f) stop) c p k = only_one _ c p k
+  in_start (events.Start node None stop) c p k = absurd (not_in_empty c k)
+  in_start (events.Tick ms) c p k = absurd (not_in_empty c k)
+  in_start (events.Deliver at ref) c p k = absurd (not_in_empty c k)
+  in_start (events.Step at source stop) c p k = absurd (not_in_empty c k)
+  in_start (events.Answer at ref answer) c p k = absurd (not_in_empty c k)
+  in_start (events.Crash at) c p k = absurd (not_in_empty c k)
+  in_start (events.Inject who channel to bytes) c p k = absurd (not_in_empty c k)
+
+  pub in_said : (noted : Noted) (c : Certificate) → InNoted P noted → Contains (said_in noted) c → P c
+  in_said noted c said k =
+      let entry = noted.entry in
+      elim (Contains-append_cases (floor_in noted.event ++ entry.added ++ flat_map of_message entry.handed) (flat_map of_call entry.calls) c k) [
+        | inl first ↦ elim (Contains-append_cases (floor_in noted.event ++ entry.added) (flat_map of_message entry.handed) c first) [
+          | inl second ↦ elim (Contains-append_cases (floor_in noted.event) entry.added c second) [
+            | inl floor ↦ in_start noted.event c said.floor floor
+            | inr added ↦ in_added entry.added c said.added added
+          ]
+          | inr message ↦ in_all (InMessage P entry.calls) of_message (in_message entry.calls) entry.handed c said.handed message
+        ]
+        | inr call ↦ in_all (InCall P) of_call in_call entry.calls c said.calls call
+      ]
 
 -- ---- in a packet
 

@@ -331,7 +331,7 @@ people_of setting noted o floors =
 
 -- ---- a good certificate is backed in that world
 
-rising_from : (least : ℕ) (list : List Attestation) → rises_from least list ≡ true → IsStrictlyIncreasing (map (λ (a : Attestation). a.signer) list)
+pub rising_from : (least : ℕ) (list : List Attestation) → rises_from least list ≡ true → IsStrictlyIncreasing (map (λ (a : Attestation). a.signer) list)
 rising_from least [] e k lt = absurd (omega (arith, lt))
 rising_from least (a ∷ []) e k lt = absurd (omega (arith, lt))
 rising_from least (a ∷ b ∷ rest) e zero lt =

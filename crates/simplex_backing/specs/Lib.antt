@@ -1,7 +1,14 @@
 pub mod Backed
 pub mod Blame
+pub mod Chains
 pub mod Fitting
 pub mod Founded
+pub mod Genuine
+pub mod Held
+pub mod InTime
+pub mod Keeping
+pub mod Late
+pub mod OneChain
 pub mod MostlyHonest
 pub mod Naming
 pub mod Quiet

@@ -1,6 +1,7 @@
 -- A run of members of whom few are faulty.
 use Rattle.std.specs.Prelude.{◌^◌, ◌<◌, ◌≤◌, List, length}
 use Rattle.simplex_values.specs.Quorum.{max_faulty}
+use Rattle.simplex_transcript.specs.declared.setup.Setup.{Setup}
 use Rattle.simplex_run.specs.Setting.{Setting}
 use Rattle.simplex_run.specs.Life.{Noted}
 use Rattle.simplex_run.specs.Members.{members_of}
@@ -17,3 +18,9 @@ pub record IsMostlyHonest (setting : Setting) (noted : List Noted) : Type 0 wher
   pub few : length (faulty_of setting.setup) ≤ max_faulty (members_of setting.setup)
   pub ran : IsRun setting noted
   pub typed : AreTyped noted
+
+-- a setup with members, of whom few are faulty, and with views to a term
+pub record HasFewFaulty (setup : Setup) : Type 0 where
+  pub some : 0 < members_of setup
+  pub term : 0 < setup.term
+  pub few : length (faulty_of setup) ≤ max_faulty (members_of setup)

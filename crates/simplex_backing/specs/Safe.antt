@@ -16,6 +16,7 @@ use Rattle.simplex_safety.specs.Ruled.{AreByRule}
 use Rattle.simplex_backing.specs.Backed.{IsVerifying, AreBacked, StandsIn}
 use Rattle.simplex_backing.specs.Blame.{AreBlameless}
 use Rattle.simplex_backing.specs.Founded.{IsOn, IsNotarized}
+use Rattle.simplex_backing.specs.Genuine.{AreGenuine}
 use Rattle.simplex_backing.specs.WellSent.{AllWellSent}
 
 -- one of the entries has the certificate, and it verifies
@@ -39,12 +40,14 @@ AreFounded setup noted = (c : Certificate) (p : Proposal) → Stands setup noted
 abbrev pub EachHonest : Setup → (Node → Type 0) → Type 0
 EachHonest setup P = (node : Node) → ¬ (Contains (faulty_of setup) node.member) → P node
 
--- Each signer of a certificate that verifies is faulty or had sent the signed vote; no two such certificates conflict, and
--- each names the setup's epoch; an honest member notarized each proposal that they name; it signs a vote and stores it
--- before it sends it, and sends in each whole step exactly the votes that the rules give; over all its lives each of its
--- votes may stand by itself and may follow all that it sent before; and no evidence names it
+-- Each signer of a certificate that verifies is faulty or had sent the signed vote; what an engine says for a certificate
+-- verifies; no two certificates that verify conflict, and each names the setup's epoch; an honest member notarized each
+-- proposal that they name; it signs a vote and stores it before it sends it, and sends in each whole step exactly the votes
+-- that the rules give; over all its lives each of its votes may stand by itself and may follow all that it sent before, by
+-- what had come to it; and no evidence names it
 pub record IsSafe (setting : Setting) (noted : List Noted) : Type 0 where
   pub backed : AreBacked setting.setup noted
+  pub genuine : AreGenuine setting.setup noted
   pub agrees : AgreeAll setting.setup noted
   pub named : AllName setting.setup noted
   pub founded : AreFounded setting.setup noted

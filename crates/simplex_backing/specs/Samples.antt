@@ -10,9 +10,7 @@ use Rattle.simplex_wire.specs.declared.artifact.Artifact.TheVariants as artifact
 use Rattle.simplex_wire.specs.declared.attestation.Attestation.{Attestation}
 use Rattle.simplex_wire.specs.declared.certificate.Certificate.{Certificate}
 use Rattle.simplex_wire.specs.declared.certificate.Certificate.TheVariants as certificates
-use Rattle.simplex_wire.specs.declared.certificate.Notarization.{Notarization}
 use Rattle.simplex_wire.specs.declared.certificate.Nullification.{Nullification}
-use Rattle.simplex_wire.specs.declared.vote.Finalize.{Finalize}
 use Rattle.simplex_wire.specs.declared.vote.Notarize.{Notarize}
 use Rattle.simplex_wire.specs.declared.vote.Nullify.{Nullify}
 use Rattle.simplex_wire.specs.declared.vote.Vote.{Vote}
@@ -31,7 +29,7 @@ use Rattle.simplex_transcript.specs.declared.event.Event.TheVariants as events
 use Rattle.simplex_transcript.specs.declared.event.StepSource.TheVariants as sources
 use Rattle.simplex_run.specs.Entries.{node_of, noted_blank, noted_packets}
 use Rattle.simplex_run.specs.Life.{Noted}
-use Rattle.simplex_backing.specs.Words.{Word, Backed, Agrees, Named, Founded, Stored, Ruled, Ordered, Blameless}
+use Rattle.simplex_backing.specs.Words.{Word, Backed, Genuine, Named, Founded, Stored, Ruled, Ordered, Blameless}
 use Rattle.simplex_run.specs.Samples.{with_last, injects, at}
 use Rattle.simplex_transcript.specs.declared.setup.MemberKind.TheVariants as kinds
 use Rattle.simplex_transcript.specs.declared.setup.Setup.{Setup}
@@ -62,9 +60,6 @@ block byte = block_at 1 byte
 abbrev pub notarize_of : Proposal → Notarize
 notarize_of p = record { proposal = p; attestation = signed (subjects.Notarize p) }
 
-abbrev pub finalize_of : Proposal → Finalize
-finalize_of p = record { proposal = p; attestation = signed (subjects.Finalize p) }
-
 abbrev pub own_notarize : ℕ → Notarize
 own_notarize byte = notarize_of (block byte)
 
@@ -74,19 +69,13 @@ own_nullify r = record { round = r; attestation = signed (subjects.Nullify r) }
 abbrev pub notarization_of : Proposal → Certificate
 notarization_of p = certificates.Notarization (record { proposal = p; certificate = signed (subjects.Notarize p) ∷ [] })
 
-abbrev pub finalization_of : Proposal → Certificate
-finalization_of p = certificates.Finalization (record { proposal = p; certificate = signed (subjects.Finalize p) ∷ [] })
-
 abbrev pub notarized : ℕ → Certificate
 notarized byte = notarization_of (block byte)
 
 abbrev pub nullified : Round → Certificate
 nullified r = certificates.Nullification (record { round = r; certificate = signed (subjects.Nullify r) ∷ [] })
 
--- certificates of view 1 that nobody signed: they do not verify
-abbrev pub bare_notarization : Notarization
-bare_notarization = record { proposal = block 1; certificate = [] }
-
+-- a nullification of view 1 that nobody signed: it does not verify
 abbrev pub bare_nullification : Nullification
 bare_nullification = record { round = near; certificate = [] }
 
@@ -123,25 +112,12 @@ apart = entry_of (events.Tick 0) outcomes.Done
 abbrev pub its : Outcome → List Call → Noted
 its outcome made = entry_of (events.Step (node_of 0) sources.Batcher stops.None) outcome [] [] made
 
--- view 1 is skipped: its block is final, and a block for view 2 stands on view 0
-abbrev pub skipping : Proposal
-skipping = block_at 2 1
-
-abbrev pub skipped_votes : List Vote
-skipped_votes = votes.Notarize (own_notarize 1) ∷ votes.Finalize (finalize_of (block 1)) ∷ votes.Notarize (notarize_of skipping) ∷ []
-
--- the member appended its notarizes, and two certificates that nobody signed
-abbrev pub skipped_records : List Call
-skipped_records =
-    calls.Append 1 (artifacts.Notarize (own_notarize 1)) ∷ calls.Append 2 (artifacts.Notarize (notarize_of skipping))
-    ∷ calls.Append 1 (artifacts.Notarization bare_notarization) ∷ calls.Append 1 (artifacts.Nullification bare_nullification) ∷ []
-
--- The word forbids: a nullification that nobody voted for; a final view that is skipped; a certificate of another epoch;
--- a notarization whose vote nobody stored; a vote that goes out and is not stored; one that is stored and not due; two
--- notarizes of one view; and a report that the member contradicts itself
+-- The word forbids: a nullification that nobody voted for; a record of a nullification that nobody signed; a certificate of
+-- another epoch; a notarization whose vote nobody stored; a vote that goes out and is not stored; one that is stored and not
+-- due; two notarizes of one view; and a report that the member contradicts itself
 abbrev pub sample : Word → List Noted
 sample Backed = apart (nullified near ∷ []) [] [] ∷ []
-sample Agrees = apart (finalization_of (block 1) ∷ notarization_of skipping ∷ []) skipped_votes [] ∷ its outcomes.Cut skipped_records ∷ []
+sample Genuine = its outcomes.Cut (calls.Append 1 (artifacts.Nullification bare_nullification) ∷ []) ∷ []
 sample Named = apart (nullified far ∷ []) (votes.Nullify (own_nullify far) ∷ []) [] ∷ []
 sample Founded = apart (notarized 1 ∷ []) (votes.Notarize (own_notarize 1) ∷ []) [] ∷ []
 sample Stored = its outcomes.Cut (send (votes.Nullify (own_nullify near)) ∷ []) ∷ []

@@ -1,5 +1,5 @@
 -- Which votes an honest member sends, and in which order.
-use Rattle.std.specs.Prelude.{ℕ, ◌≡◌, ◌<◌, ◌⊎◌, List, map, All, Contains}
+use Rattle.std.specs.Prelude.{ℕ, ◌≡◌, ◌<◌, ◌⊎◌, List, [], ◌∷◌, map, All, Contains}
 use Rattle.simplex_wire.specs.Fields.{vote_subject}
 use Rattle.simplex_transcript.specs.declared.node.Node.{Node}
 use Rattle.simplex_transcript.specs.declared.setup.Setup.{Setup}
@@ -28,5 +28,10 @@ pub record AreWellSent (setup : Setup) (noted : List Noted) (member : ℕ) : Typ
   pub order : AreInOrder setup.term votes
 
 -- so it is of each member that is not faulty
-abbrev pub AllWellSent : Setup → List Noted → Type 0
-AllWellSent setup noted = (member : ℕ) → member < members_of setup → ¬ (Contains (faulty_of setup) member) → AreWellSent setup noted member
+abbrev pub EachWellSent : Setup → List Noted → Type 0
+EachWellSent setup noted = (member : ℕ) → member < members_of setup → ¬ (Contains (faulty_of setup) member) → AreWellSent setup noted member
+
+-- and behind each entry: so what a member knew at a vote had come to its node in the entry that sends the vote, or before
+unfoldable pub AllWellSent : Setup → List Noted → Type 0
+AllWellSent setup [] = Unit {0}
+AllWellSent setup (noted ∷ before) = EachWellSent setup (noted ∷ before) × AllWellSent setup before

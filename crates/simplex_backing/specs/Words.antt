@@ -1,4 +1,4 @@
--- The words of the headline, one by one.
+-- The words of the headline, one by one, but for the one that follows from others: that no two certificates conflict.
 use Rattle.std.specs.Prelude.{◌≡◌, List}
 use Rattle.simplex_run.specs.Setting.{Setting}
 use Rattle.simplex_run.specs.Life.{Noted}
@@ -6,12 +6,13 @@ use Rattle.simplex_safety.specs.Histories.{AreStored}
 use Rattle.simplex_safety.specs.Ruled.{AreByRule}
 use Rattle.simplex_backing.specs.Backed.{AreBacked}
 use Rattle.simplex_backing.specs.Blame.{AreBlameless}
+use Rattle.simplex_backing.specs.Genuine.{AreGenuine}
 use Rattle.simplex_backing.specs.Safe.{AgreeAll, AllName, AreFounded, EachHonest}
 use Rattle.simplex_backing.specs.WellSent.{AllWellSent}
 
 pub data Word : Type 0 where
   Backed : Word
-  Agrees : Word
+  Genuine : Word
   Named : Word
   Founded : Word
   Stored : Word
@@ -22,7 +23,7 @@ pub data Word : Type 0 where
 -- what it says of a run
 abbrev pub Says : Setting → List Noted → Word → Type 0
 Says setting noted Backed = AreBacked setting.setup noted
-Says setting noted Agrees = AgreeAll setting.setup noted
+Says setting noted Genuine = AreGenuine setting.setup noted
 Says setting noted Named = AllName setting.setup noted
 Says setting noted Founded = AreFounded setting.setup noted
 Says setting noted Stored = EachHonest setting.setup (λ node. AreStored setting node noted)
@@ -30,7 +31,8 @@ Says setting noted Ruled = EachHonest setting.setup (λ node. AreByRule setting 
 Says setting noted Ordered = AllWellSent setting.setup noted
 Says setting noted Blameless = AreBlameless setting.setup noted
 
--- all others hold, and it does not
+-- all others hold, no two certificates conflict, and it does not hold
 pub record AllBut (setting : Setting) (noted : List Noted) (word : Word) : Type 0 where
   pub others : (other : Word) → ¬ (other ≡ word) → Says setting noted other
+  pub agrees : AgreeAll setting.setup noted
   pub fails : ¬ (Says setting noted word)

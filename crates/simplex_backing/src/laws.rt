@@ -11,12 +11,13 @@ ghost use Rattle.simplex_run.specs.Setups.{faulty_in};
 ghost use Rattle.simplex_agreement.specs.Conflict.{Conflict};
 ghost use Rattle.simplex_backing.specs.Backed.{IsVerifying, AreBacked, StandsIn};
 ghost use Rattle.simplex_backing.specs.Blame.{AreBlameless};
-ghost use Rattle.simplex_backing.specs.MostlyHonest.{IsMostlyHonest};
+ghost use Rattle.simplex_backing.specs.Genuine.{AreGenuine};
+ghost use Rattle.simplex_backing.specs.MostlyHonest.{IsMostlyHonest, HasFewFaulty};
 ghost use Rattle.simplex_backing.specs.Naming.{IsMailOf, IsProposalOf};
 ghost use Rattle.simplex_safety.specs.Sayings.{Each};
 ghost use Rattle.simplex_steps.specs.Batcher.{Made, Timed, step_out};
 ghost use Rattle.simplex_safety.specs.Faulty.{faulty_of};
-ghost use Rattle.simplex_backing.specs.Safe.{AllName, IsSafe};
+ghost use Rattle.simplex_backing.specs.Safe.{AgreeAll, AllName, IsSafe};
 ghost use Rattle.simplex_backing.specs.Voting.{sent_votes, HasVoted};
 ghost use Rattle.simplex_backing.specs.WellSent.{AllWellSent};
 
@@ -30,6 +31,18 @@ pub fn certificates_are_backed()
 pub fn certificates_agree()
     ensures { (setting : Setting) (noted : List Noted) (a b : Certificate) → IsMostlyHonest setting noted → StandsIn noted a → StandsIn noted b
         → IsVerifying setting.setup a → IsVerifying setting.setup b → ¬ (Conflict setting.setup.term (certificate_subject a) (certificate_subject b)) }
+{}
+
+/// What an engine says for a certificate verifies, and a floor stood in an entry before the start at it.
+pub fn certificates_are_genuine()
+    ensures { (setting : Setting) (noted : List Noted) → IsMostlyHonest setting noted → AreGenuine setting.setup noted }
+{}
+
+/// Where certificates are backed and genuine and honest members' votes are in order, no two certificates conflict, whatever
+/// entries these are.
+pub fn agreement_follows()
+    ensures { (setup : Setup) (noted : List Noted) → HasFewFaulty setup → AreBacked setup noted → AreGenuine setup noted → AllWellSent setup noted
+        → AgreeAll setup noted }
 {}
 
 /// No entry of a run reports evidence that names an honest member.
@@ -54,7 +67,7 @@ pub fn proposals_name_the_epoch()
 {}
 
 /// Over all its lives, each vote that a member that is not faulty sent may stand by itself and may follow all that it
-/// sent before, by the certificates that had come to its node.
+/// sent before, by the certificates that had come to its node by then.
 pub fn honest_votes_keep_order()
     ensures { (setting : Setting) (noted : List Noted) → IsMostlyHonest setting noted → AllWellSent setting.setup noted }
 {}

@@ -6,15 +6,25 @@ ghost use Rattle.simplex_run.specs.Samples.{alone, at, starts};
 ghost use Rattle.simplex_run.specs.Setting.{at_epoch_genesis};
 ghost use Rattle.simplex_safety.specs.Sayings.{Each};
 ghost use Rattle.simplex_backing.specs.Fitting.{IsTyped};
+ghost use Rattle.simplex_backing.specs.Late.{late};
 ghost use Rattle.simplex_backing.specs.MostlyHonest.{IsMostlyHonest};
 ghost use Rattle.simplex_backing.specs.Samples.{sample, with_silent, after_noise};
+ghost use Rattle.simplex_backing.specs.WellSent.{EachWellSent, AllWellSent};
 ghost use Rattle.simplex_backing.specs.Words.{Word, AllBut};
 
 use crate::computed::a_start_is_quiet;
 
-/// No word follows from the others: of each there are entries which all others let pass.
+/// That no two certificates conflict follows from other words (`agreement_follows`). None of the rest follows: of each there
+/// are entries which all others let pass, and in which no two conflict.
 pub fn each_word_is_needed()
     ensures { (word : Word) → AllBut (at_epoch_genesis alone) (sample word) word }
+{}
+
+/// That a certificate comes some time is not enough: of a finalize whose notarization comes behind it the votes are in order
+/// over all entries, and not behind each.
+pub fn late_certificates_do_not_count()
+    ensures whole { EachWellSent alone late }
+    ensures refused { ¬ (AllWellSent alone late) }
 {}
 
 /// The premises are met where nothing happened yet, where a faulty member sends bytes, and where a member starts.

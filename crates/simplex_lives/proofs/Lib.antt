@@ -1,6 +1,8 @@
+pub mod Behind
 pub mod CallFacts
 pub mod Goods
 pub mod Invariant
+pub mod Keeping
 pub mod JournalFacts
 pub mod Knowing
 pub mod KnownFacts

@@ -270,7 +270,7 @@ Rising-lower : (low low' : ℕ) (j : List Section) → low' ≤ low → Rising l
 Rising-lower low low' [] le h = tt
 Rising-lower low low' (s ∷ rest) le h = (omega (arith, le, h.0), h.1)
 
-held_above : (low : ℕ) (j : List Section) → Rising low j → Placed j → (a : Artifact) → Contains (held j) a → low ≤ artifact_view a
+pub held_above : (low : ℕ) (j : List Section) → Rising low j → Placed j → (a : Artifact) → Contains (held j) a → low ≤ artifact_view a
 held_above low [] r p a c = absurd (not_in_empty a c)
 held_above low (s ∷ rest) r p a c =
     elim (Contains-append_cases (s.synced ++ s.pending) (held rest) a c) [

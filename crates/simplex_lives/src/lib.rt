@@ -13,4 +13,4 @@ mod lives;
 
 pub use calls::calls_compose;
 pub use examples::{conditions_are_needed, legal_lives_exist};
-pub use lives::{lives_agree, lives_are_honest};
+pub use lives::{lives_agree, lives_are_honest, lives_keep_the_invariant};

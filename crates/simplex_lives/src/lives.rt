@@ -3,6 +3,7 @@ ghost use Rattle.std.specs.Prelude.{ℕ, ◌≡◌, ◌<◌, ◌≤◌, List, le
 ghost use Rattle.simplex_values.specs.Quorum.{max_faulty};
 ghost use Rattle.simplex_agreement.specs.World.{Certificate, World, MayFollow, MayStand, IsBacked, IsHonest, IsLawful};
 ghost use Rattle.simplex_agreement.specs.Conflict.{Conflict};
+ghost use Rattle.simplex_lives.specs.Invariant.{KeepsInvariant, floor_from};
 ghost use Rattle.simplex_lives.specs.Member.{Call, newborn, run, IsLegal, brought};
 
 /// Whatever calls come, the votes that a member sent over all its lives have the five properties.
@@ -27,4 +28,9 @@ pub fn lives_agree()
         → ((i : ℕ) → i < w.members → ¬ (Contains w.faulty i)
         → (calls : List Call) × IsLegal w.term_length newborn calls × All (IsBacked w) (brought calls) × (w.history i ≡ (run newborn calls).sent))
         → IsBacked w a → IsBacked w b → ¬ (Conflict w.term_length a.subject b.subject) }
+{}
+
+/// At every moment of its lives, behind whatever calls, a member keeps the invariant.
+pub fn lives_keep_the_invariant()
+    ensures { (length : ℕ) (calls : List Call) → 0 < length → IsLegal length newborn calls → KeepsInvariant (floor_from 0 calls) (run newborn calls) }
 {}
