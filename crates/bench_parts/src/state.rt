@@ -1,7 +1,7 @@
 //! One member's state, view after view.
 ghost use Rattle.std.specs.Prelude.{◌<◌, ◌^◌};
 
-use simplex_rules::Verify;
+use model_rules::Verify;
 use simplex_state::{State, StateConfig};
 use simplex_types::elector::Config;
 use simplex_types::{

@@ -1,9 +1,9 @@
 //! The events of a run: whatever an event gives rise to is done in its turn, and where nothing is left, time goes by.
 use crate::failure::Failure;
 use crate::seen::Seen;
+use model_rules::Asked;
 use simplex_messages::{Call, Handed, Stop};
 use simplex_network::Network;
-use simplex_rules::Asked;
 use simplex_transcript::{Entry, Event, Node, Ref, RunError, StepSource};
 use simplex_types::{Answer, Digest, View};
 use std::alloc::{AllocError, Global};

@@ -2,15 +2,15 @@
 -- stands before it.
 
 -- Of runs: `run_network`, `run_network_from`, `run_network_par`, `gen_run`, `program`, and the laws of runs.
-pub use Rattle.simplex_run.specs.Setting
-pub use Rattle.simplex_run.specs.Run
-pub use Rattle.simplex_run.specs.Setups
-pub use Rattle.simplex_run.specs.Life
-pub use Rattle.simplex_run.specs.Members
-pub use Rattle.simplex_run.specs.Entries
-pub use Rattle.simplex_run.specs.Forged
-pub use Rattle.simplex_run_laws.specs.Complete
-pub use Rattle.simplex_groups.specs.Groups
+pub use Rattle.model_run.specs.Setting
+pub use Rattle.model_run.specs.Run
+pub use Rattle.model_run.specs.Setups
+pub use Rattle.model_run.specs.Life
+pub use Rattle.model_run.specs.Members
+pub use Rattle.model_run.specs.Entries
+pub use Rattle.model_run.specs.Forged
+pub use Rattle.law_run.specs.Complete
+pub use Rattle.model_run.specs.Groups
 pub use Rattle.simplex_network.specs.Answer
 pub use Rattle.simplex_network.specs.Stands
 pub use Rattle.simplex_program.specs.Words
@@ -20,34 +20,34 @@ pub use Rattle.simplex_program.specs.Whole
 pub use Rattle.simplex_form.specs.Input
 pub use Rattle.simplex_text.specs.Lines
 pub use Rattle.simplex_io.specs.Io
-pub use Rattle.simplex_generated.specs.Setup
-pub use Rattle.simplex_generated.specs.Summary
+pub use Rattle.simplex_generator.specs.Setup
+pub use Rattle.simplex_generator.specs.Summary
 pub use Rattle.simplex_generator.specs.Generated
 -- What a safe run is.
-pub use Rattle.simplex_backing.specs.Safe
-pub use Rattle.simplex_backing.specs.Backed
-pub use Rattle.simplex_backing.specs.Blame
-pub use Rattle.simplex_backing.specs.Founded
-pub use Rattle.simplex_backing.specs.MostlyHonest
-pub use Rattle.simplex_backing.specs.Voting
-pub use Rattle.simplex_backing.specs.WellSent
-pub use Rattle.simplex_safety.specs.Faulty
-pub use Rattle.simplex_safety.specs.Histories
-pub use Rattle.simplex_safety.specs.Ruled
-pub use Rattle.simplex_safety.specs.Sayings
-pub use Rattle.simplex_forging.specs.Forging
-pub use Rattle.simplex_limits.specs.Limits
-pub use Rattle.simplex_agreement.specs.Conflict
-pub use Rattle.simplex_agreement.specs.Quorums
-pub use Rattle.simplex_agreement.specs.World
-pub use Rattle.simplex_conduct.specs.Life as Conduct
-pub use Rattle.simplex_lives.specs.Member
-pub use Rattle.simplex_evidence.specs.Evidence
+pub use Rattle.law_run.specs.Safe
+pub use Rattle.law_run.specs.Backed
+pub use Rattle.law_run.specs.Blame
+pub use Rattle.law_run.specs.Founded
+pub use Rattle.law_run.specs.MostlyHonest
+pub use Rattle.law_run.specs.Voting
+pub use Rattle.law_run.specs.WellSent
+pub use Rattle.law_run.specs.Faulty
+pub use Rattle.law_run.specs.Histories
+pub use Rattle.law_run.specs.Ruled
+pub use Rattle.law_run.specs.Sayings
+pub use Rattle.law_run.specs.EventForging as Forging
+pub use Rattle.law_run.specs.Limits
+pub use Rattle.law_agreement.specs.Conflict
+pub use Rattle.law_agreement.specs.Quorums
+pub use Rattle.law_agreement.specs.World
+pub use Rattle.law_member.specs.Life as Conduct
+pub use Rattle.law_agreement.specs.Member
+pub use Rattle.law_member.specs.Evidence
 -- Of an engine, its actors, and threads.
-pub use Rattle.simplex_steps.specs.Engine
-pub use Rattle.simplex_steps.specs.Voter
-pub use Rattle.simplex_steps.specs.Batcher
-pub use Rattle.simplex_steps.specs.ResolverSteps
+pub use Rattle.model_steps.specs.Engine
+pub use Rattle.model_steps.specs.Voter
+pub use Rattle.model_steps.specs.Batcher
+pub use Rattle.model_steps.specs.ResolverSteps
 pub use Rattle.simplex_engine.specs.Config as EngineConfig
 pub use Rattle.simplex_engine.specs.Polled
 pub use Rattle.simplex_engine.specs.Parts as EngineParts
@@ -57,10 +57,10 @@ pub use Rattle.simplex_turns.specs.Threads
 pub use Rattle.simplex_threads.specs.Ran
 pub use Rattle.simplex_threads.specs.Ready
 pub use Rattle.simplex_threads.specs.Laws as ThreadLaws
-pub use Rattle.simplex_voter_laws.specs.Syncs
-pub use Rattle.simplex_step_laws.specs.Journal as JournalCalls
-pub use Rattle.simplex_step_laws.specs.Batcher as BatcherTold
-pub use Rattle.simplex_step_laws.specs.Resolver as ResolverAsks
+pub use Rattle.law_member.specs.Syncs
+pub use Rattle.law_member.specs.Journal as JournalCalls
+pub use Rattle.law_member.specs.Batcher as BatcherTold
+pub use Rattle.law_member.specs.Resolver as ResolverAsks
 -- Of what an engine is connected to, and of its parts.
 pub use Rattle.simplex_values.specs.Terms
 pub use Rattle.simplex_values.specs.Quorum

@@ -3,5 +3,5 @@ pub mod batcher;
 pub mod resolver;
 pub mod voter;
 
+pub use model_rules::{Asked, ProposalState};
 pub use simplex_messages::{Call, Handed, Outcome, StepOut, Stop};
-pub use simplex_rules::{Asked, ProposalState};

@@ -1,48 +1,40 @@
 //! What is proved of the definitions themselves. A proof that calls one of these may use what its clause says.
 
 // Of whole runs.
-pub use simplex_backing::{
-    honest_votes_keep_order, members_are_safe, runs_are_safe, sent_votes_are_the_same,
+pub use law_run::{
+    conditions_are_exact, honest_votes_keep_order, impersonators_forge_by_equal_digests,
+    members_are_safe, only_impersonators_and_injected_bytes_forge, payloads_keep_the_limit,
+    possible_events_run, runs_are_possible, runs_are_safe, runs_have_one_entry_each,
+    sent_votes_are_the_same,
 };
-pub use simplex_forging::{
-    impersonators_forge_by_equal_digests, only_impersonators_and_injected_bytes_forge,
-};
-pub use simplex_groups::{groups_change_nothing, steps_of_a_group_stand_apart};
-pub use simplex_limits::payloads_keep_the_limit;
-pub use simplex_run_laws::{
-    conditions_are_exact, possible_events_run, runs_are_possible, runs_have_one_entry_each,
-};
+pub use model_run::{groups_change_nothing, steps_of_a_group_stand_apart};
 
 // Of the lives of voters, and why they agree.
-pub use simplex_agreement::{backing_lasts, no_conflict, quorums_meet};
-pub use simplex_conduct::{crashes_are_lived, starts_are_lived, steps_are_lived};
-pub use simplex_lives::{lives_agree, lives_are_honest};
+pub use law_agreement::{backing_lasts, lives_agree, lives_are_honest, no_conflict, quorums_meet};
+pub use law_member::{crashes_are_lived, starts_are_lived, steps_are_lived};
 
 // Of the steps of an actor.
-pub use simplex_batcher_laws::{handed_certificates_are_founded, reports_are_founded};
-pub use simplex_evidence::{evidence_names_no_honest_member, voters_blame_nobody};
+pub use law_member::{
+    asks_are_of_what_is_not_settled, batchers_stand_where_they_were_told,
+    evidence_names_no_honest_member, fetches_are_of_unsettled_gaps,
+    handed_certificates_are_founded, leaders_are_known, prunes_follow_syncs, reports_are_founded,
+    reports_follow_syncs, sends_follow_syncs, sent_votes_are_by_rule, starts_follow_syncs,
+    starts_send_nothing, steps_end_synced, steps_write_to_one_section, voters_blame_nobody,
+};
 pub use simplex_fetch::{
     answers_are_of_open_requests, requests_are_served_once, untargeted_asks_go_round,
 };
 pub use simplex_repair::gaps_are_what_is_lacking;
-pub use simplex_step_laws::{
-    asks_are_of_what_is_not_settled, batchers_stand_where_they_were_told,
-    fetches_are_of_unsettled_gaps, leaders_are_known,
-};
 pub use simplex_threads::{turns_send_what_is_synced, turns_vote_by_rule};
-pub use simplex_voter_laws::{
-    prunes_follow_syncs, reports_follow_syncs, sends_follow_syncs, sent_votes_are_by_rule,
-    starts_follow_syncs, starts_send_nothing, steps_end_synced, steps_write_to_one_section,
-};
 
 // Of journals, mailboxes, answers, and bytes.
-pub use simplex_mailbox::{all_goes_in_turn, order_is_kept, posted_are_enqueued, posted_are_held};
-pub use simplex_report::{no_payload_is_longer, order_of_answers_does_not_matter};
-pub use simplex_shared::own_calls_stay_in_order;
-pub use simplex_step_laws::{
+pub use law_member::{
     appended_and_synced_records_are_read, records_are_read_by_section, stops_keep_what_was_synced,
     synced_records_stay,
 };
+pub use simplex_mailbox::{all_goes_in_turn, order_is_kept, posted_are_enqueued, posted_are_held};
+pub use simplex_report::{no_payload_is_longer, order_of_answers_does_not_matter};
+pub use simplex_shared::own_calls_stay_in_order;
 pub use simplex_wire::{
     a_verifying_quorum_certifies, no_artifact_begins_another, no_certificate_begins_another,
     no_long_response_is_read, no_resolver_message_begins_another, no_vote_begins_another,

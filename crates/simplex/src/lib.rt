@@ -39,7 +39,7 @@ pub use simplex_engine::{
 };
 pub use simplex_fetch as fetch;
 pub use simplex_form as form;
-pub use simplex_generated as generated;
+pub use simplex_generator as generated;
 pub use simplex_generator::gen_run;
 pub use simplex_io as io;
 pub use simplex_network::{Network, NodeEngine, Transcript, run_network, run_network_from};

@@ -14,7 +14,7 @@ use Rattle.simplex_values.specs.declared.plan.Recipients.TheVariants as recipien
 use Rattle.simplex_values.specs.declared.round.Context.{Context}
 use Rattle.simplex_values.specs.declared.round.Round.{Round}
 use Rattle.simplex_values.specs.Handoff.{is_wait}
-use Rattle.simplex_faults.specs.Payload.{payload_text, payload_digest}
+use Rattle.model_faults.specs.Payload.{payload_text, payload_digest}
 use Rattle.simplex_application.specs.declared.app_step.AppStep.{AppStep}
 use Rattle.simplex_application.specs.declared.app_step.Broadcast.{Broadcast}
 use Rattle.simplex_application.specs.declared.app_step.Broadcast.TheVariants as outcomes

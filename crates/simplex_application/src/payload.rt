@@ -2,7 +2,7 @@
 ghost use Rattle.std.specs.Prelude.{◌≡◌, ◌++◌, IfOk, OnOk};
 ghost use Rattle.sha2.specs.Sha256.{sha256};
 ghost use Rattle.simplex_wire.specs.Number.{varint};
-ghost use Rattle.simplex_faults.specs.Payload.{payload_text};
+ghost use Rattle.model_faults.specs.Payload.{payload_text};
 ghost use Rattle.simplex_application.specs.Application.{is_asked};
 
 use sha2::{Digest as Hash, Sha256};

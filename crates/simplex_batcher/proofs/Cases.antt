@@ -12,7 +12,7 @@ use Rattle.simplex_wire.specs.Certified.{is_certified}
 use Rattle.simplex_wire.specs.Fields.{certificate_subject, certificate_signatures}
 use Rattle.simplex_round.specs.Acceptance.{heard_from}
 use Rattle.simplex_round.specs.Forwarding.{is_missing_voter}
-use Rattle.simplex_steps.specs.Batcher.{Made, Doing, leader_nullified, hinted_at_update, hinted_at_vote, hinting_nullify, hinting, has_skipping, is_me, is_active, required_active, retains_view, admits_view, vote_view, vote_epoch, certificate_view, certificate_epoch, took_vote, took_constructed, took_certificate, kept_certificate, holds_kind, and_blocked, known_in, round_for, worked, RoundHistory, forwarding, relayed, targets_of, heard_vote, heard_certificate, seen_now}
+use Rattle.model_steps.specs.Batcher.{Made, Doing, leader_nullified, hinted_at_update, hinted_at_vote, hinting_nullify, hinting, has_skipping, is_me, is_active, required_active, retains_view, admits_view, vote_view, vote_epoch, certificate_view, certificate_epoch, took_vote, took_constructed, took_certificate, kept_certificate, holds_kind, and_blocked, known_in, round_for, worked, RoundHistory, forwarding, relayed, targets_of, heard_vote, heard_certificate, seen_now}
 use Rattle.simplex_batcher.specs.Working.{heard_at, own_heard_at, forwarded_at, worked_near, decoded_vote, decoded_certificate}
 
 -- ---- hints

@@ -2,7 +2,7 @@
 use Rattle.std.proofs.Common.{arith, zero-add, refl, ap, nat_le, ℕ, zero, suc, ◌≡◌, ◌+◌, ◌≤◌, List, [], ◌∷◌, ◌++◌, Bool, length, filter, if◌then◌else◌}
 use Rattle.std.specs.List.{range_with_len}
 use Rattle.std.proofs.lemmas.Grind.{common_steps}
-use Rattle.simplex_steps.specs.Batcher.{Standing, was_seen, some_passes}
+use Rattle.model_steps.specs.Batcher.{Standing, was_seen, some_passes}
 use Rattle.simplex_batcher.specs.declared.seen.Seen.{Seen}
 use Rattle.simplex_batcher.specs.Activity.{last_seen, seen_in}
 

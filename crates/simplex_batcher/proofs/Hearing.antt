@@ -7,7 +7,7 @@ use Rattle.simplex_wire.specs.declared.vote.Vote.{Vote}
 use Rattle.simplex_round.specs.Acceptance.{has_nullify}
 use Rattle.simplex_round.specs.Calls.{AddNetwork}
 use Rattle.simplex_round.specs.Known as low
-use Rattle.simplex_steps.specs.Batcher.{Made, Standing, Doing, RoundHistory, called, known_in, new_round, round_for, vote_view, some_passes, leader_nullified, with_heard}
+use Rattle.model_steps.specs.Batcher.{Made, Standing, Doing, RoundHistory, called, known_in, new_round, round_for, vote_view, some_passes, leader_nullified, with_heard}
 use Rattle.simplex_batcher.specs.Rounds.{round_of}
 use Rattle.simplex_batcher.specs.Working.{bare_round, heard_at, lead_of}
 use Rattle.simplex_batcher.proofs.Placing.{Stand, set, placed}

@@ -7,7 +7,7 @@ use Rattle.std.proofs.lemmas.Bool.Decides.{nat_tests}
 use Rattle.simplex_values.specs.declared.proposal.Subject.{Subject}
 use Rattle.simplex_wire.specs.declared.attestation.Attestation.{Attestation}
 use Rattle.simplex_round.specs.Known as low
-use Rattle.simplex_steps.specs.Batcher.{Made, Standing, Doing, RoundHistory, constructing, constructing_times}
+use Rattle.model_steps.specs.Batcher.{Made, Standing, Doing, RoundHistory, constructing, constructing_times}
 use Rattle.simplex_batcher.specs.declared.actor.Actor.{Actor}
 use Rattle.simplex_batcher.specs.declared.rounds.Rounds.{Rounds}
 use Rattle.simplex_messages.specs.declared.step.StepOut.{StepOut}

@@ -1,6 +1,6 @@
 -- Loops that lead from one standing to another.
 use Rattle.std.proofs.Common.{◌≡◌, ℕ, List, [], ◌∷◌, subst}
-use Rattle.simplex_steps.specs.Batcher.{Made, Standing, Doing, worked, worked_all}
+use Rattle.model_steps.specs.Batcher.{Made, Standing, Doing, worked, worked_all}
 use Rattle.simplex_batcher.specs.Working.{with_lead, with_leads}
 
 -- where the views so far led, and that those that are left lead from there where all lead

@@ -2,7 +2,7 @@
 use Rattle.std.proofs.Common.{◌≡◌, ◌∙◌, sym, ℕ, Bool, Option}
 use Rattle.simplex_values.specs.declared.proposal.Subject.{Subject}
 use Rattle.simplex_wire.specs.declared.attestation.Attestation.{Attestation}
-use Rattle.simplex_steps.specs.Batcher.{Made, Standing, RoundHistory}
+use Rattle.model_steps.specs.Batcher.{Made, Standing, RoundHistory}
 use Rattle.simplex_batcher.specs.declared.actor.Actor.{Actor}
 use Rattle.simplex_batcher.specs.declared.rounds.Rounds.{Rounds}
 use Rattle.simplex_batcher.specs.Rounds.{round_at}

@@ -6,7 +6,7 @@ use Rattle.std.proofs.lemmas.Bool.{cases_eq}
 use Rattle.std.proofs.lemmas.Bool.Decides.{nat_tests}
 use Rattle.simplex_round.specs.Known as low
 use Rattle.simplex_round.specs.Calls as rounds
-use Rattle.simplex_steps.specs.Batcher.{Made, Standing, RoundHistory, called, led, round_for, new_round}
+use Rattle.model_steps.specs.Batcher.{Made, Standing, RoundHistory, called, led, round_for, new_round}
 use Rattle.simplex_batcher.specs.Rounds.{round_of, given}
 use Rattle.simplex_batcher.specs.Working.{put, with_lead, lead_of}
 

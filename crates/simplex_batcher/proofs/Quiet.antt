@@ -4,7 +4,7 @@ use Rattle.std.specs.Option.{option_map, option_map_or}
 use Rattle.simplex_round.specs.Known as low
 use Rattle.simplex_round.specs.Assembly.{Scheme, first_work, after_work, constructed, batch_of}
 use Rattle.simplex_round.specs.Calls.{TryConstruct, known_after, after_call}
-use Rattle.simplex_steps.specs.Batcher.{Made, Doing, RoundHistory, constructing, called, known_in, with_batch}
+use Rattle.model_steps.specs.Batcher.{Made, Doing, RoundHistory, constructing, called, known_in, with_batch}
 use Rattle.simplex_messages.specs.declared.step.StepOut.{StepOut}
 use Rattle.simplex_batcher.specs.Rounds.{round_of}
 use Rattle.simplex_batcher.specs.Holding.{Holds}

@@ -13,7 +13,7 @@ use Rattle.std.proofs.lemmas.Bool.{cases_eq}
 use Rattle.std.proofs.lemmas.Bool.Decides.{nat_tests}
 use Rattle.simplex_values.specs.Terms.{is_in_window, admission_limit}
 use Rattle.simplex_round.specs.Known as low
-use Rattle.simplex_steps.specs.Batcher.{Made, Standing, RoundHistory, led, window_views, with_leader, round_for}
+use Rattle.model_steps.specs.Batcher.{Made, Standing, RoundHistory, led, window_views, with_leader, round_for}
 use Rattle.simplex_batcher.specs.Rounds.{round_of}
 use Rattle.simplex_batcher.specs.Working.{put, with_lead, with_leads, with_window}
 use Rattle.simplex_batcher.proofs.Counting.{filter_same, filter_same_from}

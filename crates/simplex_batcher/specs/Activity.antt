@@ -1,6 +1,6 @@
 -- Who was seen.
 use Rattle.std.specs.Prelude.{ℕ, Bool, Option, None, length, nat_le, nat_lt, slice_index_or, if◌then◌else◌}
-use Rattle.simplex_steps.specs.Batcher.{some_passes}
+use Rattle.model_steps.specs.Batcher.{some_passes}
 use Rattle.simplex_batcher.specs.declared.seen.Seen.{Seen}
 use Rattle.simplex_batcher.specs.Rounds.{found}
 

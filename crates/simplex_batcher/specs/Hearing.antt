@@ -4,7 +4,7 @@ use Rattle.simplex_wire.specs.declared.vote.Vote.{Vote}
 use Rattle.simplex_types.specs.declared.activity.Activity.{Activity}
 use Rattle.simplex_round.specs.Acceptance.{heard_from, has_nullify, vote_activity}
 use Rattle.simplex_round.specs.Calls.{AddNetwork}
-use Rattle.simplex_steps.specs.Batcher.{RoundHistory, called, known_in, some_passes}
+use Rattle.model_steps.specs.Batcher.{RoundHistory, called, known_in, some_passes}
 use Rattle.simplex_batcher.specs.declared.others.Heard.{Heard}
 use Rattle.simplex_batcher.specs.Rounds.{given}
 

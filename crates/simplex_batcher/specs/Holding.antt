@@ -2,7 +2,7 @@
 use Rattle.std.specs.Prelude.{◌≡◌, ℕ, ◌==◌, false, Option, Some}
 use Rattle.std.specs.Option.{option_map}
 use Rattle.simplex_round.specs.Known as low
-use Rattle.simplex_steps.specs.Batcher.{Doing}
+use Rattle.model_steps.specs.Batcher.{Doing}
 use Rattle.simplex_messages.specs.declared.step.StepOut.{StepOut}
 use Rattle.simplex_batcher.specs.Rounds.{round_of}
 use Rattle.simplex_batcher.specs.Stands.{work_of}

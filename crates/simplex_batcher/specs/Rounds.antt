@@ -6,7 +6,7 @@ use Rattle.std.specs.BTreeMap as tree
 use Rattle.std.specs.BTreeMap.{BTreeMap}
 use Rattle.simplex_round.specs.Known.{Made, Known, Standing}
 use Rattle.simplex_round.specs.Calls.{Call, SetLeader}
-use Rattle.simplex_steps.specs.Batcher.{RoundHistory, known_in, called}
+use Rattle.model_steps.specs.Batcher.{RoundHistory, known_in, called}
 use Rattle.simplex_batcher.specs.declared.rounds.Rounds.{Rounds}
 
 -- what the map has at a number

@@ -5,7 +5,7 @@ use Rattle.simplex_values.specs.declared.proposal.Subject.{Subject}
 use Rattle.simplex_wire.specs.declared.attestation.Attestation.{Attestation}
 use Rattle.simplex_round.specs.Assembly.{as_scheme}
 use Rattle.simplex_round.specs.Known as low
-use Rattle.simplex_steps.specs.Batcher.{Made, Timed, Standing, Doing, RoundHistory, standing_after}
+use Rattle.model_steps.specs.Batcher.{Made, Timed, Standing, Doing, RoundHistory, standing_after}
 use Rattle.simplex_batcher.specs.declared.config.Config.{Config}
 use Rattle.simplex_batcher.specs.declared.actor.Actor.{Actor}
 use Rattle.simplex_messages.specs.Step.{no_out}

@@ -7,7 +7,7 @@ use Rattle.simplex_wire.specs.declared.certificate.Certificate.{Certificate}
 use Rattle.simplex_round.specs.Acceptance as votes
 use Rattle.simplex_round.specs.Calls as rounds
 use Rattle.simplex_round.specs.Forwarding.{gives_proposal}
-use Rattle.simplex_steps.specs.Batcher.{Made, Standing, Doing, RoundHistory, called, known_in, led, round_for, new_round, with_heard, with_round, and_marked, vote_view, certificate_view, forwarded, constructing, constructing_times, heard_vote, heard_certificate}
+use Rattle.model_steps.specs.Batcher.{Made, Standing, Doing, RoundHistory, called, known_in, led, round_for, new_round, with_heard, with_round, and_marked, vote_view, certificate_view, forwarded, constructing, constructing_times, heard_vote, heard_certificate}
 
 -- the view has this round
 abbrev pub put : ℕ → RoundHistory → Standing → Standing

@@ -1,7 +1,7 @@
 //! Which members were seen of late.
 ghost use Rattle.std.specs.Prelude.{◌≡◌, length, filter, OnOk};
 ghost use Rattle.std.specs.List.{range_with_len};
-ghost use Rattle.simplex_steps.specs.Batcher.{is_active, was_seen, required_active, seen_now};
+ghost use Rattle.model_steps.specs.Batcher.{is_active, was_seen, required_active, seen_now};
 ghost use Rattle.simplex_batcher.specs.Activity.{seen_in};
 ghost use Rattle.simplex_batcher.specs.Stands.{Moves, Reads};
 
@@ -35,7 +35,7 @@ fn count_seen(seen: &Seen, since: u64, members: u32) -> u32
 impl<S: Scheme + Drop> Actor<S> {
     /// How many members must have been seen for the others to count as gone: a quorum, less this member where
     /// it is one.
-    #[tactic(auto, unfolding(crate::specs::Stands::batcher_made, simplex_steps::specs::Batcher::required_active))]
+    #[tactic(auto, unfolding(crate::specs::Stands::batcher_made, model_steps::specs::Batcher::required_active))]
     fn required_active(&self) -> u32
         ensures { Reads S.verifies S.recovers S.members S.member self.now (λ made standing. required_active made) result }
     {
@@ -47,7 +47,7 @@ impl<S: Scheme + Drop> Actor<S> {
     }
 
     /// Whether the member was seen since.
-    #[tactic(auto, unfolding(crate::specs::Activity::seen_in, simplex_steps::specs::Batcher::was_seen))]
+    #[tactic(auto, unfolding(crate::specs::Activity::seen_in, model_steps::specs::Batcher::was_seen))]
     fn was_seen(&self, since: u64, member: Participant) -> bool
         ensures { Reads S.verifies S.recovers S.members S.member self.now (λ made standing. was_seen standing since member) result }
     {
@@ -55,7 +55,7 @@ impl<S: Scheme + Drop> Actor<S> {
     }
 
     /// Whether the member was seen within this time, or too few members were to tell.
-    #[tactic(auto, unfolding(crate::specs::Stands::batcher_made, simplex_steps::specs::Batcher::is_active))]
+    #[tactic(auto, unfolding(crate::specs::Stands::batcher_made, model_steps::specs::Batcher::is_active))]
     pub(crate) fn seems_active(&self, member: Participant, timeout: u64, now: u64) -> bool
         ensures { Reads S.verifies S.recovers S.members S.member self.now (λ made standing. is_active made standing member timeout now) result }
     {
@@ -75,7 +75,7 @@ impl<S: Scheme + Drop> Actor<S> {
     }
 
     /// The sender is seen now.
-    #[tactic(auto, unfolding(simplex_steps::specs::Batcher::seen_now))]
+    #[tactic(auto, unfolding(model_steps::specs::Batcher::seen_now))]
     pub(crate) fn see(&mut self, sender: Participant, now: u64) -> Result<(), AllocError>
         ensures { OnOk result (Moves S.verifies S.recovers S.members S.member self.old self.new (λ made. seen_now sender now)) }
     {

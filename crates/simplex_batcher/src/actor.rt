@@ -1,12 +1,12 @@
 //! The batcher's actor.
-#![tactic(auto, unfolding(crate::specs::Stands::StandsFor, crate::specs::Stands::batcher_made, crate::specs::Rounds::found, simplex_steps::specs::Batcher::standing_after))]
+#![tactic(auto, unfolding(crate::specs::Stands::StandsFor, crate::specs::Stands::batcher_made, crate::specs::Rounds::found, model_steps::specs::Batcher::standing_after))]
 
 ghost use Rattle.std.specs.Prelude.{◌≡◌, ◌<◌, ◌^◌, [], filter_map, IfOk, OnOk};
 ghost use Rattle.simplex_mailbox.specs.Post.{Posted};
 ghost use Rattle.simplex_messages.specs.Step.{no_out};
 ghost use Rattle.simplex_messages.specs.declared.step.Outcome.TheVariants.{Done};
-ghost use Rattle.simplex_steps.specs.Batcher.{active_after, step_out};
-ghost use Rattle.simplex_steps.specs.Engine.{for_voter};
+ghost use Rattle.model_steps.specs.Batcher.{active_after, step_out};
+ghost use Rattle.model_steps.specs.Engine.{for_voter};
 ghost use Rattle.simplex_batcher.specs.Stands.{StandsFor, Takes, Answers, batcher_made};
 
 use crate::config::Config;
@@ -36,7 +36,7 @@ pub struct Actor<S> {
 
 impl<S: Scheme + Drop> Actor<S> {
     /// A batcher that was given nothing yet.
-    #[tactic(auto, unfolding(crate::specs::Stands::StandsFor, crate::specs::Stands::batcher_made, crate::specs::Rounds::found, simplex_steps::specs::Batcher::standing_after, simplex_steps::specs::Batcher::at_first))]
+    #[tactic(auto, unfolding(crate::specs::Stands::StandsFor, crate::specs::Stands::batcher_made, crate::specs::Rounds::found, model_steps::specs::Batcher::standing_after, model_steps::specs::Batcher::at_first))]
     pub fn new(alloc: Global, config: Config<S>) -> Result<Actor<S>, AllocError>
         ensures { IfOk result (λ actor. StandsFor S.verifies S.recovers S.members S.member actor (batcher_made S.verifies S.recovers S.members S.member config) []) }
     {
@@ -53,7 +53,7 @@ impl<S: Scheme + Drop> Actor<S> {
     }
 
     /// Whether the member was seen within this time, or too few members were to tell.
-    #[tactic(auto, unfolding(crate::specs::Stands::StandsFor, simplex_steps::specs::Batcher::active_after))]
+    #[tactic(auto, unfolding(crate::specs::Stands::StandsFor, model_steps::specs::Batcher::active_after))]
     pub fn is_active(&self, member: Participant, skip_timeout: u64, now: u64) -> bool
         ensures { Answers S.verifies S.recovers S.members S.member self.now (λ made past. active_after made past member skip_timeout now) result }
     {

@@ -2,7 +2,7 @@
 ghost use Rattle.std.specs.Prelude.{◌≡◌, OnOk};
 ghost use Rattle.simplex_wire.specs.Certified.{is_certified};
 ghost use Rattle.simplex_wire.specs.Fields.{certificate_signatures, certificate_subject};
-ghost use Rattle.simplex_steps.specs.Batcher.{holds_kind, kept_certificate, took_certificate};
+ghost use Rattle.model_steps.specs.Batcher.{holds_kind, kept_certificate, took_certificate};
 ghost use Rattle.simplex_batcher.specs.Working.{recorded_at};
 ghost use Rattle.simplex_batcher.specs.Stands.{Marks, Reads};
 
@@ -26,7 +26,7 @@ fn signatures_of(certificate: &Certificate) -> &Signatures
 
 impl<S: Scheme + Drop> Actor<S> {
     /// Whether a certificate of the kind is held for the view.
-    #[tactic(auto, unfolding(simplex_steps::specs::Batcher::holds_kind))]
+    #[tactic(auto, unfolding(model_steps::specs::Batcher::holds_kind))]
     fn holds_kind(&self, certificate: &Certificate) -> bool
         ensures { Reads S.verifies S.recovers S.members S.member self.now (λ made standing. holds_kind standing certificate.now) result }
     {
@@ -64,7 +64,7 @@ impl<S: Scheme + Drop> Actor<S> {
     }
 
     /// A certificate that verifies.
-    #[tactic(auto, unfolding(crate::specs::Working::recorded_at, simplex_steps::specs::Batcher::kept_certificate))]
+    #[tactic(auto, unfolding(crate::specs::Working::recorded_at, model_steps::specs::Batcher::kept_certificate))]
     fn keep_certificate(
         &mut self,
         certificate: Certificate,
@@ -79,7 +79,7 @@ impl<S: Scheme + Drop> Actor<S> {
     }
 
     /// A certificate from the network, where it is still of use. A sender of one that does not verify is blocked.
-    #[tactic(auto, unfolding(simplex_steps::specs::Batcher::took_certificate))]
+    #[tactic(auto, unfolding(model_steps::specs::Batcher::took_certificate))]
     pub(crate) fn take_certificate(
         &mut self,
         sender: Participant,

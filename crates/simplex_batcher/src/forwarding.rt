@@ -1,7 +1,7 @@
 //! To whom a notarized proposal is forwarded.
 ghost use Rattle.std.specs.Prelude.{◌≡◌, ◌++◌, ◌∷◌, [], ◌==◌, ℕ, filter, not, IfOk, OnOk};
 ghost use Rattle.simplex_values.specs.declared.policy.ForwardPolicy.TheVariants.{SilentVoters, SilentLeader};
-ghost use Rattle.simplex_steps.specs.Batcher.{forwarding, targets_of, relayed, some_passes};
+ghost use Rattle.model_steps.specs.Batcher.{forwarding, targets_of, relayed, some_passes};
 ghost use Rattle.simplex_batcher.specs.Stands.{Does, ReadsRound};
 
 use crate::actor::Actor;
@@ -69,7 +69,7 @@ fn without(
 
 impl<S: Scheme + Drop> Actor<S> {
     /// The leader, where it is not this member and its notarize of the proposal was not seen.
-    #[tactic(auto, unfolding(crate::specs::Rounds::round_of, simplex_round::specs::Stands::StandsFor, simplex_steps::specs::Batcher::targets_of))]
+    #[tactic(auto, unfolding(crate::specs::Rounds::round_of, simplex_round::specs::Stands::StandsFor, model_steps::specs::Batcher::targets_of))]
     fn silent_leader(
         &self,
         leader: Participant,
@@ -89,7 +89,7 @@ impl<S: Scheme + Drop> Actor<S> {
     }
 
     /// The other members whose notarize of the proposal was not seen.
-    #[tactic(auto, unfolding(crate::specs::Rounds::round_of, simplex_round::specs::Stands::StandsFor, simplex_steps::specs::Batcher::targets_of))]
+    #[tactic(auto, unfolding(crate::specs::Rounds::round_of, simplex_round::specs::Stands::StandsFor, model_steps::specs::Batcher::targets_of))]
     fn silent_voters(
         &self,
         proposal: &Proposal,
@@ -104,7 +104,7 @@ impl<S: Scheme + Drop> Actor<S> {
     }
 
     /// Whom a proposal of the round's view is forwarded to.
-    #[tactic(auto, unfolding(crate::specs::Stands::batcher_made, simplex_steps::specs::Batcher::targets_of))]
+    #[tactic(auto, unfolding(crate::specs::Stands::batcher_made, model_steps::specs::Batcher::targets_of))]
     fn targets(
         &self,
         leader: Participant,
@@ -127,7 +127,7 @@ impl<S: Scheme + Drop> Actor<S> {
     }
 
     /// The proposal, if there is one, is forwarded where its view has a round.
-    #[tactic(auto, unfolding(crate::specs::Rounds::found, simplex_steps::specs::Batcher::forwarding))]
+    #[tactic(auto, unfolding(crate::specs::Rounds::found, model_steps::specs::Batcher::forwarding))]
     pub(crate) fn forward(
         &self,
         leader: Participant,

@@ -1,6 +1,6 @@
 //! Hints to the voter that the current view's leader is of no use.
 ghost use Rattle.std.specs.Prelude.{◌≡◌, ℕ, List, OnOk};
-ghost use Rattle.simplex_steps.specs.Batcher.{Made, Standing, Doing, leader_nullified, hinting, hinting_nullify, hinted_at_vote, hinted_at_update, is_me, has_skipping};
+ghost use Rattle.model_steps.specs.Batcher.{Made, Standing, Doing, leader_nullified, hinting, hinting_nullify, hinted_at_vote, hinted_at_update, is_me, has_skipping};
 ghost use Rattle.simplex_batcher.specs.Stands.{Does, IsAt, Reads, Stands};
 
 use crate::actor::Actor;
@@ -21,7 +21,7 @@ fn has_skipping(skip: SkipPolicy) -> bool
 
 impl<S: Scheme + Drop> Actor<S> {
     /// Whether the leader's nullify of the current view is accepted.
-    #[tactic(auto, unfolding(simplex_steps::specs::Batcher::leader_nullified))]
+    #[tactic(auto, unfolding(model_steps::specs::Batcher::leader_nullified))]
     fn leader_nullified(&self) -> bool
         ensures { Reads S.verifies S.recovers S.members S.member self.now (λ made standing. leader_nullified standing) result }
     {
@@ -76,7 +76,7 @@ impl<S: Scheme + Drop> Actor<S> {
 
     /// The hint that a vote from the network gives, once between two updates. Where its view is current, it is known
     /// whether the leader's nullify is accepted.
-    #[tactic(auto, unfolding(crate::specs::Stands::batcher_made, simplex_steps::specs::Batcher::hinted_at_vote))]
+    #[tactic(auto, unfolding(crate::specs::Stands::batcher_made, model_steps::specs::Batcher::hinted_at_vote))]
     pub(crate) fn hint_at_vote(
         &mut self,
         view: View,
@@ -97,7 +97,7 @@ impl<S: Scheme + Drop> Actor<S> {
     }
 
     /// The hint that an update gives, where views are skipped.
-    #[tactic(auto, unfolding(crate::specs::Stands::batcher_made, simplex_steps::specs::Batcher::hinted_at_update))]
+    #[tactic(auto, unfolding(crate::specs::Stands::batcher_made, model_steps::specs::Batcher::hinted_at_update))]
     pub(crate) fn hint_at_update(
         &mut self,
         leader: Participant,

@@ -1,6 +1,6 @@
 //! Which views are kept, and the rounds that are made for them.
 ghost use Rattle.std.specs.Prelude.{◌≡◌, ◌&&◌, IfOk, OnOk, unwrap_or};
-ghost use Rattle.simplex_steps.specs.Batcher.{retains_view, admits_view, round_for, new_round};
+ghost use Rattle.model_steps.specs.Batcher.{retains_view, admits_view, round_for, new_round};
 ghost use Rattle.simplex_batcher.specs.Rounds.{round_of};
 ghost use Rattle.simplex_batcher.specs.Working.{put, with_lead, lead_of};
 ghost use Rattle.simplex_batcher.specs.Stands.{Moves, Reads};
@@ -25,7 +25,7 @@ impl<S: Scheme + Drop> Actor<S> {
     }
 
     /// Whether the view is kept.
-    #[tactic(auto, unfolding(crate::specs::Stands::batcher_made, simplex_steps::specs::Batcher::retains_view))]
+    #[tactic(auto, unfolding(crate::specs::Stands::batcher_made, model_steps::specs::Batcher::retains_view))]
     pub(crate) fn retains(&self, view: View) -> bool
         ensures { Reads S.verifies S.recovers S.members S.member self.now (λ made standing. retains_view made standing view) result }
     {
@@ -33,7 +33,7 @@ impl<S: Scheme + Drop> Actor<S> {
     }
 
     /// Whether the view is admitted.
-    #[tactic(auto, unfolding(crate::specs::Stands::batcher_made, simplex_steps::specs::Batcher::admits_view))]
+    #[tactic(auto, unfolding(crate::specs::Stands::batcher_made, model_steps::specs::Batcher::admits_view))]
     pub(crate) fn admits(&self, view: View) -> bool
         ensures { Reads S.verifies S.recovers S.members S.member self.now (λ made standing. admits_view made standing view) result }
     {
@@ -41,7 +41,7 @@ impl<S: Scheme + Drop> Actor<S> {
     }
 
     /// Whether a vote of the view is of use: the view is kept and admitted.
-    #[tactic(auto, unfolding(crate::specs::Stands::batcher_made, simplex_steps::specs::Batcher::retains_view, simplex_steps::specs::Batcher::admits_view))]
+    #[tactic(auto, unfolding(crate::specs::Stands::batcher_made, model_steps::specs::Batcher::retains_view, model_steps::specs::Batcher::admits_view))]
     pub(crate) fn admits_vote(&self, view: View) -> bool
         ensures { Reads S.verifies S.recovers S.members S.member self.now (λ made standing. retains_view made standing view && admits_view made standing view) result }
     {
@@ -49,7 +49,7 @@ impl<S: Scheme + Drop> Actor<S> {
     }
 
     /// A new round of the view: it is skipped where the view is below current and votes are not tracked.
-    #[tactic(auto, unfolding(crate::specs::Stands::batcher_made, crate::specs::Rounds::round_of, simplex_round::specs::Stands::StandsFor, simplex_steps::specs::Batcher::new_round))]
+    #[tactic(auto, unfolding(crate::specs::Stands::batcher_made, crate::specs::Rounds::round_of, simplex_round::specs::Stands::StandsFor, model_steps::specs::Batcher::new_round))]
     fn new_round(&self, view: View) -> Result<Round, AllocError>
         ensures { IfOk result (λ round. Reads S.verifies S.recovers S.members S.member self.now (λ made standing. round_of (new_round made standing view)) round) }
     {

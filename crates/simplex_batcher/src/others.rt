@@ -9,11 +9,11 @@ ghost use Rattle.std.specs.Ordering.{nat_cmp};
 ghost use Rattle.std.specs.declared.ops.Bound.TheVariants.{Included};
 ghost use Rattle.simplex_round.specs.Acceptance.{heard, heard_from, has_nullify};
 ghost use Rattle.std.specs.Option.{is_some};
-ghost use Rattle.simplex_steps.specs.Batcher.{some_passes};
+ghost use Rattle.model_steps.specs.Batcher.{some_passes};
 ghost use Rattle.simplex_batcher.specs.Hearing.{voted, heard_of};
 ghost use Rattle.simplex_round.specs.Calls.{AcceptVote, SetLeader, RecordCertificate};
 ghost use Rattle.simplex_round.specs.Forwarding.{gives_proposal};
-ghost use Rattle.simplex_steps.specs.Batcher.{RoundHistory, known_in};
+ghost use Rattle.model_steps.specs.Batcher.{RoundHistory, known_in};
 ghost use Rattle.simplex_batcher.specs.Rounds.{found, round_of, given, ChangesAt, TakesAt, StaysWithout, AnswersAt, HistoryAnswersAt};
 
 use crate::kept::Kept;

@@ -6,7 +6,7 @@ ghost use Rattle.std.specs.Option.{is_some, option_copied};
 ghost use Rattle.simplex_round.specs.Acceptance.{heard, heard_from, has_nullify};
 ghost use Rattle.simplex_round.specs.Calls.{AcceptVote, SetLeader, RecordCertificate};
 ghost use Rattle.simplex_round.specs.Forwarding.{gives_proposal, is_held};
-ghost use Rattle.simplex_steps.specs.Batcher.{known_in};
+ghost use Rattle.model_steps.specs.Batcher.{known_in};
 ghost use Rattle.simplex_batcher.specs.Hearing.{voted, heard_of};
 ghost use Rattle.simplex_batcher.specs.Rounds.{round_at, given, ChangesAt, TakesAt, StaysWithout, AnswersAt, HistoryAnswersAt};
 

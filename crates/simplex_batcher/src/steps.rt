@@ -7,8 +7,8 @@ ghost use Rattle.simplex_messages.specs.declared.voter.Message.{Message};
 ghost use Rattle.simplex_wire.specs.Format.{whole};
 ghost use Rattle.simplex_wire.specs.Message as format;
 ghost use Rattle.simplex_mailbox.specs.Post.{Posted};
-ghost use Rattle.simplex_steps.specs.Batcher.{acted, heard_vote, heard_certificate, step};
-ghost use Rattle.simplex_steps.specs.Engine.{for_voter};
+ghost use Rattle.model_steps.specs.Batcher.{acted, heard_vote, heard_certificate, step};
+ghost use Rattle.model_steps.specs.Engine.{for_voter};
 ghost use Rattle.simplex_batcher.specs.Working.{decoded_vote, decoded_certificate};
 ghost use Rattle.simplex_batcher.specs.Stands.{Marks, Reads, WorksAs};
 
@@ -51,7 +51,7 @@ impl<S: Scheme + Drop> Actor<S> {
     }
 
     /// A packet of the vote channel. A sender of one that does not decode is blocked.
-    #[tactic(auto, unfolding(crate::specs::Working::decoded_vote, simplex_steps::specs::Batcher::heard_vote))]
+    #[tactic(auto, unfolding(crate::specs::Working::decoded_vote, model_steps::specs::Batcher::heard_vote))]
     fn hear_vote_packet(
         &mut self,
         sender: Participant,
@@ -96,7 +96,7 @@ impl<S: Scheme + Drop> Actor<S> {
     }
 
     /// A packet of the certificate channel. A sender of one that does not decode is blocked.
-    #[tactic(auto, unfolding(crate::specs::Working::decoded_certificate, simplex_steps::specs::Batcher::heard_certificate))]
+    #[tactic(auto, unfolding(crate::specs::Working::decoded_certificate, model_steps::specs::Batcher::heard_certificate))]
     fn hear_certificate_packet(
         &mut self,
         sender: Participant,
@@ -121,7 +121,7 @@ impl<S: Scheme + Drop> Actor<S> {
     }
 
     /// A message of the voter.
-    #[tactic(auto, unfolding(simplex_steps::specs::Batcher::acted))]
+    #[tactic(auto, unfolding(model_steps::specs::Batcher::acted))]
     fn take_mail(
         &mut self,
         message: &batcher::Message,
@@ -151,7 +151,7 @@ impl<S: Scheme + Drop> Actor<S> {
     }
 
     /// What the step takes.
-    #[tactic(auto, unfolding(simplex_steps::specs::Batcher::acted))]
+    #[tactic(auto, unfolding(model_steps::specs::Batcher::acted))]
     fn act(
         &mut self,
         input: &BatcherInput,
@@ -178,7 +178,7 @@ impl<S: Scheme + Drop> Actor<S> {
     }
 
     /// A whole step, but for the posting.
-    #[tactic(auto, unfolding(simplex_steps::specs::Batcher::step))]
+    #[tactic(auto, unfolding(model_steps::specs::Batcher::step))]
     pub(crate) fn take(
         &mut self,
         input: &BatcherInput,

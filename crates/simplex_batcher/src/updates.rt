@@ -1,6 +1,6 @@
 //! Updates from the voter.
 ghost use Rattle.std.specs.Prelude.{IfOk, OnOk};
-ghost use Rattle.simplex_steps.specs.Batcher.{took_update, with_leader, window_views};
+ghost use Rattle.model_steps.specs.Batcher.{took_update, with_leader, window_views};
 ghost use Rattle.simplex_batcher.specs.Working.{entered, with_leads, with_window};
 ghost use Rattle.simplex_batcher.specs.Stands.{Marks, Moves, Reads};
 
@@ -73,7 +73,7 @@ impl<S: Scheme + Drop> Actor<S> {
     }
 
     /// The voter is in a view now.
-    #[tactic(auto, unfolding(simplex_steps::specs::Batcher::took_update))]
+    #[tactic(auto, unfolding(model_steps::specs::Batcher::took_update))]
     pub(crate) fn take_update(
         &mut self,
         current: View,

@@ -2,7 +2,7 @@
 ghost use Rattle.std.specs.Prelude.{◌++◌, IfOk, OnOk};
 ghost use Rattle.simplex_round.specs.Acceptance.{heard_from, has_nullify};
 ghost use Rattle.simplex_round.specs.Calls.{AddNetwork};
-ghost use Rattle.simplex_steps.specs.Batcher.{took_vote, took_constructed, round_for, called, known_in, vote_view, some_passes};
+ghost use Rattle.model_steps.specs.Batcher.{took_vote, took_constructed, round_for, called, known_in, vote_view, some_passes};
 ghost use Rattle.simplex_batcher.specs.Hearing.{voted, heard_of};
 ghost use Rattle.simplex_batcher.specs.Rounds.{given};
 ghost use Rattle.simplex_batcher.specs.Working.{heard_at, own_heard_at, bare_round, lead_of, put};
@@ -64,7 +64,7 @@ impl<S: Scheme + Drop> Actor<S> {
     }
 
     /// A vote from the network, where it is still of use.
-    #[tactic(auto, unfolding(simplex_steps::specs::Batcher::took_vote))]
+    #[tactic(auto, unfolding(model_steps::specs::Batcher::took_vote))]
     pub(crate) fn take_vote(
         &mut self,
         sender: Participant,
@@ -105,7 +105,7 @@ impl<S: Scheme + Drop> Actor<S> {
     }
 
     /// An own vote, where its view is kept.
-    #[tactic(auto, unfolding(simplex_steps::specs::Batcher::took_constructed))]
+    #[tactic(auto, unfolding(model_steps::specs::Batcher::took_constructed))]
     pub(crate) fn take_constructed(
         &mut self,
         vote: Vote,

@@ -4,7 +4,7 @@ ghost use Rattle.std.specs.Option.{option_to_list};
 ghost use Rattle.simplex_messages.specs.declared.handed.Handed.TheVariants.{Voter};
 ghost use Rattle.simplex_messages.specs.declared.voter.Message.TheVariants.{Verified, Proposal as ProposalMessage};
 ghost use Rattle.simplex_round.specs.Assembly.{as_scheme, constructed};
-ghost use Rattle.simplex_steps.specs.Batcher.{Made, Doing, RoundHistory, known_in, worked, worked_all, finished, dropped, number_of, with_batch};
+ghost use Rattle.model_steps.specs.Batcher.{Made, Doing, RoundHistory, known_in, worked, worked_all, finished, dropped, number_of, with_batch};
 ghost use Rattle.simplex_batcher.specs.Holding.{Works, WorksAt, StaysBeside};
 ghost use Rattle.simplex_batcher.specs.Rounds.{found, round_at, round_of};
 ghost use Rattle.simplex_batcher.specs.Working.{forwarded_at, constructing_at, constructing_thrice, worked_near};
@@ -231,7 +231,7 @@ impl<S: Scheme + Drop> Actor<S> {
     }
 
     /// The view is worked, where it is not final. Its round is looked up once.
-    #[tactic(auto, unfolding(simplex_steps::specs::Batcher::worked))]
+    #[tactic(auto, unfolding(model_steps::specs::Batcher::worked))]
     fn work(&mut self, view: View, work: &mut StepOut) -> Result<(), AllocError>
         ensures { OnOk result (Does S.verifies S.recovers S.members S.member self.old work.old self.new work.new (λ made. worked made view)) }
     {
@@ -259,7 +259,7 @@ impl<S: Scheme + Drop> Actor<S> {
     }
 
     /// Rounds that are not kept are dropped.
-    #[tactic(auto, unfolding(crate::specs::Stands::batcher_made, simplex_steps::specs::Batcher::dropped, simplex_steps::specs::Batcher::retains_view))]
+    #[tactic(auto, unfolding(crate::specs::Stands::batcher_made, model_steps::specs::Batcher::dropped, model_steps::specs::Batcher::retains_view))]
     fn drop_old(&mut self)
         ensures { (work : StepOut) → Does S.verifies S.recovers S.members S.member self.old work self.new work (λ made. dropped made) }
     {
@@ -280,7 +280,7 @@ impl<S: Scheme + Drop> Actor<S> {
     }
 
     /// The marked views are worked, and rounds that are not kept are dropped.
-    #[tactic(auto, unfolding(simplex_steps::specs::Batcher::finished))]
+    #[tactic(auto, unfolding(model_steps::specs::Batcher::finished))]
     pub(crate) fn finish(&mut self, dirty: &Marked, work: &mut StepOut) -> Result<(), AllocError>
         ensures { OnOk result (Marks S.verifies S.recovers S.members S.member self.old work.old dirty.now self.new work.new dirty.now (λ made. finished made)) }
     {

@@ -7,8 +7,8 @@ use Rattle.simplex_transcript.specs.declared.refusal.Refusal.{Refusal}
 use Rattle.simplex_form.specs.declared.input.Input.{Input}
 use Rattle.simplex_form.specs.Input.{input_of}
 use Rattle.simplex_io.specs.Io.{TakesAll, Adds, AddsPart}
-use Rattle.simplex_run.specs.Run.{Run}
-use Rattle.simplex_marks.specs.declared.cut.Cut.{Cut}
+use Rattle.model_run.specs.Run.{Run}
+use Rattle.simplex_picture.specs.declared.cut.Cut.{Cut}
 use Rattle.simplex_draw.specs.declared.exit.Exit.{Exit}
 use Rattle.simplex_draw.specs.declared.exit.Exit.TheVariants.{Done, Refused, BadWords, NoNode, BadInput, TooLong, ReadFault, WriteFault, Memory}
 use Rattle.simplex_io.specs.declared.read.TheConstants.{LIMIT}

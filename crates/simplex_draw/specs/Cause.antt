@@ -11,9 +11,9 @@ use Rattle.simplex_transcript.specs.declared.setup.Setup.{Setup}
 use Rattle.simplex_form.specs.declared.input.Input.{Input}
 use Rattle.simplex_form.specs.Input.{input_of}
 use Rattle.simplex_io.specs.Io.{TakesAll, TakesOver, TakesWithin, Rose}
-use Rattle.simplex_run.specs.Run.{Run}
-use Rattle.simplex_marks.specs.declared.cut.Cut.{Cut}
-use Rattle.simplex_marks.specs.Pictures.{picture_of}
+use Rattle.model_run.specs.Run.{Run}
+use Rattle.simplex_picture.specs.declared.cut.Cut.{Cut}
+use Rattle.simplex_picture.specs.Pictures.{picture_of}
 use Rattle.simplex_draw.specs.Words.{cut_of}
 use Rattle.simplex_draw.specs.declared.exit.Exit.{Exit}
 use Rattle.simplex_draw.specs.declared.exit.Exit.TheVariants.{Done, Refused, BadWords, NoNode, BadInput, TooLong, ReadFault, WriteFault, Memory}

@@ -5,7 +5,7 @@ use Rattle.std.specs.Char.{digit_value}
 use Rattle.std.specs.Str.{bytes_eq}
 use Rattle.std.specs.Str.Parse.{digits_value, without_leading_plus}
 use Rattle.simplex_transcript.specs.declared.node.Node.{Node}
-use Rattle.simplex_marks.specs.declared.cut.Cut.{Cut}
+use Rattle.simplex_picture.specs.declared.cut.Cut.{Cut}
 use Rattle.simplex_draw.specs.declared.words.TheConstants.{EVENTS}
 
 -- one digit or more, and nothing else

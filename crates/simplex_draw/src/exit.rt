@@ -2,7 +2,7 @@
 ghost use Rattle.std.specs.Prelude.{◌≡◌};
 ghost use Rattle.simplex_draw.specs.Exit.{status_of};
 
-use simplex_marks::Picture;
+use simplex_picture::Picture;
 use simplex_transcript::{Node, RunError};
 
 /// How the program ends.

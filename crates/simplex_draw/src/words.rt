@@ -2,7 +2,7 @@
 ghost use Rattle.std.specs.Prelude.{◌≡◌, IfOk, map, string_bytes};
 ghost use Rattle.simplex_draw.specs.Words as said;
 
-use simplex_marks::Cut;
+use simplex_picture::Cut;
 use simplex_transcript::Node;
 use simplex_types::Sequence;
 use std::alloc::{AllocError, Global};

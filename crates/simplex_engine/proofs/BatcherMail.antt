@@ -27,8 +27,8 @@ use Rattle.simplex_messages.specs.declared.step.Stop.{Stop}
 use Rattle.simplex_messages.specs.declared.step.Stop.TheVariants as stops
 use Rattle.simplex_messages.specs.declared.step.Outcome.{Outcome}
 use Rattle.simplex_messages.specs.declared.step.StepOut.{StepOut}
-use Rattle.simplex_steps.specs.Batcher.{Made, Timed, Doing, RoundHistory, dropped, is_me, is_active, leader_nullified, retains_view, admits_view, holds_kind, certificate_view, and_blocked, hinted_at_vote, hinting_nullify, hinted_at_update, hinting, forwarding, with_heard, took_vote, took_constructed, kept_certificate, took_certificate, took_update, forwarded, with_batch, constructing, constructing_times, worked, worked_all, heard_vote, heard_certificate, acted, finished, step, step_out}
-use Rattle.simplex_steps.specs.Engine.{for_batcher, for_resolver, cut_short}
+use Rattle.model_steps.specs.Batcher.{Made, Timed, Doing, RoundHistory, dropped, is_me, is_active, leader_nullified, retains_view, admits_view, holds_kind, certificate_view, and_blocked, hinted_at_vote, hinting_nullify, hinted_at_update, hinting, forwarding, with_heard, took_vote, took_constructed, kept_certificate, took_certificate, took_update, forwarded, with_batch, constructing, constructing_times, worked, worked_all, heard_vote, heard_certificate, acted, finished, step, step_out}
+use Rattle.model_steps.specs.Engine.{for_batcher, for_resolver, cut_short}
 
 -- none of these is for the mailbox of the batcher or of the resolver
 pub record IsForVoter (messages : List Handed) : Type 0 where

@@ -17,10 +17,10 @@ use Rattle.simplex_messages.specs.declared.step.Outcome.TheVariants as outcomes
 use Rattle.simplex_messages.specs.declared.step.Stop.{Stop}
 use Rattle.simplex_messages.specs.declared.step.StepOut.{StepOut}
 use Rattle.simplex_transcript.specs.declared.event.StepSource.TheVariants as sources
-use Rattle.simplex_steps.specs.Performed.{Performed}
-use Rattle.simplex_steps.specs.VoterLife.{Started, Stepped}
-use Rattle.simplex_resolving.specs.Resolver as resolver
-use Rattle.simplex_steps.specs.Engine.{EngineMade, Did, Began, Heard, Took, for_voter, did_of, by_voter, nothing_held, replied, if_held, voter_past, batcher_past, resolver_past, batcher_mail, voter_mail, resolver_mail, started_at}
+use Rattle.model_steps.specs.Performed.{Performed}
+use Rattle.model_steps.specs.VoterLife.{Started, Stepped}
+use Rattle.model_resolver.specs.Resolver as resolver
+use Rattle.model_steps.specs.Engine.{EngineMade, Did, Began, Heard, Took, for_voter, did_of, by_voter, nothing_held, replied, if_held, voter_past, batcher_past, resolver_past, batcher_mail, voter_mail, resolver_mail, started_at}
 use Rattle.simplex_engine.specs.Parts.{parts_of, first_parts, after_voter, after_answer, after_batcher, after_voter_mail, after_batcher_mail, after_resolver, after_resolver_mail, after_handler_mail}
 use Rattle.simplex_engine.proofs.BatcherMail.{IsForVoter}
 

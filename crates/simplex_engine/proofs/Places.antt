@@ -3,8 +3,8 @@ use Rattle.std.proofs.Common.{◌≡◌, refl, ap, ℕ, false, List, ◌∷◌}
 use Rattle.simplex_values.specs.declared.answer.Answer.{Answer}
 use Rattle.simplex_messages.specs.declared.step.Stop.{Stop}
 use Rattle.simplex_messages.specs.declared.voter.VoterInput.{VoterInput}
-use Rattle.simplex_steps.specs.Voter.{Standing, takes_answer, answered}
-use Rattle.simplex_steps.specs.VoterLife.{VoterMade, Given, Started, Stepped, Answered, place_of, step_given}
+use Rattle.model_steps.specs.Voter.{Standing, takes_answer, answered}
+use Rattle.model_steps.specs.VoterLife.{VoterMade, Given, Started, Stepped, Answered, place_of, step_given}
 use Rattle.simplex_voter.specs.Turned.{step_left}
 
 -- where two histories lead to one place, so do they with one more item

@@ -4,8 +4,8 @@ use Rattle.std.specs.Prelude.{IfNone, Bool}
 use Rattle.std.specs.List.{filter_map}
 use Rattle.std.specs.Option.{option_map, option_and_then}
 use Rattle.simplex_values.specs.declared.answer.Answer.{Answer}
-use Rattle.simplex_rules.specs.Pending.{Pending, Opened}
-use Rattle.simplex_steps.specs.Voter.{Standing, answer_to, first_answered, takes_answer}
+use Rattle.model_rules.specs.Pending.{Pending, Opened}
+use Rattle.model_steps.specs.Voter.{Standing, answer_to, first_answered, takes_answer}
 use Rattle.simplex_voter.specs.Actor.{next_answer}
 use Rattle.simplex_voter.specs.Arrivals.{with_number}
 use Rattle.simplex_engine.specs.declared.input.TakenInside.{TakenInside}
@@ -35,12 +35,12 @@ use Rattle.simplex_values.specs.declared.plan.Channel.TheVariants as channels
 use Rattle.simplex_messages.specs.declared.step.StepOut.{StepOut}
 use Rattle.simplex_transcript.specs.declared.event.StepSource.{StepSource}
 use Rattle.simplex_transcript.specs.declared.event.StepSource.TheVariants as sources
-use Rattle.simplex_steps.specs.Performed.{Performed}
-use Rattle.simplex_steps.specs.Batcher.{Timed, step_out}
-use Rattle.simplex_steps.specs.VoterLife.{Stepped, place_of, step_given}
-use Rattle.simplex_steps.specs.Engine.{EngineMade, Did, Took, for_voter, by_voter, by_batcher, by_resolver, on_voter, heard, stepped, replied, voter_in, voter_past, batcher_past, resolver_past, cut_short, takes_reply}
-use Rattle.simplex_resolving.specs.Views.{is_reached}
-use Rattle.simplex_resolving.specs.Resolver as resolver
+use Rattle.model_steps.specs.Performed.{Performed}
+use Rattle.model_steps.specs.Batcher.{Timed, step_out}
+use Rattle.model_steps.specs.VoterLife.{Stepped, place_of, step_given}
+use Rattle.model_steps.specs.Engine.{EngineMade, Did, Took, for_voter, by_voter, by_batcher, by_resolver, on_voter, heard, stepped, replied, voter_in, voter_past, batcher_past, resolver_past, cut_short, takes_reply}
+use Rattle.model_resolver.specs.Views.{is_reached}
+use Rattle.model_resolver.specs.Resolver as resolver
 use Rattle.simplex_engine.specs.declared.crew.Crew.{Crew}
 use Rattle.simplex_engine.specs.Parts.{parts_of, after_voter, after_answer, after_batcher, after_resolver, after_voter_mail, after_batcher_mail, after_resolver_mail, after_handler_mail, ended}
 use Rattle.simplex_engine.specs.Stands.{CrewStands, WorksAs, EndsAs, TellsAs, CrewTakesAs, CrewStaysAs, CrewGivesAs, CrewAnswersAs}

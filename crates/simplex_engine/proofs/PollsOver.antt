@@ -20,10 +20,10 @@ use Rattle.simplex_messages.specs.declared.step.Outcome.{Outcome}
 use Rattle.simplex_messages.specs.declared.step.Stop.{Stop}
 use Rattle.simplex_messages.specs.declared.step.StepOut.{StepOut}
 use Rattle.simplex_transcript.specs.declared.event.StepSource.TheVariants as sources
-use Rattle.simplex_steps.specs.VoterLife.{place_of}
-use Rattle.simplex_steps.specs.Engine.{EngineMade, Did, Took, by_batcher, by_resolver, nothing_held, on_batcher_mail, on_resolver_mail, on_handler_mail, heard, stepped, replied, batcher_mail, resolver_mail, resolver_past, sections_of}
-use Rattle.simplex_resolving.specs.Views.{is_reached}
-use Rattle.simplex_resolving.specs.Resolver as resolver
+use Rattle.model_steps.specs.VoterLife.{place_of}
+use Rattle.model_steps.specs.Engine.{EngineMade, Did, Took, by_batcher, by_resolver, nothing_held, on_batcher_mail, on_resolver_mail, on_handler_mail, heard, stepped, replied, batcher_mail, resolver_mail, resolver_past, sections_of}
+use Rattle.model_resolver.specs.Views.{is_reached}
+use Rattle.model_resolver.specs.Resolver as resolver
 use Rattle.simplex_voter.specs.Actor.{next_answer}
 use Rattle.simplex_voter.specs.Actor as voter
 use Rattle.simplex_engine.specs.declared.crew.Crew.{Crew}

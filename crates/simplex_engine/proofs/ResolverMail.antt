@@ -12,10 +12,10 @@ use Rattle.simplex_messages.specs.declared.step.Stop.{Stop}
 use Rattle.simplex_messages.specs.declared.step.Stop.TheVariants as stops
 use Rattle.simplex_messages.specs.declared.step.StepOut.{StepOut}
 use Rattle.simplex_mailbox.specs.Waiting.{front, is_clear}
-use Rattle.simplex_resolving.specs.Resolver.{Made, Given, step_out, handler_message, holds_handled, standing_after}
-use Rattle.simplex_steps.specs.Engine.{cut_short}
-use Rattle.simplex_steps.specs.ResolverSteps.{is_handed_by_resolver}
-use Rattle.simplex_steps.proofs.ResolverSteps.{handed_by_resolver}
+use Rattle.model_resolver.specs.Resolver.{Made, Given, step_out, handler_message, holds_handled, standing_after}
+use Rattle.model_steps.specs.Engine.{cut_short}
+use Rattle.model_steps.specs.ResolverSteps.{is_handed_by_resolver}
+use Rattle.model_steps.proofs.ResolverSteps.{handed_by_resolver}
 use Rattle.simplex_engine.proofs.BatcherMail.{IsForVoter, nil-tells}
 use Rattle.simplex_engine.proofs.More.{IsHeld}
 

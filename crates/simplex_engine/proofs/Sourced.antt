@@ -9,11 +9,11 @@ use Rattle.simplex_mailbox.specs.Mail.{holds_nothing}
 use Rattle.simplex_messages.specs.declared.voter.VoterInput.{VoterInput}
 use Rattle.simplex_messages.specs.declared.voter.VoterInput.TheVariants as inputs
 use Rattle.simplex_transcript.specs.declared.event.StepSource.TheVariants as sources
-use Rattle.simplex_resolving.specs.Views.{is_reached}
-use Rattle.simplex_resolving.specs.Resolver.{holds_handled, deadline_after}
+use Rattle.model_resolver.specs.Views.{is_reached}
+use Rattle.model_resolver.specs.Resolver.{holds_handled, deadline_after}
 use Rattle.simplex_resolver.specs.Stands as resolver
-use Rattle.simplex_steps.specs.Voter.{acted}
-use Rattle.simplex_steps.specs.VoterLife.{VoterMade, Given, place_of}
+use Rattle.model_steps.specs.Voter.{acted}
+use Rattle.model_steps.specs.VoterLife.{VoterMade, Given, place_of}
 use Rattle.simplex_voter.specs.Actor as voter
 use Rattle.simplex_engine.specs.declared.crew.Crew.{Crew}
 use Rattle.simplex_engine.specs.Holding.{holds}

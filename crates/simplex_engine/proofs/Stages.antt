@@ -9,10 +9,10 @@ use Rattle.simplex_journal.specs.Journal.{Section}
 use Rattle.simplex_messages.specs.declared.step.Outcome.{Outcome}
 use Rattle.simplex_messages.specs.declared.step.Outcome.TheVariants as outcomes
 use Rattle.simplex_messages.specs.declared.step.Stop.{Stop}
-use Rattle.simplex_steps.specs.Engine.{EngineMade, Did, begun, runs, is_whole, sections_of, voter_in, voter_past, started_at}
-use Rattle.simplex_rules.specs.Views.{current_of}
+use Rattle.model_steps.specs.Engine.{EngineMade, Did, begun, runs, is_whole, sections_of, voter_in, voter_past, started_at}
+use Rattle.model_rules.specs.Views.{current_of}
 use Rattle.simplex_transcript.specs.declared.event.StepSource.{StepSource}
-use Rattle.simplex_steps.specs.VoterLife.{VoterMade, place_of}
+use Rattle.model_steps.specs.VoterLife.{VoterMade, place_of}
 use Rattle.simplex_voter.specs.Actor.{voter_made}
 use Rattle.simplex_voter.specs.Actor as voter
 use Rattle.simplex_voter.specs.Turned.{FaultsAt}

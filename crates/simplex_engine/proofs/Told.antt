@@ -8,8 +8,8 @@ use Rattle.simplex_journal.specs.Order.{Order}
 use Rattle.simplex_values.specs.declared.proposal.Subject.{Subject}
 use Rattle.simplex_values.specs.declared.round.Round.{Round}
 use Rattle.simplex_wire.specs.declared.attestation.Attestation.{Attestation}
-use Rattle.simplex_steps.specs.VoterLife.{VoterMade, Given}
-use Rattle.simplex_steps.specs.Engine.{EngineMade, Did, runs}
+use Rattle.model_steps.specs.VoterLife.{VoterMade, Given}
+use Rattle.model_steps.specs.Engine.{EngineMade, Did, runs}
 use Rattle.simplex_voter.specs.Actor as voter
 use Rattle.simplex_voter.specs.declared.actor.Actor.{Actor}
 use Rattle.simplex_engine.specs.declared.crew.Crew.{Crew}

@@ -17,15 +17,15 @@ use Rattle.simplex_types.specs.declared.activity.Activity.TheVariants as activit
 use Rattle.simplex_values.specs.declared.timeout.TimeoutReason.TheVariants.{LeaderTimeout}
 use Rattle.simplex_types.specs.declared.floor.Floor.{Floor}
 use Rattle.simplex_types.specs.declared.floor.Floor.TheVariants as floors
-use Rattle.simplex_rules.specs.declared.request.ProposalState.{ProposalState}
-use Rattle.simplex_rules.specs.declared.request.ProposalState.TheVariants.{Preparing, Proposing, Waiting, Held, Closed}
-use Rattle.simplex_rules.specs.Known.{Made, view_of, has_nullified}
-use Rattle.simplex_rules.specs.Views.{current_of}
-use Rattle.simplex_rules.specs.Best.{best_certificate}
-use Rattle.simplex_rules.specs.Deadline.{deadline_of}
-use Rattle.simplex_rules.specs.Calls as state
-use Rattle.simplex_rules.specs.Calls.{replay_answer}
-use Rattle.simplex_rules.specs.Pending.{Pending, Opened, Sought}
+use Rattle.model_rules.specs.declared.request.ProposalState.{ProposalState}
+use Rattle.model_rules.specs.declared.request.ProposalState.TheVariants.{Preparing, Proposing, Waiting, Held, Closed}
+use Rattle.model_rules.specs.Known.{Made, view_of, has_nullified}
+use Rattle.model_rules.specs.Views.{current_of}
+use Rattle.model_rules.specs.Best.{best_certificate}
+use Rattle.model_rules.specs.Deadline.{deadline_of}
+use Rattle.model_rules.specs.Calls as state
+use Rattle.model_rules.specs.Calls.{replay_answer}
+use Rattle.model_rules.specs.Pending.{Pending, Opened, Sought}
 use Rattle.simplex_journal.specs.Journal.{Section}
 use Rattle.simplex_messages.specs.declared.handed.Handed.{Handed}
 use Rattle.simplex_messages.specs.declared.handed.Handed.TheVariants as handed
@@ -37,11 +37,11 @@ use Rattle.simplex_messages.specs.declared.voter.Message.{Message}
 use Rattle.simplex_messages.specs.declared.voter.Message.TheVariants as mail
 use Rattle.simplex_messages.specs.declared.voter.VoterInput.{VoterInput}
 use Rattle.simplex_messages.specs.declared.voter.VoterInput.TheVariants as inputs
-use Rattle.simplex_steps.specs.Desk.{Doing, begun, tell, hand, append, report, resolve_of}
-use Rattle.simplex_steps.specs.Performed.{Performed, performed, whole, broken}
-use Rattle.simplex_steps.specs.Voter.{Standing, answer_to, act_on_deadline, propose, stage, give_up, act_on_proposal, act_on_verify, take_verdict, act_on_certify, act_on_certificate, act_on_mail, block_for, record_of, adding, activity_of, certificate_in, is_final_from, vote_notarize, vote_finalize, open_requests, sync, publish_verdict, publish_nullify, with_certificate, publish_notarization, publish_nullification, publish_finalization, update_batcher, end_of_step, prune_at, prune, begin_iteration, finished, take_proposal, acted, stepped, report_if, updated_if, replay_verdict, replay_record, replay_all, stand_on, keep_floor, started}
-use Rattle.simplex_steps.specs.VoterLife.{VoterMade, Given, place_of, start_performed, start_given, step_given, idle}
-use Rattle.simplex_steps.specs.Engine.{for_voter}
+use Rattle.model_steps.specs.Desk.{Doing, begun, tell, hand, append, report, resolve_of}
+use Rattle.model_steps.specs.Performed.{Performed, performed, whole, broken}
+use Rattle.model_steps.specs.Voter.{Standing, answer_to, act_on_deadline, propose, stage, give_up, act_on_proposal, act_on_verify, take_verdict, act_on_certify, act_on_certificate, act_on_mail, block_for, record_of, adding, activity_of, certificate_in, is_final_from, vote_notarize, vote_finalize, open_requests, sync, publish_verdict, publish_nullify, with_certificate, publish_notarization, publish_nullification, publish_finalization, update_batcher, end_of_step, prune_at, prune, begin_iteration, finished, take_proposal, acted, stepped, report_if, updated_if, replay_verdict, replay_record, replay_all, stand_on, keep_floor, started}
+use Rattle.model_steps.specs.VoterLife.{VoterMade, Given, place_of, start_performed, start_given, step_given, idle}
+use Rattle.model_steps.specs.Engine.{for_voter}
 
 -- none of these is for the voter
 pub record Quiet (messages : List Handed) : Type 0 where

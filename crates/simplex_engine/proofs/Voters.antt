@@ -4,8 +4,8 @@ use Rattle.simplex_wire.specs.declared.scheme.Scheme as scheme
 use Rattle.simplex_types.specs.declared.elector.Elector as elector
 use Rattle.simplex_journal.specs.declared.journal.Journal as journal
 use Rattle.simplex_journal.specs.Order.{no_order}
-use Rattle.simplex_steps.specs.VoterLife.{VoterMade, Given, Place, place_of}
-use Rattle.simplex_steps.specs.Engine.{EngineMade}
+use Rattle.model_steps.specs.VoterLife.{VoterMade, Given, Place, place_of}
+use Rattle.model_steps.specs.Engine.{EngineMade}
 use Rattle.simplex_voter.specs.Actor as voter
 use Rattle.simplex_voter.specs.declared.actor.Actor.{Actor}
 use Rattle.simplex_engine.specs.declared.crew.Crew.{Crew}

@@ -11,7 +11,7 @@ use Rattle.simplex_types.specs.declared.floor.Floor.{Floor}
 use Rattle.simplex_types.specs.declared.floor.Floor.TheVariants as floors
 use Rattle.simplex_round.specs.Assembly.{as_scheme}
 use Rattle.simplex_journal.specs.Journal.{Section}
-use Rattle.simplex_steps.specs.Engine.{EngineMade}
+use Rattle.model_steps.specs.Engine.{EngineMade}
 use Rattle.simplex_engine.specs.declared.config.EngineConfig.{EngineConfig}
 use Rattle.simplex_engine.specs.declared.config.EngineField.{EngineField}
 use Rattle.simplex_engine.specs.declared.config.EngineField.TheVariants as fields

@@ -6,11 +6,11 @@ use Rattle.simplex_messages.specs.declared.voter.VoterInput.{VoterInput}
 use Rattle.simplex_messages.specs.declared.voter.VoterInput.TheVariants as inputs
 use Rattle.simplex_transcript.specs.declared.event.StepSource.{StepSource}
 use Rattle.simplex_transcript.specs.declared.event.StepSource.TheVariants as sources
-use Rattle.simplex_resolving.specs.Views.{is_reached}
-use Rattle.simplex_resolving.specs.Resolver.{holds_handled, deadline_after}
-use Rattle.simplex_steps.specs.Voter.{acted}
-use Rattle.simplex_steps.specs.VoterLife.{place_of}
-use Rattle.simplex_steps.specs.Engine.{EngineMade, Did, batcher_mail, voter_mail, resolver_mail, voter_in, voter_past, resolver_past}
+use Rattle.model_resolver.specs.Views.{is_reached}
+use Rattle.model_resolver.specs.Resolver.{holds_handled, deadline_after}
+use Rattle.model_steps.specs.Voter.{acted}
+use Rattle.model_steps.specs.VoterLife.{place_of}
+use Rattle.model_steps.specs.Engine.{EngineMade, Did, batcher_mail, voter_mail, resolver_mail, voter_in, voter_past, resolver_past}
 
 -- whether the voter has something to do with what such an input asks it to take
 abbrev pub voter_holds : EngineMade → List Did → ℕ → VoterInput → Bool

@@ -3,9 +3,9 @@ use Rattle.std.specs.Prelude.{◌≡◌, ℕ, List, []}
 use Rattle.std.specs.List.{filter_map}
 use Rattle.simplex_messages.specs.declared.step.Stop.{Stop}
 use Rattle.simplex_messages.specs.declared.voter.VoterInput.{VoterInput}
-use Rattle.simplex_steps.specs.Batcher.{Made, Timed, step_out}
-use Rattle.simplex_steps.specs.VoterLife.{VoterMade, Given, start_given, step_given}
-use Rattle.simplex_steps.specs.Engine.{for_voter, for_batcher, for_resolver}
+use Rattle.model_steps.specs.Batcher.{Made, Timed, step_out}
+use Rattle.model_steps.specs.VoterLife.{VoterMade, Given, start_given, step_given}
+use Rattle.model_steps.specs.Engine.{for_voter, for_batcher, for_resolver}
 
 -- a step of the voter hands the voter nothing
 abbrev pub StepsAreQuiet : Type 0

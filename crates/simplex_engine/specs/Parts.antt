@@ -9,11 +9,11 @@ use Rattle.simplex_messages.specs.declared.resolver.MailboxMessage.{MailboxMessa
 use Rattle.simplex_messages.specs.declared.step.Outcome.{Outcome}
 use Rattle.simplex_messages.specs.declared.step.StepOut.{StepOut}
 use Rattle.simplex_messages.specs.Policies.{batcher_handled, voter_handled, resolver_handled}
-use Rattle.simplex_steps.specs.Performed.{Performed}
-use Rattle.simplex_steps.specs.Batcher.{Made, Timed}
-use Rattle.simplex_steps.specs.VoterLife.{VoterMade, Given, Answered}
-use Rattle.simplex_resolving.specs.Resolver as resolving
-use Rattle.simplex_steps.specs.Engine.{EngineMade, Did, for_batcher, for_voter, for_resolver, none_skipped, voter_in, voter_past, batcher_past, resolver_past, batcher_mail, voter_mail, resolver_mail}
+use Rattle.model_steps.specs.Performed.{Performed}
+use Rattle.model_steps.specs.Batcher.{Made, Timed}
+use Rattle.model_steps.specs.VoterLife.{VoterMade, Given, Answered}
+use Rattle.model_resolver.specs.Resolver as resolving
+use Rattle.model_steps.specs.Engine.{EngineMade, Did, for_batcher, for_voter, for_resolver, none_skipped, voter_in, voter_past, batcher_past, resolver_past, batcher_mail, voter_mail, resolver_mail}
 
 pub record Parts : Type 0 where
   pub voter : VoterMade

@@ -6,11 +6,11 @@ use Rattle.simplex_messages.specs.declared.step.Outcome.{Outcome}
 use Rattle.simplex_messages.specs.declared.step.Outcome.TheVariants as outcomes
 use Rattle.simplex_messages.specs.declared.step.Stop.{Stop}
 use Rattle.simplex_transcript.specs.declared.event.StepSource.TheVariants as sources
-use Rattle.simplex_steps.specs.Voter.{Standing, answer_to, first_answered}
+use Rattle.model_steps.specs.Voter.{Standing, answer_to, first_answered}
 use Rattle.simplex_journal.specs.Journal.{Section}
-use Rattle.simplex_steps.specs.VoterLife.{Given, Stepped, place_of}
-use Rattle.simplex_steps.specs.Engine as engine
-use Rattle.simplex_steps.specs.Engine.{EngineMade, Did, Taken, heard, stepped, replied, runs, takes_reply, voter_in, voter_past, given_to_voter, sections_of}
+use Rattle.model_steps.specs.VoterLife.{Given, Stepped, place_of}
+use Rattle.model_steps.specs.Engine as engine
+use Rattle.model_steps.specs.Engine.{EngineMade, Did, Taken, heard, stepped, replied, runs, takes_reply, voter_in, voter_past, given_to_voter, sections_of}
 use Rattle.simplex_voter.specs.Turned.{step_left}
 use Rattle.simplex_engine.specs.declared.input.Input.{Input}
 use Rattle.simplex_engine.specs.declared.input.Input.TheVariants as inputs

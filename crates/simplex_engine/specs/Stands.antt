@@ -12,8 +12,8 @@ use Rattle.simplex_messages.specs.declared.step.Outcome.TheVariants as outcomes
 use Rattle.simplex_messages.specs.declared.step.Stop.{Stop}
 use Rattle.simplex_messages.specs.declared.step.StepOut.{StepOut}
 use Rattle.simplex_messages.specs.declared.voter.VoterInput.{VoterInput}
-use Rattle.simplex_steps.specs.VoterLife.{VoterMade, Given, Stepped, place_of, step_given}
-use Rattle.simplex_steps.specs.Engine.{EngineMade, Did, begun, runs}
+use Rattle.model_steps.specs.VoterLife.{VoterMade, Given, Stepped, place_of, step_given}
+use Rattle.model_steps.specs.Engine.{EngineMade, Did, begun, runs}
 use Rattle.simplex_voter.specs.Actor as voter
 pub use Rattle.simplex_voter.specs.Actor.{VoterStands}
 use Rattle.simplex_voter.specs.Turned.{Becomes, BecomesFirst, step_left, start_left}

@@ -2,11 +2,11 @@
 #![tactic(auto, unfolding(crate::specs::Stands::StandsFor, crate::specs::Stands::StandsOver))]
 
 ghost use Rattle.std.specs.Prelude.{◌≡◌, ◌<◌, ◌≤◌, ◌^◌, List, [], not, true, false, Some, None, Err, OnOk, IfOk, IfErr, IfSome};
-ghost use Rattle.simplex_rules.specs.Views.{current_of};
+ghost use Rattle.model_rules.specs.Views.{current_of};
 ghost use Rattle.simplex_journal.specs.Order.{no_order};
 ghost use Rattle.simplex_messages.specs.Step.{no_out};
-ghost use Rattle.simplex_steps.specs.VoterLife.{place_of};
-ghost use Rattle.simplex_steps.specs.Engine.{EngineMade, Did, begun, runs, is_whole, sections_of, voter_in, voter_past};
+ghost use Rattle.model_steps.specs.VoterLife.{place_of};
+ghost use Rattle.model_steps.specs.Engine.{EngineMade, Did, begun, runs, is_whole, sections_of, voter_in, voter_past};
 ghost use Rattle.simplex_engine.specs.Config.{engine_made, first_bad, Refused};
 ghost use Rattle.simplex_engine.specs.Holding.{holds};
 ghost use Rattle.simplex_engine.specs.Polled.{polled, refusal_of, is_memory};

@@ -8,7 +8,7 @@ ghost use Rattle.simplex_values.specs.declared.plan.Channel.TheVariants as chann
 ghost use Rattle.simplex_messages.specs.declared.step.Outcome.TheVariants as outcomes;
 ghost use Rattle.simplex_engine.specs.declared.error.PollError.TheVariants as poll_errors;
 ghost use Rattle.simplex_transcript.specs.declared.event.StepSource.TheVariants as sources;
-ghost use Rattle.simplex_steps.specs.Engine.{heard, stepped, replied, takes_reply};
+ghost use Rattle.model_steps.specs.Engine.{heard, stepped, replied, takes_reply};
 ghost use Rattle.simplex_engine.specs.Parts.{after_voter_mail, after_batcher_mail};
 ghost use Rattle.simplex_engine.specs.Polled.{polled, taken_inside, is_taken};
 ghost use Rattle.simplex_voter.specs.Actor.{journal_of};

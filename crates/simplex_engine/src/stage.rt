@@ -1,8 +1,8 @@
 //! How far an engine is.
-#![tactic(auto, unfolding(crate::specs::Stands::CrewStands, simplex_steps::specs::Engine::runs))]
+#![tactic(auto, unfolding(crate::specs::Stands::CrewStands, model_steps::specs::Engine::runs))]
 
 ghost use Rattle.std.specs.Prelude.{◌≡◌, ◌<◌, ◌^◌, Bool, IfOk};
-ghost use Rattle.simplex_steps.specs.Engine.{EngineMade};
+ghost use Rattle.model_steps.specs.Engine.{EngineMade};
 ghost use Rattle.simplex_voter.specs.Actor.{journal_of};
 ghost use Rattle.simplex_engine.specs.Stands.{Waits, Fresh, settled, is_at_work};
 

@@ -5,12 +5,12 @@ ghost use Rattle.std.specs.Prelude.{◌≡◌, ◌<◌, ◌^◌, [], ◌∷◌, 
 ghost use Rattle.std.specs.Option.{option_map};
 ghost use Rattle.simplex_messages.specs.Step.{no_out};
 ghost use Rattle.simplex_messages.specs.declared.step.Outcome.TheVariants as outcomes;
-ghost use Rattle.simplex_rules.specs.Views.{current_of};
-ghost use Rattle.simplex_steps.specs.Batcher.{step_out};
-ghost use Rattle.simplex_steps.specs.Voter.{takes_answer};
-ghost use Rattle.simplex_steps.specs.VoterLife.{Stepped, place_of, step_given};
-ghost use Rattle.simplex_steps.specs.Engine.{EngineMade, begun, cut_short};
-ghost use Rattle.simplex_resolving.specs.Resolver as resolving;
+ghost use Rattle.model_rules.specs.Views.{current_of};
+ghost use Rattle.model_steps.specs.Batcher.{step_out};
+ghost use Rattle.model_steps.specs.Voter.{takes_answer};
+ghost use Rattle.model_steps.specs.VoterLife.{Stepped, place_of, step_given};
+ghost use Rattle.model_steps.specs.Engine.{EngineMade, begun, cut_short};
+ghost use Rattle.model_resolver.specs.Resolver as resolving;
 ghost use Rattle.simplex_voter.specs.Actor.{next_answer, journal_of};
 ghost use Rattle.simplex_voter.specs.Turned.{FaultsAt};
 ghost use Rattle.simplex_engine.specs.Parts.{after_voter, after_answer, after_batcher, after_resolver, ended};

@@ -12,8 +12,8 @@ use Rattle.std.specs.Cmp.{unsigned_tied}
 use Rattle.std.specs.Map.{keys_of}
 use Rattle.std.specs.List.{AllByRecursion}
 use Rattle.std.specs.List.Sorted.{IsStrictlySortedBy}
-use Rattle.simplex_resolving.specs.declared.entry.Entry.{Entry}
-use Rattle.simplex_resolving.specs.Views.{entry_at, with_entry, without_entry, first_view}
+use Rattle.model_resolver.specs.declared.entry.Entry.{Entry}
+use Rattle.model_resolver.specs.Views.{entry_at, with_entry, without_entry, first_view}
 
 -- the views rise
 abbrev pub Rising : List (ℕ × Entry) → Type 0

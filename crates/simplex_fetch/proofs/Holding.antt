@@ -8,10 +8,10 @@ use Rattle.simplex_values.specs.declared.ask.Kind.{Kind}
 use Rattle.simplex_values.specs.declared.ask.Kind.TheVariants as kind
 use Rattle.simplex_values.specs.declared.ask.Until.TheVariants as until
 use Rattle.simplex_values.specs.declared.ask.Ask.{Ask}
-use Rattle.simplex_resolving.specs.declared.entry.Entry.{Entry}
+use Rattle.model_resolver.specs.declared.entry.Entry.{Entry}
 use Rattle.simplex_fetch.specs.declared.holders.Holders.{Holders}
-use Rattle.simplex_resolving.specs.Asks.{asks_any, held_of, same_kind, same_until}
-use Rattle.simplex_resolving.specs.Views.{entry_at}
+use Rattle.model_resolver.specs.Asks.{asks_any, held_of, same_kind, same_until}
+use Rattle.model_resolver.specs.Views.{entry_at}
 use Rattle.simplex_fetch.specs.Index.{is_there, AreHolders, IsHeld}
 use Rattle.simplex_fetch.specs.Holders.{of_kind, IsNoted, IsForgotten}
 

@@ -8,10 +8,10 @@ use Rattle.std.specs.Ordering.{nat_cmp}
 use Rattle.std.specs.Map.{lookup}
 use Rattle.std.specs.List.{list_any}
 use Rattle.std.specs.BTreeMap.{is_at}
-use Rattle.simplex_resolving.specs.declared.entry.Entry.{Entry}
-use Rattle.simplex_resolving.specs.declared.entry.State.{State}
-use Rattle.simplex_resolving.specs.declared.entry.State.TheVariants.{Waiting, Asked, Judged}
-use Rattle.simplex_resolving.specs.Views.{entry_at, deadline_of, id_of, first_view, is_asked_as, is_judged_as, asked_view}
+use Rattle.model_resolver.specs.declared.entry.Entry.{Entry}
+use Rattle.model_resolver.specs.declared.entry.State.{State}
+use Rattle.model_resolver.specs.declared.entry.State.TheVariants.{Waiting, Asked, Judged}
+use Rattle.model_resolver.specs.Views.{entry_at, deadline_of, id_of, first_view, is_asked_as, is_judged_as, asked_view}
 use Rattle.simplex_fetch.specs.Index.{is_value, has_id, pair_cmp, IsIndexed, IsFree}
 use Rattle.simplex_fetch.proofs.Entries.{Rising, passes, first_view-some, first_view-none}
 

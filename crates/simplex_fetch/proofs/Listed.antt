@@ -11,8 +11,8 @@ use Rattle.std.specs.Cmp.{unsigned_tied}
 use Rattle.std.specs.BTreeMap.{is_at}
 use Rattle.std.specs.List.{AllByRecursion, list_any}
 use Rattle.std.specs.List.Sorted.{IsStrictlySortedBy}
-use Rattle.simplex_resolving.specs.declared.entry.Entry.{Entry}
-use Rattle.simplex_resolving.specs.Views.{entry_at, views_where}
+use Rattle.model_resolver.specs.declared.entry.Entry.{Entry}
+use Rattle.model_resolver.specs.Views.{entry_at, views_where}
 use Rattle.simplex_fetch.proofs.Entries.{Rising, Above, above_head, tail_rises, entry_at-above}
 
 -- whether the view is there, and passes the test

@@ -10,8 +10,8 @@ use Rattle.std.specs.BTreeMap.{is_at}
 use Rattle.std.specs.BTreeMap.Range.{range_contains, entries_between}
 use Rattle.std.specs.BTreeSet.{IsFromIterResult, BTreeSet}
 use Rattle.std.specs.List.{list_any}
-use Rattle.simplex_resolving.specs.declared.entry.Entry.{Entry}
-use Rattle.simplex_resolving.specs.Views.{entry_at, views_where, deadline_of}
+use Rattle.model_resolver.specs.declared.entry.Entry.{Entry}
+use Rattle.model_resolver.specs.Views.{entry_at, views_where, deadline_of}
 use Rattle.simplex_fetch.specs.Index.{pair_cmp, is_value, is_reached, is_due, has_deadline, IsIndexed}
 use Rattle.simplex_fetch.proofs.Pairs.{pair_at}
 use Rattle.simplex_fetch.proofs.Listed.{passes_at, where-is}

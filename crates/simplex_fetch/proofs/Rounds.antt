@@ -14,14 +14,14 @@ use Rattle.simplex_wire.specs.declared.error.DecodeError.{DecodeError}
 use Rattle.simplex_wire.specs.declared.resolver.ResolverMessage.{ResolverMessage}
 use Rattle.simplex_wire.specs.declared.resolver.ResolverBody.{ResolverBody}
 use Rattle.simplex_wire.specs.declared.resolver.ResolverBody.TheVariants as body
-use Rattle.simplex_resolving.specs.declared.config.FetchConfig.{FetchConfig}
-use Rattle.simplex_resolving.specs.declared.entry.Entry.{Entry}
-use Rattle.simplex_resolving.specs.declared.entry.Serving.{Serving}
-use Rattle.simplex_resolving.specs.declared.out.Out.{Out}
-use Rattle.simplex_resolving.specs.declared.out.Out.TheVariants as out
-use Rattle.simplex_resolving.specs.Asks.{is_targeted}
-use Rattle.simplex_resolving.specs.Views.{entry_at, asked_view}
-use Rattle.simplex_resolving.specs.Fetcher.{Machine, peer_of, other_at, requested, delivered, answered, heard_body, heard_message, served_as}
+use Rattle.model_resolver.specs.declared.config.FetchConfig.{FetchConfig}
+use Rattle.model_resolver.specs.declared.entry.Entry.{Entry}
+use Rattle.model_resolver.specs.declared.entry.Serving.{Serving}
+use Rattle.model_resolver.specs.declared.out.Out.{Out}
+use Rattle.model_resolver.specs.declared.out.Out.TheVariants as out
+use Rattle.model_resolver.specs.Asks.{is_targeted}
+use Rattle.model_resolver.specs.Views.{entry_at, asked_view}
+use Rattle.model_resolver.specs.Fetcher.{Machine, peer_of, other_at, requested, delivered, answered, heard_body, heard_message, served_as}
 use Rattle.simplex_fetch.specs.Laws.{AsksAll}
 
 -- ---- going round

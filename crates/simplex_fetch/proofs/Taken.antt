@@ -5,12 +5,12 @@ use Rattle.std.proofs.lemmas.Grind.{common_steps}
 use Rattle.std.specs.Ordering.{nat_cmp}
 use Rattle.std.specs.BTreeMap.{is_at}
 use Rattle.simplex_values.specs.declared.ask.Outcome.{Outcome}
-use Rattle.simplex_resolving.specs.Asks.{holds_ask}
-use Rattle.simplex_resolving.specs.declared.entry.Entry.{Entry}
-use Rattle.simplex_resolving.specs.declared.entry.State.{State}
-use Rattle.simplex_resolving.specs.declared.entry.State.TheVariants.{Waiting, Asked, Judged}
-use Rattle.simplex_resolving.specs.Views.{with_entry, without_entry, entry_at, judged_view}
-use Rattle.simplex_resolving.specs.Fetcher.{Machine, quiet, attempted, attempting, attempted_at, expiring, expired_at, expired_as, asking, retrying, peer_of, judged, judged_at, judged_entry, refused, retried, IsSoundAt, IsSoundEntry, judged_as, asked_on, without, delivered_of}
+use Rattle.model_resolver.specs.Asks.{holds_ask}
+use Rattle.model_resolver.specs.declared.entry.Entry.{Entry}
+use Rattle.model_resolver.specs.declared.entry.State.{State}
+use Rattle.model_resolver.specs.declared.entry.State.TheVariants.{Waiting, Asked, Judged}
+use Rattle.model_resolver.specs.Views.{with_entry, without_entry, entry_at, judged_view}
+use Rattle.model_resolver.specs.Fetcher.{Machine, quiet, attempted, attempting, attempted_at, expiring, expired_at, expired_as, asking, retrying, peer_of, judged, judged_at, judged_entry, refused, retried, IsSoundAt, IsSoundEntry, judged_as, asked_on, without, delivered_of}
 
 -- what is put there is put there
 abbrev pub PutsAlike : ℕ → List (ℕ × Entry) → List (ℕ × Entry) → Type 0

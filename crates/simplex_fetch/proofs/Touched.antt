@@ -12,13 +12,13 @@ use Rattle.std.specs.List.Sorted.{IsStrictlySortedBy}
 use Rattle.simplex_values.specs.declared.ask.Ask.{Ask}
 use Rattle.simplex_values.specs.declared.ask.Kind.{Kind}
 use Rattle.simplex_values.specs.declared.ask.Until.TheVariants as until
-use Rattle.simplex_resolving.specs.declared.arrivals.Arrival.{Arrival}
-use Rattle.simplex_resolving.specs.declared.retire.Retire.{Retire}
-use Rattle.simplex_resolving.specs.declared.retire.Retire.TheVariants.{Settled, Finalized, Floor}
-use Rattle.simplex_resolving.specs.declared.entry.Entry.{Entry}
-use Rattle.simplex_resolving.specs.Asks.{asks_any, same_kind, same_until}
-use Rattle.simplex_resolving.specs.Retirement.{reaches, touches}
-use Rattle.simplex_resolving.specs.Views.{entry_at, views_where}
+use Rattle.model_resolver.specs.declared.arrivals.Arrival.{Arrival}
+use Rattle.model_resolver.specs.declared.retire.Retire.{Retire}
+use Rattle.model_resolver.specs.declared.retire.Retire.TheVariants.{Settled, Finalized, Floor}
+use Rattle.model_resolver.specs.declared.entry.Entry.{Entry}
+use Rattle.model_resolver.specs.Asks.{asks_any, same_kind, same_until}
+use Rattle.model_resolver.specs.Retirement.{reaches, touches}
+use Rattle.model_resolver.specs.Views.{entry_at, views_where}
 use Rattle.simplex_fetch.specs.Index.{is_there, has_ask, AreHolders}
 use Rattle.simplex_fetch.proofs.Entries.{Rising}
 use Rattle.simplex_fetch.proofs.Listed.{passes_at, where-is, where_same}

@@ -5,15 +5,15 @@ use Rattle.std.proofs.lemmas.Grind.{common_steps}
 use Rattle.std.proofs.lemmas.Bool.Decides.{nat_tests}
 use Rattle.std.specs.Cmp.{unsigned_tied}
 use Rattle.simplex_values.specs.declared.ask.Ask.{Ask}
-use Rattle.simplex_resolving.specs.declared.arrivals.Arrival.{Arrival}
-use Rattle.simplex_resolving.specs.declared.entry.Entry.{Entry}
-use Rattle.simplex_resolving.specs.declared.retire.Retire.{Retire}
-use Rattle.simplex_resolving.specs.declared.retire.Retire.TheVariants.{Settled, Finalized, Floor}
-use Rattle.simplex_resolving.specs.Asks.{asks_any, without_asks, same_kind, same_until}
+use Rattle.model_resolver.specs.declared.arrivals.Arrival.{Arrival}
+use Rattle.model_resolver.specs.declared.entry.Entry.{Entry}
+use Rattle.model_resolver.specs.declared.retire.Retire.{Retire}
+use Rattle.model_resolver.specs.declared.retire.Retire.TheVariants.{Settled, Finalized, Floor}
+use Rattle.model_resolver.specs.Asks.{asks_any, without_asks, same_kind, same_until}
 use Rattle.simplex_values.specs.declared.ask.Until.TheVariants as until
-use Rattle.simplex_resolving.specs.Retirement.{reaches, retires, touches}
-use Rattle.simplex_resolving.specs.Views.{entry_at, with_entry, views_where}
-use Rattle.simplex_resolving.specs.Fetcher.{Machine, After, quiet, keeping, forgetting, left_of, visited, without, is_empty, kept_or_left, retired_at, retiring, IsSound, IsSoundEntry}
+use Rattle.model_resolver.specs.Retirement.{reaches, retires, touches}
+use Rattle.model_resolver.specs.Views.{entry_at, with_entry, views_where}
+use Rattle.model_resolver.specs.Fetcher.{Machine, After, quiet, keeping, forgetting, left_of, visited, without, is_empty, kept_or_left, retired_at, retiring, IsSound, IsSoundEntry}
 use Rattle.simplex_fetch.proofs.Entries.{Rising, above_head, tail_rises, entry_at-above, entry_at-put, entry_at-taken, with_entry-same, rising_put, rising_taken}
 
 -- where no ask passes the test all stay

@@ -1,8 +1,8 @@
 -- Changes of views, one after the other.
 use Rattle.std.proofs.Common.{◌≡◌, ◌≤◌, ℕ, List, [], ◌∷◌, ◌++◌, length, length-drop, drop, refl, sym, ap, ◌∙◌, append_assoc, append-nil, arith}
 use Rattle.std.proofs.lemmas.List.{nil_from_length}
-use Rattle.simplex_resolving.specs.declared.out.Out.{Out}
-use Rattle.simplex_resolving.specs.Fetcher.{Machine, After, visited}
+use Rattle.model_resolver.specs.declared.out.Out.{Out}
+use Rattle.model_resolver.specs.Fetcher.{Machine, After, visited}
 
 -- Of the views, some are left. What they come to from now on is what all come to from the start.
 pub record Visiting (change : ℕ → Machine → After) (views : List ℕ) (start : Machine) (left : List ℕ) (now : Machine) (outs : List Out) : Type 0 where

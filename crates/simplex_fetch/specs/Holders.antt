@@ -2,7 +2,7 @@
 use Rattle.std.specs.Prelude.{◌≡◌, ℕ, ◌==◌, not, ◌&&◌, ◌||◌, List}
 use Rattle.simplex_values.specs.declared.ask.Kind.{Kind}
 use Rattle.simplex_values.specs.declared.ask.Kind.TheVariants as kind
-use Rattle.simplex_resolving.specs.declared.held.Held.{Held}
+use Rattle.model_resolver.specs.declared.held.Held.{Held}
 use Rattle.simplex_fetch.specs.declared.holders.Holders.{Holders}
 use Rattle.simplex_fetch.specs.Index.{is_there}
 

@@ -6,13 +6,13 @@ use Rattle.std.specs.List.{list_any}
 use Rattle.std.specs.Map.{lookup, keys_of}
 use Rattle.std.specs.BTreeMap.{is_at}
 use Rattle.std.specs.List.Sorted.{IsStrictlySortedBy}
-use Rattle.simplex_resolving.specs.declared.entry.Entry.{Entry}
+use Rattle.model_resolver.specs.declared.entry.Entry.{Entry}
 use Rattle.simplex_values.specs.declared.ask.Kind.TheVariants as kind
 use Rattle.simplex_values.specs.declared.ask.Until.TheVariants as until
 use Rattle.simplex_values.specs.declared.ask.Ask.{Ask}
-use Rattle.simplex_resolving.specs.Asks.{same_kind, same_until, asks_any}
-use Rattle.simplex_resolving.specs.Views.{entry_at, deadline_of, id_of}
-pub use Rattle.simplex_resolving.specs.Views.{is_reached, is_due}
+use Rattle.model_resolver.specs.Asks.{same_kind, same_until, asks_any}
+use Rattle.model_resolver.specs.Views.{entry_at, deadline_of, id_of}
+pub use Rattle.model_resolver.specs.Views.{is_reached, is_due}
 
 -- whether this is the number that is there
 abbrev pub is_value : ℕ → Option ℕ → Bool

@@ -2,11 +2,11 @@
 use Rattle.std.specs.Prelude.{◌≡◌, ◌≢◌, ℕ, ◌+◌, ◌-◌, ◌<◌, List, [], Option, Some}
 use Rattle.std.specs.List.{Contains}
 use Rattle.simplex_values.specs.declared.ask.Ask.{Ask}
-use Rattle.simplex_resolving.specs.declared.config.FetchConfig.{FetchConfig}
-use Rattle.simplex_resolving.specs.declared.entry.Entry.{Entry}
-use Rattle.simplex_resolving.specs.declared.out.Out.TheVariants as out
-use Rattle.simplex_resolving.specs.Fetcher.{Machine, peer_of, heard, served}
-use Rattle.simplex_resolving.specs.Views.{asked_view}
+use Rattle.model_resolver.specs.declared.config.FetchConfig.{FetchConfig}
+use Rattle.model_resolver.specs.declared.entry.Entry.{Entry}
+use Rattle.model_resolver.specs.declared.out.Out.TheVariants as out
+use Rattle.model_resolver.specs.Fetcher.{Machine, peer_of, heard, served}
+use Rattle.model_resolver.specs.Views.{asked_view}
 
 -- of the next attempts of a view, as many as there are peers, one asks each of them
 abbrev pub AsksAll : FetchConfig → ℕ → Entry → Type 0

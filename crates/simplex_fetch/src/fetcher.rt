@@ -2,12 +2,12 @@
 ghost use Rattle.std.specs.Prelude.{◌≡◌, ◌&&◌, nat_lt, ◌<◌, ◌+◌, ◌^◌, ◌++◌, ◌∷◌, ◌%◌, [], map, IfOk, OnOk, None, Some};
 ghost use Rattle.std.specs.Option.{option_map};
 ghost use Rattle.simplex_values.specs.declared.ask.Outcome.{Outcome};
-ghost use Rattle.simplex_resolving.specs.Views.{entry_at, asked_view, next_deadline};
-ghost use Rattle.simplex_resolving.specs.Fetcher.{no_fetches, attempted, attempting, expiring, retiring, peer_of, retrying, of_all, of_target, fetched, noting, adding, attempted_at, retained, retired_at, kept_or_left, heard, heard_body, requested, answered, refused, judged, judged_as, asked_on, served, expired, expired_at, message_bytes, visited, is_done, blocked_by, answer_body, keeping, in_state, cyclic, other_at, IsSoundConfig, IsSoundEntry};
-ghost use Rattle.simplex_resolving.specs.declared.entry.State.TheVariants.{Waiting};
+ghost use Rattle.model_resolver.specs.Views.{entry_at, asked_view, next_deadline};
+ghost use Rattle.model_resolver.specs.Fetcher.{no_fetches, attempted, attempting, expiring, retiring, peer_of, retrying, of_all, of_target, fetched, noting, adding, attempted_at, retained, retired_at, kept_or_left, heard, heard_body, requested, answered, refused, judged, judged_as, asked_on, served, expired, expired_at, message_bytes, visited, is_done, blocked_by, answer_body, keeping, in_state, cyclic, other_at, IsSoundConfig, IsSoundEntry};
+ghost use Rattle.model_resolver.specs.declared.entry.State.TheVariants.{Waiting};
 
 use crate::views::Views;
-use simplex_resolving::{Arrivals, Entry, Fetch, FetchConfig, Out, Retire, Serving, State};
+use model_resolver::{Arrivals, Entry, Fetch, FetchConfig, Out, Retire, Serving, State};
 use simplex_types::{
     Bytes, DecodeError, Keep, Outcome, Participant, Resolution, ResolverBody, ResolverMessage,
     Sequence, View,
@@ -32,20 +32,20 @@ pub struct Fetcher {
 }
 
 impl Model for Fetcher {
-    ghost use Rattle.simplex_resolving.specs.Fetcher.{Machine};
+    ghost use Rattle.model_resolver.specs.Fetcher.{Machine};
 
     ghost Value = { Machine };
 
     ghost view = { λ f. record { config = f.config; views = f.views; next_id = f.next_id; serving = f.serving.entries; next_serve = f.next_serve } };
 
-    ghost use Rattle.simplex_resolving.specs.Fetcher.{IsSound};
+    ghost use Rattle.model_resolver.specs.Fetcher.{IsSound};
 
     ghost invariant = { λ f. IsSound f.config f.next_id f.views };
 }
 
 impl Fetcher {
     /// A fetcher that nothing was asked of.
-    #[tactic(auto, unfolding(simplex_resolving::specs::Views::entry_at))]
+    #[tactic(auto, unfolding(model_resolver::specs::Views::entry_at))]
     pub fn new(alloc: Global, config: FetchConfig) -> Fetcher
         requires { IsSoundConfig config }
         ensures { result ≡ no_fetches config }
@@ -67,7 +67,7 @@ impl Fetcher {
     }
 
     /// Whom the next attempt of the view asks.
-    #[tactic(auto, unfolding(simplex_resolving::specs::Fetcher::peer_of))]
+    #[tactic(auto, unfolding(model_resolver::specs::Fetcher::peer_of))]
     fn peer_of(
         &self,
         alloc: Global,
@@ -89,7 +89,7 @@ impl Fetcher {
     }
 
     /// The next attempt of the view, with this entry, which was taken out.
-    #[tactic(auto, unfolding(simplex_resolving::specs::Fetcher::attempted, simplex_resolving::specs::Fetcher::asking))]
+    #[tactic(auto, unfolding(model_resolver::specs::Fetcher::attempted, model_resolver::specs::Fetcher::asking))]
     fn attempt(
         &mut self,
         alloc: Global,
@@ -133,7 +133,7 @@ impl Fetcher {
     }
 
     /// The next attempt of the view as it stands.
-    #[tactic(auto, unfolding(simplex_resolving::specs::Fetcher::attempting, simplex_resolving::specs::Fetcher::attempted_at))]
+    #[tactic(auto, unfolding(model_resolver::specs::Fetcher::attempting, model_resolver::specs::Fetcher::attempted_at))]
     fn attempt_at(
         &mut self,
         alloc: Global,
@@ -153,7 +153,7 @@ impl Fetcher {
     }
 
     /// The view as it stands, whose deadline is reached.
-    #[tactic(auto, unfolding(simplex_resolving::specs::Fetcher::expiring, simplex_resolving::specs::Fetcher::expired_at, simplex_resolving::specs::Fetcher::expired_as))]
+    #[tactic(auto, unfolding(model_resolver::specs::Fetcher::expiring, model_resolver::specs::Fetcher::expired_at, model_resolver::specs::Fetcher::expired_as))]
     fn expire_at(
         &mut self,
         alloc: Global,
@@ -177,7 +177,7 @@ impl Fetcher {
     }
 
     /// The view as it stands without its asks that are done with.
-    #[tactic(auto, unfolding(simplex_resolving::specs::Fetcher::retiring, simplex_resolving::specs::Fetcher::retired_at, simplex_resolving::specs::Fetcher::kept_or_left))]
+    #[tactic(auto, unfolding(model_resolver::specs::Fetcher::retiring, model_resolver::specs::Fetcher::retired_at, model_resolver::specs::Fetcher::kept_or_left))]
     fn retire_at(
         &mut self,
         view: u64,
@@ -212,7 +212,7 @@ impl Fetcher {
     }
 
     /// The view, with this entry, which was taken out, waits the retry delay.
-    #[tactic(auto, unfolding(simplex_resolving::specs::Fetcher::retrying))]
+    #[tactic(auto, unfolding(model_resolver::specs::Fetcher::retrying))]
     fn retry(&mut self, view: u64, entry: Entry, now: u64) -> Result<(), AllocError>
         requires absent { entry_at self.old.views view ≡ None }
         requires sound { IsSoundEntry self.old.next_id entry }
@@ -224,7 +224,7 @@ impl Fetcher {
     }
 
     /// One more ask of the view, of this member alone where one is named. A view that was not asked for is new.
-    #[tactic(auto, unfolding(simplex_resolving::specs::Fetcher::adding, simplex_resolving::specs::Fetcher::noting))]
+    #[tactic(auto, unfolding(model_resolver::specs::Fetcher::adding, model_resolver::specs::Fetcher::noting))]
     fn add(
         &mut self,
         alloc: Global,
@@ -269,7 +269,7 @@ impl Fetcher {
     }
 
     /// Asks for what is wanted of the view.
-    #[tactic(auto, unfolding(simplex_resolving::specs::Fetcher::fetched_beside))]
+    #[tactic(auto, unfolding(model_resolver::specs::Fetcher::fetched_beside))]
     pub fn fetch(&mut self, alloc: Global, fetch: Fetch, now: u64) -> Result<Vec<Out>, AllocError>
         requires early { now < 2 ^ 63 }
         requires ids { self.old.next_id < 2 ^ 62 }
@@ -282,7 +282,7 @@ impl Fetcher {
     }
 
     /// Asks for what is wanted of the view, this member alone.
-    #[tactic(auto, unfolding(simplex_resolving::specs::Fetcher::fetched_beside))]
+    #[tactic(auto, unfolding(model_resolver::specs::Fetcher::fetched_beside))]
     pub fn fetch_targeted(
         &mut self,
         alloc: Global,
@@ -301,7 +301,7 @@ impl Fetcher {
     }
 
     /// Asks for all that is wanted.
-    #[tactic(auto, unfolding(simplex_resolving::specs::Fetcher::fetched_beside))]
+    #[tactic(auto, unfolding(model_resolver::specs::Fetcher::fetched_beside))]
     pub fn fetch_all(
         &mut self,
         alloc: Global,
@@ -321,7 +321,7 @@ impl Fetcher {
     }
 
     /// Drops the asks that are done with. A view without asks is forgotten.
-    #[tactic(auto, unfolding(simplex_resolving::specs::Fetcher::retained))]
+    #[tactic(auto, unfolding(model_resolver::specs::Fetcher::retained))]
     pub fn retain(&mut self, alloc: Global, retire: &Retire) -> Result<Vec<Out>, AllocError>
         ensures fetcher { OnOk result (self.new ≡ (retained retire.now self.old).fetcher) }
         ensures outs { IfOk result (λ outs. outs.items ≡ (retained retire.now self.old).outs) }
@@ -335,7 +335,7 @@ impl Fetcher {
     }
 
     /// Bytes of a peer.
-    #[tactic(auto, unfolding(simplex_resolving::specs::Fetcher::heard, simplex_resolving::specs::Fetcher::heard_message))]
+    #[tactic(auto, unfolding(model_resolver::specs::Fetcher::heard, model_resolver::specs::Fetcher::heard_message))]
     pub fn hear(
         &mut self,
         alloc: Global,
@@ -356,7 +356,7 @@ impl Fetcher {
     }
 
     /// A message of a peer.
-    #[tactic(auto, unfolding(simplex_resolving::specs::Fetcher::heard_body))]
+    #[tactic(auto, unfolding(model_resolver::specs::Fetcher::heard_body))]
     fn hear_message(
         &mut self,
         alloc: Global,
@@ -381,7 +381,7 @@ impl Fetcher {
     }
 
     /// A peer's request is to be answered.
-    #[tactic(auto, unfolding(simplex_resolving::specs::Fetcher::requested))]
+    #[tactic(auto, unfolding(model_resolver::specs::Fetcher::requested))]
     fn hear_request(
         &mut self,
         alloc: Global,
@@ -402,7 +402,7 @@ impl Fetcher {
     }
 
     /// An answer is delivered, where it was asked for.
-    #[tactic(auto, unfolding(simplex_resolving::specs::Fetcher::answered, simplex_resolving::specs::Fetcher::delivered))]
+    #[tactic(auto, unfolding(model_resolver::specs::Fetcher::answered, model_resolver::specs::Fetcher::delivered))]
     fn hear_response(
         &mut self,
         alloc: Global,
@@ -439,7 +439,7 @@ impl Fetcher {
     }
 
     /// An error of a peer, which has no answer.
-    #[tactic(auto, unfolding(simplex_resolving::specs::Fetcher::refused, simplex_resolving::specs::Fetcher::retried))]
+    #[tactic(auto, unfolding(model_resolver::specs::Fetcher::refused, model_resolver::specs::Fetcher::retried))]
     fn hear_error(&mut self, sender: &Participant, id: u64, now: u64) -> Result<(), AllocError>
         requires early { now < 2 ^ 63 }
         ensures { OnOk result (self.new ≡ refused now self.old (asked_view id sender.now self.old.views)) }
@@ -454,7 +454,7 @@ impl Fetcher {
     }
 
     /// What became of the answer that was delivered under this number.
-    #[tactic(auto, unfolding(simplex_resolving::specs::Fetcher::judged, simplex_resolving::specs::Fetcher::judged_at, simplex_resolving::specs::Fetcher::judged_entry))]
+    #[tactic(auto, unfolding(model_resolver::specs::Fetcher::judged, model_resolver::specs::Fetcher::judged_at, model_resolver::specs::Fetcher::judged_entry))]
     pub fn verdict(
         &mut self,
         alloc: Global,
@@ -479,7 +479,7 @@ impl Fetcher {
     }
 
     /// The view, with this entry, which was taken out, after the verdict.
-    #[tactic(auto, unfolding(simplex_resolving::specs::Fetcher::judged_as, simplex_resolving::specs::Fetcher::asked_on), using(crate::proofs::Taken::without_absent))]
+    #[tactic(auto, unfolding(model_resolver::specs::Fetcher::judged_as, model_resolver::specs::Fetcher::asked_on), using(crate::proofs::Taken::without_absent))]
     fn judge(
         &mut self,
         alloc: Global,
@@ -509,7 +509,7 @@ impl Fetcher {
     }
 
     /// The answer to a peer's request: a certificate's bytes, or that there is none.
-    #[tactic(auto, unfolding(simplex_resolving::specs::Fetcher::served, simplex_resolving::specs::Fetcher::served_as))]
+    #[tactic(auto, unfolding(model_resolver::specs::Fetcher::served, model_resolver::specs::Fetcher::served_as))]
     pub fn serve(
         &mut self,
         alloc: Global,
@@ -541,7 +541,7 @@ impl Fetcher {
     }
 
     /// Each view whose deadline is reached waits, or makes its next attempt.
-    #[tactic(auto, unfolding(simplex_resolving::specs::Fetcher::expired))]
+    #[tactic(auto, unfolding(model_resolver::specs::Fetcher::expired))]
     pub fn expire(&mut self, alloc: Global, now: u64) -> Result<Vec<Out>, AllocError>
         requires early { now < 2 ^ 63 }
         requires ids { self.old.next_id < 2 ^ 62 }
@@ -605,7 +605,7 @@ fn answer_body(bytes: Option<Vec<u8>>) -> ResolverBody
 }
 
 /// The bytes of a request or an answer.
-#[tactic(auto, unfolding(simplex_resolving::specs::Fetcher::message_bytes))]
+#[tactic(auto, unfolding(model_resolver::specs::Fetcher::message_bytes))]
 fn message_bytes(alloc: Global, id: u64, body: ResolverBody) -> Result<Bytes, AllocError>
     ensures { IfOk result (λ bytes. bytes ≡ message_bytes id body) }
 {

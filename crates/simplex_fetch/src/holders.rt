@@ -7,7 +7,7 @@ ghost use Rattle.std.specs.BTreeMap.Range.{range_contains};
 ghost use Rattle.simplex_fetch.specs.Index.{is_there};
 ghost use Rattle.simplex_fetch.specs.Holders.{of_kind, IsNoted, IsForgotten};
 
-use simplex_resolving::Held;
+use model_resolver::Held;
 use simplex_types::Kind;
 use std::alloc::{AllocError, Global};
 use std::collections::BTreeSet;

@@ -3,10 +3,10 @@ ghost use Rattle.std.specs.Prelude.{◌≡◌, ℕ, ◌<◌, false, List};
 ghost use Rattle.std.specs.Map.{keys_of};
 ghost use Rattle.std.specs.Ordering.{nat_cmp};
 ghost use Rattle.std.specs.List.Sorted.{IsStrictlySortedBy};
-ghost use Rattle.simplex_resolving.specs.declared.config.FetchConfig.{FetchConfig};
-ghost use Rattle.simplex_resolving.specs.declared.entry.Entry.{Entry};
-ghost use Rattle.simplex_resolving.specs.Asks.{is_targeted};
-ghost use Rattle.simplex_resolving.specs.Fetcher.{Machine};
+ghost use Rattle.model_resolver.specs.declared.config.FetchConfig.{FetchConfig};
+ghost use Rattle.model_resolver.specs.declared.entry.Entry.{Entry};
+ghost use Rattle.model_resolver.specs.Asks.{is_targeted};
+ghost use Rattle.model_resolver.specs.Fetcher.{Machine};
 ghost use Rattle.simplex_fetch.specs.Laws.{AsksAll, DeliversOpen, ServesOnce};
 
 /// Where an ask of a view names nobody, the attempts go round all peers.

@@ -13,4 +13,4 @@ mod views;
 
 pub use fetcher::Fetcher;
 pub use laws::{answers_are_of_open_requests, requests_are_served_once, untargeted_asks_go_round};
-pub use simplex_resolving::{Fetch, FetchConfig, Out, Retire};
+pub use model_resolver::{Fetch, FetchConfig, Out, Retire};

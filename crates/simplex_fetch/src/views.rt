@@ -6,15 +6,15 @@ ghost use Rattle.std.specs.declared.ops.Bound.TheVariants.{Included};
 ghost use Rattle.std.specs.BTreeMap.Range.{entries_between};
 ghost use Rattle.std.specs.Map.{keys_of};
 ghost use Rattle.std.specs.List.Sorted.{IsStrictlySortedBy};
-ghost use Rattle.simplex_resolving.specs.declared.entry.Entry.{Entry};
-ghost use Rattle.simplex_resolving.specs.Views.{entry_at, with_entry, without_entry, views_where, id_of, next_deadline, asked_view, judged_view};
+ghost use Rattle.model_resolver.specs.declared.entry.Entry.{Entry};
+ghost use Rattle.model_resolver.specs.Views.{entry_at, with_entry, without_entry, views_where, id_of, next_deadline, asked_view, judged_view};
 ghost use Rattle.simplex_fetch.specs.Index.{IsFree, is_due};
-ghost use Rattle.simplex_resolving.specs.Retirement.{reaches, touches};
+ghost use Rattle.model_resolver.specs.Retirement.{reaches, touches};
 
 use crate::holders::{self, Holders};
 use crate::numbers::{self, Numbers};
 use crate::timers::{self, Timers};
-use simplex_resolving::{Entry, Retire};
+use model_resolver::{Entry, Retire};
 use simplex_types::Participant;
 use std::alloc::{AllocError, Global};
 use std::collections::{BTreeMap, BTreeSet};
@@ -32,7 +32,7 @@ pub(crate) struct Views {
 
 impl Model for Views {
     ghost use Rattle.std.specs.Prelude.{List, ℕ};
-    ghost use Rattle.simplex_resolving.specs.declared.entry.Entry.{Entry};
+    ghost use Rattle.model_resolver.specs.declared.entry.Entry.{Entry};
 
     ghost Value = { List (ℕ × Entry) };
 
@@ -73,7 +73,7 @@ impl Views {
     }
 
     /// The view's entry, if the view is asked for.
-    #[tactic(auto, unfolding(simplex_resolving::specs::Views::entry_at))]
+    #[tactic(auto, unfolding(model_resolver::specs::Views::entry_at))]
     pub(crate) fn get(&self, view: u64) -> Option<&Entry>
         ensures { option_copied result ≡ entry_at self.now view }
     {
@@ -81,7 +81,7 @@ impl Views {
     }
 
     /// Takes the view's entry out, if the view is asked for.
-    #[tactic(auto, unfolding(simplex_resolving::specs::Views::entry_at, simplex_resolving::specs::Views::with_entry, simplex_resolving::specs::Views::without_entry))]
+    #[tactic(auto, unfolding(model_resolver::specs::Views::entry_at, model_resolver::specs::Views::with_entry, model_resolver::specs::Views::without_entry))]
     pub(crate) fn take(&mut self, view: u64) -> Option<Entry>
         ensures entry { result ≡ entry_at self.old view }
         ensures without { self.new ≡ without_entry view self.old }
@@ -102,7 +102,7 @@ impl Views {
     }
 
     /// Puts an entry at a view that has none.
-    #[tactic(auto, unfolding(simplex_resolving::specs::Views::entry_at, simplex_resolving::specs::Views::with_entry))]
+    #[tactic(auto, unfolding(model_resolver::specs::Views::entry_at, model_resolver::specs::Views::with_entry))]
     pub(crate) fn put(&mut self, view: u64, entry: Entry) -> Result<(), AllocError>
         requires absent { entry_at self.old view ≡ None }
         requires free { IsFree (id_of entry.state) self.old }

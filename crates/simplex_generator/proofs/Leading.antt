@@ -3,8 +3,8 @@ use Rattle.std.proofs.Common.{◌≡◌, ◌<◌, ◌+◌, ◌-◌, ◌++◌, �
 use Rattle.std.specs.Prelude.{Result, Ok, Err}
 use Rattle.simplex_transcript.specs.declared.event.Event.{Event}
 use Rattle.simplex_transcript.specs.declared.refusal.RunError.{RunError}
-use Rattle.simplex_run.specs.Life.{Noted}
-use Rattle.simplex_run.specs.Entries.{entry_of}
+use Rattle.model_run.specs.Life.{Noted}
+use Rattle.model_run.specs.Entries.{entry_of}
 use Rattle.simplex_generator.specs.declared.generator.Generator.{Generator}
 use Rattle.simplex_generator.specs.Generated.{setting_for, event_behind, events_behind, unless_refused, generated}
 use Rattle.simplex_generator.specs.Stands.{Generates, Draw, Drew, Makes, Refuses}

@@ -1,3 +1,9 @@
+pub mod Choosing
+pub mod Counts
+pub mod Delivered
+pub mod Dropped
+pub mod First
+pub mod TakenIn
 pub mod Leading
 pub mod Shown
 pub mod Steps

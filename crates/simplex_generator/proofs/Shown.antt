@@ -4,11 +4,11 @@ use Rattle.std.proofs.lemmas.Bool.{le-ltb}
 use Rattle.std.specs.Prelude.{Option, Some, None}
 use Rattle.std.specs.Option.{is_some, option_map}
 use Rattle.simplex_transcript.specs.declared.node.Node.{Node}
-use Rattle.simplex_steps.specs.Engine.{EngineMade, Did, runs}
-use Rattle.simplex_run.specs.Kinds.{is_node, runs_engine}
-use Rattle.simplex_run.specs.Life.{Noted, Life, Stopped, Running, clock_of, life_in}
-use Rattle.simplex_generated.specs.declared.source.Held.{Held}
-use Rattle.simplex_generated.specs.Setup.{setup_of}
+use Rattle.model_steps.specs.Engine.{EngineMade, Did, runs}
+use Rattle.model_run.specs.Kinds.{is_node, runs_engine}
+use Rattle.model_run.specs.Life.{Noted, Life, Stopped, Running, clock_of, life_in}
+use Rattle.simplex_generator.specs.declared.source.Held.{Held}
+use Rattle.simplex_generator.specs.Setup.{setup_of}
 use Rattle.simplex_network.specs.declared.network.Network.{Network}
 use Rattle.simplex_network.specs.NodeEngine.{NodeEngine, EngineStands}
 use Rattle.simplex_network.specs.Parts.{Lives, part_in, goes_on}

@@ -6,18 +6,18 @@ use Rattle.simplex_transcript.specs.declared.event.Event.{Event}
 use Rattle.simplex_transcript.specs.declared.node.Node.{Node}
 use Rattle.simplex_transcript.specs.declared.refusal.RunError.{RunError}
 use Rattle.simplex_transcript.specs.declared.setup.Setup.{Setup}
-use Rattle.simplex_run.specs.Setting.{at_epoch_genesis}
-use Rattle.simplex_run.specs.Life.{Noted, clock_of}
-use Rattle.simplex_run.specs.Entries.{entry_of}
+use Rattle.model_run.specs.Setting.{at_epoch_genesis}
+use Rattle.model_run.specs.Life.{Noted, clock_of}
+use Rattle.model_run.specs.Entries.{entry_of}
 use Rattle.simplex_network.specs.Stands.{StandsFor, Grows, Enters, entered}
 use Rattle.simplex_network.specs.Stands as networks
-use Rattle.simplex_run.proofs.Honest.{was_made}
-use Rattle.simplex_forging.proofs.Unforged.{made_event}
-use Rattle.simplex_generated.specs.Setup.{setup_of}
-use Rattle.simplex_generated.specs.Drawing as drawing
-use Rattle.simplex_generated.specs.Draws.{DrawsBehind, Chooses, Chose, TookIn}
-use Rattle.simplex_generated.specs.declared.choice.Choice.TheVariants as choices
-use Rattle.simplex_generated.specs.declared.source.Held.{Held}
+use Rattle.model_run.proofs.Honest.{was_made}
+use Rattle.law_run.proofs.Unforged.{made_event}
+use Rattle.simplex_generator.specs.Setup.{setup_of}
+use Rattle.simplex_generator.specs.Drawing as drawing
+use Rattle.simplex_generator.specs.Draws.{DrawsBehind, Chooses, Chose, TookIn}
+use Rattle.simplex_generator.specs.declared.choice.Choice.TheVariants as choices
+use Rattle.simplex_generator.specs.declared.source.Held.{Held}
 use Rattle.simplex_generator.specs.declared.generator.Generator.{Generator}
 use Rattle.simplex_generator.specs.Generated.{setting_for, event_behind, running_nodes, held}
 use Rattle.simplex_generator.specs.Stands.{Generates, Draw, Drew, Makes, Refuses}

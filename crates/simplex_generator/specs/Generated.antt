@@ -6,13 +6,13 @@ use Rattle.simplex_transcript.specs.declared.event.StepSource.{StepSource}
 use Rattle.simplex_transcript.specs.declared.node.Node.{Node}
 use Rattle.simplex_transcript.specs.declared.refusal.RunError.{RunError}
 use Rattle.simplex_engine.specs.Holding.{holds}
-use Rattle.simplex_run.specs.Setting.{Setting, at_epoch_genesis}
-use Rattle.simplex_run.specs.Kinds.{runs_engine}
-use Rattle.simplex_run.specs.Life.{Noted, Life, Stopped, Running, clock_of, life_in}
-use Rattle.simplex_run.specs.Entries.{entry_of}
-use Rattle.simplex_generated.specs.declared.source.Held.{Held}
-use Rattle.simplex_generated.specs.Setup.{setup_of, all_nodes, engine_nodes}
-use Rattle.simplex_generated.specs.Drawing.{Drawn, all_sources, next_event}
+use Rattle.model_run.specs.Setting.{Setting, at_epoch_genesis}
+use Rattle.model_run.specs.Kinds.{runs_engine}
+use Rattle.model_run.specs.Life.{Noted, Life, Stopped, Running, clock_of, life_in}
+use Rattle.model_run.specs.Entries.{entry_of}
+use Rattle.simplex_generator.specs.declared.source.Held.{Held}
+use Rattle.simplex_generator.specs.Setup.{setup_of, all_nodes, engine_nodes}
+use Rattle.simplex_generator.specs.Drawing.{Drawn, all_sources, next_event}
 
 -- whether a node is given packets: its engine runs, or it has none
 abbrev pub runs : Life → Bool

@@ -1,3 +1,9 @@
+pub mod Setup
+pub mod Undelivered
+pub mod Unanswered
+pub mod Summary
+pub mod Drawing
+pub mod Draws
 pub mod Generated
 pub mod Samples
 pub mod Stands

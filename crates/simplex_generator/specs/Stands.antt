@@ -2,10 +2,10 @@
 use Rattle.std.specs.Prelude.{◌≡◌, ◌+◌, ℕ, List, ◌∷◌, Ok, Err}
 use Rattle.simplex_transcript.specs.declared.event.Event.{Event}
 use Rattle.simplex_transcript.specs.declared.refusal.RunError.{RunError}
-use Rattle.simplex_run.specs.Life.{Noted}
-use Rattle.simplex_run.specs.Entries.{entry_of}
+use Rattle.model_run.specs.Life.{Noted}
+use Rattle.model_run.specs.Entries.{entry_of}
 use Rattle.simplex_network.specs.Stands.{StandsFor}
-use Rattle.simplex_generated.specs.Draws.{DrawsBehind}
+use Rattle.simplex_generator.specs.Draws.{DrawsBehind}
 use Rattle.simplex_generator.specs.Generated.{setting_for, event_behind}
 use Rattle.simplex_generator.specs.declared.generator.Generator.{Generator}
 

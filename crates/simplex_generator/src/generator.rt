@@ -1,11 +1,11 @@
 //! A generator: it draws an event, and lets the network make it.
 ghost use Rattle.std.specs.Prelude.{◌≡◌, [], IfOk, IfErr, OnOk, false};
 ghost use Rattle.simplex_network.specs.Answer.{is_memory};
-ghost use Rattle.simplex_generated.specs.Setup.{setup_of};
+ghost use Rattle.simplex_generator.specs.Setup.{setup_of};
 ghost use Rattle.simplex_generator.specs.Stands.{Generates, Draw, Drew, Makes, Refuses};
 
 use crate::held::{all_held, running_nodes};
-use simplex_generated::{Choice, Drawing, step_at};
+use crate::{Choice, Drawing, step_at};
 use simplex_network::Network;
 use simplex_transcript::{Event, RunError, Setup};
 use std::alloc::{AllocError, Global};

@@ -2,21 +2,21 @@
 #![tactic(auto)]
 
 ghost use Rattle.std.specs.Prelude.{◌≡◌, ◌++◌, ◌&&◌, ℕ, IfOk, OnOk, List, true};
-ghost use Rattle.simplex_steps.specs.Engine.{EngineMade, Did, runs};
-ghost use Rattle.simplex_run.specs.Life.{Noted, Running, clock_of, life_in};
-ghost use Rattle.simplex_run.specs.Kinds.{is_node, runs_engine};
-ghost use Rattle.simplex_generated.specs.Setup.{setup_of};
+ghost use Rattle.model_steps.specs.Engine.{EngineMade, Did, runs};
+ghost use Rattle.model_run.specs.Life.{Noted, Running, clock_of, life_in};
+ghost use Rattle.model_run.specs.Kinds.{is_node, runs_engine};
+ghost use Rattle.simplex_generator.specs.Setup.{setup_of};
 ghost use Rattle.simplex_generator.specs.Generated as generated;
 ghost use Rattle.simplex_network.specs.NodeEngine.{EngineStands};
 ghost use Rattle.simplex_network.specs.Stands.{StandsFor};
 
-use simplex_generated::{ENGINE_NODES, Held, NODES, SOURCES};
+use crate::{ENGINE_NODES, Held, NODES, SOURCES};
 use simplex_network::{Network, NodeEngine};
 use simplex_transcript::Node;
 use std::alloc::{AllocError, Global};
 
 /// The sources that hold something, by node, then in order.
-#[tactic(auto, unfolding(crate::specs::Generated::held, simplex_generated::specs::Setup::setup_of))]
+#[tactic(auto, unfolding(crate::specs::Generated::held, crate::specs::Setup::setup_of))]
 pub(crate) fn all_held(alloc: Global, network: &Network, now: u64) -> Result<Vec<Held>, AllocError>
     ensures { IfOk result (λ held. (number : ℕ) (before : List Noted) → StandsFor network.now (generated.setting_for number) before → clock_of before ≡ now → held.items ≡ generated.held (generated.setting_for number) before) }
 {
@@ -69,7 +69,7 @@ fn push_sources(
 }
 
 /// The nodes that are given packets: those whose engine runs, and those that have none.
-#[tactic(auto, unfolding(simplex_generated::specs::Setup::setup_of))]
+#[tactic(auto, unfolding(crate::specs::Setup::setup_of))]
 pub(crate) fn running_nodes(alloc: Global, network: &Network) -> Result<Vec<Node>, AllocError>
     ensures { IfOk result (λ running. (number : ℕ) (before : List Noted) → StandsFor network.now (generated.setting_for number) before → running.items ≡ generated.running_nodes (generated.setting_for number) before) }
 {

@@ -2,11 +2,11 @@
 #![tactic(auto, using(crate::proofs::Leading::leads_first, crate::proofs::Leading::leads_all, crate::proofs::Leading::leads_more, crate::proofs::Leading::leads_last))]
 
 ghost use Rattle.std.specs.Prelude.{◌≡◌, IfOk};
-ghost use Rattle.simplex_generated.specs.Setup as setups;
+ghost use Rattle.simplex_generator.specs.Setup as setups;
 ghost use Rattle.simplex_generator.specs.Generated.{generated};
 
 use crate::generator::Generator;
-use simplex_generated::setup_of;
+use crate::setup_of;
 use simplex_transcript::{Event, RunError, Setup};
 use std::alloc::{AllocError, Global};
 

@@ -3,8 +3,11 @@
 //! A message for which there is room is last in the ready queue. For others the policy decides: it may
 //! drop one, replace one that waits, or give one a place before all others. Contracts see a mailbox as
 //! its two lists, and what an overflow holds as `Waiting`.
+//!
+//! A [`Gate`] stands here too, below all whose threads pass one.
 #![tactic(auto)]
 
+mod gate;
 mod held;
 mod laws;
 mod mailbox;
@@ -15,6 +18,7 @@ mod post;
 mod requested;
 mod samples;
 
+pub use gate::{Gate, OpenGate};
 pub use held::Held;
 pub use laws::{
     all_goes_in_turn, order_is_kept, place_is_forgotten, posted_are_enqueued, posted_are_held,

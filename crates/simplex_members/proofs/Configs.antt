@@ -5,12 +5,12 @@ use Rattle.std.proofs.lemmas.Grind.{common_steps}
 use Rattle.simplex_values.specs.declared.policy.SkipPolicy.{SkipPolicy}
 use Rattle.simplex_values.specs.declared.policy.SkipPolicy.TheVariants as skip
 use Rattle.simplex_transcript.specs.declared.setup.Setup.{Setup}
-use Rattle.simplex_run.specs.Setting.{Setting}
-use Rattle.simplex_run.specs.Setups as setups
-use Rattle.simplex_run.specs.Setups.{first_bad, is_within}
-use Rattle.simplex_run.specs.Twins.{elected}
-use Rattle.simplex_run.specs.Wrapped.{behavior_of}
-use Rattle.simplex_run.specs.Members.{kind_of, engine_of, rules_of, batcher_of, resolver_of, skip_budget, view_at}
+use Rattle.model_run.specs.Setting.{Setting}
+use Rattle.model_run.specs.Setups as setups
+use Rattle.model_run.specs.Setups.{first_bad, is_within}
+use Rattle.model_run.specs.Twins.{elected}
+use Rattle.model_run.specs.Wrapped.{behavior_of}
+use Rattle.model_run.specs.Members.{kind_of, engine_of, rules_of, batcher_of, resolver_of, skip_budget, view_at}
 use Rattle.simplex_types.specs.declared.floor.Floor.{Floor}
 use Rattle.simplex_types.specs.declared.floor.Floor.TheVariants as floors
 use Rattle.simplex_journal.specs.Journal.{Section}

@@ -9,8 +9,8 @@ use Rattle.simplex_values.specs.declared.round.Round.{Round}
 use Rattle.simplex_types.specs.RoundRobin.{leader_of}
 use Rattle.simplex_transcript.specs.declared.setup.Setup.{Setup}
 use Rattle.simplex_transcript.specs.declared.setup.SetupRound.{SetupRound}
-use Rattle.simplex_run.specs.Setups.{is_round}
-use Rattle.simplex_run.specs.Twins.{round_at, elected}
+use Rattle.model_run.specs.Setups.{is_round}
+use Rattle.model_run.specs.Twins.{round_at, elected}
 use Rattle.simplex_twins.specs.Script.{round_index}
 use Rattle.simplex_twins.specs.Leaders.{scripted_leader}
 use Rattle.simplex_twins.specs.Faults.{has_bad_leader}

@@ -5,8 +5,8 @@ use Rattle.std.specs.List.{list_all}
 use Rattle.std.proofs.lemmas.Grind.{common_steps}
 use Rattle.simplex_transcript.specs.declared.field.Field.{Field}
 use Rattle.simplex_transcript.specs.declared.setup.Setup.{Setup}
-use Rattle.simplex_run.specs.Setups as setups
-use Rattle.simplex_run.specs.Setups.{first_bad, is_within, most_members, is_stall, is_round}
+use Rattle.model_run.specs.Setups as setups
+use Rattle.model_run.specs.Setups.{first_bad, is_within, most_members, is_stall, is_round}
 
 pub record GoodValues (setup : Setup) : Type 0 where
   pub members : is_within 1 (most_members setup) (length setup.members) ≡ true

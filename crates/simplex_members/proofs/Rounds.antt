@@ -7,8 +7,8 @@ use Rattle.simplex_members.specs.Scripts.{kept, round_in}
 use Rattle.std.proofs.lemmas.Grind.{common_steps}
 use Rattle.std.proofs.lemmas.Nat.{pow_pos, le-div}
 use Rattle.simplex_transcript.specs.declared.setup.SetupRound.{SetupRound}
-use Rattle.simplex_run.specs.Setups.{is_round}
-use Rattle.simplex_run.specs.Twins.{is_in_mask}
+use Rattle.model_run.specs.Setups.{is_round}
+use Rattle.model_run.specs.Twins.{is_in_mask}
 use Rattle.simplex_twins.specs.declared.error.TwinsError.{TwinsError}
 use Rattle.simplex_twins.specs.declared.error.TwinsError.TheVariants.{LeaderUnseen, BadLeader, BadMask}
 use Rattle.std.proofs.Math.Nat.{div-eq_of_lt}

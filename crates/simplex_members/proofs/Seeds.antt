@@ -2,8 +2,8 @@
 use Rattle.std.proofs.Common.{◌≡◌, ◌∙◌, ap, ℕ, ◌+◌, List, arith}
 use mathlib.Core.Path.{fun_ext}
 use Rattle.rand_chacha.specs.ChaCha.{of_seed}
-use Rattle.simplex_faults.specs.Words.{Draws, words_of}
-use Rattle.simplex_faults.proofs.Drawing.{seed_draws}
+use Rattle.model_faults.specs.Words.{Draws, words_of}
+use Rattle.model_faults.proofs.Drawing.{seed_draws}
 use Rattle.simplex_mocks.specs.Drawing.{words_left}
 
 word_left : (seed : List ℕ) (place : ℕ) → words_left (of_seed seed) place ≡ words_of seed place

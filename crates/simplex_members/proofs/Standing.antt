@@ -11,18 +11,18 @@ use Rattle.simplex_types.specs.Keyed.{keyed_attests}
 use Rattle.simplex_transcript.specs.declared.setup.Setup.{Setup}
 use Rattle.simplex_transcript.specs.declared.setup.MemberKind.{MemberKind}
 use Rattle.simplex_transcript.specs.declared.setup.MemberKind.TheVariants as kinds
-use Rattle.simplex_run.specs.Kinds.{has_engine, runs_engine, members_of}
-use Rattle.simplex_run.specs.Members.{kind_of}
-use Rattle.simplex_run.specs.Twins.{elected}
-use Rattle.simplex_run.specs.Mocks.{Heard, Sent, heard_by, attests_of, words_for, equivocator_of}
-use Rattle.simplex_faults.specs.Words.{Words}
-use Rattle.simplex_faults.specs.Conflicter.{conflicter_sends}
-use Rattle.simplex_faults.specs.Equivocator.{Made, equivocator_sends}
-use Rattle.simplex_faults.specs.Impersonator.{impersonator_sends}
-use Rattle.simplex_faults.specs.Nuller.{nuller_sends}
-use Rattle.simplex_faults.specs.NullifyOnly.{nullify_only_sends}
-use Rattle.simplex_faults.specs.Outdated.{outdated_sends}
-use Rattle.simplex_faults.specs.Reconfigurer.{reconfigurer_sends}
+use Rattle.model_run.specs.Kinds.{has_engine, runs_engine, members_of}
+use Rattle.model_run.specs.Members.{kind_of}
+use Rattle.model_run.specs.Twins.{elected}
+use Rattle.model_run.specs.Mocks.{Heard, Sent, heard_by, attests_of, words_for, equivocator_of}
+use Rattle.model_faults.specs.Words.{Words}
+use Rattle.model_faults.specs.Conflicter.{conflicter_sends}
+use Rattle.model_faults.specs.Equivocator.{Made, equivocator_sends}
+use Rattle.model_faults.specs.Impersonator.{impersonator_sends}
+use Rattle.model_faults.specs.Nuller.{nuller_sends}
+use Rattle.model_faults.specs.NullifyOnly.{nullify_only_sends}
+use Rattle.model_faults.specs.Outdated.{outdated_sends}
+use Rattle.model_faults.specs.Reconfigurer.{reconfigurer_sends}
 use Rattle.simplex_mocks.specs.Conflicting as conflicting
 use Rattle.simplex_mocks.specs.Equivocating as equivocating
 use Rattle.simplex_mocks.specs.Remembering as remembering

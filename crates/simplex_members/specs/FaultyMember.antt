@@ -7,8 +7,8 @@ use Rattle.simplex_types.specs.Keyed.{keyed_attests}
 use Rattle.simplex_transcript.specs.declared.setup.Setup.{Setup}
 use Rattle.simplex_transcript.specs.declared.setup.MemberKind.{MemberKind}
 use Rattle.simplex_transcript.specs.declared.setup.MemberKind.TheVariants as kinds
-use Rattle.simplex_run.specs.Members.{kind_of}
-use Rattle.simplex_run.specs.Mocks.{Heard, attests_of, words_for, equivocator_of}
+use Rattle.model_run.specs.Members.{kind_of}
+use Rattle.model_run.specs.Mocks.{Heard, attests_of, words_for, equivocator_of}
 use Rattle.simplex_mocks.specs.Conflicting as conflicting
 use Rattle.simplex_mocks.specs.Equivocating as equivocating
 use Rattle.simplex_mocks.specs.Remembering as remembering

@@ -3,10 +3,10 @@ use Rattle.std.specs.Prelude.{◌≡◌, true, List}
 use Rattle.simplex_types.specs.declared.keyed.Keyed.{Keyed}
 use Rattle.simplex_types.specs.Keyed.{keyed_attests, keyed_verifies}
 use Rattle.simplex_journal.specs.Journal.{Section}
-use Rattle.simplex_faults.specs.Wrapped.{wrapped_attests, wrapped_recovers}
+use Rattle.model_faults.specs.Wrapped.{wrapped_attests, wrapped_recovers}
 use Rattle.simplex_mocks.specs.declared.wrapped.Scheme.{Scheme}
-use Rattle.simplex_steps.specs.Engine.{EngineMade}
-use Rattle.simplex_run.specs.Setting.{Setting}
+use Rattle.model_steps.specs.Engine.{EngineMade}
+use Rattle.model_run.specs.Setting.{Setting}
 use Rattle.simplex_engine.specs.declared.config.EngineConfig.{EngineConfig}
 use Rattle.simplex_engine.specs.Config as configs
 use Rattle.simplex_members.specs.Leading.{NodeElector, elects}

@@ -1,7 +1,7 @@
 -- The script of a setup, as twins follow it.
 use Rattle.std.specs.Prelude.{ℕ, Option, Some, None, if◌then◌else◌}
 use Rattle.simplex_transcript.specs.declared.setup.SetupRound.{SetupRound}
-use Rattle.simplex_run.specs.Setups.{is_round}
+use Rattle.model_run.specs.Setups.{is_round}
 use Rattle.simplex_twins.specs.Script.{ScriptedRound, scripted}
 
 abbrev pub round_in : SetupRound → ScriptedRound

@@ -1,10 +1,10 @@
 //! What engines are made with.
 ghost use Rattle.std.specs.Prelude.{◌≡◌, ◌<◌, ◌≤◌, ◌^◌, List, length, IfOk, IfSome, IsNone, None, Some};
 ghost use Rattle.simplex_journal.specs.Journal.{Section};
-ghost use Rattle.simplex_run.specs.Members as members;
-ghost use Rattle.simplex_run.specs.Setting.{setting_of};
-ghost use Rattle.simplex_run.specs.Setups as setups;
-ghost use Rattle.simplex_run.specs.Wrapped.{behavior_of};
+ghost use Rattle.model_run.specs.Members as members;
+ghost use Rattle.model_run.specs.Setting.{setting_of};
+ghost use Rattle.model_run.specs.Setups as setups;
+ghost use Rattle.model_run.specs.Wrapped.{behavior_of};
 ghost use Rattle.simplex_engine.specs.Config.{first_bad};
 ghost use Rattle.simplex_members.specs.NodeEngine.{made_with, IsSetUp};
 

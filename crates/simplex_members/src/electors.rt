@@ -1,7 +1,7 @@
 //! Who leads.
 ghost use Rattle.std.specs.Prelude.{◌≡◌, ◌≤◌, map, length, IsNone, IfOk};
-ghost use Rattle.simplex_run.specs.Setups as setups;
-ghost use Rattle.simplex_run.specs.Twins.{elected};
+ghost use Rattle.model_run.specs.Setups as setups;
+ghost use Rattle.model_run.specs.Twins.{elected};
 ghost use Rattle.simplex_members.specs.Leading.{elects, terms_in};
 
 use crate::scripts::script_of;

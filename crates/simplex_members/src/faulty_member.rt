@@ -1,15 +1,15 @@
 //! Faulty members without an engine.
 ghost use Rattle.std.specs.Prelude.{◌≡◌, ◌<◌, ◌∷◌, [], ℕ, List, length, true, false, IsNone, IfOk, OnOk};
 ghost use Rattle.simplex_transcript.specs.declared.setup.Setup as setup;
-ghost use Rattle.simplex_run.specs.Kinds as kinds;
-ghost use Rattle.simplex_run.specs.Members.{kind_of};
-ghost use Rattle.simplex_run.specs.Mocks.{Heard, heard_by};
-ghost use Rattle.simplex_run.specs.Setups as setups;
+ghost use Rattle.model_run.specs.Kinds as kinds;
+ghost use Rattle.model_run.specs.Members.{kind_of};
+ghost use Rattle.model_run.specs.Mocks.{Heard, heard_by};
+ghost use Rattle.model_run.specs.Setups as setups;
 ghost use Rattle.simplex_members.specs.FaultyMember.{FaultyStands, is_impersonator};
 
 use crate::electors::{NodeElector, elector_of};
 use crate::schemes::{kind_of, random_of, scheme_of};
-use simplex_faults::Sent;
+use model_faults::Sent;
 use simplex_mocks::conflicter::{self, Conflicter};
 use simplex_mocks::equivocator::{self, Equivocator};
 use simplex_mocks::impersonator::{self, Impersonator};

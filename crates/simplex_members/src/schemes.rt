@@ -1,11 +1,11 @@
 //! How members sign, and what they draw.
 ghost use Rattle.std.specs.Prelude.{◌≡◌, ◌<◌, length, IsNone, IfOk, Some};
 ghost use Rattle.std.specs.Int.{to_be_bytes};
-ghost use Rattle.simplex_faults.specs.Words.{member_seed};
-ghost use Rattle.simplex_run.specs.Kinds as kinds;
-ghost use Rattle.simplex_run.specs.Members.{kind_of};
-ghost use Rattle.simplex_run.specs.Mocks.{words_for};
-ghost use Rattle.simplex_run.specs.Setups as setups;
+ghost use Rattle.model_faults.specs.Words.{member_seed};
+ghost use Rattle.model_run.specs.Kinds as kinds;
+ghost use Rattle.model_run.specs.Members.{kind_of};
+ghost use Rattle.model_run.specs.Mocks.{words_for};
+ghost use Rattle.model_run.specs.Setups as setups;
 ghost use Rattle.simplex_mocks.specs.Drawing.{words_left};
 
 use rand_chacha::ChaCha8Rng;
@@ -59,7 +59,7 @@ pub(crate) fn random_of(setup: &Setup, member: Participant) -> ChaCha8Rng
 }
 
 // The seed of the member's generator.
-#[tactic(auto, unfolding(simplex_faults::specs::Words::member_seed))]
+#[tactic(auto, unfolding(model_faults::specs::Words::member_seed))]
 fn seed_of(key_base: u64, member: Participant) -> [u8; 32]
     ensures { result ≡ member_seed key_base member }
 {

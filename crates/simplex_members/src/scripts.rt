@@ -1,7 +1,7 @@
 //! The script of a setup.
 ghost use Rattle.std.specs.Prelude.{◌≡◌, true, map, IfOk};
 ghost use Rattle.std.specs.List.{list_all, filter_map};
-ghost use Rattle.simplex_run.specs.Setups as setups;
+ghost use Rattle.model_run.specs.Setups as setups;
 ghost use Rattle.simplex_members.specs.Scripts.{kept, round_in};
 
 use simplex_transcript::SetupRound;

@@ -1,7 +1,7 @@
 //! Which item of a setup breaks its limit.
 ghost use Rattle.std.specs.Prelude.{◌≡◌};
-ghost use Rattle.simplex_run.specs.Setups as setups;
-ghost use Rattle.simplex_run.specs.Run as runs;
+ghost use Rattle.model_run.specs.Setups as setups;
+ghost use Rattle.model_run.specs.Run as runs;
 
 use crate::scripts::are_rounds;
 use simplex_transcript::{Event, Field, MemberKind, Setup};
@@ -23,7 +23,7 @@ pub fn are_few(setup: &Setup, events: &[Event]) -> bool
 }
 
 /// The first item of the setup that breaks its limit, but for the number of events.
-#[tactic(auto, unfolding(simplex_run::specs::Setups::first_bad))]
+#[tactic(auto, unfolding(model_run::specs::Setups::first_bad))]
 pub fn first_bad(setup: &Setup) -> Option<Field>
     ensures { result ≡ setups.first_bad setup.now }
 {

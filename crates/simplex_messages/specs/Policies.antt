@@ -11,7 +11,7 @@ use Rattle.simplex_wire.specs.declared.vote.Vote.{Vote}
 use Rattle.simplex_wire.specs.declared.vote.Vote.TheVariants as votes
 use Rattle.simplex_wire.specs.Fields.{certificate_kind}
 pub use Rattle.simplex_wire.specs.Fields.{certificate_view, vote_kind, vote_view}
-use Rattle.simplex_rules.specs.Known.{is_same_kind}
+use Rattle.model_rules.specs.Known.{is_same_kind}
 use Rattle.simplex_mailbox.specs.Waiting.{Waiting, put_last}
 use Rattle.simplex_messages.specs.declared.batcher.Message as batcher_message
 use Rattle.simplex_messages.specs.declared.batcher.Message.TheVariants as batcher

@@ -1,6 +1,6 @@
 //! Messages that are about the same.
 ghost use Rattle.std.specs.Prelude.{◌≡◌};
-ghost use Rattle.simplex_rules.specs.Known.{is_same_kind};
+ghost use Rattle.model_rules.specs.Known.{is_same_kind};
 ghost use Rattle.simplex_messages.specs.Policies.{are_alike, are_same_ask};
 
 use simplex_types::{Certificate, CertificateKind, Kind};

@@ -5,7 +5,7 @@ ghost use Rattle.simplex_messages.specs.Step.{no_out, with_call};
 
 use crate::call::Call;
 use crate::handed::Handed;
-use simplex_rules::Asked;
+use model_rules::Asked;
 use simplex_types::{Blocker, Certificate, Participant, Sequence};
 use std::alloc::{AllocError, Global};
 

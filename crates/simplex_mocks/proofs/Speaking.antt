@@ -3,9 +3,9 @@ use Rattle.std.proofs.Common.{◌≡◌, ◌∙◌, sym, ap, refl, ℕ, ◌+◌,
 use Rattle.std.specs.Prelude.{not, if◌then◌else◌}
 use Rattle.std.specs.Option.{option_map_or}
 use Rattle.simplex_values.specs.declared.proposal.Proposal.{Proposal}
-use Rattle.simplex_faults.specs.Heard.{Heard, certificate_heard}
+use Rattle.model_faults.specs.Heard.{Heard, certificate_heard}
 use Rattle.simplex_mocks.specs.Equivocating.{speaker}
-use Rattle.simplex_faults.specs.Equivocator.{Made, proposal_in, leads_next, was_heard, answered, if_answered, if_equivocates, equivocator_drew, equivocates, equivocator_sends}
+use Rattle.model_faults.specs.Equivocator.{Made, proposal_in, leads_next, was_heard, answered, if_answered, if_equivocates, equivocator_drew, equivocates, equivocator_sends}
 
 -- what an answer comes to, where this is what is to be answered
 abbrev pub comes_to : Made → List Heard → Heard → Option Proposal → Type 0

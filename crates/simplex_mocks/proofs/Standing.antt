@@ -6,9 +6,9 @@ use Rattle.simplex_values.specs.declared.proposal.Proposal.{Proposal}
 use Rattle.simplex_values.specs.declared.proposal.Subject.{Subject}
 use Rattle.simplex_values.specs.declared.round.Round.{Round}
 use Rattle.simplex_wire.specs.declared.attestation.Attestation.{Attestation}
-use Rattle.simplex_faults.specs.Words.{Words, Draws}
-use Rattle.simplex_faults.specs.Heard.{Heard}
-use Rattle.simplex_faults.specs.Equivocator.{Made, was_heard, equivocator_drew, equivocates, next_round}
+use Rattle.model_faults.specs.Words.{Words, Draws}
+use Rattle.model_faults.specs.Heard.{Heard}
+use Rattle.model_faults.specs.Equivocator.{Made, was_heard, equivocator_drew, equivocates, next_round}
 use Rattle.simplex_mocks.specs.declared.equivocator.Equivocator.{Equivocator}
 use Rattle.simplex_mocks.specs.Equivocating.{StandsFor, made_of, has_view}
 

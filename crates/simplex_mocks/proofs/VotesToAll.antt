@@ -6,8 +6,8 @@ use Rattle.simplex_values.specs.declared.plan.Recipients.TheVariants as recipien
 use Rattle.simplex_values.specs.declared.proposal.Subject.{Subject}
 use Rattle.simplex_wire.specs.declared.attestation.Attestation.{Attestation}
 use Rattle.simplex_wire.specs.declared.vote.Vote.{Vote}
-use Rattle.simplex_faults.specs.Heard.{own_vote, to_all, votes_to_all}
-use Rattle.simplex_faults.specs.Equivocator.{to_members}
+use Rattle.model_faults.specs.Heard.{own_vote, to_all, votes_to_all}
+use Rattle.model_faults.specs.Equivocator.{to_members}
 
 -- the vote on the first subject, and then those on the others
 pub one_more : (attests : Subject → Option Attestation) (first : Subject) (others : List Subject)

@@ -4,7 +4,7 @@ use Rattle.std.specs.Prelude.{not, filter, cond, slice_index}
 use Rattle.std.specs.List.{range_with_len}
 use Rattle.std.proofs.lemmas.List.Elements.{filter-append}
 use Rattle.std.proofs.lemmas.List.FromFn.{get_or-range_with_len}
-use Rattle.simplex_faults.specs.Equivocator.{others_than}
+use Rattle.model_faults.specs.Equivocator.{others_than}
 
 abbrev pub is_not : ℕ → ℕ → Bool
 is_not member m = not (m == member)

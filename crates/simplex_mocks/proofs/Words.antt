@@ -5,8 +5,8 @@ use Rattle.std.specs.Int.{w64, to_be_bytes}
 use Rattle.rand_core.specs.Stream.{Stream, u64_call}
 use Rattle.rand_core.specs.Steps.{stream_of, steps_u32}
 use Rattle.rand_chacha.specs.ChaCha.{ChaCha, next_word}
-use Rattle.simplex_faults.specs.Conflicter.{drawn_payload}
-use Rattle.simplex_faults.specs.Words.{Words, Draws}
+use Rattle.model_faults.specs.Conflicter.{drawn_payload}
+use Rattle.model_faults.specs.Words.{Words, Draws}
 use Rattle.simplex_mocks.specs.Drawing.{words_left}
 
 pub two_on : (words : Words) (from : ℕ) → words (from + 1 + 1) ≡ words (from + 2)

@@ -2,9 +2,9 @@
 use Rattle.std.specs.Prelude.{◌≡◌, List, [], ◌∷◌, Option, Some, None}
 use Rattle.simplex_values.specs.declared.proposal.Subject.{Subject}
 use Rattle.simplex_wire.specs.declared.attestation.Attestation.{Attestation}
-use Rattle.simplex_faults.specs.Words.{Words, Draws}
-use Rattle.simplex_faults.specs.Heard.{Heard}
-use Rattle.simplex_faults.specs.Conflicter.{conflicter_drew}
+use Rattle.model_faults.specs.Words.{Words, Draws}
+use Rattle.model_faults.specs.Heard.{Heard}
+use Rattle.model_faults.specs.Conflicter.{conflicter_drew}
 use Rattle.simplex_mocks.specs.declared.conflicter.Conflicter.{Conflicter}
 use Rattle.simplex_mocks.specs.Drawing.{answers_of}
 

@@ -3,7 +3,7 @@ use Rattle.std.specs.Prelude.{replicate}
 use Rattle.rand_core.specs.Stream.{Stream, u64_call}
 use Rattle.rand_core.specs.Steps.{stream_of, steps_u32}
 use Rattle.rand_chacha.specs.ChaCha.{ChaCha, next_word}
-use Rattle.simplex_faults.specs.Words.{Words}
+use Rattle.model_faults.specs.Words.{Words}
 
 -- what a generator answers to any calls
 abbrev pub answers_of : ChaCha → Stream

@@ -7,9 +7,9 @@ use Rattle.simplex_mocks.specs.Drawing.{answers_of}
 use Rattle.simplex_values.specs.declared.proposal.Subject.{Subject}
 use Rattle.simplex_values.specs.declared.round.Round.{Round}
 use Rattle.simplex_wire.specs.declared.attestation.Attestation.{Attestation}
-use Rattle.simplex_faults.specs.Words.{Words, Draws}
-use Rattle.simplex_faults.specs.Heard.{Heard}
-use Rattle.simplex_faults.specs.Equivocator.{Made, leads_next, was_heard, equivocator_drew}
+use Rattle.model_faults.specs.Words.{Words, Draws}
+use Rattle.model_faults.specs.Heard.{Heard}
+use Rattle.model_faults.specs.Equivocator.{Made, leads_next, was_heard, equivocator_drew}
 use Rattle.simplex_mocks.specs.declared.views.Views.{Views}
 use Rattle.simplex_mocks.specs.declared.equivocator.Equivocator.{Equivocator}
 

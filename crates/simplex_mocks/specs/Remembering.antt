@@ -5,8 +5,8 @@ use Rattle.std.specs.BTreeMap as tree
 use Rattle.simplex_values.specs.declared.proposal.Proposal.{Proposal}
 use Rattle.simplex_values.specs.declared.proposal.Subject.{Subject}
 use Rattle.simplex_wire.specs.declared.attestation.Attestation.{Attestation}
-use Rattle.simplex_faults.specs.Heard.{Heard}
-use Rattle.simplex_faults.specs.Outdated.{stored_at}
+use Rattle.model_faults.specs.Heard.{Heard}
+use Rattle.model_faults.specs.Outdated.{stored_at}
 use Rattle.simplex_mocks.specs.declared.stored.Stored.{Stored}
 use Rattle.simplex_mocks.specs.declared.outdated.Outdated.{Outdated}
 

@@ -1,21 +1,21 @@
 //! A member that votes for two proposals.
-#![tactic(auto, unfolding(crate::specs::Conflicting::StandsFor, simplex_faults::specs::Conflicter::conflicter_drew, simplex_faults::specs::Conflicter::conflicter_sends))]
+#![tactic(auto, unfolding(crate::specs::Conflicting::StandsFor, model_faults::specs::Conflicter::conflicter_drew, model_faults::specs::Conflicter::conflicter_sends))]
 
 ghost use Rattle.std.specs.Prelude.{◌≡◌, ◌∷◌, [], ℕ, ◌+◌, List, Option, IfOk, OnOk};
 ghost use Rattle.simplex_values.specs.declared.proposal.Subject.{Subject};
 ghost use Rattle.simplex_wire.specs.declared.attestation.Attestation.{Attestation};
-ghost use Rattle.simplex_faults.specs.Heard.{Heard};
-ghost use Rattle.simplex_faults.specs.Words.{Words, Draws};
-ghost use Rattle.simplex_faults.specs.Conflicter.{drawn_payload, conflicter_subjects, words_for, conflicter_sends};
+ghost use Rattle.model_faults.specs.Heard.{Heard};
+ghost use Rattle.model_faults.specs.Words.{Words, Draws};
+ghost use Rattle.model_faults.specs.Conflicter.{drawn_payload, conflicter_subjects, words_for, conflicter_sends};
 ghost use Rattle.simplex_mocks.specs.Conflicting.{StandsFor, pair_list};
 ghost use Rattle.simplex_mocks.specs.Drawing.{words_left};
 
 use crate::drawing::draw_payload;
 use crate::hearing::heard_subject;
 use crate::sending::votes_to_all;
+use model_faults::Sent;
 use rand_chacha::ChaCha8Rng;
 use rand_core::Rng;
-use simplex_faults::Sent;
 use simplex_types::{Channel, Proposal, Scheme, Sequence, Subject};
 use std::alloc::{AllocError, Global};
 
@@ -63,7 +63,7 @@ fn conflict<R: Rng>(random: &mut R, heard: Option<Subject>) -> Option<(Subject, 
 
 impl<S: Scheme> Conflicter<S> {
     /// A conflicter that heard nothing.
-    #[tactic(auto, unfolding(crate::specs::Conflicting::StandsFor, simplex_faults::specs::Conflicter::conflicter_drew), using(crate::proofs::Words::left_draws))]
+    #[tactic(auto, unfolding(crate::specs::Conflicting::StandsFor, model_faults::specs::Conflicter::conflicter_drew), using(crate::proofs::Words::left_draws))]
     pub fn new(config: Config<S>) -> Conflicter<S>
         ensures { StandsFor S.attests result (S.attests config.scheme) (words_left config.random) [] }
     {
@@ -74,7 +74,7 @@ impl<S: Scheme> Conflicter<S> {
     }
 
     /// What it sends on hearing the bytes.
-    #[tactic(auto, unfolding(crate::specs::Conflicting::StandsFor, simplex_faults::specs::Conflicter::conflicter_drew, simplex_faults::specs::Conflicter::conflicter_sends), using(crate::proofs::VotesToAll::votes_none))]
+    #[tactic(auto, unfolding(crate::specs::Conflicting::StandsFor, model_faults::specs::Conflicter::conflicter_drew, model_faults::specs::Conflicter::conflicter_sends), using(crate::proofs::VotesToAll::votes_none))]
     pub fn hear(
         &mut self,
         alloc: Global,

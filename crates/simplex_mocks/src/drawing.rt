@@ -1,14 +1,14 @@
 //! Random words.
 ghost use Rattle.std.specs.Prelude.{◌≡◌, ◌++◌, ℕ, ◌+◌};
 ghost use Rattle.std.specs.Int.{w64, to_be_bytes};
-ghost use Rattle.simplex_faults.specs.Words.{Words, Draws};
-ghost use Rattle.simplex_faults.specs.Conflicter.{drawn_payload};
+ghost use Rattle.model_faults.specs.Words.{Words, Draws};
+ghost use Rattle.model_faults.specs.Conflicter.{drawn_payload};
 
 use rand_core::Rng;
 use simplex_types::Digest;
 
 /// The next word.
-#[tactic(auto, using(simplex_faults::proofs::Drawing::drawn_word, simplex_faults::proofs::Drawing::drawn_later))]
+#[tactic(auto, using(model_faults::proofs::Drawing::drawn_word, model_faults::proofs::Drawing::drawn_later))]
 pub(crate) fn draw<R: Rng>(random: &mut R) -> u64
     ensures word { (words : Words) (from : ℕ) → Draws (R.stream random.old) words from → result ≡ words from }
     ensures later { (words : Words) (from : ℕ) → Draws (R.stream random.old) words from → Draws (R.stream random.new) words (from + 1) }
@@ -42,7 +42,7 @@ fn spread(a: u64, b: u64, c: u64, d: u64) -> [u8; 32]
 }
 
 /// A payload of four words.
-#[tactic(auto, unfolding(simplex_faults::specs::Conflicter::drawn_payload), using(crate::proofs::Words::four_on, crate::proofs::Words::four_words))]
+#[tactic(auto, unfolding(model_faults::specs::Conflicter::drawn_payload), using(crate::proofs::Words::four_on, crate::proofs::Words::four_words))]
 pub(crate) fn draw_payload<R: Rng>(random: &mut R) -> Digest
     ensures value { (words : Words) (from : ℕ) → Draws (R.stream random.old) words from → result ≡ drawn_payload words from }
     ensures later { (words : Words) (from : ℕ) → Draws (R.stream random.old) words from → Draws (R.stream random.new) words (from + 4) }

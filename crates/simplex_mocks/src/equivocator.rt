@@ -1,8 +1,8 @@
 //! A leader that proposes two payloads.
 ghost use Rattle.std.specs.Prelude.{◌≡◌, ◌∷◌, ◌||◌, ◌==◌, ◌<◌, ◌-◌, ◌^◌, [], ℕ, List, IfOk, OnOk, IfSome, OnSome, Some, None};
-ghost use Rattle.simplex_faults.specs.Heard.{Heard, certificate_heard};
-ghost use Rattle.simplex_faults.specs.Equivocator.{Made, was_heard, proposal_in, equivocator_sends};
-ghost use Rattle.simplex_faults.specs.Words.{Words};
+ghost use Rattle.model_faults.specs.Heard.{Heard, certificate_heard};
+ghost use Rattle.model_faults.specs.Equivocator.{Made, was_heard, proposal_in, equivocator_sends};
+ghost use Rattle.model_faults.specs.Words.{Words};
 ghost use Rattle.simplex_mocks.specs.Drawing.{words_left};
 ghost use Rattle.simplex_mocks.specs.Equivocating.{StandsFor, made_of, has_view, speaker};
 
@@ -10,8 +10,8 @@ use crate::drawing::draw_three;
 use crate::hearing::heard_proposal;
 use crate::proposing::{equivocate, next_leader, next_round};
 use crate::views::Views;
+use model_faults::Sent;
 use rand_chacha::ChaCha8Rng;
-use simplex_faults::Sent;
 use simplex_types::elector::Elector;
 use simplex_types::{Channel, Epoch, Participant, Proposal, Scheme, Sequence};
 use std::alloc::{AllocError, Global};
@@ -41,7 +41,7 @@ pub struct Equivocator<S, L> {
 
 impl<S: Scheme, L: Elector> Equivocator<S, L> {
     /// An equivocator that heard nothing.
-    #[tactic(auto, unfolding(crate::specs::Equivocating::StandsFor, simplex_faults::specs::Equivocator::equivocator_drew, simplex_faults::specs::Equivocator::was_heard), using(crate::proofs::Words::left_draws))]
+    #[tactic(auto, unfolding(crate::specs::Equivocating::StandsFor, model_faults::specs::Equivocator::equivocator_drew, model_faults::specs::Equivocator::was_heard), using(crate::proofs::Words::left_draws))]
     pub fn new(alloc: Global, config: Config<S, L>) -> Equivocator<S, L>
         ensures { StandsFor S.attests S.member S.members L.elects result
             (made_of S.attests S.member S.members L.elects config.scheme config.elector config.epoch (words_left config.random)) [] }

@@ -1,13 +1,13 @@
 //! What is heard.
 ghost use Rattle.std.specs.Prelude.{◌≡◌, IfOk};
-ghost use Rattle.simplex_faults.specs.Heard.{subject_heard, certificate_heard};
-ghost use Rattle.simplex_faults.specs.Equivocator.{proposal_in};
+ghost use Rattle.model_faults.specs.Heard.{subject_heard, certificate_heard};
+ghost use Rattle.model_faults.specs.Equivocator.{proposal_in};
 
 use simplex_types::{Certificate, Channel, DecodeError, Proposal, Subject, Vote};
 use std::alloc::{AllocError, Global};
 
 /// What the vote that was heard is about. Nothing where the bytes are no vote, or came on another channel.
-#[tactic(auto, unfolding(simplex_faults::specs::Heard::subject_heard))]
+#[tactic(auto, unfolding(model_faults::specs::Heard::subject_heard))]
 pub(crate) fn heard_subject(channel: Channel, bytes: &[u8]) -> Option<Subject>
     ensures { result ≡ subject_heard (record { channel = channel; bytes = bytes.now }) }
 {
@@ -22,7 +22,7 @@ pub(crate) fn heard_subject(channel: Channel, bytes: &[u8]) -> Option<Subject>
 
 /// The proposal of the notarization or finalization that was heard. Nothing where the bytes are neither, or came on
 /// another channel.
-#[tactic(auto, unfolding(simplex_faults::specs::Heard::certificate_heard))]
+#[tactic(auto, unfolding(model_faults::specs::Heard::certificate_heard))]
 pub(crate) fn heard_proposal(
     alloc: Global,
     channel: Channel,

@@ -1,14 +1,14 @@
 //! A member that votes under another member's number.
-#![tactic(auto, unfolding(simplex_faults::specs::Impersonator::impersonator_sends))]
+#![tactic(auto, unfolding(model_faults::specs::Impersonator::impersonator_sends))]
 
 ghost use Rattle.std.specs.Prelude.{◌≡◌, ◌∷◌, [], IfOk, option_map};
-ghost use Rattle.simplex_faults.specs.Heard.{own_vote, votes_to_all};
-ghost use Rattle.simplex_faults.specs.Impersonator.{another_number, as_another, impersonator_sends};
+ghost use Rattle.model_faults.specs.Heard.{own_vote, votes_to_all};
+ghost use Rattle.model_faults.specs.Impersonator.{another_number, as_another, impersonator_sends};
 
 use crate::hearing::heard_subject;
 use crate::sending::{send, vote_with};
+use model_faults::Sent;
 use rand_chacha::ChaCha8Rng;
-use simplex_faults::Sent;
 use simplex_types::{
     Attestation, Channel, Participant, Recipients, Scheme, Sequence, Subject, Vote,
 };
@@ -49,7 +49,7 @@ fn another(member: Participant) -> Participant
 }
 
 /// The own vote on the subject under another's number, where the scheme signs it.
-#[tactic(auto, unfolding(simplex_faults::specs::Heard::own_vote))]
+#[tactic(auto, unfolding(model_faults::specs::Heard::own_vote))]
 fn disguised<S: Scheme>(scheme: &S, subject: &Subject) -> Option<Vote>
     ensures { result ≡ own_vote (λ subject. option_map as_another (S.attests scheme.now subject)) subject.now }
 {
@@ -94,7 +94,7 @@ impl<S: Scheme> Impersonator<S> {
     }
 
     /// What it sends on hearing the bytes.
-    #[tactic(auto, unfolding(simplex_faults::specs::Impersonator::impersonator_sends), using(crate::proofs::VotesToAll::votes_none))]
+    #[tactic(auto, unfolding(model_faults::specs::Impersonator::impersonator_sends), using(crate::proofs::VotesToAll::votes_none))]
     pub fn hear(
         &mut self,
         alloc: Global,

@@ -1,13 +1,13 @@
 //! A member that nullifies each view, and does nothing else.
-#![tactic(auto, unfolding(simplex_faults::specs::NullifyOnly::nullify_only_sends))]
+#![tactic(auto, unfolding(model_faults::specs::NullifyOnly::nullify_only_sends))]
 
 ghost use Rattle.std.specs.Prelude.{◌≡◌, IfOk};
-ghost use Rattle.simplex_faults.specs.NullifyOnly.{nullify_only_sends};
+ghost use Rattle.model_faults.specs.NullifyOnly.{nullify_only_sends};
 
 use crate::hearing::heard_subject;
 use crate::sending::votes_to_all;
+use model_faults::Sent;
 use rand_chacha::ChaCha8Rng;
-use simplex_faults::Sent;
 use simplex_types::{Channel, Scheme, Sequence, Subject};
 use std::alloc::{AllocError, Global};
 use std::marker::Model;

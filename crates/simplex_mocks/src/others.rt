@@ -1,6 +1,6 @@
 //! The other members.
 ghost use Rattle.std.specs.Prelude.{◌≡◌, ◌++◌, ◌∷◌, [], ℕ, ◌+◌, ◌^◌, ◌<◌, ◌==◌, not, filter, slice_index, IfOk, OnOk};
-ghost use Rattle.simplex_faults.specs.Equivocator.{others_than};
+ghost use Rattle.model_faults.specs.Equivocator.{others_than};
 
 use simplex_types::{Members, Participant};
 use std::alloc::{AllocError, Global};

@@ -1,18 +1,18 @@
 //! A member that votes for what was proposed some views before.
-#![tactic(auto, unfolding(crate::specs::Remembering::StandsFor, simplex_faults::specs::Outdated::stored_at, simplex_faults::specs::Outdated::outdated_sends))]
+#![tactic(auto, unfolding(crate::specs::Remembering::StandsFor, model_faults::specs::Outdated::stored_at, model_faults::specs::Outdated::outdated_sends))]
 
 ghost use Rattle.std.specs.Prelude.{◌≡◌, ◌∷◌, ◌-◌, [], ℕ, List, Option, IfOk, OnOk, Some};
 ghost use Rattle.simplex_values.specs.declared.proposal.Subject.{Subject};
 ghost use Rattle.simplex_wire.specs.declared.attestation.Attestation.{Attestation};
-ghost use Rattle.simplex_faults.specs.Heard.{Heard};
-ghost use Rattle.simplex_faults.specs.Outdated.{if_view, outdated_sends};
+ghost use Rattle.model_faults.specs.Heard.{Heard};
+ghost use Rattle.model_faults.specs.Outdated.{if_view, outdated_sends};
 ghost use Rattle.simplex_mocks.specs.Remembering.{StandsFor, stored_in};
 
 use crate::hearing::heard_subject;
 use crate::sending::votes_to_all;
 use crate::stored::Stored;
+use model_faults::Sent;
 use rand_chacha::ChaCha8Rng;
-use simplex_faults::Sent;
 use simplex_types::{Channel, Proposal, Scheme, Sequence, Subject, ViewDelta};
 use std::alloc::{AllocError, Global};
 

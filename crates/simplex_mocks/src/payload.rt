@@ -1,6 +1,6 @@
 //! Payloads that are made.
 ghost use Rattle.std.specs.Prelude.{◌≡◌};
-ghost use Rattle.simplex_faults.specs.Payload.{payload_digest};
+ghost use Rattle.model_faults.specs.Payload.{payload_digest};
 
 use sha2::{Digest as Hash, Sha256};
 use simplex_types::{Digest, Round, absorb_number};

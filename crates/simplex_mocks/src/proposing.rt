@@ -1,15 +1,15 @@
 //! Who proposes on a certified proposal, and the votes on two proposals there.
 ghost use Rattle.std.specs.Prelude.{◌≡◌, ◌+◌, ◌<◌, ◌^◌, ◌-◌, IfOk, IfSome, OnSome, None, if◌then◌else◌};
 ghost use Rattle.simplex_values.specs.declared.proposal.Subject.TheVariants as subjects;
-ghost use Rattle.simplex_faults.specs.Payload.{payload_digest};
-ghost use Rattle.simplex_faults.specs.Equivocator.{Made, next_round, leads_next, equivocates};
-ghost use Rattle.simplex_faults.specs.Words.{Words};
+ghost use Rattle.model_faults.specs.Payload.{payload_digest};
+ghost use Rattle.model_faults.specs.Equivocator.{Made, next_round, leads_next, equivocates};
+ghost use Rattle.model_faults.specs.Words.{Words};
 ghost use Rattle.simplex_mocks.specs.Equivocating.{made_of};
 
 use crate::others::{other_at, others_but};
 use crate::payload::payload_digest;
 use crate::sending::{own, send};
-use simplex_faults::Sent;
+use model_faults::Sent;
 use simplex_types::elector::Elector;
 use simplex_types::{
     Epoch, Participant, Proposal, Recipients, Round, Scheme, Sequence, Subject, View,
@@ -63,7 +63,7 @@ fn notarize_with(round: &Round, parent: &Proposal, word: u64) -> Subject
 
 /// Both votes of a leader: the first word names who gets the first vote, and the others get the second. Each payload
 /// has a word of its own.
-#[tactic(auto, unfolding(simplex_faults::specs::Equivocator::equivocates))]
+#[tactic(auto, unfolding(model_faults::specs::Equivocator::equivocates))]
 pub(crate) fn equivocate<S: Scheme>(
     alloc: Global,
     scheme: &S,

@@ -1,14 +1,14 @@
 //! A member that votes in the next epoch.
-#![tactic(auto, unfolding(simplex_faults::specs::Reconfigurer::reconfigurer_sends))]
+#![tactic(auto, unfolding(model_faults::specs::Reconfigurer::reconfigurer_sends))]
 
 ghost use Rattle.std.specs.Prelude.{◌≡◌, ◌^◌, ◌-◌, [], nat_lt, IfOk, Some, None, if◌then◌else◌};
 ghost use Rattle.std.specs.Option.{option_to_list};
-ghost use Rattle.simplex_faults.specs.Reconfigurer.{in_next_epoch, reconfigurer_subjects, reconfigurer_sends};
+ghost use Rattle.model_faults.specs.Reconfigurer.{in_next_epoch, reconfigurer_subjects, reconfigurer_sends};
 
 use crate::hearing::heard_subject;
 use crate::sending::votes_to_all;
+use model_faults::Sent;
 use rand_chacha::ChaCha8Rng;
-use simplex_faults::Sent;
 use simplex_types::{Channel, Epoch, Proposal, Round, Scheme, Sequence, Subject};
 use std::alloc::{AllocError, Global};
 use std::marker::Model;

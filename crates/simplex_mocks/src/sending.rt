@@ -1,9 +1,9 @@
 //! Own votes, and how they are sent.
 ghost use Rattle.std.specs.Prelude.{◌≡◌, ◌++◌, OnOk, IfOk, option_map, option_to_list};
-ghost use Rattle.simplex_faults.specs.Heard.{vote_on, own_vote, votes_to_all};
-ghost use Rattle.simplex_faults.specs.Equivocator.{to_members};
+ghost use Rattle.model_faults.specs.Heard.{vote_on, own_vote, votes_to_all};
+ghost use Rattle.model_faults.specs.Equivocator.{to_members};
 
-use simplex_faults::Sent;
+use model_faults::Sent;
 use simplex_types::{
     Attestation, Bytes, Channel, Finalize, Notarize, Nullify, Recipients, Scheme, Sequence,
     Subject, Vote,
@@ -28,7 +28,7 @@ pub(crate) fn vote_with(subject: &Subject, attestation: Attestation) -> Vote
 }
 
 /// The own vote on the subject, where the scheme signs it.
-#[tactic(auto, unfolding(simplex_faults::specs::Heard::own_vote))]
+#[tactic(auto, unfolding(model_faults::specs::Heard::own_vote))]
 pub(crate) fn own<S: Scheme>(scheme: &S, subject: &Subject) -> Option<Vote>
     ensures { result ≡ own_vote (S.attests scheme.now) subject.now }
 {
@@ -56,7 +56,7 @@ pub(crate) fn send(
 }
 
 /// The own votes on these subjects, each to all, in order. What the scheme does not sign is left out.
-#[tactic(auto, unfolding(simplex_faults::specs::Heard::votes_to_all), using(crate::proofs::VotesToAll::one_more))]
+#[tactic(auto, unfolding(model_faults::specs::Heard::votes_to_all), using(crate::proofs::VotesToAll::one_more))]
 pub(crate) fn votes_to_all<S: Scheme>(
     alloc: Global,
     scheme: &S,

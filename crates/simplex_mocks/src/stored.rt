@@ -2,7 +2,7 @@
 #![tactic(auto, unfolding(crate::specs::Remembering::stored_in))]
 
 ghost use Rattle.std.specs.Prelude.{◌≡◌, ℕ, None, Some, OnOk};
-ghost use Rattle.simplex_faults.specs.Outdated.{if_view};
+ghost use Rattle.model_faults.specs.Outdated.{if_view};
 ghost use Rattle.simplex_mocks.specs.Remembering.{stored_in};
 
 use simplex_types::{Proposal, View};

@@ -1,11 +1,11 @@
 //! Schemes that fail their member, and the elector beside them.
 ghost use Rattle.std.specs.Prelude.{◌≡◌, ◌+◌, ◌-◌, ◌%◌, ◌<◌};
-ghost use Rattle.simplex_faults.specs.Wrapped.{turned, first_bit, corrupted, wrapped_attests, wrapped_recovers};
+ghost use Rattle.model_faults.specs.Wrapped.{turned, first_bit, corrupted, wrapped_attests, wrapped_recovers};
 ghost use Rattle.simplex_mocks.specs.WrappedLaws.{wrapped_signs};
 
 pub use crate::wrapped_elector::{Config, Elector};
+pub use model_faults::Behavior;
 use sha2::{Digest as Hash, Sha256};
-pub use simplex_faults::Behavior;
 use simplex_types::{
     AssemblyError, Attestation, Keep, Participant, Scheme as Inner, Signatures, Subject,
     absorb_number,
@@ -32,7 +32,7 @@ impl<S> Scheme<S> {
 }
 
 /// The bit that is turned first.
-#[tactic(auto, unfolding(simplex_faults::specs::Wrapped::first_bit))]
+#[tactic(auto, unfolding(model_faults::specs::Wrapped::first_bit))]
 fn first_bit(attestation: &Attestation) -> u8
     ensures { result ≡ first_bit attestation.now }
 {
@@ -44,7 +44,7 @@ fn first_bit(attestation: &Attestation) -> u8
 }
 
 /// The signature with one bit turned.
-#[tactic(auto, unfolding(simplex_faults::specs::Wrapped::turned))]
+#[tactic(auto, unfolding(model_faults::specs::Wrapped::turned))]
 fn turned(signature: &[u8; 32], bit: u8) -> [u8; 32]
     ensures { result ≡ turned bit signature.now }
 {
@@ -107,7 +107,7 @@ impl<S: Inner> Inner for Scheme<S> {
         self.inner.participants()
     }
 
-    #[tactic(auto, unfolding(simplex_faults::specs::Wrapped::wrapped_attests))]
+    #[tactic(auto, unfolding(model_faults::specs::Wrapped::wrapped_attests))]
     fn sign(&self, subject: &Subject) -> Option<Attestation> {
         let attestation = self.inner.sign(subject)?;
         match self.behavior {

@@ -10,14 +10,14 @@ use Rattle.simplex_transcript.specs.declared.node.Node.{Node}
 use Rattle.simplex_transcript.specs.declared.node.Ref.{Ref}
 use Rattle.simplex_transcript.specs.declared.setup.Setup.{Setup}
 use Rattle.simplex_transcript.specs.declared.refusal.RunError.TheVariants as refusals
-use Rattle.simplex_run.specs.Setting.{Setting}
-use Rattle.simplex_run.specs.Kinds.{is_node, is_honest, runs_engine}
-use Rattle.simplex_run.specs.Life.{Noted}
-use Rattle.simplex_run.specs.Entries.{made_of, entry_of}
-use Rattle.simplex_groups.specs.Groups.{node_stepped}
-use Rattle.simplex_groups.proofs.Apart.{honest_made}
-use Rattle.simplex_groups.proofs.Quiet.{runs_so}
-use Rattle.simplex_forging.specs.Forging.{may_forge}
+use Rattle.model_run.specs.Setting.{Setting}
+use Rattle.model_run.specs.Kinds.{is_node, is_honest, runs_engine}
+use Rattle.model_run.specs.Life.{Noted}
+use Rattle.model_run.specs.Entries.{made_of, entry_of}
+use Rattle.model_run.specs.Groups.{node_stepped}
+use Rattle.model_run.proofs.Apart.{honest_made}
+use Rattle.model_run.proofs.Quiet.{runs_so}
+use Rattle.law_run.specs.EventForging.{may_forge}
 use Rattle.simplex_network.specs.Polls.{IsInput, tested_of}
 use Rattle.simplex_network.proofs.Found.{AtStopped}
 use Rattle.simplex_network.proofs.Polled.{step-input, deliver-input, answer-input}

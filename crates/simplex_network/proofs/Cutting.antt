@@ -8,10 +8,10 @@ use Rattle.simplex_values.specs.Maps.{has}
 use Rattle.simplex_transcript.specs.declared.event.Event.{Event}
 use Rattle.simplex_transcript.specs.declared.node.Node.{Node}
 use Rattle.simplex_transcript.specs.declared.setup.Setup.{Setup}
-use Rattle.simplex_run.specs.Kinds.{is_node, is_honest, is_same_node}
-use Rattle.simplex_run.specs.Life.{Noted}
-use Rattle.simplex_groups.specs.Groups.{node_stepped, is_named, has_packet, joins_as, joins, with_named, joined}
-use Rattle.simplex_groups.proofs.Beside.{pick, skip}
+use Rattle.model_run.specs.Kinds.{is_node, is_honest, is_same_node}
+use Rattle.model_run.specs.Life.{Noted}
+use Rattle.model_run.specs.Groups.{node_stepped, is_named, has_packet, joins_as, joins, with_named, joined}
+use Rattle.model_run.proofs.Beside.{pick, skip}
 use Rattle.simplex_records.specs.Seats.{seat_of, node_at}
 use Rattle.simplex_records.specs.declared.records.Records.{Records}
 use Rattle.simplex_records.specs.Stands.{RecordsStand}

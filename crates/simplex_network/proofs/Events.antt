@@ -21,19 +21,19 @@ use Rattle.simplex_transcript.specs.declared.setup.MemberKind.{MemberKind}
 use Rattle.simplex_transcript.specs.declared.setup.MemberKind.TheVariants as kinds
 use Rattle.simplex_transcript.specs.declared.refusal.RunError.{RunError}
 use Rattle.simplex_transcript.specs.declared.refusal.RunError.TheVariants as refusals
-use Rattle.simplex_steps.specs.Engine.{EngineMade, Did, runs, replied, takes_reply}
+use Rattle.model_steps.specs.Engine.{EngineMade, Did, runs, replied, takes_reply}
 use Rattle.simplex_engine.specs.declared.input.Input.TheVariants as inputs
 use Rattle.simplex_engine.specs.Polled.{polled, refusal_of}
-use Rattle.simplex_run.specs.Setting.{Setting}
-use Rattle.simplex_run.specs.Kinds.{members_of, is_of_kind, is_node, is_honest, has_engine, runs_engine, node_of}
-use Rattle.simplex_run.specs.Members.{kind_of}
-use Rattle.simplex_run.specs.Life.{Noted, Running, clock_of, life_in}
-use Rattle.simplex_run.specs.Requests.{request_number, packet_for}
-use Rattle.simplex_run.specs.Mocks.{heard_by}
-use Rattle.simplex_run.specs.Hearing.{heard_of, heard_in}
-use Rattle.simplex_run.specs.Forged.{unless_forged}
-use Rattle.simplex_run.specs.Entries.{taken_of, noted_with, noted_blank, noted_idle, noted_packets, sent_by, is_own_floor, made_of, entry_of}
-use Rattle.simplex_forging.specs.Forging.{is_impersonator}
+use Rattle.model_run.specs.Setting.{Setting}
+use Rattle.model_run.specs.Kinds.{members_of, is_of_kind, is_node, is_honest, has_engine, runs_engine, node_of}
+use Rattle.model_run.specs.Members.{kind_of}
+use Rattle.model_run.specs.Life.{Noted, Running, clock_of, life_in}
+use Rattle.model_run.specs.Requests.{request_number, packet_for}
+use Rattle.model_run.specs.Mocks.{heard_by}
+use Rattle.model_run.specs.Hearing.{heard_of, heard_in}
+use Rattle.model_run.specs.Forged.{unless_forged}
+use Rattle.model_run.specs.Entries.{taken_of, noted_with, noted_blank, noted_idle, noted_packets, sent_by, is_own_floor, made_of, entry_of}
+use Rattle.law_run.specs.EventForging.{is_impersonator}
 use Rattle.simplex_network.specs.Polls.{tested_of, noted_poll, unless, on_poll, noted_start}
 use Rattle.simplex_network.specs.Stands.{heard_test}
 use Rattle.simplex_network.proofs.Found.{AtStopped, AtRunning, AtFaulty}

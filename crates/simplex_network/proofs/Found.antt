@@ -1,7 +1,7 @@
 -- What is found of a node.
 use Rattle.std.proofs.Common.{◌≡◌, ℕ, List, [], ◌∷◌, Bool, true, false, refl, ap, if◌then◌else◌}
 use Rattle.std.specs.Prelude.{Option, Some, None, Result, Ok, Err}
-use Rattle.simplex_rules.specs.Views.{current_of}
+use Rattle.model_rules.specs.Views.{current_of}
 use Rattle.simplex_journal.specs.Journal.{Section}
 use Rattle.simplex_transcript.specs.declared.event.Event.{Event}
 use Rattle.simplex_transcript.specs.declared.event.Event.TheVariants as events
@@ -9,12 +9,12 @@ use Rattle.simplex_transcript.specs.declared.node.Node.{Node}
 use Rattle.simplex_transcript.specs.declared.setup.Setup.{Setup}
 use Rattle.simplex_transcript.specs.declared.refusal.RunError.{RunError}
 use Rattle.simplex_transcript.specs.declared.refusal.RunError.TheVariants as refusals
-use Rattle.simplex_steps.specs.VoterLife.{place_of}
-use Rattle.simplex_steps.specs.Engine.{EngineMade, Did, runs, sections_of, voter_in, voter_past}
-use Rattle.simplex_run.specs.Setting.{Setting}
-use Rattle.simplex_run.specs.Kinds.{is_node, runs_engine}
-use Rattle.simplex_run.specs.Life.{Noted, Life, Stopped, Running, is_of, after, going_on, went_on, life_in}
-use Rattle.simplex_run.specs.Hearing.{heard_in}
+use Rattle.model_steps.specs.VoterLife.{place_of}
+use Rattle.model_steps.specs.Engine.{EngineMade, Did, runs, sections_of, voter_in, voter_past}
+use Rattle.model_run.specs.Setting.{Setting}
+use Rattle.model_run.specs.Kinds.{is_node, runs_engine}
+use Rattle.model_run.specs.Life.{Noted, Life, Stopped, Running, is_of, after, going_on, went_on, life_in}
+use Rattle.model_run.specs.Hearing.{heard_in}
 use Rattle.simplex_network.specs.declared.status.Status.{Status}
 use Rattle.simplex_network.specs.declared.status.Status.TheVariants as statuses
 use Rattle.simplex_network.specs.Parts.{Part, Lives, Hears, part_in, goes_on, status_of, status_in, found_in}

@@ -9,21 +9,21 @@ use Rattle.simplex_transcript.specs.declared.entry.Took as transcript
 use Rattle.simplex_transcript.specs.declared.node.Node.{Node}
 use Rattle.simplex_transcript.specs.declared.setup.Setup.{Setup}
 use Rattle.simplex_transcript.specs.declared.refusal.RunError.{RunError}
-use Rattle.simplex_steps.specs.Engine.{Did}
+use Rattle.model_steps.specs.Engine.{Did}
 use Rattle.simplex_messages.specs.declared.step.Stop.{Stop}
 use Rattle.simplex_engine.specs.declared.input.Input.{Input}
 use Rattle.simplex_engine.specs.declared.error.PollError.{PollError}
 use Rattle.simplex_engine.specs.Polled.{polled, refusal_of}
-use Rattle.simplex_run.specs.Setting.{Setting}
-use Rattle.simplex_run.specs.Kinds.{members_of, is_node, is_same_node, is_honest}
-use Rattle.simplex_run.specs.Life.{Noted, Life, Stopped, Running, clock_of}
-use Rattle.simplex_run.specs.Entries.{noted_with, took_of, entry_with, entry_of}
-use Rattle.simplex_safety.specs.Histories.{IsRun}
-use Rattle.simplex_safety.proofs.Further.{same_node}
-use Rattle.simplex_backing.specs.Fitting.{IsTyped}
-use Rattle.simplex_groups.specs.Groups.{node_stepped, is_named, joins, with_named, joined, numbered, put_at, IsBeside, AreApart, StandsBefore}
-use Rattle.simplex_groups.proofs.Whole.{joins_so}
-use Rattle.simplex_groups.proofs.Apart.{ReadSame, reads, took_same, stands_apart}
+use Rattle.model_run.specs.Setting.{Setting}
+use Rattle.model_run.specs.Kinds.{members_of, is_node, is_same_node, is_honest}
+use Rattle.model_run.specs.Life.{Noted, Life, Stopped, Running, clock_of}
+use Rattle.model_run.specs.Entries.{noted_with, took_of, entry_with, entry_of}
+use Rattle.law_run.specs.Histories.{IsRun}
+use Rattle.law_run.proofs.Further.{same_node}
+use Rattle.law_run.specs.Fitting.{IsTyped}
+use Rattle.model_run.specs.Groups.{node_stepped, is_named, joins, with_named, joined, numbered, put_at, IsBeside, AreApart, StandsBefore}
+use Rattle.model_run.proofs.Whole.{joins_so}
+use Rattle.model_run.proofs.Apart.{ReadSame, reads, took_same, stands_apart}
 use Rattle.simplex_records.specs.Seats.{seat_of}
 use Rattle.simplex_records.specs.Events as records
 use Rattle.simplex_records.specs.Stands.{RecordsStand}

@@ -5,12 +5,12 @@ use Rattle.std.specs.List.{cons_option}
 use Rattle.simplex_transcript.specs.declared.event.Event.{Event}
 use Rattle.simplex_transcript.specs.declared.event.Event.TheVariants as events
 use Rattle.simplex_transcript.specs.declared.node.Node.{Node}
-use Rattle.simplex_run.specs.Setting.{Setting}
-use Rattle.simplex_run.specs.Kinds.{is_same_node, runs_engine}
-use Rattle.simplex_run.specs.Life.{Noted, Life, is_of, after, life_in}
-use Rattle.simplex_run.specs.Mocks.{Heard}
-use Rattle.simplex_run.specs.Hearing.{heard_at, heard_in}
-use Rattle.simplex_safety.proofs.Further.{same_node}
+use Rattle.model_run.specs.Setting.{Setting}
+use Rattle.model_run.specs.Kinds.{is_same_node, runs_engine}
+use Rattle.model_run.specs.Life.{Noted, Life, is_of, after, life_in}
+use Rattle.model_run.specs.Mocks.{Heard}
+use Rattle.model_run.specs.Hearing.{heard_at, heard_in}
+use Rattle.law_run.proofs.Further.{same_node}
 use Rattle.simplex_network.specs.Parts.{Lives, Hears, part_in, changed}
 use Rattle.simplex_network.specs.Polls.{IsOf}
 

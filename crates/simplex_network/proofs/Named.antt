@@ -11,15 +11,15 @@ use Rattle.simplex_messages.specs.declared.step.StepOut.{StepOut}
 use Rattle.simplex_transcript.specs.declared.event.StepSource.TheVariants as sources
 use Rattle.simplex_transcript.specs.declared.entry.Took.TheVariants as tooks
 use Rattle.simplex_transcript.specs.declared.node.Node.{Node}
-use Rattle.simplex_rules.specs.Pending.{Pending, Opened}
-use Rattle.simplex_steps.specs.Voter.{Standing, answer_to, first_answered}
-use Rattle.simplex_steps.specs.VoterLife.{place_of}
-use Rattle.simplex_steps.specs.Engine as engine
-use Rattle.simplex_steps.specs.Engine.{EngineMade, Did, Taken, did_of, voter_in, voter_past}
+use Rattle.model_rules.specs.Pending.{Pending, Opened}
+use Rattle.model_steps.specs.Voter.{Standing, answer_to, first_answered}
+use Rattle.model_steps.specs.VoterLife.{place_of}
+use Rattle.model_steps.specs.Engine as engine
+use Rattle.model_steps.specs.Engine.{EngineMade, Did, Taken, did_of, voter_in, voter_past}
 use Rattle.simplex_engine.specs.declared.input.TakenInside.TheVariants as insides
 use Rattle.simplex_engine.specs.Polled.{inside, taken_inside}
-use Rattle.simplex_run.specs.Life.{Noted}
-use Rattle.simplex_run.specs.Entries.{answered_at, answer_taken, taken_of, took_of}
+use Rattle.model_run.specs.Life.{Noted}
+use Rattle.model_run.specs.Entries.{answered_at, answer_taken, taken_of, took_of}
 use Rattle.simplex_network.specs.Polls.{named}
 
 by_answer : (before : List Noted) (node : Node) (number : ℕ) (answer : Option Answer)

@@ -16,17 +16,17 @@ use Rattle.simplex_transcript.specs.declared.entry.Took.TheVariants as tooks
 use Rattle.simplex_transcript.specs.declared.node.Node.{Node}
 use Rattle.simplex_transcript.specs.declared.setup.Setup.{Setup}
 use Rattle.simplex_transcript.specs.declared.refusal.RunError.{RunError}
-use Rattle.simplex_steps.specs.Engine.{Did, begun}
+use Rattle.model_steps.specs.Engine.{Did, begun}
 use Rattle.simplex_engine.specs.declared.input.Input.{Input}
 use Rattle.simplex_engine.specs.declared.input.TakenInside.{TakenInside}
-use Rattle.simplex_run.specs.Setting.{Setting, setting_of}
-use Rattle.simplex_run.specs.Kinds.{members_of, is_node, is_same_node, runs_engine}
-use Rattle.simplex_run.specs.Members.{floor_of, engine_of}
-use Rattle.simplex_run.specs.Life.{Noted, Life, Stopped, clock_of, is_of, after, life_in, sections_in}
-use Rattle.simplex_run.specs.Requests.{is_start}
-use Rattle.simplex_run.specs.Hearing.{heard_at, heard_in}
-use Rattle.simplex_run.specs.Entries.{noted_blank, noted_idle, entry_with}
-use Rattle.simplex_safety.proofs.Further.{same_node}
+use Rattle.model_run.specs.Setting.{Setting, setting_of}
+use Rattle.model_run.specs.Kinds.{members_of, is_node, is_same_node, runs_engine}
+use Rattle.model_run.specs.Members.{floor_of, engine_of}
+use Rattle.model_run.specs.Life.{Noted, Life, Stopped, clock_of, is_of, after, life_in, sections_in}
+use Rattle.model_run.specs.Requests.{is_start}
+use Rattle.model_run.specs.Hearing.{heard_at, heard_in}
+use Rattle.model_run.specs.Entries.{noted_blank, noted_idle, entry_with}
+use Rattle.law_run.proofs.Further.{same_node}
 use Rattle.simplex_members.specs.NodeEngine.{NodeConfig, made_with}
 use Rattle.simplex_records.specs.Seats.{seat_of}
 use Rattle.simplex_records.specs.Events as records

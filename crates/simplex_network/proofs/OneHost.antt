@@ -3,17 +3,17 @@ use Rattle.std.proofs.Common.{◌≡◌, ℕ, List, [], ◌∷◌, true, false, 
 use Rattle.std.specs.Prelude.{Option, Some, None}
 use Rattle.simplex_journal.specs.Memory.{Contents}
 use Rattle.simplex_journal.specs.Journal.{Section}
-use Rattle.simplex_rules.specs.Views.{current_of}
+use Rattle.model_rules.specs.Views.{current_of}
 use Rattle.simplex_messages.specs.declared.step.Outcome.{Outcome}
 use Rattle.simplex_messages.specs.declared.step.Stop.{Stop}
 use Rattle.simplex_messages.specs.declared.step.StepOut.{StepOut}
-use Rattle.simplex_steps.specs.VoterLife.{place_of}
-use Rattle.simplex_steps.specs.Engine.{EngineMade, Did, runs, is_whole, begun, sections_of, voter_in, voter_past}
+use Rattle.model_steps.specs.VoterLife.{place_of}
+use Rattle.model_steps.specs.Engine.{EngineMade, Did, runs, is_whole, begun, sections_of, voter_in, voter_past}
 use Rattle.simplex_engine.specs.declared.input.Input.{Input}
 use Rattle.simplex_engine.specs.declared.input.TakenInside.{TakenInside}
 use Rattle.simplex_engine.specs.declared.error.PollError.{PollError}
 use Rattle.simplex_engine.specs.Polled.{polled, refusal_of, taken_inside}
-use Rattle.simplex_run.specs.Life.{Life, Stopped, Running, going_on, sections_in}
+use Rattle.model_run.specs.Life.{Life, Stopped, Running, going_on, sections_in}
 use Rattle.simplex_network.specs.declared.host.Host.{Host}
 use Rattle.simplex_network.specs.declared.host.Host.TheVariants as hosts
 use Rattle.simplex_transcript.specs.declared.setup.Setup.{Setup}

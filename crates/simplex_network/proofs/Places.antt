@@ -3,8 +3,8 @@ use Rattle.std.proofs.Common.{◌≡◌, ℕ, Bool, true, false, arith, refl, le
 use Rattle.std.specs.Prelude.{◌&&◌, nat_lt, List, IsNone}
 use Rattle.simplex_transcript.specs.declared.node.Node.{Node}
 use Rattle.simplex_transcript.specs.declared.setup.Setup.{Setup}
-use Rattle.simplex_run.specs.Kinds.{is_node, is_twin}
-use Rattle.simplex_run.specs.Setups.{first_bad}
+use Rattle.model_run.specs.Kinds.{is_node, is_twin}
+use Rattle.model_run.specs.Setups.{first_bad}
 use Rattle.simplex_members.proofs.Good.{good-few}
 use Rattle.simplex_records.specs.Seats.{seat_of}
 use Rattle.simplex_network.specs.declared.host.Host.{Host}

@@ -14,15 +14,15 @@ use Rattle.simplex_transcript.specs.declared.entry.Took.{Took}
 use Rattle.simplex_transcript.specs.declared.node.Node.{Node}
 use Rattle.simplex_transcript.specs.declared.node.Ref.{Ref}
 use Rattle.simplex_transcript.specs.declared.setup.Setup.{Setup}
-use Rattle.simplex_steps.specs.Engine.{EngineMade, Did}
+use Rattle.model_steps.specs.Engine.{EngineMade, Did}
 use Rattle.simplex_engine.specs.declared.input.Input.{Input}
 use Rattle.simplex_engine.specs.declared.input.TakenInside.{TakenInside}
 use Rattle.simplex_engine.specs.declared.error.PollError.{PollError}
 use Rattle.simplex_engine.specs.declared.error.PollError.TheVariants as errors
 use Rattle.simplex_engine.specs.Polled.{polled, refusal_of, is_memory}
-use Rattle.simplex_run.specs.Setting.{Setting}
-use Rattle.simplex_run.specs.Life.{Noted, Life, Stopped, Running, clock_of, after, went_on}
-use Rattle.simplex_run.specs.Entries.{took_of, entry_with}
+use Rattle.model_run.specs.Setting.{Setting}
+use Rattle.model_run.specs.Life.{Noted, Life, Stopped, Running, clock_of, after, went_on}
+use Rattle.model_run.specs.Entries.{took_of, entry_with}
 use Rattle.simplex_records.specs.Events.{AreFrom}
 use Rattle.simplex_records.proofs.KeptPackets.{packets-from}
 use Rattle.simplex_network.specs.Answer as network

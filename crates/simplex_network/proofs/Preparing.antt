@@ -15,11 +15,11 @@ use Rattle.simplex_transcript.specs.declared.setup.Setup.{Setup}
 use Rattle.simplex_transcript.specs.declared.refusal.RunError.TheVariants as refusals
 use Rattle.simplex_engine.specs.declared.input.Input.{Input}
 use Rattle.simplex_engine.specs.declared.input.Input.TheVariants as inputs
-use Rattle.simplex_run.specs.Setting.{Setting}
-use Rattle.simplex_run.specs.Setups.{first_bad}
-use Rattle.simplex_run.specs.Life.{Noted, Life, Running}
-use Rattle.simplex_run.specs.Requests.{request_number, packet_for}
-use Rattle.simplex_groups.specs.Groups.{node_stepped}
+use Rattle.model_run.specs.Setting.{Setting}
+use Rattle.model_run.specs.Setups.{first_bad}
+use Rattle.model_run.specs.Life.{Noted, Life, Running}
+use Rattle.model_run.specs.Requests.{request_number, packet_for}
+use Rattle.model_run.specs.Groups.{node_stepped}
 use Rattle.simplex_records.specs.Stands.{RecordsStand}
 use Rattle.simplex_network.specs.declared.network.Network.{Network}
 use Rattle.simplex_network.specs.Polls.{tested_of, on_poll}

@@ -10,11 +10,11 @@ use Rattle.simplex_transcript.specs.declared.field.Field.{Field}
 use Rattle.simplex_transcript.specs.declared.refusal.RunError.{RunError}
 use Rattle.simplex_transcript.specs.declared.refusal.RunError.TheVariants as errors
 use Rattle.simplex_transcript.specs.declared.refusal.Refusal.{Refusal}
-use Rattle.simplex_run.specs.Setting.{Setting}
-use Rattle.simplex_run.specs.Life.{Noted}
-use Rattle.simplex_run.specs.Entries.{entry_of}
-use Rattle.simplex_run.specs.Setups.{first_bad}
-use Rattle.simplex_run.specs.Run.{refused, unless_refused, run, transcript_of, unless_bad}
+use Rattle.model_run.specs.Setting.{Setting}
+use Rattle.model_run.specs.Life.{Noted}
+use Rattle.model_run.specs.Entries.{entry_of}
+use Rattle.model_run.specs.Setups.{first_bad}
+use Rattle.model_run.specs.Run.{refused, unless_refused, run, transcript_of, unless_bad}
 use Rattle.simplex_network.specs.declared.network.Network.{Network}
 use Rattle.simplex_network.specs.Answer.{is_memory, setup_refusal, IsRefused}
 use Rattle.simplex_network.specs.Stands.{StandsFor, MadeBy, Grows, Enters, Refuses, entered}

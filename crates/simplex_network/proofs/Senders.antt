@@ -8,10 +8,10 @@ use Rattle.simplex_transcript.specs.declared.entry.Packet.{Packet}
 use Rattle.simplex_transcript.specs.declared.node.Node.{Node}
 use Rattle.simplex_transcript.specs.declared.node.Ref.{Ref}
 use Rattle.simplex_transcript.specs.declared.setup.Setup.{Setup}
-use Rattle.simplex_run.specs.Kinds.{members_of, is_same_node}
-use Rattle.simplex_run.specs.Setups.{first_bad}
-use Rattle.simplex_run.specs.Life.{Noted}
-use Rattle.simplex_run.specs.Requests.{packet_at, if_for, packet_for}
+use Rattle.model_run.specs.Kinds.{members_of, is_same_node}
+use Rattle.model_run.specs.Setups.{first_bad}
+use Rattle.model_run.specs.Life.{Noted}
+use Rattle.model_run.specs.Requests.{packet_at, if_for, packet_for}
 use Rattle.simplex_members.proofs.Good.{good-few}
 use Rattle.simplex_records.specs.Events.{AreFrom}
 use Rattle.simplex_network.specs.Stands.{AreOfMembers}

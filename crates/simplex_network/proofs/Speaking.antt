@@ -13,20 +13,20 @@ use Rattle.simplex_transcript.specs.declared.node.Ref.{Ref}
 use Rattle.simplex_transcript.specs.declared.setup.Setup.{Setup}
 use Rattle.simplex_transcript.specs.declared.setup.MemberKind.{MemberKind}
 use Rattle.simplex_transcript.specs.declared.setup.MemberKind.TheVariants as kinds
-use Rattle.simplex_run.specs.Setting.{Setting}
-use Rattle.simplex_run.specs.Kinds.{members_of, is_of_kind, is_faulty, is_honest, has_engine, runs_engine, node_of}
-use Rattle.simplex_run.specs.Members.{kind_of}
-use Rattle.simplex_run.specs.Life.{Noted, clock_of}
-use Rattle.simplex_run.specs.Requests.{is_start, packet_at, packet_for}
-use Rattle.simplex_run.specs.Mocks.{Sent, Heard, heard_by}
-use Rattle.simplex_run.specs.Hearing.{heard_of, heard_at, heard_in}
-use Rattle.simplex_run.specs.Entries.{sent_by}
-use Rattle.simplex_safety.proofs.Further.{same_self}
+use Rattle.model_run.specs.Setting.{Setting}
+use Rattle.model_run.specs.Kinds.{members_of, is_of_kind, is_faulty, is_honest, has_engine, runs_engine, node_of}
+use Rattle.model_run.specs.Members.{kind_of}
+use Rattle.model_run.specs.Life.{Noted, clock_of}
+use Rattle.model_run.specs.Requests.{is_start, packet_at, packet_for}
+use Rattle.model_run.specs.Mocks.{Sent, Heard, heard_by}
+use Rattle.model_run.specs.Hearing.{heard_of, heard_at, heard_in}
+use Rattle.model_run.specs.Entries.{sent_by}
+use Rattle.law_run.proofs.Further.{same_self}
 use Rattle.simplex_records.specs.Events.{AreFrom}
 use Rattle.simplex_records.specs.Stands.{RecordsStand}
 use Rattle.simplex_network.specs.declared.network.Network.{Network}
 use Rattle.simplex_network.specs.Parts.{Part, Hears, part_in, changed}
-use Rattle.simplex_forging.specs.Forging.{is_impersonator}
+use Rattle.law_run.specs.EventForging.{is_impersonator}
 use Rattle.simplex_network.specs.Polls.{IsOf}
 use Rattle.simplex_network.specs.Stands.{Keeps, HostsStand}
 use Rattle.simplex_network.proofs.Events.{noted_hearing, noted_bytes}

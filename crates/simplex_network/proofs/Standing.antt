@@ -5,15 +5,15 @@ use Rattle.simplex_transcript.specs.declared.entry.Entry.{Entry}
 use Rattle.simplex_transcript.specs.declared.node.Node.{Node}
 use Rattle.simplex_transcript.specs.declared.setup.Setup.{Setup}
 use Rattle.simplex_transcript.specs.declared.refusal.RunError.{RunError}
-use Rattle.simplex_run.specs.Setting.{Setting}
-use Rattle.simplex_run.specs.Life.{Noted}
-use Rattle.simplex_run.specs.Setups.{first_bad}
-use Rattle.simplex_run.specs.Forged.{unless_forged}
-use Rattle.simplex_run.specs.Entries.{made_of, entry_of}
-use Rattle.simplex_run.proofs.Honest.{was_made}
-use Rattle.simplex_safety.specs.Histories.{IsRun}
-use Rattle.simplex_backing.specs.Fitting.{IsTyped, AreTyped}
-use Rattle.simplex_forging.specs.Forging.{may_forge, IsNext}
+use Rattle.model_run.specs.Setting.{Setting}
+use Rattle.model_run.specs.Life.{Noted}
+use Rattle.model_run.specs.Setups.{first_bad}
+use Rattle.model_run.specs.Forged.{unless_forged}
+use Rattle.model_run.specs.Entries.{made_of, entry_of}
+use Rattle.model_run.proofs.Honest.{was_made}
+use Rattle.law_run.specs.Histories.{IsRun}
+use Rattle.law_run.specs.Fitting.{IsTyped, AreTyped}
+use Rattle.law_run.specs.EventForging.{may_forge, IsNext}
 use Rattle.simplex_network.specs.declared.network.Network.{Network}
 use Rattle.simplex_network.specs.NodeEngine.{NodeEngine}
 use Rattle.simplex_network.specs.Polls.{tested_of}

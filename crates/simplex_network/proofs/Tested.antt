@@ -8,10 +8,10 @@ use Rattle.simplex_transcript.specs.declared.node.Node.{Node}
 use Rattle.simplex_transcript.specs.declared.setup.Setup.{Setup}
 use Rattle.simplex_transcript.specs.declared.refusal.RunError.{RunError}
 use Rattle.simplex_transcript.specs.declared.refusal.RunError.TheVariants as refusals
-use Rattle.simplex_run.specs.Kinds.{is_of_kind}
-use Rattle.simplex_run.specs.Life.{Noted}
-use Rattle.simplex_run.specs.Forged.{Signed, is_forged, signed_by_faulty, first_forged, unless, unless_forged}
-use Rattle.simplex_forging.specs.Forging.{is_impersonator}
+use Rattle.model_run.specs.Kinds.{is_of_kind}
+use Rattle.model_run.specs.Life.{Noted}
+use Rattle.model_run.specs.Forged.{Signed, is_forged, signed_by_faulty, first_forged, unless, unless_forged}
+use Rattle.law_run.specs.EventForging.{is_impersonator}
 use Rattle.simplex_records.specs.Forgeries.{forgery_of, first_forgery}
 use Rattle.simplex_records.specs.declared.forgery.Forgery.{Forgery}
 use Rattle.simplex_network.specs.Stands.{heard_test}

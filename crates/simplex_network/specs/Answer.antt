@@ -4,7 +4,7 @@ use Rattle.std.specs.Option.{option_map}
 use Rattle.simplex_transcript.specs.declared.refusal.RunError.{RunError}
 use Rattle.simplex_transcript.specs.declared.refusal.RunError.TheVariants as errors
 use Rattle.simplex_transcript.specs.declared.setup.Setup.{Setup}
-use Rattle.simplex_run.specs.Setups.{first_bad}
+use Rattle.model_run.specs.Setups.{first_bad}
 
 -- want of memory, which may come at any event
 abbrev pub is_memory : RunError → Bool

@@ -5,9 +5,9 @@ use Rattle.simplex_transcript.specs.declared.event.Event.{Event}
 use Rattle.simplex_transcript.specs.declared.node.Node.{Node}
 use Rattle.simplex_transcript.specs.declared.setup.Setup.{Setup}
 use Rattle.simplex_values.specs.Maps.{has}
-use Rattle.simplex_run.specs.Kinds.{is_node, is_honest}
-use Rattle.simplex_run.specs.Life.{Noted}
-use Rattle.simplex_groups.specs.Groups.{node_stepped, is_named, joined}
+use Rattle.model_run.specs.Kinds.{is_node, is_honest}
+use Rattle.model_run.specs.Life.{Noted}
+use Rattle.model_run.specs.Groups.{node_stepped, is_named, joined}
 use Rattle.simplex_records.specs.Seats.{node_at}
 use Rattle.simplex_records.specs.declared.records.Records.{Records}
 use Rattle.simplex_records.specs.Stands.{RecordsStand}

@@ -6,14 +6,14 @@ use Rattle.simplex_transcript.specs.declared.entry.Entry.{Entry}
 use Rattle.simplex_transcript.specs.declared.setup.Setup.{Setup}
 use Rattle.simplex_transcript.specs.declared.refusal.RunError.{RunError}
 use Rattle.simplex_engine.specs.declared.error.PollError.{PollError}
-use Rattle.simplex_run.specs.Setting.{Setting}
-use Rattle.simplex_run.specs.Kinds.{is_node, is_honest}
-use Rattle.simplex_run.specs.Setups.{first_bad}
-use Rattle.simplex_run.specs.Life.{Noted, Life, Stopped, clock_of}
-use Rattle.simplex_run.specs.Entries.{entry_of}
-use Rattle.simplex_groups.specs.Groups.{node_stepped, is_named, joins, with_named, joined}
-use Rattle.simplex_safety.specs.Histories.{IsRun}
-use Rattle.simplex_backing.specs.Fitting.{AreTyped}
+use Rattle.model_run.specs.Setting.{Setting}
+use Rattle.model_run.specs.Kinds.{is_node, is_honest}
+use Rattle.model_run.specs.Setups.{first_bad}
+use Rattle.model_run.specs.Life.{Noted, Life, Stopped, clock_of}
+use Rattle.model_run.specs.Entries.{entry_of}
+use Rattle.model_run.specs.Groups.{node_stepped, is_named, joins, with_named, joined}
+use Rattle.law_run.specs.Histories.{IsRun}
+use Rattle.law_run.specs.Fitting.{AreTyped}
 use Rattle.simplex_records.specs.Stands.{RecordsStand}
 use Rattle.simplex_network.specs.declared.host.Host.{Host}
 use Rattle.simplex_network.specs.declared.network.Network.{Network}

@@ -8,7 +8,7 @@ use Rattle.simplex_mocks.specs.contracts.wrapped.SchemeInner.TheImpl as wrapped
 use Rattle.simplex_twins.specs.contracts.elector.ElectorStateElector.TheImpl as scripted
 use Rattle.simplex_journal.specs.contracts.memory.MemoryJournalJournal.TheImpl as memory
 use Rattle.simplex_journal.specs.Memory.{Contents}
-use Rattle.simplex_steps.specs.Engine.{EngineMade, Did}
+use Rattle.model_steps.specs.Engine.{EngineMade, Did}
 use Rattle.simplex_engine.specs.declared.engine.Engine.{Engine}
 use Rattle.simplex_engine.specs.Stands as engines
 use Rattle.simplex_members.specs.NodeEngine.{NodeScheme}

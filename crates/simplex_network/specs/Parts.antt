@@ -1,6 +1,6 @@
 -- What a node is at, and what a call makes of it.
 use Rattle.std.specs.Prelude.{◌≡◌, ℕ, Bool, true, List, [], ◌∷◌, Option, Some, None, Result, Ok, Err, if◌then◌else◌}
-use Rattle.simplex_rules.specs.Views.{current_of}
+use Rattle.model_rules.specs.Views.{current_of}
 use Rattle.simplex_messages.specs.declared.step.Outcome.{Outcome}
 use Rattle.simplex_messages.specs.declared.step.Stop.{Stop}
 use Rattle.simplex_messages.specs.declared.step.StepOut.{StepOut}
@@ -8,18 +8,18 @@ use Rattle.simplex_transcript.specs.declared.node.Node.{Node}
 use Rattle.simplex_transcript.specs.declared.setup.Setup.{Setup}
 use Rattle.simplex_transcript.specs.declared.refusal.RunError.{RunError}
 use Rattle.simplex_transcript.specs.declared.refusal.RunError.TheVariants as refusals
-use Rattle.simplex_steps.specs.VoterLife.{place_of}
-use Rattle.simplex_steps.specs.Engine.{EngineMade, runs, begun, voter_in, voter_past}
+use Rattle.model_steps.specs.VoterLife.{place_of}
+use Rattle.model_steps.specs.Engine.{EngineMade, runs, begun, voter_in, voter_past}
 use Rattle.simplex_engine.specs.declared.input.Input.{Input}
 use Rattle.simplex_engine.specs.declared.input.TakenInside.{TakenInside}
 use Rattle.simplex_engine.specs.declared.error.PollError.{PollError}
 use Rattle.simplex_engine.specs.declared.error.PollError.TheVariants as errors
 use Rattle.simplex_engine.specs.Polled.{polled, refusal_of, taken_inside}
-use Rattle.simplex_run.specs.Setting.{Setting}
-use Rattle.simplex_run.specs.Kinds.{is_node, is_same_node, runs_engine}
-use Rattle.simplex_run.specs.Life.{Noted, Life, Stopped, Running, going_on, life_in}
-use Rattle.simplex_run.specs.Mocks.{Heard}
-use Rattle.simplex_run.specs.Hearing.{heard_in}
+use Rattle.model_run.specs.Setting.{Setting}
+use Rattle.model_run.specs.Kinds.{is_node, is_same_node, runs_engine}
+use Rattle.model_run.specs.Life.{Noted, Life, Stopped, Running, going_on, life_in}
+use Rattle.model_run.specs.Mocks.{Heard}
+use Rattle.model_run.specs.Hearing.{heard_in}
 use Rattle.simplex_network.specs.declared.status.Status.{Status}
 use Rattle.simplex_network.specs.declared.status.Status.TheVariants as statuses
 

@@ -12,20 +12,20 @@ use Rattle.simplex_transcript.specs.declared.node.Node.{Node}
 use Rattle.simplex_transcript.specs.declared.refusal.RunError.{RunError}
 use Rattle.simplex_transcript.specs.declared.refusal.RunError.TheVariants as refusals
 use Rattle.simplex_wire.specs.declared.certificate.Finalization.{Finalization}
-use Rattle.simplex_steps.specs.Engine.{EngineMade, Did, begun}
+use Rattle.model_steps.specs.Engine.{EngineMade, Did, begun}
 use Rattle.simplex_engine.specs.declared.input.Input.{Input}
 use Rattle.simplex_engine.specs.declared.input.TakenInside.{TakenInside}
 use Rattle.simplex_engine.specs.declared.input.TakenInside.TheVariants as insides
 use Rattle.simplex_engine.specs.declared.error.PollError.{PollError}
 use Rattle.simplex_engine.specs.declared.error.PollError.TheVariants as errors
 use Rattle.simplex_engine.specs.Polled.{polled, refusal_of}
-use Rattle.simplex_run.specs.Setting.{Setting}
-use Rattle.simplex_run.specs.Kinds.{is_same_node}
-use Rattle.simplex_run.specs.Members.{floor_of, engine_of}
-use Rattle.simplex_run.specs.Life.{Noted, Life, Stopped, Running, clock_of, is_of, after, went_on, sections_in}
-use Rattle.simplex_run.specs.Requests.{is_start, request_place}
-use Rattle.simplex_run.specs.Entries.{took_of, noted_with, made_of, entry_of, entry_with}
-use Rattle.simplex_forging.specs.Forging.{may_forge}
+use Rattle.model_run.specs.Setting.{Setting}
+use Rattle.model_run.specs.Kinds.{is_same_node}
+use Rattle.model_run.specs.Members.{floor_of, engine_of}
+use Rattle.model_run.specs.Life.{Noted, Life, Stopped, Running, clock_of, is_of, after, went_on, sections_in}
+use Rattle.model_run.specs.Requests.{is_start, request_place}
+use Rattle.model_run.specs.Entries.{took_of, noted_with, made_of, entry_of, entry_with}
+use Rattle.law_run.specs.EventForging.{may_forge}
 use Rattle.simplex_records.specs.declared.records.Records.{Records}
 use Rattle.simplex_records.specs.Stands.{RecordsStand}
 use Rattle.simplex_network.specs.declared.task.Made.{Made}

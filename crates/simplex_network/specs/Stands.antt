@@ -14,16 +14,16 @@ use Rattle.simplex_transcript.specs.declared.entry.Entry.{Entry}
 use Rattle.simplex_transcript.specs.declared.setup.Setup.{Setup}
 use Rattle.simplex_transcript.specs.declared.refusal.RunError.{RunError}
 use Rattle.simplex_transcript.specs.declared.refusal.Refusal.{Refusal}
-use Rattle.simplex_run.specs.Setting.{Setting}
-use Rattle.simplex_run.specs.Kinds.{members_of, is_of_kind, is_node, runs_engine}
-use Rattle.simplex_run.specs.Setups.{first_bad}
-use Rattle.simplex_run.specs.Life.{Noted, Life, Stopped, Running, clock_of, life_in}
-use Rattle.simplex_run.specs.Requests.{packet_at}
-use Rattle.simplex_run.specs.Forged.{unless_forged}
-use Rattle.simplex_run.specs.Entries.{entry_of, blank_entry, noted_blank, noted_idle}
-use Rattle.simplex_safety.specs.Histories.{IsRun}
-use Rattle.simplex_backing.specs.Fitting.{AreTyped}
-use Rattle.simplex_forging.specs.Forging.{is_impersonator}
+use Rattle.model_run.specs.Setting.{Setting}
+use Rattle.model_run.specs.Kinds.{members_of, is_of_kind, is_node, runs_engine}
+use Rattle.model_run.specs.Setups.{first_bad}
+use Rattle.model_run.specs.Life.{Noted, Life, Stopped, Running, clock_of, life_in}
+use Rattle.model_run.specs.Requests.{packet_at}
+use Rattle.model_run.specs.Forged.{unless_forged}
+use Rattle.model_run.specs.Entries.{entry_of, blank_entry, noted_blank, noted_idle}
+use Rattle.law_run.specs.Histories.{IsRun}
+use Rattle.law_run.specs.Fitting.{AreTyped}
+use Rattle.law_run.specs.EventForging.{is_impersonator}
 use Rattle.simplex_members.specs.FaultyMember.{FaultyStands}
 use Rattle.simplex_records.specs.Seats.{seat_of, node_at}
 use Rattle.simplex_records.specs.declared.records.Records.{Records}

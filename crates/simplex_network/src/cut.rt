@@ -3,10 +3,10 @@ ghost use Rattle.std.specs.Prelude.{◌≡◌, ◌≤◌, List, [], All, length,
 ghost use Rattle.std.specs.Option.{is_some};
 ghost use Rattle.simplex_transcript.specs.declared.node.Node as transcript;
 ghost use Rattle.simplex_transcript.specs.declared.setup.Setup as setups;
-ghost use Rattle.simplex_run.specs.Life.{Noted};
-ghost use Rattle.simplex_run.specs.Setups.{first_bad};
-ghost use Rattle.simplex_groups.specs.Groups as groups;
-ghost use Rattle.simplex_groups.specs.Groups.{joined, joins};
+ghost use Rattle.model_run.specs.Life.{Noted};
+ghost use Rattle.model_run.specs.Setups.{first_bad};
+ghost use Rattle.model_run.specs.Groups as groups;
+ghost use Rattle.model_run.specs.Groups.{joined, joins};
 ghost use Rattle.simplex_records.specs.Stands.{RecordsStand};
 ghost use Rattle.simplex_network.specs.Cuts.{IsLendable, IsLendableAt, AreSeats};
 

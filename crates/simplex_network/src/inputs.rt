@@ -2,7 +2,7 @@
 ghost use Rattle.std.specs.Prelude.{◌≡◌, ◌<◌, ◌^◌, List, IfOk, false};
 ghost use Rattle.std.specs.Option.{option_and_then};
 ghost use Rattle.simplex_transcript.specs.declared.setup.Setup as setups;
-ghost use Rattle.simplex_run.specs.Life.{Noted};
+ghost use Rattle.model_run.specs.Life.{Noted};
 ghost use Rattle.simplex_records.specs.Seats.{seat_of};
 ghost use Rattle.simplex_records.specs.Stands.{RecordsStand, TakesIn, seats_in};
 ghost use Rattle.simplex_network.specs.Polls.{EntersMade, as_run_error, named};

@@ -2,8 +2,8 @@
 #![tactic(auto, unfolding(crate::specs::Stands::has_failed))]
 
 ghost use Rattle.std.specs.Prelude.{◌≡◌, ◌↔◌, ◌<◌, ◌≤◌, ◌*◌, ◌^◌, ◌||◌, List, [], ◌∷◌, All, take, true, false, length, vec_len, IfOk, IfErr, IsErrOf, IsTrue, IsNone, OnOk, None, Some};
-ghost use Rattle.simplex_run.specs.Setting.{Setting, setting_of, at_epoch_genesis};
-ghost use Rattle.simplex_run.specs.Setups as setups;
+ghost use Rattle.model_run.specs.Setting.{Setting, setting_of, at_epoch_genesis};
+ghost use Rattle.model_run.specs.Setups as setups;
 ghost use Rattle.simplex_records.specs.Stands.{seats_in};
 
 use crate::cut::{group_size, node_stepped};
@@ -15,8 +15,8 @@ use crate::sending::{one_packet, packets_of};
 use crate::status::Status;
 use crate::task::{Given, Made, Stage, Task};
 use crate::testing::{test, test_heard};
+use law_run::only_impersonators_and_injected_bytes_forge;
 use simplex_engine::Input;
-use simplex_forging::only_impersonators_and_injected_bytes_forge;
 use simplex_members::{config_of, first_bad};
 use simplex_messages::{Outcome, StepOut, Stop};
 use simplex_records::Records;
@@ -49,8 +49,8 @@ impl Network {
     ghost use Rattle.simplex_transcript.specs.declared.event.Event.{Event};
     ghost use Rattle.simplex_transcript.specs.declared.event.Event.TheVariants as events;
     ghost use Rattle.simplex_transcript.specs.declared.node.Node as nodes;
-    ghost use Rattle.simplex_run.specs.Life.{Noted};
-    ghost use Rattle.simplex_groups.specs.Groups.{node_stepped, is_named};
+    ghost use Rattle.model_run.specs.Life.{Noted};
+    ghost use Rattle.model_run.specs.Groups.{node_stepped, is_named};
     ghost use Rattle.simplex_network.specs.Parts.{part_in};
     ghost use Rattle.simplex_network.specs.declared.task.Stage.TheVariants as Stage;
     ghost use Rattle.simplex_network.specs.Stages.{is_made, is_failed_at};

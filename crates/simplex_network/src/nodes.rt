@@ -3,9 +3,9 @@ ghost use Rattle.std.specs.Prelude.{◌≡◌, ◌&&◌, ◌-◌, ◌*◌, true,
 ghost use Rattle.std.specs.List.{list_all, slice_get};
 ghost use Rattle.simplex_values.specs.Terms.{greatest_view};
 ghost use Rattle.simplex_types.specs.Genesis.{genesis_of};
-ghost use Rattle.simplex_run.specs.Kinds as kinds;
-ghost use Rattle.simplex_run.specs.Setups.{first_bad};
-ghost use Rattle.simplex_forging.specs.Forging.{is_impersonator};
+ghost use Rattle.model_run.specs.Kinds as kinds;
+ghost use Rattle.model_run.specs.Setups.{first_bad};
+ghost use Rattle.law_run.specs.EventForging.{is_impersonator};
 
 use simplex_transcript::{MemberKind, Node, Setup};
 use simplex_types::{Digest, Epoch, Participant, View, genesis};

@@ -1,20 +1,19 @@
 //! A whole run.
 ghost use Rattle.std.specs.Prelude.{◌≡◌, ◌++◌, ◌∷◌, [], Ok, Err, OnOk, IfOk, IfErr, true, false};
-ghost use Rattle.simplex_run.specs.Run as runs;
-ghost use Rattle.simplex_run.specs.Setting.{setting_of, at_epoch_genesis};
-ghost use Rattle.simplex_run.specs.Setups as setups;
-ghost use Rattle.simplex_run_laws.specs.Complete.{IsOneEach, IsPossible};
-ghost use Rattle.simplex_safety.specs.Sayings.{Each};
-ghost use Rattle.simplex_backing.specs.Fitting.{IsTyped};
-ghost use Rattle.simplex_backing.specs.Safe.{RunsSafely};
+ghost use Rattle.model_run.specs.Run as runs;
+ghost use Rattle.model_run.specs.Setting.{setting_of, at_epoch_genesis};
+ghost use Rattle.model_run.specs.Setups as setups;
+ghost use Rattle.law_run.specs.Complete.{IsOneEach, IsPossible};
+ghost use Rattle.law_run.specs.Sayings.{Each};
+ghost use Rattle.law_run.specs.Fitting.{IsTyped};
+ghost use Rattle.law_run.specs.Safe.{RunsSafely};
 ghost use Rattle.simplex_network.specs.Answer.{is_memory};
 ghost use Rattle.simplex_network.specs.Stands.{MadeBy};
 
 use crate::network::Network;
 use crate::nodes::genesis_at;
-use simplex_backing::runs_are_safe;
+use law_run::{possible_events_run, runs_are_possible, runs_are_safe, runs_have_one_entry_each};
 use simplex_members::are_few;
-use simplex_run_laws::{possible_events_run, runs_are_possible, runs_have_one_entry_each};
 use simplex_transcript::{Entry, Event, Field, Refusal, RunError, Setup};
 use simplex_typed::entries_are_typed;
 use simplex_types::{Digest, Sequence};
@@ -87,7 +86,7 @@ fn run_typed(
 }
 
 // Runs the events where there are no more than may be, and tells the first refusal else.
-#[tactic(auto, unfolding(simplex_run::specs::Run::RunFrom))]
+#[tactic(auto, unfolding(model_run::specs::Run::RunFrom))]
 fn run_few(
     alloc: Global,
     setup: &Setup,

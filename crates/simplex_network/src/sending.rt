@@ -1,8 +1,8 @@
 //! The packets of what faulty members send.
 ghost use Rattle.std.specs.Prelude.{◌≡◌, ◌∷◌, [], map, IfOk};
-ghost use Rattle.simplex_run.specs.Entries.{sent_by, node_of};
+ghost use Rattle.model_run.specs.Entries.{sent_by, node_of};
 
-use simplex_faults::Sent;
+use model_faults::Sent;
 use simplex_records::packet_for_send;
 use simplex_transcript::{Node, Packet, Setup};
 use simplex_types::{Bytes, Channel, Keep, Sequence};

@@ -49,7 +49,7 @@ pub struct Task {
 
 impl Task {
     ghost use Rattle.simplex_transcript.specs.declared.setup.Setup.{Setup};
-    ghost use Rattle.simplex_run.specs.Life.{Life};
+    ghost use Rattle.model_run.specs.Life.{Life};
     ghost use Rattle.simplex_network.specs.Parts.{Lives};
     ghost use Rattle.simplex_network.specs.Stands.{HostStands};
     ghost use Rattle.simplex_network.specs.Lending.{CameTo, IsDone, Makes, Steps};

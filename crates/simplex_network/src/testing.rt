@@ -1,7 +1,7 @@
 //! Whether packets of faulty members are forged.
 ghost use Rattle.std.specs.Prelude.{◌≡◌, true, false, IfErr, OnOk};
-ghost use Rattle.simplex_run.specs.Kinds.{is_of_kind};
-ghost use Rattle.simplex_forging.specs.Forging.{is_impersonator};
+ghost use Rattle.model_run.specs.Kinds.{is_of_kind};
+ghost use Rattle.law_run.specs.EventForging.{is_impersonator};
 ghost use Rattle.simplex_network.specs.Answer.{is_memory, is_failed};
 ghost use Rattle.simplex_network.specs.Stands.{IsUnforged, IsForgedAs, IsPassed, IsStopped};
 

@@ -5,17 +5,17 @@ use Rattle.std.proofs.lemmas.List.{reverse-append, drop_all}
 use Rattle.simplex_transcript.specs.declared.event.Event.{Event}
 use Rattle.simplex_transcript.specs.declared.entry.Entry.{Entry}
 use Rattle.simplex_transcript.specs.declared.node.Node.{Node}
-use Rattle.simplex_run.specs.Setting.{Setting}
+use Rattle.model_run.specs.Setting.{Setting}
 use Rattle.simplex_transcript.specs.declared.refusal.RunError.{RunError}
 use Rattle.simplex_transcript.specs.declared.refusal.Refusal.{Refusal}
-use Rattle.simplex_run.specs.Life.{Noted}
-use Rattle.simplex_run.specs.Entries.{entry_of}
-use Rattle.simplex_run.specs.Run.{refused, unless_refused, run}
-use Rattle.simplex_groups.specs.Groups.{node_stepped, is_named, with_named, AllJoin}
-use Rattle.simplex_groups.proofs.Apart.{IsMade, makes}
-use Rattle.simplex_groups.proofs.Whole.{joins_so, AllBeside, one_more}
+use Rattle.model_run.specs.Life.{Noted}
+use Rattle.model_run.specs.Entries.{entry_of}
+use Rattle.model_run.specs.Run.{refused, unless_refused, run}
+use Rattle.model_run.specs.Groups.{node_stepped, is_named, with_named, AllJoin}
+use Rattle.model_run.proofs.Apart.{IsMade, makes}
+use Rattle.model_run.proofs.Whole.{joins_so, AllBeside, one_more}
 use Rattle.std.proofs.lemmas.List.Elements.{All-nil}
-use Rattle.simplex_groups.specs.Groups.{IsBeside}
+use Rattle.model_run.specs.Groups.{IsBeside}
 use Rattle.simplex_network.specs.declared.network.Network.{Network}
 use Rattle.simplex_network.specs.declared.task.Task.{Task}
 use Rattle.simplex_network.specs.Answer.{is_memory}

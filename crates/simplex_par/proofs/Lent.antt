@@ -4,11 +4,11 @@ use Rattle.std.proofs.lemmas.List.{take_more, take_all, length-take-le, drop_all
 use Rattle.std.proofs.lemmas.List.Elements.{All-head, All-tail, All-weaker}
 use Rattle.simplex_transcript.specs.declared.event.Event.{Event}
 use Rattle.simplex_transcript.specs.declared.node.Node.{Node}
-use Rattle.simplex_run.specs.Setting.{Setting}
-use Rattle.simplex_run.specs.Kinds.{is_same_node}
-use Rattle.simplex_run.specs.Life.{Noted}
-use Rattle.simplex_groups.specs.Groups.{node_stepped, is_named, with_named, AllJoin}
-use Rattle.simplex_groups.proofs.Whole.{joins_so}
+use Rattle.model_run.specs.Setting.{Setting}
+use Rattle.model_run.specs.Kinds.{is_same_node}
+use Rattle.model_run.specs.Life.{Noted}
+use Rattle.model_run.specs.Groups.{node_stepped, is_named, with_named, AllJoin}
+use Rattle.model_run.proofs.Whole.{joins_so}
 use Rattle.simplex_network.specs.declared.network.Network.{Network}
 use Rattle.simplex_network.specs.Stands.{StandsFor}
 use Rattle.simplex_network.specs.Lending.{StandsBut, MayLend, Lends}

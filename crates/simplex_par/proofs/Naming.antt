@@ -4,11 +4,11 @@ use Rattle.std.specs.Prelude.{Some}
 use Rattle.simplex_transcript.specs.declared.event.Event.{Event}
 use Rattle.simplex_transcript.specs.declared.node.Node.{Node}
 use Rattle.simplex_transcript.specs.declared.setup.Setup.{Setup}
-use Rattle.simplex_run.specs.Kinds.{is_same_node}
-use Rattle.simplex_run.specs.Life.{Noted}
-use Rattle.simplex_safety.proofs.Further.{same_node, same_self}
-use Rattle.simplex_groups.specs.Groups.{node_stepped, is_named, with_named, AllJoin}
-use Rattle.simplex_groups.proofs.Whole.{joins_so}
+use Rattle.model_run.specs.Kinds.{is_same_node}
+use Rattle.model_run.specs.Life.{Noted}
+use Rattle.law_run.proofs.Further.{same_node, same_self}
+use Rattle.model_run.specs.Groups.{node_stepped, is_named, with_named, AllJoin}
+use Rattle.model_run.proofs.Whole.{joins_so}
 use Rattle.simplex_par.specs.Steps.{names_of}
 
 -- the first of them is named by itself, or by what is named besides

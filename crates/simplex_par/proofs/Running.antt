@@ -3,15 +3,15 @@ use Rattle.std.proofs.Common.{◌≡◌, ℕ, ◌+◌, ◌-◌, ◌≤◌, All, 
 use Rattle.std.proofs.lemmas.List.{take_all, take-append-drop, drop-drop, length-drop, length-take-le}
 use Rattle.simplex_transcript.specs.declared.event.Event.{Event}
 use Rattle.simplex_transcript.specs.declared.entry.Entry.{Entry}
-use Rattle.simplex_run.specs.Setting.{Setting}
+use Rattle.model_run.specs.Setting.{Setting}
 use Rattle.simplex_transcript.specs.declared.refusal.RunError.{RunError}
 use Rattle.simplex_transcript.specs.declared.refusal.Refusal.{Refusal}
-use Rattle.simplex_run.specs.Life.{Noted}
-use Rattle.simplex_run.specs.Entries.{entry_of}
-use Rattle.simplex_run.specs.Setups.{first_bad}
-use Rattle.simplex_run.specs.Run.{unless_refused, run, transcript_of, unless_bad}
-use Rattle.simplex_groups.specs.Groups.{AllJoin}
-use Rattle.simplex_groups.proofs.Whole.{joined_join}
+use Rattle.model_run.specs.Life.{Noted}
+use Rattle.model_run.specs.Entries.{entry_of}
+use Rattle.model_run.specs.Setups.{first_bad}
+use Rattle.model_run.specs.Run.{unless_refused, run, transcript_of, unless_bad}
+use Rattle.model_run.specs.Groups.{AllJoin}
+use Rattle.model_run.proofs.Whole.{joined_join}
 use Rattle.simplex_network.specs.declared.network.Network.{Network}
 use Rattle.simplex_network.specs.Answer.{setup_refusal}
 use Rattle.simplex_network.specs.Lending.{Groups, MayLend}

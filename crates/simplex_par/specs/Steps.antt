@@ -3,11 +3,11 @@ use Rattle.std.specs.Prelude.{◌≡◌, ℕ, ◌+◌, List, [], ◌∷◌, leng
 use Rattle.simplex_transcript.specs.declared.event.Event.{Event}
 use Rattle.simplex_transcript.specs.declared.entry.Entry.{Entry}
 use Rattle.simplex_transcript.specs.declared.node.Node.{Node}
-use Rattle.simplex_run.specs.Setting.{Setting}
+use Rattle.model_run.specs.Setting.{Setting}
 use Rattle.simplex_transcript.specs.declared.refusal.Refusal.{Refusal}
-use Rattle.simplex_run.specs.Life.{Noted}
-use Rattle.simplex_run.specs.Run.{run}
-use Rattle.simplex_groups.specs.Groups.{node_stepped, with_named, AllJoin}
+use Rattle.model_run.specs.Life.{Noted}
+use Rattle.model_run.specs.Run.{run}
+use Rattle.model_run.specs.Groups.{node_stepped, with_named, AllJoin}
 use Rattle.simplex_network.specs.declared.network.Network.{Network}
 use Rattle.simplex_network.specs.Stands.{StandsFor}
 use Rattle.simplex_network.specs.Lending.{StandsBut, IsReady, IsStepped}

@@ -1,13 +1,13 @@
 //! The events of a group, stepped at once.
 ghost use Rattle.std.specs.Prelude.{◌≡◌, ◌<◌, ◌≤◌, ◌+◌, ◌^◌, ◌++◌, ◌∷◌, [], All, length, true, false, IfOk, IfErr, OnOk};
-ghost use Rattle.simplex_run.specs.Run as runs;
+ghost use Rattle.model_run.specs.Run as runs;
 ghost use Rattle.simplex_network.specs.Answer.{is_memory};
 ghost use Rattle.simplex_network.specs.Lending.{MayLend};
 ghost use Rattle.simplex_par.specs.Lanes.{Any, Done, LanesHold};
 ghost use Rattle.simplex_par.specs.Steps.{GroupMakes, GroupRefuses, LendsAll, EntersAll, RefusesOne};
 
 use crate::lanes::{Dealt, Lane, empty_lanes, next_of, put, step_all};
-use simplex_gate::Gate;
+use simplex_mailbox::Gate;
 use simplex_network::Network;
 use simplex_transcript::{Entry, Event, Refusal, RunError};
 use simplex_types::Sequence;

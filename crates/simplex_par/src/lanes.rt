@@ -4,7 +4,7 @@
 ghost use Rattle.std.specs.Prelude.{◌≡◌, ◌<◌, length, IfOk, OnOk};
 ghost use Rattle.simplex_par.specs.Lanes.{AreEmpty, MakesStep, AllStep, LanesStep, PutsLast, TakesFirst};
 
-use simplex_gate::Gate;
+use simplex_mailbox::Gate;
 use simplex_network::Task;
 use std::alloc::{AllocError, Global};
 use std::collections::VecDeque;

@@ -9,4 +9,4 @@ mod lanes;
 mod run;
 
 pub use run::run_network_par;
-pub use simplex_gate::{Gate, OpenGate};
+pub use simplex_mailbox::{Gate, OpenGate};

@@ -1,21 +1,20 @@
 //! A whole run, by several workers.
 ghost use Rattle.std.specs.Prelude.{◌≡◌, ◌<◌, ◌≤◌, ◌^◌, [], length, true, false, Ok, Err, IfOk, IfErr};
-ghost use Rattle.simplex_run.specs.Run as runs;
-ghost use Rattle.simplex_run.specs.Setting.{at_epoch_genesis};
-ghost use Rattle.simplex_run.specs.Setups as setups;
-ghost use Rattle.simplex_run_laws.specs.Complete.{IsOneEach, IsPossible};
-ghost use Rattle.simplex_safety.specs.Sayings.{Each};
-ghost use Rattle.simplex_backing.specs.Fitting.{IsTyped};
-ghost use Rattle.simplex_backing.specs.Safe.{RunsSafely};
+ghost use Rattle.model_run.specs.Run as runs;
+ghost use Rattle.model_run.specs.Setting.{at_epoch_genesis};
+ghost use Rattle.model_run.specs.Setups as setups;
+ghost use Rattle.law_run.specs.Complete.{IsOneEach, IsPossible};
+ghost use Rattle.law_run.specs.Sayings.{Each};
+ghost use Rattle.law_run.specs.Fitting.{IsTyped};
+ghost use Rattle.law_run.specs.Safe.{RunsSafely};
 ghost use Rattle.simplex_network.specs.Answer.{is_memory};
 ghost use Rattle.simplex_network.specs.Stands.{MadeBy};
 
 use crate::group::{push, refused, step_group};
-use simplex_backing::runs_are_safe;
-use simplex_gate::Gate;
+use law_run::{possible_events_run, runs_are_possible, runs_are_safe, runs_have_one_entry_each};
+use simplex_mailbox::Gate;
 use simplex_members::are_few;
 use simplex_network::{Network, Transcript};
-use simplex_run_laws::{possible_events_run, runs_are_possible, runs_have_one_entry_each};
 use simplex_transcript::{Event, Field, Refusal, RunError, Setup};
 use simplex_typed::entries_are_typed;
 use simplex_types::Sequence;
@@ -75,7 +74,7 @@ fn run_typed<G: Gate, R: Threads + Sync>(
 }
 
 // Runs the events where there are no more than may be, and tells the first refusal else.
-#[tactic(auto, unfolding(simplex_run::specs::Run::RunFrom))]
+#[tactic(auto, unfolding(model_run::specs::Run::RunFrom))]
 fn run_few<G: Gate, R: Threads + Sync>(
     rt: &R,
     alloc: Global,

@@ -9,13 +9,13 @@ use Rattle.simplex_transcript.specs.declared.refusal.Refusal.{Refusal}
 use Rattle.simplex_transcript.specs.declared.setup.Setup.{Setup}
 use Rattle.simplex_form.specs.declared.input.Input.{Input}
 use Rattle.simplex_form.specs.Input.{input_of}
-use Rattle.simplex_run.specs.Setting.{at_epoch_genesis}
-use Rattle.simplex_run.specs.Run.{Run, run, refused}
-use Rattle.simplex_run_laws.specs.Complete.{IsOneEach}
-use Rattle.simplex_backing.specs.Safe.{RunsSafely}
+use Rattle.model_run.specs.Setting.{at_epoch_genesis}
+use Rattle.model_run.specs.Run.{Run, run, refused}
+use Rattle.law_run.specs.Complete.{IsOneEach}
+use Rattle.law_run.specs.Safe.{RunsSafely}
 use Rattle.simplex_text.specs.Lines.{PrintedRun}
-use Rattle.simplex_generated.specs.Setup.{setup_of}
-use Rattle.simplex_generated.specs.Summary.{summary}
+use Rattle.simplex_generator.specs.Setup.{setup_of}
+use Rattle.simplex_generator.specs.Summary.{summary}
 use Rattle.simplex_generator.specs.Generated.{generated}
 use Rattle.simplex_network.specs.declared.run.Transcript.{Transcript}
 use Rattle.simplex_network.specs.Stands.{MadeBy}

@@ -7,8 +7,8 @@ use Rattle.simplex_transcript.specs.declared.refusal.Refusal.{Refusal}
 use Rattle.simplex_form.specs.declared.input.Input.{Input}
 use Rattle.simplex_form.specs.Input.{input_of}
 use Rattle.simplex_io.specs.Io.{TakesAll, TakesOver, TakesWithin, Rose}
-use Rattle.simplex_run.specs.Run.{Run}
-use Rattle.simplex_generated.specs.Setup.{setup_of}
+use Rattle.model_run.specs.Run.{Run}
+use Rattle.simplex_generator.specs.Setup.{setup_of}
 use Rattle.simplex_generator.specs.Generated.{generated}
 use Rattle.simplex_program.specs.declared.command.Command.TheVariants as commands
 use Rattle.simplex_program.specs.declared.text.Telling.{Telling}

@@ -5,7 +5,7 @@ use Rattle.simplex_transcript.specs.declared.entry.Entry.{Entry}
 use Rattle.simplex_transcript.specs.declared.refusal.RunError.{RunError}
 use Rattle.simplex_text.specs.Lines.{pieces, PrintedRun}
 use Rattle.simplex_text.specs.Refusals.{refused_line, error_name}
-use Rattle.simplex_generated.specs.Summary.{summary}
+use Rattle.simplex_generator.specs.Summary.{summary}
 use Rattle.simplex_program.specs.declared.exit.Exit.{Exit}
 use Rattle.simplex_program.specs.declared.exit.Exit.TheVariants as exits
 use Rattle.simplex_program.specs.declared.text.Telling.{Telling}

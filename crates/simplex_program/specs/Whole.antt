@@ -4,10 +4,10 @@ use Rattle.simplex_transcript.specs.declared.event.Event.{Event}
 use Rattle.simplex_transcript.specs.declared.setup.Setup.{Setup}
 use Rattle.simplex_form.specs.declared.input.Input.{Input}
 use Rattle.simplex_form.specs.Input.{input_of}
-use Rattle.simplex_run.specs.Setting.{at_epoch_genesis}
-use Rattle.simplex_run.specs.Run.{Run, run}
-use Rattle.simplex_run_laws.specs.Complete.{IsOneEach}
-use Rattle.simplex_backing.specs.Safe.{RunsSafely}
+use Rattle.model_run.specs.Setting.{at_epoch_genesis}
+use Rattle.model_run.specs.Run.{Run, run}
+use Rattle.law_run.specs.Complete.{IsOneEach}
+use Rattle.law_run.specs.Safe.{RunsSafely}
 use Rattle.simplex_network.specs.declared.run.Transcript.{Transcript}
 use Rattle.simplex_network.specs.Stands.{MadeBy}
 

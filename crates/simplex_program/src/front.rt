@@ -7,7 +7,7 @@ ghost use Rattle.simplex_form.specs.declared.input.Input.{Input};
 ghost use Rattle.simplex_form.specs.Input.{input_of};
 ghost use Rattle.simplex_text.specs.Lines.{PrintedRun};
 ghost use Rattle.simplex_io.specs.Io.{Adds, AddsPart, TakesAll, TakesOver, TakesWithin, Rose};
-ghost use Rattle.simplex_run.specs.Run.{Run};
+ghost use Rattle.model_run.specs.Run.{Run};
 ghost use Rattle.simplex_network.specs.declared.run.Transcript.{Transcript};
 ghost use Rattle.simplex_program.specs.declared.exit.Exit.{Exit};
 ghost use Rattle.simplex_program.specs.Exit as endings;
@@ -18,8 +18,8 @@ ghost use Rattle.simplex_program.specs.declared.text.Telling.TheVariants as tell
 ghost use Rattle.simplex_program.specs.Words.{Says, AreTaken, AsksForRun};
 ghost use Rattle.simplex_program.specs.Whole.{WholeRun, SaysWhole};
 ghost use Rattle.simplex_program.specs.Cause.{ending_of_run, ending_of, ending_for, events_of, Cause, IsCut, IsFault};
-ghost use Rattle.simplex_generated.specs.Setup.{setup_of};
-ghost use Rattle.simplex_generated.specs.Summary.{summary};
+ghost use Rattle.simplex_generator.specs.Setup.{setup_of};
+ghost use Rattle.simplex_generator.specs.Summary.{summary};
 ghost use Rattle.simplex_generator.specs.Generated.{generated};
 
 use crate::command::{Command, command_of};

@@ -1,9 +1,9 @@
 //! How a run is made.
 ghost use Rattle.std.specs.Prelude.{◌≡◌, ◌<◌, [], Ok, Err, IfOk, IfErr, false};
-ghost use Rattle.simplex_run.specs.Setting.{at_epoch_genesis};
-ghost use Rattle.simplex_run.specs.Run.{Run, run};
-ghost use Rattle.simplex_run_laws.specs.Complete.{IsOneEach};
-ghost use Rattle.simplex_backing.specs.Safe.{RunsSafely};
+ghost use Rattle.model_run.specs.Setting.{at_epoch_genesis};
+ghost use Rattle.model_run.specs.Run.{Run, run};
+ghost use Rattle.law_run.specs.Complete.{IsOneEach};
+ghost use Rattle.law_run.specs.Safe.{RunsSafely};
 ghost use Rattle.simplex_network.specs.Answer.{is_memory};
 ghost use Rattle.simplex_network.specs.Stands.{MadeBy};
 

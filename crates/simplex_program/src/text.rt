@@ -3,7 +3,7 @@ ghost use Rattle.std.specs.Prelude.{◌≡◌, IfOk, string_bytes};
 ghost use Rattle.simplex_program.specs.Exit.{told, text_of, text_of_run, bad_input_line};
 
 use crate::exit::Exit;
-use simplex_generated::summary;
+use simplex_generator::summary;
 use simplex_text::{printed_run, refusal_text};
 use simplex_transcript::{Entry, Event, Refusal};
 use std::alloc::{AllocError, Global};

@@ -11,8 +11,8 @@ use Rattle.std.proofs.lemmas.List.FromFn.{length-map-range_with_len, get_or-map-
 use Rattle.std.proofs.lemmas.List.{length-append, length_push}
 use Rattle.simplex_transcript.specs.declared.node.Node.{Node}
 use Rattle.simplex_transcript.specs.declared.node.Ref.{Ref}
-use Rattle.simplex_run.specs.Life.{Noted, is_of}
-use Rattle.simplex_run.specs.Requests.{is_start, asked_since, request_number, request_place}
+use Rattle.model_run.specs.Life.{Noted, is_of}
+use Rattle.model_run.specs.Requests.{is_start, asked_since, request_number, request_place}
 use Rattle.simplex_records.specs.Seats.{node_at}
 use Rattle.simplex_records.specs.declared.requests.Requests.{Requests}
 use Rattle.simplex_records.specs.declared.requests.Span.{Span}

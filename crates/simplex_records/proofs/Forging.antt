@@ -9,11 +9,11 @@ use Rattle.std.proofs.lemmas.List.Folds.{find-append}
 use Rattle.simplex_types.specs.Keyed.{keyed_verifies}
 use Rattle.simplex_transcript.specs.declared.entry.Packet.{Packet}
 use Rattle.simplex_transcript.specs.declared.setup.Setup.{Setup}
-use Rattle.simplex_run.specs.Kinds.{members_of, is_honest, are_honest, is_faulty_member}
-use Rattle.simplex_run.specs.Life.{Noted}
-use Rattle.simplex_run.specs.SentVotes.{has_sent}
-use Rattle.simplex_run.specs.Forged.{Signed, signed, is_forged, signed_in, signed_by_faulty}
-use Rattle.simplex_run.proofs.Honest.{no_faulty}
+use Rattle.model_run.specs.Kinds.{members_of, is_honest, are_honest, is_faulty_member}
+use Rattle.model_run.specs.Life.{Noted}
+use Rattle.model_run.specs.SentVotes.{has_sent}
+use Rattle.model_run.specs.Forged.{Signed, signed, is_forged, signed_in, signed_by_faulty}
+use Rattle.model_run.proofs.Honest.{no_faulty}
 use Rattle.simplex_records.specs.declared.sent_votes.SentVotes.{SentVotes}
 use Rattle.simplex_records.specs.Votes.{has_vote, IndexStands, VotesStand}
 use Rattle.simplex_records.specs.Forgeries.{forgery_of, first_of, first_forgery, is_unsent}

@@ -13,11 +13,11 @@ use Rattle.simplex_transcript.specs.declared.entry.Took.{Took}
 use Rattle.simplex_transcript.specs.declared.node.Node.{Node}
 use Rattle.simplex_transcript.specs.declared.node.Ref.{Ref}
 use Rattle.simplex_transcript.specs.declared.setup.Setup.{Setup}
-use Rattle.simplex_run.specs.Kinds.{is_honest}
-use Rattle.simplex_run.specs.Life.{Noted}
-use Rattle.simplex_run.specs.Requests.{is_start, packet_for, if_for}
-use Rattle.simplex_run.specs.SentVotes.{vote_sent}
-use Rattle.simplex_run.specs.Entries.{reports, is_of_honest}
+use Rattle.model_run.specs.Kinds.{is_honest}
+use Rattle.model_run.specs.Life.{Noted}
+use Rattle.model_run.specs.Requests.{is_start, packet_for, if_for}
+use Rattle.model_run.specs.SentVotes.{vote_sent}
+use Rattle.model_run.specs.Entries.{reports, is_of_honest}
 use Rattle.simplex_records.specs.declared.records.Records.{Records}
 use Rattle.simplex_records.specs.declared.requests.Requests.{Requests}
 use Rattle.simplex_records.specs.Seats.{seat_of, node_at}

@@ -11,10 +11,10 @@ use Rattle.simplex_transcript.specs.declared.entry.Packet.{Packet}
 use Rattle.simplex_transcript.specs.declared.node.Node.{Node}
 use Rattle.simplex_transcript.specs.declared.node.Ref.{Ref}
 use Rattle.simplex_transcript.specs.declared.setup.Setup.{Setup}
-use Rattle.simplex_run.specs.Life.{Noted}
-use Rattle.simplex_run.specs.Requests.{packet_at}
-use Rattle.simplex_run.specs.Routing.{packet_for_send}
-use Rattle.simplex_run.specs.Entries.{packets_of}
+use Rattle.model_run.specs.Life.{Noted}
+use Rattle.model_run.specs.Requests.{packet_at}
+use Rattle.model_run.specs.Routing.{packet_for_send}
+use Rattle.model_run.specs.Entries.{packets_of}
 use Rattle.simplex_records.specs.Packets.{packet_in}
 use Rattle.simplex_records.specs.Events.{AreFrom}
 use Rattle.simplex_records.proofs.Lists.{slice_get-push}

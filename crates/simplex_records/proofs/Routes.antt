@@ -14,9 +14,9 @@ use Rattle.simplex_transcript.specs.declared.node.Node.{Node}
 use Rattle.simplex_transcript.specs.declared.setup.MemberKind.{MemberKind}
 use Rattle.simplex_transcript.specs.declared.setup.SetupRound.{SetupRound}
 use Rattle.simplex_transcript.specs.declared.setup.Setup.{Setup}
-use Rattle.simplex_run.specs.Kinds.{nodes_at, is_twin, has_halves}
-use Rattle.simplex_run.specs.Twins.{round_at, is_in_part}
-use Rattle.simplex_run.specs.Routing.{is_routed, packet_view, members_for, nodes_for, packet_for_send}
+use Rattle.model_run.specs.Kinds.{nodes_at, is_twin, has_halves}
+use Rattle.model_run.specs.Twins.{round_at, is_in_part}
+use Rattle.model_run.specs.Routing.{is_routed, packet_view, members_for, nodes_for, packet_for_send}
 use Rattle.simplex_records.specs.Routes.{routed_nodes, has_routes}
 use Rattle.simplex_records.proofs.Lists.{filter-range_more}
 

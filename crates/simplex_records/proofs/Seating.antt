@@ -4,7 +4,7 @@ use Rattle.std.specs.Prelude.{◌==◌, ◌&&◌}
 use Rattle.std.proofs.lemmas.Grind.{common_steps}
 use Rattle.std.proofs.lemmas.Bool.Decides.{nat_tests}
 use Rattle.simplex_transcript.specs.declared.node.Node.{Node}
-use Rattle.simplex_run.specs.Kinds.{is_same_node}
+use Rattle.model_run.specs.Kinds.{is_same_node}
 use Rattle.simplex_records.specs.Seats.{seat_of, node_at}
 
 node_is : (a b c d : ℕ) → a ≡ c → b ≡ d → ◌≡◌ {A = Node} (record { member = a; half = b }) (record { member = c; half = d })

@@ -14,9 +14,9 @@ use Rattle.simplex_values.specs.declared.proposal.Proposal.{Proposal}
 use Rattle.simplex_values.specs.Proposal.{is_same_round, is_same_proposal}
 use Rattle.simplex_wire.specs.declared.attestation.Attestation.{Attestation}
 use Rattle.simplex_wire.specs.declared.certificate.Finalization.{Finalization}
-use Rattle.simplex_run.specs.Life.{Noted}
+use Rattle.model_run.specs.Life.{Noted}
 use Rattle.simplex_transcript.specs.declared.setup.Setup.{Setup}
-use Rattle.simplex_run.specs.Entries.{is_same_attestation, are_same_attestations, reports, is_of_honest, was_reported}
+use Rattle.model_run.specs.Entries.{is_same_attestation, are_same_attestations, reports, is_of_honest, was_reported}
 use Rattle.simplex_records.specs.declared.reported.Reported.{Reported}
 use Rattle.simplex_records.specs.Reported.{is_same, at_view, has_reported}
 

@@ -14,9 +14,9 @@ use Rattle.simplex_transcript.specs.declared.entry.Packet.{Packet}
 use Rattle.simplex_transcript.specs.declared.node.Node.{Node}
 use Rattle.simplex_transcript.specs.declared.setup.MemberKind.{MemberKind}
 use Rattle.simplex_transcript.specs.declared.setup.Setup.{Setup}
-use Rattle.simplex_run.specs.Kinds.{members_of, is_faulty, is_honest, are_honest, is_same_node, node_of}
-use Rattle.simplex_run.specs.Life.{Noted}
-use Rattle.simplex_run.specs.SentVotes.{is_for_votes, vote_sent, sent_votes, has_sent}
+use Rattle.model_run.specs.Kinds.{members_of, is_faulty, is_honest, are_honest, is_same_node, node_of}
+use Rattle.model_run.specs.Life.{Noted}
+use Rattle.model_run.specs.SentVotes.{is_for_votes, vote_sent, sent_votes, has_sent}
 use Rattle.simplex_records.specs.declared.sent_votes.SentVotes.{SentVotes}
 use Rattle.simplex_records.specs.declared.subjects.Subjects.{Subjects}
 use Rattle.simplex_records.specs.Votes.{vote_in, is_on, has_subject, has_vote, IndexStands, VotesStand}

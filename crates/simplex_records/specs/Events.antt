@@ -7,9 +7,9 @@ use Rattle.simplex_transcript.specs.declared.event.Event.{Event}
 use Rattle.simplex_transcript.specs.declared.entry.Packet.{Packet}
 use Rattle.simplex_transcript.specs.declared.entry.Took.{Took}
 use Rattle.simplex_transcript.specs.declared.node.Node.{Node}
-use Rattle.simplex_run.specs.Life.{is_of}
-use Rattle.simplex_run.specs.Requests.{is_start}
-use Rattle.simplex_run.specs.Entries.{blank_entry}
+use Rattle.model_run.specs.Life.{is_of}
+use Rattle.model_run.specs.Requests.{is_start}
+use Rattle.model_run.specs.Entries.{blank_entry}
 use Rattle.simplex_records.specs.Seats.{node_at}
 
 -- the event is one of the node that sits there, and starts it or not

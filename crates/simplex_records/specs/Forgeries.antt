@@ -4,9 +4,9 @@ use Rattle.std.specs.Option.{option_map}
 use Rattle.simplex_types.specs.Keyed.{keyed_verifies}
 use Rattle.simplex_transcript.specs.declared.entry.Packet.{Packet}
 use Rattle.simplex_transcript.specs.declared.setup.Setup.{Setup}
-use Rattle.simplex_run.specs.Kinds.{is_honest}
-use Rattle.simplex_run.specs.Life.{Noted}
-use Rattle.simplex_run.specs.Forged.{Signed, is_forged, signed_by_faulty}
+use Rattle.model_run.specs.Kinds.{is_honest}
+use Rattle.model_run.specs.Life.{Noted}
+use Rattle.model_run.specs.Forged.{Signed, is_forged, signed_by_faulty}
 use Rattle.simplex_records.specs.declared.forgery.Forgery.{Forgery}
 use Rattle.simplex_records.specs.declared.sent_votes.SentVotes.{SentVotes}
 use Rattle.simplex_records.specs.Votes.{has_vote}

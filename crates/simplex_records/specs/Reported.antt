@@ -6,7 +6,7 @@ use Rattle.std.specs.Ordering.{nat_cmp}
 use Rattle.std.specs.BTreeMap as tree
 use Rattle.simplex_values.specs.Proposal.{is_same_proposal}
 use Rattle.simplex_wire.specs.declared.certificate.Finalization.{Finalization}
-use Rattle.simplex_run.specs.Entries.{are_same_attestations}
+use Rattle.model_run.specs.Entries.{are_same_attestations}
 use Rattle.simplex_records.specs.declared.reported.Reported.{Reported}
 
 -- whether they are one finalization, signers and signatures too

@@ -6,8 +6,8 @@ use Rattle.std.specs.Ordering.{nat_cmp}
 use Rattle.std.specs.BTreeMap as tree
 use Rattle.simplex_transcript.specs.declared.node.Node.{Node}
 use Rattle.simplex_transcript.specs.declared.node.Ref.{Ref}
-use Rattle.simplex_run.specs.Life.{Noted}
-use Rattle.simplex_run.specs.Requests.{asked_since, request_number, request_place}
+use Rattle.model_run.specs.Life.{Noted}
+use Rattle.model_run.specs.Requests.{asked_since, request_number, request_place}
 use Rattle.simplex_records.specs.declared.requests.Span.{Span}
 use Rattle.simplex_records.specs.declared.requests.Requests.{Requests}
 

@@ -3,8 +3,8 @@ use Rattle.std.specs.Prelude.{ℕ, ◌&&◌, Bool, not, List, filter, flat_map, 
 use Rattle.std.specs.List.{list_any}
 use Rattle.simplex_transcript.specs.declared.node.Node.{Node}
 use Rattle.simplex_transcript.specs.declared.setup.Setup.{Setup}
-use Rattle.simplex_run.specs.Kinds.{nodes_at, has_halves}
-use Rattle.simplex_run.specs.Routing.{is_routed}
+use Rattle.model_run.specs.Kinds.{nodes_at, has_halves}
+use Rattle.model_run.specs.Routing.{is_routed}
 
 -- the nodes of these members that a packet of the view goes to
 unfoldable pub routed_nodes : Setup → ℕ → Node → List ℕ → List Node

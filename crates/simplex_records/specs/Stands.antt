@@ -10,11 +10,11 @@ use Rattle.simplex_transcript.specs.declared.entry.Took.{Took}
 use Rattle.simplex_transcript.specs.declared.node.Node.{Node}
 use Rattle.simplex_transcript.specs.declared.node.Ref.{Ref}
 use Rattle.simplex_transcript.specs.declared.setup.Setup.{Setup}
-use Rattle.simplex_steps.specs.Engine.{Did}
-use Rattle.simplex_run.specs.Kinds.{is_honest}
-use Rattle.simplex_run.specs.Life.{Noted}
-use Rattle.simplex_run.specs.Requests.{is_start, packet_at}
-use Rattle.simplex_run.specs.Entries.{was_reported, entry_with}
+use Rattle.model_steps.specs.Engine.{Did}
+use Rattle.model_run.specs.Kinds.{is_honest}
+use Rattle.model_run.specs.Life.{Noted}
+use Rattle.model_run.specs.Requests.{is_start, packet_at}
+use Rattle.model_run.specs.Entries.{was_reported, entry_with}
 use Rattle.simplex_records.specs.declared.requests.Requests.{Requests}
 use Rattle.simplex_records.specs.declared.records.Records.{Records}
 use Rattle.simplex_records.specs.Seats.{seat_of, node_at}

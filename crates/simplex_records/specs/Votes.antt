@@ -13,9 +13,9 @@ use Rattle.simplex_wire.specs.Fields.{subject_round, vote_subject}
 use Rattle.simplex_round.specs.Votes.{is_same_subject}
 use Rattle.simplex_transcript.specs.declared.entry.Packet.{Packet}
 use Rattle.simplex_transcript.specs.declared.setup.Setup.{Setup}
-use Rattle.simplex_run.specs.Kinds.{members_of, is_honest, are_honest}
-use Rattle.simplex_run.specs.Life.{Noted}
-use Rattle.simplex_run.specs.SentVotes.{is_for_votes, has_sent}
+use Rattle.model_run.specs.Kinds.{members_of, is_honest, are_honest}
+use Rattle.model_run.specs.Life.{Noted}
+use Rattle.model_run.specs.SentVotes.{is_for_votes, has_sent}
 use Rattle.simplex_records.specs.declared.subjects.Subjects.{Subjects}
 use Rattle.simplex_records.specs.declared.sent_votes.SentVotes.{SentVotes}
 

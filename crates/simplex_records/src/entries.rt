@@ -1,6 +1,6 @@
 //! The entries of events.
 ghost use Rattle.std.specs.Prelude.{◌≡◌, Some};
-ghost use Rattle.simplex_run.specs.Entries as entries;
+ghost use Rattle.model_run.specs.Entries as entries;
 ghost use Rattle.simplex_records.specs.Events as events;
 
 use simplex_messages::{Outcome, StepOut};

@@ -2,7 +2,7 @@
 ghost use Rattle.std.specs.Prelude.{◌≡◌};
 ghost use Rattle.std.specs.List.{list_any, slice_get};
 ghost use Rattle.std.specs.Option.{option_map};
-ghost use Rattle.simplex_run.specs.Kinds as kinds;
+ghost use Rattle.model_run.specs.Kinds as kinds;
 
 use simplex_transcript::{MemberKind, Setup};
 

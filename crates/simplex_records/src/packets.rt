@@ -1,12 +1,12 @@
 //! The packets of the events.
-#![tactic(auto, unfolding(crate::specs::Packets::packet_in, simplex_run::specs::Requests::packet_for))]
+#![tactic(auto, unfolding(crate::specs::Packets::packet_in, model_run::specs::Requests::packet_for))]
 
 ghost use Rattle.std.specs.Prelude.{◌≡◌, ◌==◌, ◌++◌, ◌∷◌, ◌-◌, [], IfOk, OnOk, Some, None};
 ghost use Rattle.std.specs.List.{list_any};
 ghost use Rattle.std.specs.Option.{option_map, option_and_then, is_some};
-ghost use Rattle.simplex_run.specs.Members.{is_same_node};
-ghost use Rattle.simplex_run.specs.Requests.{if_for};
-ghost use Rattle.simplex_run.specs.Entries as entries;
+ghost use Rattle.model_run.specs.Members.{is_same_node};
+ghost use Rattle.model_run.specs.Requests.{if_for};
+ghost use Rattle.model_run.specs.Entries as entries;
 ghost use Rattle.simplex_records.specs.Packets.{packet_in};
 
 use crate::routing::packet_for_send;

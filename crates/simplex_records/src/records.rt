@@ -3,10 +3,10 @@
 
 ghost use Rattle.std.specs.Prelude.{◌≡◌, ◌+◌, ◌*◌, ◌<◌, ◌^◌, ◌∷◌, ◌&&◌, ◌||◌, [], List, length, IfOk, OnOk};
 ghost use Rattle.std.specs.Option.{option_map, is_some};
-ghost use Rattle.simplex_run.specs.Life.{Noted};
-ghost use Rattle.simplex_run.specs.Entries as entries;
-ghost use Rattle.simplex_run.specs.Requests as requests;
-ghost use Rattle.simplex_run.specs.Kinds as kinds;
+ghost use Rattle.model_run.specs.Life.{Noted};
+ghost use Rattle.model_run.specs.Entries as entries;
+ghost use Rattle.model_run.specs.Requests as requests;
+ghost use Rattle.model_run.specs.Kinds as kinds;
 ghost use Rattle.simplex_records.specs.Seats as seats;
 ghost use Rattle.simplex_records.specs.Events as events;
 ghost use Rattle.simplex_records.specs.Events.{IsOf, AreFrom};

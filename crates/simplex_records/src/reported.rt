@@ -7,7 +7,7 @@ ghost use Rattle.std.specs.Option.{unwrap_or};
 ghost use Rattle.std.specs.Ordering.{nat_cmp};
 ghost use Rattle.std.specs.BTreeMap as tree;
 ghost use Rattle.simplex_wire.specs.declared.certificate.Finalization.{Finalization};
-ghost use Rattle.simplex_run.specs.Entries.{reports};
+ghost use Rattle.model_run.specs.Entries.{reports};
 ghost use Rattle.simplex_records.specs.Reported as reporting;
 
 use simplex_messages::Call;

@@ -7,8 +7,8 @@ ghost use Rattle.std.specs.Ordering.{nat_cmp};
 ghost use Rattle.std.specs.BTreeMap as tree;
 ghost use Rattle.simplex_transcript.specs.declared.node.Ref.{Ref};
 ghost use Rattle.simplex_transcript.specs.declared.node.Node.{Node};
-ghost use Rattle.simplex_run.specs.Life.{Noted, is_of};
-ghost use Rattle.simplex_run.specs.Requests.{is_start};
+ghost use Rattle.model_run.specs.Life.{Noted, is_of};
+ghost use Rattle.model_run.specs.Requests.{is_start};
 ghost use Rattle.simplex_records.specs.Requests.{number_in, number_from, places_of, RequestsStand, RequestsRest};
 
 use simplex_transcript::Ref;

@@ -1,5 +1,5 @@
 //! To which nodes a send goes.
-#![tactic(auto, unfolding(simplex_run::specs::Twins::is_in_part, simplex_run::specs::Twins::round_at, simplex_run::specs::Routing::is_routed, simplex_run::specs::Routing::packet_view))]
+#![tactic(auto, unfolding(model_run::specs::Twins::is_in_part, model_run::specs::Twins::round_at, model_run::specs::Routing::is_routed, model_run::specs::Routing::packet_view))]
 
 ghost use Rattle.std.specs.Prelude.{◌≡◌, ◌==◌, ◌++◌, ◌∷◌, ◌-◌, [], not, length, filter, IfOk, OnOk, if◌then◌else◌};
 ghost use Rattle.std.specs.List.{range_with_len};
@@ -7,9 +7,9 @@ ghost use Rattle.simplex_values.specs.Terms.{term_index};
 ghost use Rattle.simplex_wire.specs.Format.{whole};
 ghost use Rattle.simplex_wire.specs.Message as format;
 ghost use Rattle.simplex_wire.specs.ResolverMessage.{resolver_message};
-ghost use Rattle.simplex_run.specs.Kinds.{nodes_at};
-ghost use Rattle.simplex_run.specs.Twins as twins;
-ghost use Rattle.simplex_run.specs.Routing as routing;
+ghost use Rattle.model_run.specs.Kinds.{nodes_at};
+ghost use Rattle.model_run.specs.Twins as twins;
+ghost use Rattle.model_run.specs.Routing as routing;
 ghost use Rattle.simplex_records.specs.Routes.{routed_nodes, has_routes};
 
 use crate::kinds::{has_twin, is_twin};

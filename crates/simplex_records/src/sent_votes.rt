@@ -1,5 +1,5 @@
 //! The votes that honest members sent, and what is forged.
-#![tactic(auto, unfolding(crate::specs::Votes::has_vote, crate::specs::Forgeries::is_unsent, simplex_run::specs::Forged::signed_in))]
+#![tactic(auto, unfolding(crate::specs::Votes::has_vote, crate::specs::Forgeries::is_unsent, model_run::specs::Forged::signed_in))]
 
 ghost use Rattle.std.specs.Prelude.{◌≡◌, ◌==◌, ◌&&◌, ◌||◌, ◌<◌, ◌^◌, ◌∷◌, ℕ, [], false, length, map, IfOk, OnOk, filter_map, if◌then◌else◌};
 ghost use Rattle.std.specs.List.{list_any};
@@ -8,9 +8,9 @@ ghost use Rattle.simplex_wire.specs.Format.{whole};
 ghost use Rattle.simplex_wire.specs.Message as format;
 ghost use Rattle.simplex_wire.specs.ResolverMessage.{resolver_message};
 ghost use Rattle.simplex_wire.specs.Fields.{certificate_signatures};
-ghost use Rattle.simplex_run.specs.Kinds.{are_honest};
-ghost use Rattle.simplex_run.specs.Forged as forged;
-ghost use Rattle.simplex_run.specs.Forged.{signed};
+ghost use Rattle.model_run.specs.Kinds.{are_honest};
+ghost use Rattle.model_run.specs.Forged as forged;
+ghost use Rattle.model_run.specs.Forged.{signed};
 ghost use Rattle.simplex_records.specs.Votes.{vote_in, is_on, has_vote, IndexStands};
 ghost use Rattle.simplex_records.specs.Forgeries.{is_unsent, first_of};
 

@@ -3,7 +3,7 @@ use Rattle.std.proofs.Common.{◌≡◌, ℕ, ◌+◌, ◌-◌, ◌<◌, ◌≤�
 use Rattle.std.proofs.lemmas.Grind.{common_steps}
 use Rattle.std.specs.List.{list_any}
 use Rattle.simplex_values.specs.Terms.{next_term_start}
-use Rattle.simplex_rules.specs.Repair.{RepairCall, is_gap, is_failed, is_first_above, is_replayed_in, repair_floor}
+use Rattle.model_rules.specs.Repair.{RepairCall, is_gap, is_failed, is_first_above, is_replayed_in, repair_floor}
 use Rattle.simplex_repair.specs.Gaps.{gaps_between}
 use Rattle.simplex_repair.proofs.Ranges.{skip_front, none_left}
 use Rattle.simplex_repair.proofs.Held.{before_replay}

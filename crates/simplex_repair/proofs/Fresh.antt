@@ -7,10 +7,10 @@ use Rattle.simplex_wire.specs.declared.certificate.Nullification.{Nullification}
 use Rattle.simplex_wire.specs.declared.certificate.Finalization.{Finalization}
 use Rattle.simplex_wire.specs.declared.certificate.Certificate.TheVariants as certificates
 use Rattle.simplex_values.specs.Terms.{next_of, next_term_start}
-use Rattle.simplex_rules.specs.declared.effect.Effect.TheVariants.{Fetch}
-use Rattle.simplex_rules.specs.Lists.{greatest_of}
-use Rattle.simplex_rules.specs.Known.{view_of}
-use Rattle.simplex_rules.specs.Repair.{RepairCall, Updated, Certified, is_gap, is_failed, is_nullified, is_first_above, finalization_held, final_view, repair_floor, top_of, gaps_of, fetched_by}
+use Rattle.model_rules.specs.declared.effect.Effect.TheVariants.{Fetch}
+use Rattle.model_rules.specs.Lists.{greatest_of}
+use Rattle.model_rules.specs.Known.{view_of}
+use Rattle.model_rules.specs.Repair.{RepairCall, Updated, Certified, is_gap, is_failed, is_nullified, is_first_above, finalization_held, final_view, repair_floor, top_of, gaps_of, fetched_by}
 use Rattle.simplex_repair.specs.Gaps.{gaps_between, asked_to}
 use Rattle.simplex_repair.proofs.Ranges.{same_range, filter_alike, filter_twice, never}
 use Rattle.simplex_repair.proofs.Held.{failed_low}

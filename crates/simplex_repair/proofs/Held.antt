@@ -4,8 +4,8 @@ use Rattle.std.proofs.lemmas.Grind.{common_steps}
 use Rattle.std.specs.List.{list_any}
 use Rattle.std.specs.Option.{is_some}
 use Rattle.simplex_wire.specs.declared.certificate.Certificate.TheVariants as certificates
-use Rattle.simplex_rules.specs.Lists.{greatest_of}
-use Rattle.simplex_rules.specs.Repair.{RepairCall, Updated, Certified, Replayed, covering_nullification, is_nullified, is_final, is_failed, is_gap, is_replayed_in, final_view, repair_floor, top_of}
+use Rattle.model_rules.specs.Lists.{greatest_of}
+use Rattle.model_rules.specs.Repair.{RepairCall, Updated, Certified, Replayed, covering_nullification, is_nullified, is_final, is_failed, is_gap, is_replayed_in, final_view, repair_floor, top_of}
 
 -- a view is nullified where a nullification covers it
 pub nullified_is : (length : ℕ) (calls : List RepairCall) (view : ℕ) → is_nullified length calls view ≡ is_some (covering_nullification length calls view)

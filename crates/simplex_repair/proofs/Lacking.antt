@@ -5,7 +5,7 @@ use Rattle.std.specs.List.{range_with_len, list_any}
 use Rattle.simplex_wire.specs.declared.certificate.Certificate.TheVariants as certificates
 use Rattle.simplex_values.specs.Terms.{term_index, term_start}
 use Rattle.simplex_values.specs.Covers.{covers}
-use Rattle.simplex_rules.specs.Repair.{RepairCall, Updated, is_nullified, is_failed, is_first_above, is_gap, is_replayed_in, gaps_of, repair_floor, top_of}
+use Rattle.model_rules.specs.Repair.{RepairCall, Updated, is_nullified, is_failed, is_first_above, is_gap, is_replayed_in, gaps_of, repair_floor, top_of}
 use Rattle.simplex_repair.specs.Laws.{IsLeast, IsLacking}
 use Rattle.simplex_repair.proofs.Terms.{term_rises, start_low}
 use Rattle.simplex_repair.proofs.Fresh.{gap_above, gap_low}

@@ -9,11 +9,11 @@ use Rattle.simplex_wire.specs.declared.certificate.Finalization.{Finalization}
 use Rattle.simplex_wire.specs.declared.certificate.Certificate.TheVariants as certificates
 use Rattle.simplex_values.specs.declared.ask.Kind.TheVariants as kinds
 use Rattle.simplex_values.specs.Terms.{next_of, term_end, next_term_start}
-use Rattle.simplex_rules.specs.declared.effect.Effect.{Effect}
-use Rattle.simplex_rules.specs.declared.effect.Effect.TheVariants.{Fetch, Settled, Finalized, Raised}
-use Rattle.simplex_rules.specs.Lists.{greatest_of}
-use Rattle.simplex_rules.specs.Known.{view_of}
-use Rattle.simplex_rules.specs.Repair.{RepairCall, Updated, Certified, Replayed, is_gap, is_final, is_failed, is_nullified, is_replayed_in, notarization_held, nullification_held, finalization_held, final_view, repair_floor, top_of, gaps_of, settled_by, finalized_by, raised_by, fetched_by, effects_of}
+use Rattle.model_rules.specs.declared.effect.Effect.{Effect}
+use Rattle.model_rules.specs.declared.effect.Effect.TheVariants.{Fetch, Settled, Finalized, Raised}
+use Rattle.model_rules.specs.Lists.{greatest_of}
+use Rattle.model_rules.specs.Known.{view_of}
+use Rattle.model_rules.specs.Repair.{RepairCall, Updated, Certified, Replayed, is_gap, is_final, is_failed, is_nullified, is_replayed_in, notarization_held, nullification_held, finalization_held, final_view, repair_floor, top_of, gaps_of, settled_by, finalized_by, raised_by, fetched_by, effects_of}
 use Rattle.simplex_repair.specs.Gaps.{gaps_between, asked_to}
 use Rattle.simplex_repair.proofs.Ranges.{filter_alike, filter_twice, none_left}
 use Rattle.simplex_repair.proofs.Held.{before_replay}

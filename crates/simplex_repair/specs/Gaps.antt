@@ -1,7 +1,7 @@
 -- Which views become gaps.
 use Rattle.std.specs.Prelude.{ℕ, ◌+◌, ◌-◌, List, filter, if◌then◌else◌}
 use Rattle.std.specs.List.{range_with_len}
-use Rattle.simplex_rules.specs.Repair.{RepairCall, is_gap}
+use Rattle.model_rules.specs.Repair.{RepairCall, is_gap}
 
 -- the gaps behind one view and up to another, in rising order
 unfoldable pub gaps_between : ℕ → List RepairCall → ℕ → ℕ → List ℕ

@@ -1,7 +1,7 @@
 -- The gaps, in the words of the rule.
 use Rattle.std.specs.Prelude.{◌≡◌, ℕ, ◌<◌, ◌⊎◌, true, false, List}
 use Rattle.simplex_values.specs.Terms.{term_index}
-use Rattle.simplex_rules.specs.Repair.{RepairCall, is_nullified, is_failed, repair_floor, top_of}
+use Rattle.model_rules.specs.Repair.{RepairCall, is_nullified, is_failed, repair_floor, top_of}
 
 -- each view of the view's term that lies between the floor and the view is covered
 abbrev pub IsLeast : ℕ → List RepairCall → ℕ → Type 0

@@ -3,7 +3,7 @@ use Rattle.std.specs.Prelude.{◌≡◌, ℕ, ◌<◌, ◌^◌, false, List, ◌
 use Rattle.std.specs.List.{list_any}
 use Rattle.std.specs.Option.{is_some}
 use Rattle.simplex_values.specs.Terms.{term_index}
-use Rattle.simplex_rules.specs.Repair.{RepairCall, notarization_held, nullification_held, finalization_held, covering_nullification, is_final, is_good, is_failed, is_replayed_in, repair_floor, top_of}
+use Rattle.model_rules.specs.Repair.{RepairCall, notarization_held, nullification_held, finalization_held, covering_nullification, is_final, is_good, is_failed, is_replayed_in, repair_floor, top_of}
 use Rattle.simplex_repair.specs.declared.repair.RepairState.{RepairState}
 use Rattle.simplex_values.specs.Maps.{found, has}
 use Rattle.simplex_repair.specs.Maps.{reaching}

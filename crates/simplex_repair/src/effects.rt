@@ -4,13 +4,13 @@
 ghost use Rattle.std.specs.Prelude.{◌≡◌, min, nat_lt, ◌++◌, ◌∷◌, [], if◌then◌else◌, true, false, OnOk, IfOk};
 ghost use Rattle.simplex_wire.specs.declared.certificate.Certificate.TheVariants as certificates;
 ghost use Rattle.simplex_values.specs.declared.ask.Kind.TheVariants as kinds;
-ghost use Rattle.simplex_rules.specs.declared.effect.Effect.TheVariants.{Settled, Raised};
-ghost use Rattle.simplex_rules.specs.Repair.{Updated, Certified, Replayed, effects_of};
+ghost use Rattle.model_rules.specs.declared.effect.Effect.TheVariants.{Settled, Raised};
+ghost use Rattle.model_rules.specs.Repair.{Updated, Certified, Replayed, effects_of};
 ghost use Rattle.simplex_repair.specs.Stands.{Takes, Answers};
 
 use crate::notes::later;
 use crate::repair::RepairState;
-use simplex_rules::Effect;
+use model_rules::Effect;
 use simplex_values::{Kind, View};
 use simplex_wire::{Certificate, Finalization, Notarization, Nullification};
 use std::alloc::AllocError;

@@ -3,14 +3,14 @@
 
 ghost use Rattle.std.specs.Prelude.{◌≡◌, ℕ, ◌+◌, ◌<◌, ◌≤◌, ◌++◌, map, false, List, OnOk, IfSome, IfNone};
 ghost use Rattle.simplex_values.specs.Terms.{next_term_start};
-ghost use Rattle.simplex_rules.specs.declared.effect.Effect.TheVariants.{Fetch};
-ghost use Rattle.simplex_rules.specs.Repair.{RepairCall, is_gap, is_first_above, repair_floor};
+ghost use Rattle.model_rules.specs.declared.effect.Effect.TheVariants.{Fetch};
+ghost use Rattle.model_rules.specs.Repair.{RepairCall, is_gap, is_first_above, repair_floor};
 ghost use Rattle.simplex_repair.specs.Gaps.{gaps_between, asked_to};
 ghost use Rattle.simplex_repair.specs.Stands.{StandsFor, Answers};
 
 use crate::notes::later;
 use crate::repair::RepairState;
-use simplex_rules::Effect;
+use model_rules::Effect;
 use simplex_values::maps::{contains, first_from};
 use simplex_values::{TermLength, View};
 use std::alloc::AllocError;
@@ -50,7 +50,7 @@ impl RepairState {
     }
 
     /// Whether a nullification of the view has to be asked for.
-    #[tactic(auto, unfolding(crate::specs::Stands::StandsFor, simplex_rules::specs::Repair::is_gap), using(crate::proofs::Held::above_floor))]
+    #[tactic(auto, unfolding(crate::specs::Stands::StandsFor, model_rules::specs::Repair::is_gap), using(crate::proofs::Held::above_floor))]
     fn is_gap(&self, view: View) -> bool
         ensures { Answers self.now (λ length calls. is_gap length calls view) result }
     {
@@ -61,7 +61,7 @@ impl RepairState {
     }
 
     /// Whether the view is its term's first above the floor.
-    #[tactic(auto, unfolding(simplex_rules::specs::Repair::is_first_above))]
+    #[tactic(auto, unfolding(model_rules::specs::Repair::is_first_above))]
     fn is_first_above(&self, view: View) -> bool
         requires { self.now.floor < view }
         ensures { result ≡ is_first_above self.now.length self.now.floor view }

@@ -1,7 +1,7 @@
 //! What the definition of gaps says in the words of the rule.
 ghost use Rattle.std.specs.Prelude.{◌≡◌, ℕ, ◌<◌, ◌==◌, ◌↔◌, true, List};
 ghost use Rattle.std.specs.List.{list_any};
-ghost use Rattle.simplex_rules.specs.Repair.{RepairCall, is_replayed_in, is_gap, gaps_of};
+ghost use Rattle.model_rules.specs.Repair.{RepairCall, is_replayed_in, is_gap, gaps_of};
 ghost use Rattle.simplex_repair.specs.Laws.{IsLacking};
 
 /// After the replay the gaps are the views that the rule names, and these are all that are listed.

@@ -1,11 +1,11 @@
 //! What a call adds to what is held.
-#![tactic(auto, unfolding(crate::specs::Stands::StandsFor, simplex_rules::specs::Lists::first_of, simplex_rules::specs::Lists::greatest_of, simplex_rules::specs::Repair::notarization_held, simplex_rules::specs::Repair::nullification_held, simplex_rules::specs::Repair::finalization_held, simplex_rules::specs::Repair::is_good, simplex_rules::specs::Repair::is_failed, simplex_rules::specs::Repair::final_view, simplex_rules::specs::Repair::repair_floor, simplex_rules::specs::Repair::is_final, simplex_rules::specs::Repair::covering_nullification, simplex_rules::specs::Repair::top_of))]
+#![tactic(auto, unfolding(crate::specs::Stands::StandsFor, model_rules::specs::Lists::first_of, model_rules::specs::Lists::greatest_of, model_rules::specs::Repair::notarization_held, model_rules::specs::Repair::nullification_held, model_rules::specs::Repair::finalization_held, model_rules::specs::Repair::is_good, model_rules::specs::Repair::is_failed, model_rules::specs::Repair::final_view, model_rules::specs::Repair::repair_floor, model_rules::specs::Repair::is_final, model_rules::specs::Repair::covering_nullification, model_rules::specs::Repair::top_of))]
 
 ghost use Rattle.std.specs.Prelude.{◌≡◌, max, nat_lt, true, false, OnOk};
 ghost use Rattle.std.specs.Option.{option_map_or};
 ghost use Rattle.simplex_wire.specs.declared.certificate.Certificate.TheVariants as certificates;
-ghost use Rattle.simplex_rules.specs.Known.{view_of};
-ghost use Rattle.simplex_rules.specs.Repair.{Updated, Certified, Replayed};
+ghost use Rattle.model_rules.specs.Known.{view_of};
+ghost use Rattle.model_rules.specs.Repair.{Updated, Certified, Replayed};
 ghost use Rattle.simplex_repair.specs.Stands.{Takes};
 
 use crate::covers::cover;

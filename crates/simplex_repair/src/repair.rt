@@ -5,7 +5,7 @@ ghost use Rattle.std.specs.Prelude.{◌≡◌, ℕ, ◌&&◌, false, List, [], I
 ghost use Rattle.std.specs.Option.{option_map};
 ghost use Rattle.simplex_wire.specs.Message as messages;
 ghost use Rattle.simplex_wire.specs.declared.certificate.Certificate.TheVariants as certificates;
-ghost use Rattle.simplex_rules.specs.Repair.{RepairCall, is_final, is_nullified, is_settled, is_key_settled, is_uncertifiable, is_failed, final_view, produced};
+ghost use Rattle.model_rules.specs.Repair.{RepairCall, is_final, is_nullified, is_settled, is_key_settled, is_uncertifiable, is_failed, final_view, produced};
 ghost use Rattle.simplex_values.specs.Maps.{found};
 ghost use Rattle.simplex_repair.specs.Stands.{StandsFor, Answers};
 
@@ -47,7 +47,7 @@ pub struct RepairState {
 
 impl RepairState {
     /// Nothing is held yet.
-    #[tactic(auto, unfolding(crate::specs::Stands::StandsFor, crate::specs::Maps::reaching, simplex_rules::specs::Lists::first_of, simplex_rules::specs::Lists::greatest_of, simplex_rules::specs::Repair::notarization_held, simplex_rules::specs::Repair::nullification_held, simplex_rules::specs::Repair::finalization_held, simplex_rules::specs::Repair::is_good, simplex_rules::specs::Repair::is_failed, simplex_rules::specs::Repair::final_view, simplex_rules::specs::Repair::repair_floor, simplex_rules::specs::Repair::is_final, simplex_rules::specs::Repair::covering_nullification, simplex_rules::specs::Repair::top_of))]
+    #[tactic(auto, unfolding(crate::specs::Stands::StandsFor, crate::specs::Maps::reaching, model_rules::specs::Lists::first_of, model_rules::specs::Lists::greatest_of, model_rules::specs::Repair::notarization_held, model_rules::specs::Repair::nullification_held, model_rules::specs::Repair::finalization_held, model_rules::specs::Repair::is_good, model_rules::specs::Repair::is_failed, model_rules::specs::Repair::final_view, model_rules::specs::Repair::repair_floor, model_rules::specs::Repair::is_final, model_rules::specs::Repair::covering_nullification, model_rules::specs::Repair::top_of))]
     pub fn new(alloc: Global, length: TermLength) -> RepairState
         ensures { StandsFor result length [] }
     {
@@ -75,7 +75,7 @@ impl RepairState {
     }
 
     /// Whether an ask of this kind for the view has its answer.
-    #[tactic(auto, unfolding(crate::specs::Stands::StandsFor, simplex_rules::specs::Repair::is_settled))]
+    #[tactic(auto, unfolding(crate::specs::Stands::StandsFor, model_rules::specs::Repair::is_settled))]
     pub fn settled(&self, view: View, kind: Kind) -> bool
         ensures { Answers self.now (λ length calls. is_settled length calls view kind) result }
     {
@@ -89,7 +89,7 @@ impl RepairState {
     }
 
     /// Whether an ask of either kind for the view has its answer.
-    #[tactic(auto, unfolding(simplex_rules::specs::Repair::is_key_settled))]
+    #[tactic(auto, unfolding(model_rules::specs::Repair::is_key_settled))]
     pub fn key_settled(&self, view: View) -> bool
         ensures { Answers self.now (λ length calls. is_key_settled length calls view) result }
     {
@@ -97,7 +97,7 @@ impl RepairState {
     }
 
     /// Whether the view failed, and no later view is final.
-    #[tactic(auto, unfolding(simplex_rules::specs::Repair::is_uncertifiable))]
+    #[tactic(auto, unfolding(model_rules::specs::Repair::is_uncertifiable))]
     pub fn uncertifiable(&self, view: View) -> bool
         ensures { Answers self.now (λ length calls. is_uncertifiable calls view) result }
     {
@@ -116,7 +116,7 @@ impl RepairState {
     }
 
     /// The certificate for one who asks for the view.
-    #[tactic(auto, unfolding(crate::specs::Stands::StandsFor, simplex_rules::specs::Repair::produced), using(crate::proofs::Held::above_open))]
+    #[tactic(auto, unfolding(crate::specs::Stands::StandsFor, model_rules::specs::Repair::produced), using(crate::proofs::Held::above_open))]
     fn certificate_for(&self, view: View) -> Result<Option<Certificate>, AllocError>
         ensures { IfOk result (λ it. Answers self.now (λ length calls. produced length calls view) it) }
     {
@@ -156,7 +156,7 @@ impl RepairState {
     }
 
     /// The view of the greatest finalization, or 0.
-    #[tactic(auto, unfolding(crate::specs::Stands::StandsFor, simplex_rules::specs::Repair::final_view))]
+    #[tactic(auto, unfolding(crate::specs::Stands::StandsFor, model_rules::specs::Repair::final_view))]
     fn final_view(&self) -> View
         ensures { Answers self.now (λ length calls. final_view calls) result }
     {
@@ -167,7 +167,7 @@ impl RepairState {
     }
 
     /// Whether a finalization at or above the view is held.
-    #[tactic(auto, unfolding(crate::specs::Stands::StandsFor, simplex_rules::specs::Repair::is_final))]
+    #[tactic(auto, unfolding(crate::specs::Stands::StandsFor, model_rules::specs::Repair::is_final))]
     pub(crate) fn is_final(&self, view: View) -> bool
         ensures { Answers self.now (λ length calls. is_final calls view) result }
     {

@@ -14,7 +14,7 @@ use Rattle.simplex_wire.specs.declared.resolver.ResolverBody.{ResolverBody}
 use Rattle.simplex_wire.specs.declared.resolver.ResolverBody.TheVariants as body
 use Rattle.simplex_wire.specs.Format.{whole}
 use Rattle.simplex_wire.specs.ResolverMessage.{resolver_message}
-use Rattle.simplex_rules.specs.Repair.{RepairCall, Updated, is_gap, is_key_settled, is_settled, effects_of}
+use Rattle.model_rules.specs.Repair.{RepairCall, Updated, is_gap, is_key_settled, is_settled, effects_of}
 use Rattle.simplex_messages.specs.declared.resolver.ResolverInput.{ResolverInput}
 use Rattle.simplex_messages.specs.declared.resolver.ResolverInput.TheVariants as inputs
 use Rattle.simplex_messages.specs.declared.resolver.MailboxMessage.{MailboxMessage}
@@ -22,17 +22,17 @@ use Rattle.simplex_messages.specs.declared.resolver.MailboxMessage.TheVariants a
 use Rattle.simplex_messages.specs.declared.resolver.HandlerMessage.{HandlerMessage}
 use Rattle.simplex_messages.specs.declared.resolver.HandlerMessage.TheVariants as handler
 use Rattle.simplex_messages.specs.Policies.{handler_leave}
-use Rattle.simplex_resolving.specs.declared.entry.Entry.{Entry}
-use Rattle.simplex_resolving.specs.declared.out.Out.{Out}
-use Rattle.simplex_resolving.specs.declared.out.Out.TheVariants as outs
-use Rattle.simplex_resolving.specs.declared.retire.Retire.{Retire}
-use Rattle.simplex_resolving.specs.Asks.{asks_of, holds_ask, same_ask}
+use Rattle.model_resolver.specs.declared.entry.Entry.{Entry}
+use Rattle.model_resolver.specs.declared.out.Out.{Out}
+use Rattle.model_resolver.specs.declared.out.Out.TheVariants as outs
+use Rattle.model_resolver.specs.declared.retire.Retire.{Retire}
+use Rattle.model_resolver.specs.Asks.{asks_of, holds_ask, same_ask}
 use Rattle.simplex_fetch.specs.Index.{has_ask}
-use Rattle.simplex_resolving.specs.Views.{entry_at, asked_view}
-use Rattle.simplex_resolving.specs.Fetcher as fetch
-use Rattle.simplex_resolving.specs.Fetcher.{is_done}
+use Rattle.model_resolver.specs.Views.{entry_at, asked_view}
+use Rattle.model_resolver.specs.Fetcher as fetch
+use Rattle.model_resolver.specs.Fetcher.{is_done}
 use Rattle.simplex_fetch.proofs.Entries.{Rising}
-use Rattle.simplex_resolving.specs.Resolver.{Made, Given, Stepped, HandlerTaken, Standing, Doing, at_first, begun, with_fetcher, recorded, putting, leaving, serving, requested, is_backoff, minded, minded_all, called, after_fetcher, judging, hearing, expiring, retiring, retiring_all, fetching, ancestry, backfill, fetch_of, retire_of, with_effects, repairing, validated, is_excepted, passed_over, accepted, answered, delivered, produced, resolving, took_mail, took_handled, acted, step, after_taking, standing_after, handler_message}
+use Rattle.model_resolver.specs.Resolver.{Made, Given, Stepped, HandlerTaken, Standing, Doing, at_first, begun, with_fetcher, recorded, putting, leaving, serving, requested, is_backoff, minded, minded_all, called, after_fetcher, judging, hearing, expiring, retiring, retiring_all, fetching, ancestry, backfill, fetch_of, retire_of, with_effects, repairing, validated, is_excepted, passed_over, accepted, answered, delivered, produced, resolving, took_mail, took_handled, acted, step, after_taking, standing_after, handler_message}
 use Rattle.simplex_resolver.specs.Laws.{WasTaken, HandlesTaken}
 use Rattle.simplex_resolver.proofs.Moving.{called-all-stays}
 use Rattle.simplex_resolver.proofs.Opening.{gap-asked}

@@ -1,9 +1,9 @@
 -- Loops that lead from what was done to what is done.
 use Rattle.std.proofs.Common.{◌≡◌, List, [], ◌∷◌, ◌∙◌, ap, subst}
-use Rattle.simplex_resolving.specs.declared.out.Out.{Out}
-use Rattle.simplex_resolving.specs.declared.retire.Retire.{Retire}
+use Rattle.model_resolver.specs.declared.out.Out.{Out}
+use Rattle.model_resolver.specs.declared.retire.Retire.{Retire}
 use Rattle.simplex_resolver.specs.declared.work.Work.{Work}
-use Rattle.simplex_resolving.specs.Resolver.{Doing, called, called_all, minded, minded_all, retiring, retiring_all}
+use Rattle.model_resolver.specs.Resolver.{Doing, called, called_all, minded, minded_all, retiring, retiring_all}
 use Rattle.simplex_resolver.specs.Stands.{work_of}
 
 -- what was done so far, and that what is left leads from there where all leads

@@ -5,16 +5,16 @@ use Rattle.simplex_values.specs.declared.ask.Ask.{Ask}
 use Rattle.simplex_values.specs.declared.ask.Outcome.{Outcome}
 use Rattle.simplex_wire.specs.declared.attestation.Attestation.{Attestation}
 use Rattle.simplex_wire.specs.declared.certificate.Certificate.{Certificate}
-use Rattle.simplex_rules.specs.declared.effect.Effect.{Effect}
-use Rattle.simplex_rules.specs.Repair as repair
+use Rattle.model_rules.specs.declared.effect.Effect.{Effect}
+use Rattle.model_rules.specs.Repair as repair
 use Rattle.simplex_repair.specs.declared.repair.RepairState.{RepairState}
 use Rattle.simplex_repair.specs.Stands as repairs
-use Rattle.simplex_resolving.specs.declared.out.Out.{Out}
-use Rattle.simplex_resolving.specs.declared.out.Out.TheVariants as outs
-use Rattle.simplex_resolving.specs.Fetcher.{Machine, After, served}
+use Rattle.model_resolver.specs.declared.out.Out.{Out}
+use Rattle.model_resolver.specs.declared.out.Out.TheVariants as outs
+use Rattle.model_resolver.specs.Fetcher.{Machine, After, served}
 use Rattle.simplex_resolver.specs.declared.actor.Actor.{Actor}
 use Rattle.simplex_resolver.specs.declared.work.Work.{Work}
-use Rattle.simplex_resolving.specs.Resolver.{Made, Doing, called, called_all, minded_all, with_fetcher, recorded, serving, handing, with_effects, judging, verdict_of, settled_count, accepted}
+use Rattle.model_resolver.specs.Resolver.{Made, Doing, called, called_all, minded_all, with_fetcher, recorded, serving, handing, with_effects, judging, verdict_of, settled_count, accepted}
 use Rattle.simplex_resolver.specs.Stands.{IsAt, Stands, work_of}
 
 -- what goes outside moves nothing

@@ -17,22 +17,22 @@ use Rattle.simplex_values.specs.declared.ask.Until.{Until}
 use Rattle.simplex_values.specs.declared.ask.Until.TheVariants as untils
 use Rattle.simplex_values.specs.declared.ask.Outcome.{Outcome}
 use Rattle.simplex_values.specs.declared.ask.Outcome.TheVariants as outcome
-use Rattle.simplex_resolving.specs.declared.arrivals.Arrival.{Arrival}
-use Rattle.simplex_resolving.specs.declared.entry.Entry.{Entry}
-use Rattle.simplex_resolving.specs.declared.entry.State.{State}
-use Rattle.simplex_resolving.specs.declared.entry.State.TheVariants.{Waiting, Asked, Judged}
-use Rattle.simplex_resolving.specs.declared.out.Out.{Out}
-use Rattle.simplex_resolving.specs.declared.out.Out.TheVariants as out
-use Rattle.simplex_resolving.specs.declared.retire.Retire.{Retire}
-use Rattle.simplex_resolving.specs.Asks.{asks_any, asks_of, holds_ask, without_asks}
+use Rattle.model_resolver.specs.declared.arrivals.Arrival.{Arrival}
+use Rattle.model_resolver.specs.declared.entry.Entry.{Entry}
+use Rattle.model_resolver.specs.declared.entry.State.{State}
+use Rattle.model_resolver.specs.declared.entry.State.TheVariants.{Waiting, Asked, Judged}
+use Rattle.model_resolver.specs.declared.out.Out.{Out}
+use Rattle.model_resolver.specs.declared.out.Out.TheVariants as out
+use Rattle.model_resolver.specs.declared.retire.Retire.{Retire}
+use Rattle.model_resolver.specs.Asks.{asks_any, asks_of, holds_ask, without_asks}
 use Rattle.simplex_fetch.specs.Index.{is_value, has_id, has_ask, is_due}
-use Rattle.simplex_resolving.specs.Retirement.{reaches, retires}
-use Rattle.simplex_resolving.specs.Views.{entry_at, with_entry, without_entry, views_where, id_of, is_asked_as, is_judged_as, asked_view, judged_view}
-use Rattle.simplex_resolving.specs.Fetcher as fetch
-use Rattle.simplex_resolving.specs.Fetcher.{Machine, After, Fetching, quiet, visited, in_state, asking, attempted, attempted_at, attempting, retrying, entry_with, adding, noting, fetched_beside, without, is_empty, left_of, kept_or_left, retired_at, retained, is_done, delivered_of, blocked_by, asked_on, judged_as, judged_entry, judged_at, judged, expired_as, expired_at, expiring, expired, retried, refused, peer_of}
+use Rattle.model_resolver.specs.Retirement.{reaches, retires}
+use Rattle.model_resolver.specs.Views.{entry_at, with_entry, without_entry, views_where, id_of, is_asked_as, is_judged_as, asked_view, judged_view}
+use Rattle.model_resolver.specs.Fetcher as fetch
+use Rattle.model_resolver.specs.Fetcher.{Machine, After, Fetching, quiet, visited, in_state, asking, attempted, attempted_at, attempting, retrying, entry_with, adding, noting, fetched_beside, without, is_empty, left_of, kept_or_left, retired_at, retained, is_done, delivered_of, blocked_by, asked_on, judged_as, judged_entry, judged_at, judged, expired_as, expired_at, expiring, expired, retried, refused, peer_of}
 use Rattle.simplex_fetch.proofs.Entries.{Rising, passes, above_from, tail_rises, entry_at-above, entry_at-put, entry_at-taken, first_view-some, rising_put, rising_taken}
 use Rattle.simplex_fetch.proofs.Indexing.{asked_needs, value_here}
-use Rattle.simplex_resolving.specs.Resolver.{backfill}
+use Rattle.model_resolver.specs.Resolver.{backfill}
 use Rattle.simplex_resolver.proofs.Opening.{is_backfill, entry-kept}
 
 -- ---- what is at a view after one was put there, or taken away

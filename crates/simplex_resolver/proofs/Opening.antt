@@ -8,20 +8,20 @@ use Rattle.std.proofs.lemmas.Map.Views.{any-filter_same}
 use Rattle.std.specs.List.{list_any, filter_map}
 use Rattle.simplex_values.specs.declared.ask.Ask.{Ask}
 use Rattle.simplex_wire.specs.declared.certificate.Certificate.TheVariants as certificates
-use Rattle.simplex_rules.specs.declared.effect.Effect.{Effect}
-use Rattle.simplex_rules.specs.declared.effect.Effect.TheVariants as effects
-use Rattle.simplex_rules.specs.Repair.{RepairCall, Updated, Certified, Replayed, is_gap, gaps_of, settled_by, finalized_by, raised_by, fetched_by, effects_of}
+use Rattle.model_rules.specs.declared.effect.Effect.{Effect}
+use Rattle.model_rules.specs.declared.effect.Effect.TheVariants as effects
+use Rattle.model_rules.specs.Repair.{RepairCall, Updated, Certified, Replayed, is_gap, gaps_of, settled_by, finalized_by, raised_by, fetched_by, effects_of}
 use Rattle.simplex_repair.proofs.Lacking.{gaps_listed}
-use Rattle.simplex_resolving.specs.declared.entry.Entry.{Entry}
-use Rattle.simplex_resolving.specs.declared.arrivals.Arrival.{Arrival}
-use Rattle.simplex_resolving.specs.declared.out.Out.{Out}
-use Rattle.simplex_resolving.specs.declared.out.Out.TheVariants as outs
-use Rattle.simplex_resolving.specs.Asks.{same_arrival, same_ask, asks_any, with_arrival}
-use Rattle.simplex_resolving.specs.Views.{entry_at, with_entry}
+use Rattle.model_resolver.specs.declared.entry.Entry.{Entry}
+use Rattle.model_resolver.specs.declared.arrivals.Arrival.{Arrival}
+use Rattle.model_resolver.specs.declared.out.Out.{Out}
+use Rattle.model_resolver.specs.declared.out.Out.TheVariants as outs
+use Rattle.model_resolver.specs.Asks.{same_arrival, same_ask, asks_any, with_arrival}
+use Rattle.model_resolver.specs.Views.{entry_at, with_entry}
 use Rattle.simplex_fetch.specs.Index.{has_ask}
-use Rattle.simplex_resolving.specs.Fetcher.{Machine, Fetching, of_all, entry_with, asking, attempted, attempted_at, attempting, visited, adding, noting, fetched_beside, served, peer_of}
+use Rattle.model_resolver.specs.Fetcher.{Machine, Fetching, of_all, entry_with, asking, attempted, attempted_at, attempting, visited, adding, noting, fetched_beside, served, peer_of}
 use Rattle.simplex_fetch.proofs.Entries.{entry_at-put}
-use Rattle.simplex_resolving.specs.Resolver.{Doing, backfill, fetch_of, retire_of, serving, requested, minded, minded_all, putting, leaving, called, fetching, retiring_all, with_effects}
+use Rattle.model_resolver.specs.Resolver.{Doing, backfill, fetch_of, retire_of, serving, requested, minded, minded_all, putting, leaving, called, fetching, retiring_all, with_effects}
 use Rattle.simplex_resolver.proofs.Moving.{called-all-stays}
 
 -- ---- an attempt changes no ask

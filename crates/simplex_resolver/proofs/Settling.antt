@@ -17,19 +17,19 @@ use Rattle.simplex_values.specs.Covers.{covers}
 use Rattle.simplex_wire.specs.declared.certificate.Finalization.{Finalization}
 use Rattle.simplex_wire.specs.declared.certificate.Nullification.{Nullification}
 use Rattle.simplex_wire.specs.declared.certificate.Certificate.TheVariants as certificates
-use Rattle.simplex_rules.specs.declared.effect.Effect.{Effect}
-use Rattle.simplex_rules.specs.declared.effect.Effect.TheVariants as effects
-use Rattle.simplex_rules.specs.Lists.{greatest_of}
-use Rattle.simplex_rules.specs.Known.{view_of}
-use Rattle.simplex_rules.specs.Repair.{RepairCall, Updated, Certified, Replayed, good_view, is_gap, gaps_of, is_final, is_nullified, is_settled, is_key_settled, final_view, finalization_held, repair_floor, nullification_held, settled_by, finalized_by, raised_by, fetched_by, effects_of}
+use Rattle.model_rules.specs.declared.effect.Effect.{Effect}
+use Rattle.model_rules.specs.declared.effect.Effect.TheVariants as effects
+use Rattle.model_rules.specs.Lists.{greatest_of}
+use Rattle.model_rules.specs.Known.{view_of}
+use Rattle.model_rules.specs.Repair.{RepairCall, Updated, Certified, Replayed, good_view, is_gap, gaps_of, is_final, is_nullified, is_settled, is_key_settled, final_view, finalization_held, repair_floor, nullification_held, settled_by, finalized_by, raised_by, fetched_by, effects_of}
 use Rattle.simplex_repair.proofs.Fresh.{gap_above}
 use Rattle.simplex_repair.proofs.Terms.{term_rises}
-use Rattle.simplex_resolving.specs.declared.retire.Retire.{Retire}
-use Rattle.simplex_resolving.specs.declared.retire.Retire.TheVariants as retires
-use Rattle.simplex_resolving.specs.Asks.{holds_ask, same_ask, same_kind}
-use Rattle.simplex_resolving.specs.Retirement.{reaches}
-use Rattle.simplex_resolving.specs.Fetcher.{is_done}
-use Rattle.simplex_resolving.specs.Resolver.{backfill, retire_of, settled_count, verdict_of}
+use Rattle.model_resolver.specs.declared.retire.Retire.{Retire}
+use Rattle.model_resolver.specs.declared.retire.Retire.TheVariants as retires
+use Rattle.model_resolver.specs.Asks.{holds_ask, same_ask, same_kind}
+use Rattle.model_resolver.specs.Retirement.{reaches}
+use Rattle.model_resolver.specs.Fetcher.{is_done}
+use Rattle.model_resolver.specs.Resolver.{backfill, retire_of, settled_count, verdict_of}
 use Rattle.simplex_resolver.proofs.Numbers.{spares}
 
 -- ---- a view whose nullification is settled is no gap

@@ -2,7 +2,7 @@
 use Rattle.std.specs.Prelude.{◌≡◌, ◌⊎◌, List, [], ◌∷◌, Some}
 use Rattle.simplex_messages.specs.declared.resolver.HandlerMessage.{HandlerMessage}
 use Rattle.simplex_messages.specs.declared.resolver.ResolverInput.TheVariants as inputs
-use Rattle.simplex_resolving.specs.Resolver.{Made, Given, Stepped, HandlerTaken, handler_message}
+use Rattle.model_resolver.specs.Resolver.{Made, Given, Stepped, HandlerTaken, handler_message}
 
 -- the message was taken from the handler's mailbox
 unfoldable pub WasTaken : Made → HandlerMessage → List Given → Type 0

@@ -6,7 +6,7 @@ use Rattle.simplex_repair.specs.Stands as repairs
 use Rattle.simplex_resolver.specs.declared.config.Config.{Config}
 use Rattle.simplex_resolver.specs.declared.actor.Actor.{Actor}
 use Rattle.simplex_resolver.specs.declared.work.Work.{Work}
-use Rattle.simplex_resolving.specs.Resolver.{Made, Given, Standing, Doing, standing_after}
+use Rattle.model_resolver.specs.Resolver.{Made, Given, Standing, Doing, standing_after}
 
 -- the work of a step that has done so much
 abbrev pub work_of : Doing → Work

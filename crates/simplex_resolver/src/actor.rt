@@ -7,8 +7,8 @@ ghost use Rattle.simplex_mailbox.specs.Post.{Posted};
 ghost use Rattle.simplex_messages.specs.Step.{no_out};
 ghost use Rattle.simplex_messages.specs.declared.step.Outcome.TheVariants.{Done};
 ghost use Rattle.simplex_messages.specs.Handing.{for_voter};
-ghost use Rattle.simplex_resolving.specs.Fetcher.{IsSoundConfig};
-ghost use Rattle.simplex_resolving.specs.Resolver.{Stepped, HandlerTaken, step_out, handler_message, holds_handled, deadline_after, validated};
+ghost use Rattle.model_resolver.specs.Fetcher.{IsSoundConfig};
+ghost use Rattle.model_resolver.specs.Resolver.{Stepped, HandlerTaken, step_out, handler_message, holds_handled, deadline_after, validated};
 ghost use Rattle.simplex_resolver.specs.Stands.{StandsFor, Takes, Answers, resolver_made};
 
 use crate::config::Config;
@@ -39,7 +39,7 @@ pub struct Actor<S> {
 
 impl<S: Scheme + Drop> Actor<S> {
     /// A resolver that was given nothing yet.
-    #[tactic(auto, unfolding(crate::specs::Stands::StandsFor, crate::specs::Stands::resolver_made, simplex_resolving::specs::Resolver::standing_after, simplex_resolving::specs::Resolver::at_first))]
+    #[tactic(auto, unfolding(crate::specs::Stands::StandsFor, crate::specs::Stands::resolver_made, model_resolver::specs::Resolver::standing_after, model_resolver::specs::Resolver::at_first))]
     pub fn new(alloc: Global, config: Config<S>) -> Result<Actor<S>, AllocError>
         requires room { 0 < config.handler_size }
         requires timeout { config.fetch_timeout ≤ 2 ^ 62 }
@@ -64,7 +64,7 @@ impl<S: Scheme + Drop> Actor<S> {
     }
 
     /// Takes the first message of the handler's mailbox, for a step.
-    #[tactic(auto, unfolding(crate::specs::Stands::StandsFor, simplex_resolving::specs::Resolver::standing_after, simplex_resolving::specs::Resolver::after_taking, simplex_resolving::specs::Resolver::handler_message, simplex_resolving::specs::Resolver::holds_handled))]
+    #[tactic(auto, unfolding(crate::specs::Stands::StandsFor, model_resolver::specs::Resolver::standing_after, model_resolver::specs::Resolver::after_taking, model_resolver::specs::Resolver::handler_message, model_resolver::specs::Resolver::holds_handled))]
     pub fn take_handler(&mut self) -> Option<HandlerMessage>
         ensures stands { Takes S.verifies S.members S.member self.old self.new HandlerTaken }
         ensures message { Answers S.verifies S.members S.member self.old (λ made past. handler_message made past) result }
@@ -74,7 +74,7 @@ impl<S: Scheme + Drop> Actor<S> {
     }
 
     /// Whether the handler's mailbox holds a message.
-    #[tactic(auto, unfolding(crate::specs::Stands::StandsFor, simplex_resolving::specs::Resolver::holds_handled))]
+    #[tactic(auto, unfolding(crate::specs::Stands::StandsFor, model_resolver::specs::Resolver::holds_handled))]
     pub fn holds_handler(&self) -> bool
         ensures { Answers S.verifies S.members S.member self.now (λ made past. holds_handled made past) result }
     {
@@ -82,7 +82,7 @@ impl<S: Scheme + Drop> Actor<S> {
     }
 
     /// When a step of the timer is due.
-    #[tactic(auto, unfolding(crate::specs::Stands::StandsFor, simplex_resolving::specs::Resolver::deadline_after))]
+    #[tactic(auto, unfolding(crate::specs::Stands::StandsFor, model_resolver::specs::Resolver::deadline_after))]
     pub fn next_deadline(&self) -> Option<u64>
         ensures { Answers S.verifies S.members S.member self.now (λ made past. deadline_after made past) result }
     {

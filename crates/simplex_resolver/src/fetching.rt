@@ -1,7 +1,7 @@
 //! Calls of the fetcher, with what it wants.
 ghost use Rattle.std.specs.Prelude.{◌<◌, ◌^◌, ◌∷◌, [], map, OnOk, Some, None};
-ghost use Rattle.simplex_resolving.specs.Fetcher.{of_all, of_target};
-ghost use Rattle.simplex_resolving.specs.Resolver.{ancestry, judging, hearing, expiring, retiring, fetching};
+ghost use Rattle.model_resolver.specs.Fetcher.{of_all, of_target};
+ghost use Rattle.model_resolver.specs.Resolver.{ancestry, judging, hearing, expiring, retiring, fetching};
 ghost use Rattle.simplex_resolver.specs.Stands.{Does};
 
 use crate::actor::Actor;
@@ -23,7 +23,7 @@ impl<S: Scheme + Drop> Actor<S> {
     }
 
     /// What became of the answer that was delivered under this number.
-    #[tactic(auto, unfolding(simplex_resolving::specs::Resolver::judging))]
+    #[tactic(auto, unfolding(model_resolver::specs::Resolver::judging))]
     pub(crate) fn judge(
         &mut self,
         id: u64,
@@ -41,7 +41,7 @@ impl<S: Scheme + Drop> Actor<S> {
     }
 
     /// Bytes of a peer.
-    #[tactic(auto, unfolding(simplex_resolving::specs::Resolver::hearing))]
+    #[tactic(auto, unfolding(model_resolver::specs::Resolver::hearing))]
     pub(crate) fn hear(
         &mut self,
         sender: Participant,
@@ -59,7 +59,7 @@ impl<S: Scheme + Drop> Actor<S> {
     }
 
     /// The fetcher's deadline may be reached.
-    #[tactic(auto, unfolding(simplex_resolving::specs::Resolver::expiring))]
+    #[tactic(auto, unfolding(model_resolver::specs::Resolver::expiring))]
     pub(crate) fn expire(&mut self, now: u64, work: &mut Work) -> Result<(), AllocError>
         requires clock { now < 2 ^ 63 }
         ensures { OnOk result (Does S.verifies S.members S.member self.old work.old self.new work.new (λ made. expiring now)) }
@@ -71,7 +71,7 @@ impl<S: Scheme + Drop> Actor<S> {
     }
 
     /// These asks are done with.
-    #[tactic(auto, unfolding(simplex_resolving::specs::Resolver::retiring))]
+    #[tactic(auto, unfolding(model_resolver::specs::Resolver::retiring))]
     pub(crate) fn retire(&mut self, retire: &Retire, work: &mut Work) -> Result<(), AllocError>
         ensures { OnOk result (Does S.verifies S.members S.member self.old work.old self.new work.new (λ made. retiring retire.now)) }
     {
@@ -81,7 +81,7 @@ impl<S: Scheme + Drop> Actor<S> {
     }
 
     /// These are asked for, of any member.
-    #[tactic(auto, unfolding(simplex_resolving::specs::Resolver::fetching))]
+    #[tactic(auto, unfolding(model_resolver::specs::Resolver::fetching))]
     pub(crate) fn fetch_all(
         &mut self,
         fetches: Vec<Fetch>,
@@ -120,7 +120,7 @@ impl<S: Scheme + Drop> Actor<S> {
     }
 
     /// This is asked for, of any member.
-    #[tactic(auto, unfolding(simplex_resolving::specs::Resolver::fetching))]
+    #[tactic(auto, unfolding(model_resolver::specs::Resolver::fetching))]
     fn fetch_any(&mut self, fetch: Fetch, now: u64, work: &mut Work) -> Result<(), AllocError>
         requires clock { now < 2 ^ 63 }
         ensures { OnOk result (Does S.verifies S.members S.member self.old work.old self.new work.new (λ made. fetching (of_all fetch ∷ []) now)) }
@@ -132,7 +132,7 @@ impl<S: Scheme + Drop> Actor<S> {
     }
 
     /// This is asked for, of the target alone.
-    #[tactic(auto, unfolding(simplex_resolving::specs::Resolver::fetching))]
+    #[tactic(auto, unfolding(model_resolver::specs::Resolver::fetching))]
     fn fetch_target(
         &mut self,
         fetch: Fetch,

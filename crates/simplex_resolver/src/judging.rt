@@ -3,7 +3,7 @@ ghost use Rattle.std.specs.Prelude.{◌≡◌, ◌<◌, ◌^◌, ◌&&◌, ◌==
 ghost use Rattle.simplex_values.specs.declared.ask.Outcome.TheVariants.{Ignored, Invalid};
 ghost use Rattle.simplex_wire.specs.Certified.{is_certified};
 ghost use Rattle.simplex_wire.specs.Fields.{certificate_signatures, certificate_subject};
-ghost use Rattle.simplex_resolving.specs.Resolver.{may_answer, is_valid, validated, settled_count, is_excepted, verdict_of, passed_over, accepted, answered, delivered};
+ghost use Rattle.model_resolver.specs.Resolver.{may_answer, is_valid, validated, settled_count, is_excepted, verdict_of, passed_over, accepted, answered, delivered};
 ghost use Rattle.simplex_resolver.specs.Stands.{Does, Reads};
 
 use crate::actor::Actor;
@@ -24,7 +24,7 @@ fn signatures_of(certificate: &Certificate) -> &Signatures
 }
 
 /// The verdict where so many of all asks were settled before, and so many are after.
-#[tactic(auto, unfolding(simplex_resolving::specs::Resolver::verdict_of))]
+#[tactic(auto, unfolding(model_resolver::specs::Resolver::verdict_of))]
 fn verdict_of(all: usize, before: usize, after: usize) -> Option<Outcome>
     ensures { result ≡ verdict_of all before after }
 {
@@ -65,7 +65,7 @@ impl<S: Scheme + Drop> Actor<S> {
     }
 
     /// Whether the certificate is an answer for the view.
-    #[tactic(auto, unfolding(crate::specs::Stands::resolver_made, simplex_resolving::specs::Resolver::is_valid))]
+    #[tactic(auto, unfolding(crate::specs::Stands::resolver_made, model_resolver::specs::Resolver::is_valid))]
     fn is_valid(&self, view: View, certificate: &Certificate) -> bool
         ensures { Reads S.verifies S.members S.member self.now (λ made standing. is_valid made view certificate.now) result }
     {
@@ -75,7 +75,7 @@ impl<S: Scheme + Drop> Actor<S> {
     }
 
     /// The certificate that these bytes are, where it is an answer for the view.
-    #[tactic(auto, unfolding(simplex_resolving::specs::Resolver::validated))]
+    #[tactic(auto, unfolding(model_resolver::specs::Resolver::validated))]
     pub(crate) fn read_answer(
         &self,
         view: View,
@@ -97,7 +97,7 @@ impl<S: Scheme + Drop> Actor<S> {
     }
 
     /// How many of the asks for the view are settled.
-    #[tactic(auto, unfolding(simplex_resolving::specs::Resolver::settled_count))]
+    #[tactic(auto, unfolding(model_resolver::specs::Resolver::settled_count))]
     fn count_settled(&self, view: View, asks: &[Ask]) -> usize
         ensures { Reads S.verifies S.members S.member self.now (λ made standing. settled_count made.term standing.held view asks.now) result }
     {
@@ -111,7 +111,7 @@ impl<S: Scheme + Drop> Actor<S> {
     }
 
     /// Whether it is a notarization of a view that failed.
-    #[tactic(auto, unfolding(simplex_resolving::specs::Resolver::is_excepted))]
+    #[tactic(auto, unfolding(model_resolver::specs::Resolver::is_excepted))]
     fn is_excepted(&self, certificate: &Certificate) -> bool
         ensures { Reads S.verifies S.members S.member self.now (λ made standing. is_excepted standing.held certificate.now) result }
     {
@@ -122,7 +122,7 @@ impl<S: Scheme + Drop> Actor<S> {
     }
 
     /// A valid answer that changes nothing.
-    #[tactic(auto, unfolding(simplex_resolving::specs::Resolver::passed_over))]
+    #[tactic(auto, unfolding(model_resolver::specs::Resolver::passed_over))]
     fn pass_over(
         &mut self,
         id: u64,
@@ -142,7 +142,7 @@ impl<S: Scheme + Drop> Actor<S> {
 
     /// A valid answer is recorded. The fetcher is given the verdict first, then the retiring and the fetches, and
     /// then the certificate is for the voter.
-    #[tactic(auto, unfolding(simplex_resolving::specs::Resolver::accepted))]
+    #[tactic(auto, unfolding(model_resolver::specs::Resolver::accepted))]
     fn accept(
         &mut self,
         id: u64,
@@ -166,7 +166,7 @@ impl<S: Scheme + Drop> Actor<S> {
     }
 
     /// An answer, with the certificate that it is, where it is one for the view.
-    #[tactic(auto, unfolding(simplex_resolving::specs::Resolver::answered))]
+    #[tactic(auto, unfolding(model_resolver::specs::Resolver::answered))]
     fn take_answer(
         &mut self,
         id: u64,
@@ -189,7 +189,7 @@ impl<S: Scheme + Drop> Actor<S> {
     }
 
     /// An answer's bytes, which are not read where nothing is left to settle.
-    #[tactic(auto, unfolding(simplex_resolving::specs::Resolver::delivered))]
+    #[tactic(auto, unfolding(model_resolver::specs::Resolver::delivered))]
     pub(crate) fn deliver(
         &mut self,
         id: u64,

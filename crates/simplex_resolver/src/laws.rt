@@ -1,9 +1,9 @@
 //! What follows from the definitions alone.
 ghost use Rattle.std.specs.Prelude.{◌≡◌, ◌∷◌, ℕ, true, false, List};
-ghost use Rattle.simplex_rules.specs.Repair.{RepairCall, is_gap, effects_of};
-ghost use Rattle.simplex_resolving.specs.Asks.{same_ask};
-ghost use Rattle.simplex_resolving.specs.Views.{entry_at};
-ghost use Rattle.simplex_resolving.specs.Resolver.{Made, Given, Doing, backfill, with_effects, standing_after};
+ghost use Rattle.model_rules.specs.Repair.{RepairCall, is_gap, effects_of};
+ghost use Rattle.model_resolver.specs.Asks.{same_ask};
+ghost use Rattle.model_resolver.specs.Views.{entry_at};
+ghost use Rattle.model_resolver.specs.Resolver.{Made, Given, Doing, backfill, with_effects, standing_after};
 ghost use Rattle.simplex_fetch.specs.Index.{has_ask};
 ghost use Rattle.simplex_resolver.specs.Laws.{HandlesTaken};
 

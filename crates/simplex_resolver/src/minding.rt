@@ -2,7 +2,7 @@
 ghost use Rattle.std.specs.Prelude.{◌≡◌, IfOk, OnOk, None};
 ghost use Rattle.std.specs.Option.{option_map};
 ghost use Rattle.simplex_mailbox.specs.Mail.{feedback_of};
-ghost use Rattle.simplex_resolving.specs.Resolver.{Doing, called, called_all, putting, leaving, serving, requested, minded, minded_all};
+ghost use Rattle.model_resolver.specs.Resolver.{Doing, called, called_all, putting, leaving, serving, requested, minded, minded_all};
 ghost use Rattle.simplex_resolver.specs.Stands.{Does, Reads, work_of};
 
 use crate::actor::Actor;
@@ -14,7 +14,7 @@ use simplex_types::{Feedback, Keep, Scheme, View};
 use std::alloc::{AllocError, Global};
 
 /// What goes outside: a block, or a send.
-#[tactic(auto, unfolding(simplex_resolving::specs::Resolver::called))]
+#[tactic(auto, unfolding(model_resolver::specs::Resolver::called))]
 fn call(alloc: Global, out: Out, work: &mut Work) -> Result<(), AllocError>
     ensures { OnOk result ((doing : Doing) → work.old ≡ work_of doing → work.new ≡ work_of (called out doing)) }
 {
@@ -26,7 +26,7 @@ fn call(alloc: Global, out: Out, work: &mut Work) -> Result<(), AllocError>
 }
 
 /// All that goes outside.
-#[tactic(auto, unfolding(simplex_resolving::specs::Resolver::called_all))]
+#[tactic(auto, unfolding(model_resolver::specs::Resolver::called_all))]
 fn call_each(alloc: Global, outs: Vec<Out>, work: &mut Work) -> Result<(), AllocError>
     ensures { OnOk result ((doing : Doing) → work.old ≡ work_of doing → work.new ≡ work_of (called_all outs.items doing)) }
 {
@@ -38,7 +38,7 @@ fn call_each(alloc: Global, outs: Vec<Out>, work: &mut Work) -> Result<(), Alloc
 
 impl<S: Scheme + Drop> Actor<S> {
     /// The message is put into the handler's mailbox.
-    #[tactic(auto, unfolding(simplex_resolving::specs::Resolver::putting))]
+    #[tactic(auto, unfolding(model_resolver::specs::Resolver::putting))]
     fn put(&mut self, message: HandlerMessage, work: &mut Work) -> Result<Feedback, AllocError>
         ensures work { OnOk result (Does S.verifies S.members S.member self.old work.old self.new work.new (λ made. putting message)) }
         ensures feedback { IfOk result (λ answer. Reads S.verifies S.members S.member self.old (λ made standing. feedback_of standing.handler) answer) }
@@ -49,7 +49,7 @@ impl<S: Scheme + Drop> Actor<S> {
     }
 
     /// A peer's request is answered.
-    #[tactic(auto, unfolding(simplex_resolving::specs::Resolver::serving))]
+    #[tactic(auto, unfolding(model_resolver::specs::Resolver::serving))]
     pub(crate) fn serve(
         &mut self,
         id: u64,
@@ -64,7 +64,7 @@ impl<S: Scheme + Drop> Actor<S> {
     }
 
     /// A peer's request goes to the handler, where no room means that it is answered with an error.
-    #[tactic(auto, unfolding(simplex_resolving::specs::Resolver::requested))]
+    #[tactic(auto, unfolding(model_resolver::specs::Resolver::requested))]
     fn request(&mut self, id: u64, view: View, work: &mut Work) -> Result<(), AllocError>
         ensures { OnOk result (Does S.verifies S.members S.member self.old work.old self.new work.new (λ made. requested id view)) }
     {
@@ -76,7 +76,7 @@ impl<S: Scheme + Drop> Actor<S> {
     }
 
     /// The requester of this number left.
-    #[tactic(auto, unfolding(simplex_resolving::specs::Resolver::leaving))]
+    #[tactic(auto, unfolding(model_resolver::specs::Resolver::leaving))]
     fn leave(&mut self, id: u64)
         ensures { (work : Work) → Does S.verifies S.members S.member self.old work self.new work (λ made. leaving id) }
     {
@@ -84,7 +84,7 @@ impl<S: Scheme + Drop> Actor<S> {
     }
 
     /// Deliveries and requests go to the handler, and the others outside.
-    #[tactic(auto, unfolding(simplex_resolving::specs::Resolver::minded, simplex_resolving::specs::Resolver::called))]
+    #[tactic(auto, unfolding(model_resolver::specs::Resolver::minded, model_resolver::specs::Resolver::called))]
     fn mind(&mut self, out: Out, work: &mut Work) -> Result<(), AllocError>
         ensures { OnOk result (Does S.verifies S.members S.member self.old work.old self.new work.new (λ made. minded out)) }
     {
@@ -122,7 +122,7 @@ impl<S: Scheme + Drop> Actor<S> {
     }
 
     /// All that the fetcher wants.
-    #[tactic(auto, unfolding(simplex_resolving::specs::Resolver::minded_all))]
+    #[tactic(auto, unfolding(model_resolver::specs::Resolver::minded_all))]
     pub(crate) fn mind_each(&mut self, outs: Vec<Out>, work: &mut Work) -> Result<(), AllocError>
         ensures { OnOk result (Does S.verifies S.members S.member self.old work.old self.new work.new (λ made. minded_all outs.items)) }
     {

@@ -1,14 +1,14 @@
 //! What follows from certificates and verdicts.
 ghost use Rattle.std.specs.Prelude.{◌≡◌, ◌<◌, ◌^◌, IfOk, OnOk};
 ghost use Rattle.std.specs.List.{filter_map};
-ghost use Rattle.simplex_rules.specs.Repair as calls;
-ghost use Rattle.simplex_resolving.specs.Resolver.{retire_of, fetch_of, retiring_all, with_effects, repairing};
+ghost use Rattle.model_rules.specs.Repair as calls;
+ghost use Rattle.model_resolver.specs.Resolver.{retire_of, fetch_of, retiring_all, with_effects, repairing};
 ghost use Rattle.simplex_resolver.specs.Stands.{Does};
 
 use crate::actor::Actor;
 use crate::work::Work;
+use model_rules::Effect;
 use simplex_fetch::{Fetch, Retire};
-use simplex_rules::Effect;
 use simplex_types::{Ask, Certificate, Notarization, Scheme};
 use std::alloc::{AllocError, Global};
 
@@ -69,7 +69,7 @@ fn fetches_of(alloc: Global, effects: &[Effect]) -> Result<Vec<Fetch>, AllocErro
 
 impl<S: Scheme + Drop> Actor<S> {
     /// All these asks are done with.
-    #[tactic(auto, unfolding(simplex_resolving::specs::Resolver::retiring_all))]
+    #[tactic(auto, unfolding(model_resolver::specs::Resolver::retiring_all))]
     fn retire_each(&mut self, retires: &[Retire], work: &mut Work) -> Result<(), AllocError>
         ensures { OnOk result (Does S.verifies S.members S.member self.old work.old self.new work.new (λ made. retiring_all retires.now)) }
     {
@@ -80,7 +80,7 @@ impl<S: Scheme + Drop> Actor<S> {
     }
 
     /// First the retiring, then the fetches.
-    #[tactic(auto, unfolding(simplex_resolving::specs::Resolver::with_effects))]
+    #[tactic(auto, unfolding(model_resolver::specs::Resolver::with_effects))]
     pub(crate) fn follow(
         &mut self,
         effects: Vec<Effect>,
@@ -98,7 +98,7 @@ impl<S: Scheme + Drop> Actor<S> {
     }
 
     /// A certificate that the voter knows.
-    #[tactic(auto, unfolding(simplex_resolving::specs::Resolver::repairing))]
+    #[tactic(auto, unfolding(model_resolver::specs::Resolver::repairing))]
     pub(crate) fn take_certificate(
         &mut self,
         certificate: &Certificate,
@@ -114,7 +114,7 @@ impl<S: Scheme + Drop> Actor<S> {
     }
 
     /// The application's verdict on a notarization.
-    #[tactic(auto, unfolding(simplex_resolving::specs::Resolver::repairing))]
+    #[tactic(auto, unfolding(model_resolver::specs::Resolver::repairing))]
     pub(crate) fn take_verdict(
         &mut self,
         notarization: Notarization,
@@ -131,7 +131,7 @@ impl<S: Scheme + Drop> Actor<S> {
     }
 
     /// The voter's journal was read.
-    #[tactic(auto, unfolding(simplex_resolving::specs::Resolver::repairing))]
+    #[tactic(auto, unfolding(model_resolver::specs::Resolver::repairing))]
     pub(crate) fn take_replayed(&mut self, now: u64, work: &mut Work) -> Result<(), AllocError>
         requires clock { now < 2 ^ 63 }
         ensures { OnOk result (Does S.verifies S.members S.member self.old work.old self.new work.new (λ made. repairing made now calls.Replayed)) }

@@ -1,9 +1,9 @@
 //! The sends of a step, by the view that each asks for.
 ghost use Rattle.std.specs.Prelude.{◌≡◌, ◌++◌, [], OnOk};
-ghost use Rattle.simplex_resolving.specs.Sends.{placed, send_calls};
+ghost use Rattle.model_resolver.specs.Sends.{placed, send_calls};
 
+use model_resolver::Sending;
 use simplex_messages::Call;
-use simplex_resolving::Sending;
 use simplex_types::Sequence;
 use std::alloc::{AllocError, Global};
 use std::collections::VecDeque;
@@ -17,7 +17,7 @@ pub(crate) struct Sends {
 
 impl Model for Sends {
     ghost use Rattle.std.specs.Prelude.{List};
-    ghost use Rattle.simplex_resolving.specs.declared.sending.Sending.{Sending};
+    ghost use Rattle.model_resolver.specs.declared.sending.Sending.{Sending};
 
     ghost Value = { List Sending };
 
@@ -54,7 +54,7 @@ impl Sends {
 }
 
 /// One more, behind those of later views alone.
-#[tactic(auto, unfolding(simplex_resolving::specs::Sends::placed))]
+#[tactic(auto, unfolding(model_resolver::specs::Sends::placed))]
 fn place(items: &mut VecDeque<Sending>, sent: Sending) -> Result<(), AllocError>
     ensures { OnOk result (items.new.items ≡ placed sent items.old.items) }
 {

@@ -5,7 +5,7 @@ ghost use Rattle.simplex_values.specs.declared.ask.Kind.{Kind};
 ghost use Rattle.simplex_messages.specs.declared.voter.Message.{Message};
 ghost use Rattle.simplex_mailbox.specs.Post.{Posted};
 ghost use Rattle.simplex_messages.specs.Handing.{for_voter};
-ghost use Rattle.simplex_resolving.specs.Resolver.{produced, resolving, took_mail, took_handled, acted, step};
+ghost use Rattle.model_resolver.specs.Resolver.{produced, resolving, took_mail, took_handled, acted, step};
 ghost use Rattle.simplex_resolver.specs.Stands.{Does, WorksAs};
 
 use crate::actor::Actor;
@@ -18,7 +18,7 @@ use std::alloc::{AllocError, Global};
 
 impl<S: Scheme + Drop> Actor<S> {
     /// A peer asks for the view.
-    #[tactic(auto, unfolding(simplex_resolving::specs::Resolver::produced))]
+    #[tactic(auto, unfolding(model_resolver::specs::Resolver::produced))]
     fn produce(&mut self, id: u64, view: View, work: &mut Work) -> Result<(), AllocError>
         ensures { OnOk result (Does S.verifies S.members S.member self.old work.old self.new work.new (λ made. produced made id view)) }
     {
@@ -28,7 +28,7 @@ impl<S: Scheme + Drop> Actor<S> {
     }
 
     /// For the proposal of a view, a certificate of another view is missing.
-    #[tactic(auto, unfolding(simplex_resolving::specs::Resolver::resolving))]
+    #[tactic(auto, unfolding(model_resolver::specs::Resolver::resolving))]
     fn resolve(
         &mut self,
         proposal: View,
@@ -48,7 +48,7 @@ impl<S: Scheme + Drop> Actor<S> {
     }
 
     /// A message of the voter.
-    #[tactic(auto, unfolding(simplex_resolving::specs::Resolver::took_mail))]
+    #[tactic(auto, unfolding(model_resolver::specs::Resolver::took_mail))]
     fn take_mail(
         &mut self,
         message: MailboxMessage,
@@ -77,7 +77,7 @@ impl<S: Scheme + Drop> Actor<S> {
     }
 
     /// A message of the handler. A response whose requester left is dropped.
-    #[tactic(auto, unfolding(simplex_resolving::specs::Resolver::took_handled))]
+    #[tactic(auto, unfolding(model_resolver::specs::Resolver::took_handled))]
     fn take_handled(
         &mut self,
         message: HandlerMessage,
@@ -105,7 +105,7 @@ impl<S: Scheme + Drop> Actor<S> {
     }
 
     /// What the step takes.
-    #[tactic(auto, unfolding(simplex_resolving::specs::Resolver::acted))]
+    #[tactic(auto, unfolding(model_resolver::specs::Resolver::acted))]
     fn act(&mut self, input: ResolverInput, now: u64, work: &mut Work) -> Result<(), AllocError>
         requires clock { now < 2 ^ 63 }
         ensures { OnOk result (Does S.verifies S.members S.member self.old work.old self.new work.new (λ made. acted made input now)) }
@@ -121,7 +121,7 @@ impl<S: Scheme + Drop> Actor<S> {
     }
 
     /// A whole step, but for the posting. What it has done.
-    #[tactic(auto, unfolding(simplex_resolving::specs::Resolver::step))]
+    #[tactic(auto, unfolding(model_resolver::specs::Resolver::step))]
     pub(crate) fn take(&mut self, input: ResolverInput, now: u64) -> Result<Work, AllocError>
         requires clock { now < 2 ^ 63 }
         ensures { IfOk result (λ work. WorksAs S.verifies S.members S.member self.old self.new work (λ made standing. step made standing input now)) }

@@ -1,11 +1,11 @@
 //! What a step has done so far.
 ghost use Rattle.std.specs.Prelude.{◌≡◌, ◌++◌, ◌∷◌, [], OnOk};
 ghost use Rattle.simplex_messages.specs.declared.call.Call.TheVariants.{Block};
-ghost use Rattle.simplex_resolving.specs.Sends.{sending, placed};
+ghost use Rattle.model_resolver.specs.Sends.{sending, placed};
 
 use crate::sends::Sends;
+use model_resolver::Sending;
 use simplex_messages::{Call, Handed};
-use simplex_resolving::Sending;
 use simplex_types::{Bytes, Participant, Sequence};
 use std::alloc::{AllocError, Global};
 

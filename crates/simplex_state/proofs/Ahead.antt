@@ -2,9 +2,9 @@
 use Rattle.std.proofs.Common.{ℕ, ◌≤◌, List, [], ◌∷◌, arith}
 use Rattle.simplex_values.specs.Terms.{greatest_view, next_of}
 use Rattle.simplex_wire.specs.declared.certificate.Certificate.TheVariants as certificates
-use Rattle.simplex_rules.specs.Lists.{greatest_of}
-use Rattle.simplex_rules.specs.Known.{Made, Fact, Added}
-use Rattle.simplex_rules.specs.Views.{last_finalized, current_of, least_active, finalized_view, opened_view}
+use Rattle.model_rules.specs.Lists.{greatest_of}
+use Rattle.model_rules.specs.Known.{Made, Fact, Added}
+use Rattle.model_rules.specs.Views.{last_finalized, current_of, least_active, finalized_view, opened_view}
 use Rattle.simplex_state.specs.Progress.{progress_of}
 
 -- a final view opens the next one

@@ -7,13 +7,13 @@ use Rattle.simplex_values.specs.declared.proposal.Subject.{Subject}
 use Rattle.simplex_values.specs.declared.proposal.Subject.TheVariants as subjects
 use Rattle.simplex_wire.specs.declared.attestation.Attestation.{Attestation}
 use Rattle.simplex_wire.specs.declared.vote.Notarize.{Notarize}
-use Rattle.simplex_rules.specs.Known.{Made, Fact, view_of, has_nullified}
-use Rattle.simplex_rules.specs.Slot.{slot_of, is_own_slot}
-use Rattle.simplex_rules.specs.Ancestry.{has_ancestry}
-use Rattle.simplex_rules.specs.Votes.{is_checked, is_vouched, is_unopposed, is_votable, notarizes, notarize_at, signed_notarize}
-use Rattle.simplex_rules.specs.Best.{forwardable_at}
-use Rattle.simplex_rules.proofs.Soundness.{slot_view, notarize_parts, votable_above}
-use Rattle.simplex_rules.specs.Views.{current_of}
+use Rattle.model_rules.specs.Known.{Made, Fact, view_of, has_nullified}
+use Rattle.model_rules.specs.Slot.{slot_of, is_own_slot}
+use Rattle.model_rules.specs.Ancestry.{has_ancestry}
+use Rattle.model_rules.specs.Votes.{is_checked, is_vouched, is_unopposed, is_votable, notarizes, notarize_at, signed_notarize}
+use Rattle.model_rules.specs.Best.{forwardable_at}
+use Rattle.model_rules.proofs.Soundness.{slot_view, notarize_parts, votable_above}
+use Rattle.model_rules.specs.Views.{current_of}
 use Rattle.simplex_state.specs.Rounds.{round_of, slot_in, is_checked_in, is_vouched_in, own_slot_in, is_named}
 use Rattle.simplex_state.specs.Stands.{IsSound}
 use Rattle.simplex_state.proofs.Proposing.{slot_is}

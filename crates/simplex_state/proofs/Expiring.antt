@@ -8,12 +8,12 @@ use Rattle.simplex_values.specs.declared.timeout.TimeoutReason.TheVariants.{Inac
 use Rattle.simplex_values.specs.declared.proposal.Subject.{Subject}
 use Rattle.simplex_values.specs.declared.round.Round.{Round}
 use Rattle.simplex_wire.specs.declared.attestation.Attestation.{Attestation}
-use Rattle.simplex_rules.specs.Lists.{first_of, greatest_of}
-use Rattle.simplex_rules.specs.Known.{Made, Fact, Expired, Failed, Judged, reached, verdict_of, notarization_of, finalization_of, own_notarize, proposal_of}
-use Rattle.simplex_rules.specs.Views.{last_finalized, current_of, entered_at}
-use Rattle.simplex_rules.specs.Slot.{slot_of}
-use Rattle.simplex_rules.specs.Deadline.{expired_in, failed_in, is_inactivity, expires, fails, triggered, may_skip, expiry_of, inactivity_count}
-use Rattle.simplex_rules.specs.Calls.{takes_verdict}
+use Rattle.model_rules.specs.Lists.{first_of, greatest_of}
+use Rattle.model_rules.specs.Known.{Made, Fact, Expired, Failed, Judged, reached, verdict_of, notarization_of, finalization_of, own_notarize, proposal_of}
+use Rattle.model_rules.specs.Views.{last_finalized, current_of, entered_at}
+use Rattle.model_rules.specs.Slot.{slot_of}
+use Rattle.model_rules.specs.Deadline.{expired_in, failed_in, is_inactivity, expires, fails, triggered, may_skip, expiry_of, inactivity_count}
+use Rattle.model_rules.specs.Calls.{takes_verdict}
 use Rattle.simplex_state.specs.declared.rounds.RoundRecord.{RoundRecord}
 use Rattle.simplex_state.specs.declared.progress.Progress.{Progress}
 use Rattle.simplex_state.specs.declared.state.State.{State}

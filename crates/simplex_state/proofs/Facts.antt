@@ -6,11 +6,11 @@ use Rattle.simplex_values.specs.declared.timeout.TimeoutReason.TheVariants.{Inac
 use Rattle.simplex_wire.specs.declared.certificate.Certificate.TheVariants as certificates
 use Rattle.simplex_wire.specs.declared.vote.Vote.TheVariants as votes
 use Rattle.simplex_values.specs.Terms.{next_of}
-use Rattle.simplex_rules.specs.Lists.{first_of, last_of, greatest_of}
-use Rattle.simplex_rules.specs.Known.{Made, Fact, Added, Judged, Voted, Expired, Pruned, notarization_of, finalization_of, own_notarize, proposal_of, has_finalized, verdict_of, reached}
-use Rattle.simplex_rules.specs.Views.{last_finalized, current_of, entered_at, term_entered_at, finalized_at}
-use Rattle.simplex_rules.specs.Deadline.{published_at, inactivity_count}
-use Rattle.simplex_rules.specs.Requests.{was_proposal_asked, verify_asked}
+use Rattle.model_rules.specs.Lists.{first_of, last_of, greatest_of}
+use Rattle.model_rules.specs.Known.{Made, Fact, Added, Judged, Voted, Expired, Pruned, notarization_of, finalization_of, own_notarize, proposal_of, has_finalized, verdict_of, reached}
+use Rattle.model_rules.specs.Views.{last_finalized, current_of, entered_at, term_entered_at, finalized_at}
+use Rattle.model_rules.specs.Deadline.{published_at, inactivity_count}
+use Rattle.model_rules.specs.Requests.{was_proposal_asked, verify_asked}
 use Rattle.simplex_state.specs.Rounds.{round_of, learn_round}
 use Rattle.simplex_state.specs.Progress.{progress_of, opens, ends, learn_progress}
 

@@ -6,11 +6,11 @@ use Rattle.std.specs.Option.{option_or}
 use Rattle.simplex_values.specs.Covers.{covers}
 use Rattle.simplex_values.specs.Terms.{greatest_view, next_of, term_index, term_end, next_term_start, admission_limit}
 use Rattle.simplex_wire.specs.declared.certificate.Certificate.TheVariants as certificates
-use Rattle.simplex_rules.specs.Lists.{first_of, greatest_of}
-use Rattle.simplex_rules.specs.Known.{Made, Fact, Added, Judged, verdict_in, verdict_of}
-use Rattle.simplex_rules.specs.Views.{last_finalized, current_of, finalized_view, opened_view}
-use Rattle.simplex_rules.specs.Ancestry.{is_covered, is_covered_in, has_true_verdict, is_certified, is_met}
-use Rattle.simplex_rules.specs.Requests.{may_propose, admitted_views}
+use Rattle.model_rules.specs.Lists.{first_of, greatest_of}
+use Rattle.model_rules.specs.Known.{Made, Fact, Added, Judged, verdict_in, verdict_of}
+use Rattle.model_rules.specs.Views.{last_finalized, current_of, finalized_view, opened_view}
+use Rattle.model_rules.specs.Ancestry.{is_covered, is_covered_in, has_true_verdict, is_certified, is_met}
+use Rattle.model_rules.specs.Requests.{may_propose, admitted_views}
 use Rattle.simplex_values.specs.declared.proposal.Subject.{Subject}
 use Rattle.simplex_values.specs.declared.round.Round.{Round}
 use Rattle.simplex_wire.specs.declared.attestation.Attestation.{Attestation}

@@ -15,12 +15,12 @@ use Rattle.simplex_wire.specs.declared.attestation.Attestation.{Attestation}
 use Rattle.simplex_values.specs.Terms.{next_of, term_index, next_term_start}
 use Rattle.simplex_values.specs.Covers.{covers}
 use Rattle.simplex_values.specs.Maps.{found}
-use Rattle.simplex_rules.specs.Lists.{first_of, greatest_of}
-use Rattle.simplex_rules.specs.Known.{Made, Fact, Added, Broadcast, view_of, notarization_of, nullification_of, finalization_of, was_broadcast, verdict_of, has_nullified}
-use Rattle.simplex_rules.specs.Views.{least_active, last_finalized}
-use Rattle.simplex_rules.specs.Ancestry.{is_covered, has_true_verdict, has_false_verdict}
-use Rattle.simplex_rules.specs.Requests.{is_unjudged}
-use Rattle.simplex_rules.specs.Calls.{unsent_notarization, unsent_nullification, unsent_finalization}
+use Rattle.model_rules.specs.Lists.{first_of, greatest_of}
+use Rattle.model_rules.specs.Known.{Made, Fact, Added, Broadcast, view_of, notarization_of, nullification_of, finalization_of, was_broadcast, verdict_of, has_nullified}
+use Rattle.model_rules.specs.Views.{least_active, last_finalized}
+use Rattle.model_rules.specs.Ancestry.{is_covered, has_true_verdict, has_false_verdict}
+use Rattle.model_rules.specs.Requests.{is_unjudged}
+use Rattle.model_rules.specs.Calls.{unsent_notarization, unsent_nullification, unsent_finalization}
 use Rattle.simplex_state.specs.declared.held.Held.{Held}
 use Rattle.simplex_state.specs.declared.progress.Progress.{Progress}
 use Rattle.simplex_state.specs.declared.ranges.Ranges.{Ranges}

@@ -7,10 +7,10 @@ use Rattle.simplex_values.specs.Covers.{covers}
 use Rattle.simplex_wire.specs.declared.vote.Finalize.{Finalize}
 use Rattle.simplex_wire.specs.declared.vote.Nullify.{Nullify}
 use Rattle.simplex_wire.specs.declared.vote.Vote.TheVariants as votes
-use Rattle.simplex_rules.specs.Known.{Made, Fact, Voted, has_nullified, is_nullify_in, view_of}
-use Rattle.simplex_rules.specs.Views.{last_finalized}
-use Rattle.simplex_rules.specs.Votes.{is_gated, is_gate_in, finalize_at, nullify_at, signed_nullify}
-use Rattle.simplex_rules.proofs.Soundness.{finalize_parts, slot_view}
+use Rattle.model_rules.specs.Known.{Made, Fact, Voted, has_nullified, is_nullify_in, view_of}
+use Rattle.model_rules.specs.Views.{last_finalized}
+use Rattle.model_rules.specs.Votes.{is_gated, is_gate_in, finalize_at, nullify_at, signed_nullify}
+use Rattle.model_rules.proofs.Soundness.{finalize_parts, slot_view}
 
 -- a later view is of no earlier term
 pub term_rises : (length a b : ℕ) → 0 < length → a ≤ b → term_index length a ≤ term_index length b

@@ -6,9 +6,9 @@ use Rattle.std.specs.List.{list_any, filter_map, cons_option}
 use Rattle.std.specs.Option.{option_or, option_and_then, is_some}
 use Rattle.simplex_wire.specs.declared.certificate.Notarization.{Notarization}
 use Rattle.simplex_wire.specs.declared.certificate.Certificate.TheVariants as certificates
-use Rattle.simplex_rules.specs.Lists.{first_of}
-use Rattle.simplex_rules.specs.Known.{Fact, Added, view_of, notarization_of}
-use Rattle.simplex_rules.specs.Requests.{put_notarization, notarizations_of}
+use Rattle.model_rules.specs.Lists.{first_of}
+use Rattle.model_rules.specs.Known.{Fact, Added, view_of, notarization_of}
+use Rattle.model_rules.specs.Requests.{put_notarization, notarizations_of}
 use Rattle.simplex_state.proofs.Facts.{option_or-none}
 
 -- the views rise, from this one on

@@ -6,13 +6,13 @@ use Rattle.simplex_values.specs.declared.round.Round.{Round}
 use Rattle.simplex_wire.specs.declared.vote.Nullify.{Nullify}
 use Rattle.simplex_wire.specs.declared.vote.Vote.TheVariants as votes
 use Rattle.simplex_wire.specs.declared.attestation.Attestation.{Attestation}
-use Rattle.simplex_rules.specs.Lists.{first_of, last_of, greatest_of}
-use Rattle.simplex_rules.specs.Known.{Made, Fact, Voted, Published, notarization_of, nullification_of, finalization_of, was_broadcast, verdict_of, has_nullified}
-use Rattle.simplex_rules.specs.Views.{least_active, last_finalized, current_of}
-use Rattle.simplex_rules.specs.Ancestry.{is_covered, has_true_verdict, has_false_verdict}
-use Rattle.simplex_rules.specs.Deadline.{published_at}
-use Rattle.simplex_rules.specs.Requests.{is_unjudged}
-use Rattle.simplex_rules.specs.Calls.{nullify_facts, unsent_notarization, unsent_nullification, unsent_finalization}
+use Rattle.model_rules.specs.Lists.{first_of, last_of, greatest_of}
+use Rattle.model_rules.specs.Known.{Made, Fact, Voted, Published, notarization_of, nullification_of, finalization_of, was_broadcast, verdict_of, has_nullified}
+use Rattle.model_rules.specs.Views.{least_active, last_finalized, current_of}
+use Rattle.model_rules.specs.Ancestry.{is_covered, has_true_verdict, has_false_verdict}
+use Rattle.model_rules.specs.Deadline.{published_at}
+use Rattle.model_rules.specs.Requests.{is_unjudged}
+use Rattle.model_rules.specs.Calls.{nullify_facts, unsent_notarization, unsent_nullification, unsent_finalization}
 use Rattle.simplex_state.specs.declared.ranges.Ranges.{Ranges}
 use Rattle.simplex_state.specs.declared.state.State.{State}
 use Rattle.simplex_state.specs.Ranges.{holds}

@@ -2,7 +2,7 @@
 use Rattle.std.proofs.Common.{◌≡◌, ℕ, zero, suc, ◌<◌, Bool, true, false, Option, Some, None, refl, arith}
 use Rattle.std.proofs.lemmas.Bool.{cases_eq}
 use Rattle.std.proofs.lemmas.Grind.{common_steps}
-use Rattle.simplex_rules.specs.Lists.{greatest_below}
+use Rattle.model_rules.specs.Lists.{greatest_below}
 
 none_is_some : (x : ℕ) → ◌≡◌ {A = Option ℕ} None (Some x) → ⊥
 none_is_some x e = cc

@@ -10,11 +10,11 @@ use Rattle.simplex_values.specs.Terms.{greatest_view, next_of, term_end, term_in
 use Rattle.simplex_values.specs.declared.proposal.Subject.{Subject}
 use Rattle.simplex_values.specs.declared.round.Round.{Round}
 use Rattle.simplex_wire.specs.declared.attestation.Attestation.{Attestation}
-use Rattle.simplex_rules.specs.Lists.{first_of}
-use Rattle.simplex_rules.specs.Known.{Made, Fact, Added, notarization_of, nullification_of, finalization_of}
-use Rattle.simplex_rules.specs.Views.{last_finalized, current_of, least_active}
-use Rattle.simplex_rules.specs.Ancestry.{has_true_verdict}
-use Rattle.simplex_rules.specs.Best.{opening_nullification, greater, best_certificate}
+use Rattle.model_rules.specs.Lists.{first_of}
+use Rattle.model_rules.specs.Known.{Made, Fact, Added, notarization_of, nullification_of, finalization_of}
+use Rattle.model_rules.specs.Views.{last_finalized, current_of, least_active}
+use Rattle.model_rules.specs.Ancestry.{has_true_verdict}
+use Rattle.model_rules.specs.Best.{opening_nullification, greater, best_certificate}
 use Rattle.simplex_state.specs.declared.state.State.{State}
 use Rattle.simplex_values.specs.Maps.{found}
 use Rattle.simplex_state.specs.Progress.{progress_of}

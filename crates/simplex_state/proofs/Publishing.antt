@@ -1,9 +1,9 @@
 -- When the own nullify of the current view last went out.
 use Rattle.std.proofs.Common.{◌≡◌, ℕ, ◌<◌, ◌≤◌, ◌∙◌, nat_lt, Bool, true, false, List, ◌∷◌, Option, None, refl, arith, if◌then◌else◌}
 use Rattle.std.proofs.lemmas.Grind.{common_steps}
-use Rattle.simplex_rules.specs.Lists.{last_of}
-use Rattle.simplex_rules.specs.Known.{Made, Fact, Published}
-use Rattle.simplex_rules.specs.Deadline.{published_at}
+use Rattle.model_rules.specs.Lists.{last_of}
+use Rattle.model_rules.specs.Known.{Made, Fact, Published}
+use Rattle.model_rules.specs.Deadline.{published_at}
 use Rattle.simplex_state.specs.Progress.{progress_of}
 
 abbrev pub is_published : Fact → Bool

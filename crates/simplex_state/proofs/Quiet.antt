@@ -12,12 +12,12 @@ use Rattle.simplex_wire.specs.declared.attestation.Attestation.{Attestation}
 use Rattle.simplex_wire.specs.declared.vote.Vote.TheVariants as votes
 use Rattle.simplex_wire.specs.declared.certificate.CertificateKind.{CertificateKind}
 use Rattle.simplex_wire.specs.declared.certificate.CertificateKind.TheVariants as kinds
-use Rattle.simplex_rules.specs.Lists.{first_of, greatest_of}
-use Rattle.simplex_rules.specs.Known.{Made, Fact, FloorAt, Added, Taken, Answered, Approved, Judged, Voted, Published, Expired, Failed, Broadcast, ProposalAsked, ProposalFreed, VerifyAsked, CertifyAsked, MissingAsked, ParentAsked, Pruned, notarization_of, nullification_of, finalization_of, was_broadcast, verdict_of, has_nullified}
-use Rattle.simplex_rules.specs.Views.{least_active, last_finalized}
-use Rattle.simplex_rules.specs.Ancestry.{is_covered, has_true_verdict, has_false_verdict}
-use Rattle.simplex_rules.specs.Requests.{is_unjudged, is_missing_in}
-use Rattle.simplex_rules.specs.Calls.{unsent_notarization, unsent_nullification, unsent_finalization}
+use Rattle.model_rules.specs.Lists.{first_of, greatest_of}
+use Rattle.model_rules.specs.Known.{Made, Fact, FloorAt, Added, Taken, Answered, Approved, Judged, Voted, Published, Expired, Failed, Broadcast, ProposalAsked, ProposalFreed, VerifyAsked, CertifyAsked, MissingAsked, ParentAsked, Pruned, notarization_of, nullification_of, finalization_of, was_broadcast, verdict_of, has_nullified}
+use Rattle.model_rules.specs.Views.{least_active, last_finalized}
+use Rattle.model_rules.specs.Ancestry.{is_covered, has_true_verdict, has_false_verdict}
+use Rattle.model_rules.specs.Requests.{is_unjudged, is_missing_in}
+use Rattle.model_rules.specs.Calls.{unsent_notarization, unsent_nullification, unsent_finalization}
 use Rattle.simplex_state.specs.declared.rounds.RoundRecord.{RoundRecord}
 use Rattle.simplex_state.specs.declared.progress.Progress.{Progress}
 use Rattle.simplex_state.specs.declared.state.State.{State}

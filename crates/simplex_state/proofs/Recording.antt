@@ -6,8 +6,8 @@ use Rattle.std.specs.Option.{is_some}
 use Rattle.simplex_values.specs.declared.proposal.Subject.{Subject}
 use Rattle.simplex_values.specs.declared.round.Round.{Round}
 use Rattle.simplex_wire.specs.declared.attestation.Attestation.{Attestation}
-use Rattle.simplex_rules.specs.Known.{Made, Fact, notarization_of}
-use Rattle.simplex_rules.specs.Requests.{is_unjudged}
+use Rattle.model_rules.specs.Known.{Made, Fact, notarization_of}
+use Rattle.model_rules.specs.Requests.{is_unjudged}
 use Rattle.simplex_state.specs.declared.rounds.RoundRecord.{RoundRecord}
 use Rattle.simplex_state.specs.declared.state.State.{State}
 use Rattle.simplex_values.specs.Maps.{has}

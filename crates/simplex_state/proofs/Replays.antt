@@ -1,9 +1,9 @@
 -- A replayed verdict.
 use Rattle.std.proofs.Common.{◌≡◌, ℕ, Bool, true, false, List, [], ◌∷◌, ◌++◌, if◌then◌else◌}
 use Rattle.simplex_values.specs.declared.timeout.TimeoutReason.TheVariants.{FailedCertification}
-use Rattle.simplex_rules.specs.Known.{Made, Fact, Judged}
-use Rattle.simplex_rules.specs.Deadline.{triggered}
-use Rattle.simplex_rules.specs.Calls.{takes_verdict, judged}
+use Rattle.model_rules.specs.Known.{Made, Fact, Judged}
+use Rattle.model_rules.specs.Deadline.{triggered}
+use Rattle.model_rules.specs.Calls.{takes_verdict, judged}
 
 pub judged_taken : (P : List Fact → Type 0) (made : Made) (known : List Fact) (view : ℕ) (good : Bool) (now : ℕ) → takes_verdict known view ≡ true
     → P (((if good then [] else triggered made known view FailedCertification now) ++ Judged view good now ∷ []) ++ known)

@@ -2,8 +2,8 @@
 use Rattle.std.proofs.Common.{◌≡◌, ℕ, true, List, arith}
 use Rattle.std.proofs.lemmas.Grind.{common_steps}
 use Rattle.std.specs.Option.{is_some}
-use Rattle.simplex_rules.specs.Known.{Fact, notarization_of, nullification_of, finalization_of}
-use Rattle.simplex_rules.specs.Calls.{unsent_notarization, unsent_nullification, unsent_finalization}
+use Rattle.model_rules.specs.Known.{Fact, notarization_of, nullification_of, finalization_of}
+use Rattle.model_rules.specs.Calls.{unsent_notarization, unsent_nullification, unsent_finalization}
 
 pub unsent_is_known_notarization : (known : List Fact) (view : ℕ) → is_some (unsent_notarization known view) ≡ true → is_some (notarization_of known view) ≡ true
 unfolding unsent_notarization

@@ -7,10 +7,10 @@ use Rattle.simplex_values.specs.declared.proposal.Proposal.{Proposal}
 use Rattle.simplex_values.specs.declared.proposal.Subject.{Subject}
 use Rattle.simplex_values.specs.declared.round.Round.{Round}
 use Rattle.simplex_wire.specs.declared.attestation.Attestation.{Attestation}
-use Rattle.simplex_rules.specs.Lists.{first_of}
-use Rattle.simplex_rules.specs.Known.{Made, Fact, Approved, VerifyAsked, view_of}
-use Rattle.simplex_rules.specs.Requests.{verify_asked, verify_in}
-use Rattle.simplex_rules.specs.Calls.{fact_of}
+use Rattle.model_rules.specs.Lists.{first_of}
+use Rattle.model_rules.specs.Known.{Made, Fact, Approved, VerifyAsked, view_of}
+use Rattle.model_rules.specs.Requests.{verify_asked, verify_in}
+use Rattle.model_rules.specs.Calls.{fact_of}
 use Rattle.simplex_state.specs.declared.rounds.RoundRecord.{RoundRecord}
 use Rattle.simplex_state.specs.declared.state.State.{State}
 use Rattle.simplex_state.specs.Rounds.{round_in, round_of, learn_round}

@@ -11,12 +11,12 @@ use Rattle.std.specs.BTreeSet.{BTreeSet}
 use Rattle.simplex_values.specs.declared.proposal.Proposal.{Proposal}
 use Rattle.simplex_wire.specs.declared.certificate.Notarization.{Notarization}
 use Rattle.simplex_wire.specs.declared.certificate.Certificate.TheVariants as certificates
-use Rattle.simplex_rules.specs.declared.request.CertificateFetch.{CertificateFetch}
-use Rattle.simplex_rules.specs.Lists.{first_of}
-use Rattle.simplex_rules.specs.Known.{Made, Fact, Added, CertifyAsked, ParentAsked, view_of, notarization_in, notarization_of}
-use Rattle.simplex_rules.specs.Calls.{CertifyCandidates, facts_of}
-use Rattle.simplex_rules.specs.Requests.{is_parent_in, is_unjudged, may_certify, lacks_parent, notarizations_of, certify_requests, parent_fetches}
-use Rattle.simplex_rules.specs.Ancestry.{is_certified}
+use Rattle.model_rules.specs.declared.request.CertificateFetch.{CertificateFetch}
+use Rattle.model_rules.specs.Lists.{first_of}
+use Rattle.model_rules.specs.Known.{Made, Fact, Added, CertifyAsked, ParentAsked, view_of, notarization_in, notarization_of}
+use Rattle.model_rules.specs.Calls.{CertifyCandidates, facts_of}
+use Rattle.model_rules.specs.Requests.{is_parent_in, is_unjudged, may_certify, lacks_parent, notarizations_of, certify_requests, parent_fetches}
+use Rattle.model_rules.specs.Ancestry.{is_certified}
 use Rattle.simplex_values.specs.Maps.{has}
 use Rattle.simplex_state.specs.Certifying.{proposal_to_certify, parent_to_fetch, certify_at, fetch_at, open_at, is_lacking}
 use Rattle.simplex_state.proofs.Gathering.{rises, is_listed, known_rise, known_at, gathers, given}

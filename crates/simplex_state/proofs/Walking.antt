@@ -6,10 +6,10 @@ use Rattle.std.specs.List.{range_with_len}
 use Rattle.std.specs.Option.{is_none, is_some}
 use Rattle.std.specs.BTreeMap.{BTreeMap}
 use Rattle.simplex_values.specs.Terms.{greatest_view, next_of, term_index, term_start, term_end, next_term_start}
-use Rattle.simplex_rules.specs.Known.{Made, Fact}
-use Rattle.simplex_rules.specs.Views.{last_finalized}
-use Rattle.simplex_rules.specs.Ancestry.{is_covered, gap_between, is_certified, is_met, has_ancestry, greatest_parent}
-use Rattle.simplex_rules.proofs.Soundness.{covered_between}
+use Rattle.model_rules.specs.Known.{Made, Fact}
+use Rattle.model_rules.specs.Views.{last_finalized}
+use Rattle.model_rules.specs.Ancestry.{is_covered, gap_between, is_certified, is_met, has_ancestry, greatest_parent}
+use Rattle.model_rules.proofs.Soundness.{covered_between}
 use Rattle.simplex_state.specs.declared.ranges.Ranges.{Ranges}
 use Rattle.simplex_state.specs.Ranges.{holds}
 use Rattle.simplex_state.specs.Stands.{covered_in}

@@ -9,14 +9,14 @@ use Rattle.simplex_values.specs.declared.proposal.Proposal.{Proposal}
 use Rattle.simplex_values.specs.declared.proposal.Subject.{Subject}
 use Rattle.simplex_values.specs.declared.round.Round.{Round}
 use Rattle.simplex_wire.specs.declared.attestation.Attestation.{Attestation}
-use Rattle.simplex_rules.specs.declared.request.Verify.TheVariants.{Wait}
-use Rattle.simplex_rules.specs.Known.{Made, Fact, VerifyAsked, view_of, has_nullified}
-use Rattle.simplex_rules.specs.Slot.{slot_of, is_own_slot}
-use Rattle.simplex_rules.specs.Requests.{wants_verify, is_founded, verify_of, verify_asked, ready_verify, missing_verify, resolve_of, missing_below, verify_request, admitted_views}
+use Rattle.model_rules.specs.declared.request.Verify.TheVariants.{Wait}
+use Rattle.model_rules.specs.Known.{Made, Fact, VerifyAsked, view_of, has_nullified}
+use Rattle.model_rules.specs.Slot.{slot_of, is_own_slot}
+use Rattle.model_rules.specs.Requests.{wants_verify, is_founded, verify_of, verify_asked, ready_verify, missing_verify, resolve_of, missing_below, verify_request, admitted_views}
 use Rattle.simplex_values.specs.Terms.{admission_limit}
-use Rattle.simplex_rules.specs.Views.{last_finalized, current_of}
-use Rattle.simplex_rules.specs.Ancestry.{has_ancestry}
-use Rattle.simplex_rules.proofs.Soundness.{slot_view}
+use Rattle.model_rules.specs.Views.{last_finalized, current_of}
+use Rattle.model_rules.specs.Ancestry.{has_ancestry}
+use Rattle.model_rules.proofs.Soundness.{slot_view}
 use Rattle.simplex_state.specs.declared.rounds.RoundRecord.{RoundRecord}
 use Rattle.simplex_state.specs.declared.state.State.{State}
 use Rattle.simplex_state.specs.Rounds.{round_in, round_of, learn_round, slot_in, blank}

@@ -5,7 +5,7 @@ use Rattle.simplex_wire.specs.declared.certificate.Notarization.{Notarization}
 use Rattle.simplex_wire.specs.declared.certificate.Nullification.{Nullification}
 use Rattle.simplex_wire.specs.declared.certificate.Finalization.{Finalization}
 use Rattle.simplex_wire.specs.declared.certificate.CertificateKind.TheVariants as kinds
-use Rattle.simplex_rules.specs.Known.{Fact, notarization_of, nullification_of, finalization_of, was_broadcast}
+use Rattle.model_rules.specs.Known.{Fact, notarization_of, nullification_of, finalization_of, was_broadcast}
 use Rattle.simplex_state.specs.declared.held.Held.{Held}
 
 -- this certificate, and whether it was sent

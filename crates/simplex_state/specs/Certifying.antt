@@ -3,10 +3,10 @@ use Rattle.std.specs.Prelude.{ℕ, ◌&&◌, nat_lt, Bool, List, Option, Some, N
 use Rattle.std.specs.Option.{option_map, option_and_then, is_none}
 use Rattle.simplex_values.specs.declared.proposal.Proposal.{Proposal}
 use Rattle.simplex_wire.specs.declared.certificate.Notarization.{Notarization}
-use Rattle.simplex_rules.specs.declared.request.CertificateFetch.{CertificateFetch}
-use Rattle.simplex_rules.specs.Known.{Fact, view_of, notarization_of, verdict_of}
-use Rattle.simplex_rules.specs.Views.{last_finalized}
-use Rattle.simplex_rules.specs.Requests.{is_unjudged, may_certify, lacks_parent}
+use Rattle.model_rules.specs.declared.request.CertificateFetch.{CertificateFetch}
+use Rattle.model_rules.specs.Known.{Fact, view_of, notarization_of, verdict_of}
+use Rattle.model_rules.specs.Views.{last_finalized}
+use Rattle.model_rules.specs.Requests.{is_unjudged, may_certify, lacks_parent}
 
 -- the proposal, where it can be certified now
 abbrev pub proposal_to_certify : List Fact → Notarization → Option Proposal

@@ -2,9 +2,9 @@
 use Rattle.std.specs.Prelude.{ℕ, nat_le, Bool, List}
 use Rattle.simplex_wire.specs.declared.artifact.Artifact.{Artifact}
 use Rattle.simplex_wire.specs.Fields.{artifact_round}
-use Rattle.simplex_rules.specs.Lists.{greatest_of}
-use Rattle.simplex_rules.specs.Known.{Fact}
-use Rattle.simplex_rules.specs.Calls.{pruned_view}
+use Rattle.model_rules.specs.Lists.{greatest_of}
+use Rattle.model_rules.specs.Known.{Fact}
+use Rattle.model_rules.specs.Calls.{pruned_view}
 
 -- whether the view was not forgotten
 abbrev pub keeps_view : List Fact → ℕ → Bool

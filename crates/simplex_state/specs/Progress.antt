@@ -3,11 +3,11 @@ use Rattle.std.specs.Prelude.{ℕ, ◌+◌, ◌==◌, max, nat_lt, true, List, i
 use Rattle.simplex_values.specs.declared.timeout.TimeoutReason.TheVariants.{Inactivity}
 use Rattle.simplex_wire.specs.declared.certificate.Certificate.TheVariants as certificates
 use Rattle.simplex_values.specs.Terms.{next_of, next_term_start, term_index}
-use Rattle.simplex_rules.specs.Lists.{greatest_of}
-use Rattle.simplex_rules.specs.Known.{Made, Fact, Added, Judged, Expired, Pruned, view_of}
-use Rattle.simplex_rules.specs.Views.{last_finalized, current_of, entered_at, term_entered_at, finalized_at}
-use Rattle.simplex_rules.specs.Deadline.{inactivity_count}
-use Rattle.simplex_rules.specs.Calls.{pruned_view}
+use Rattle.model_rules.specs.Lists.{greatest_of}
+use Rattle.model_rules.specs.Known.{Made, Fact, Added, Judged, Expired, Pruned, view_of}
+use Rattle.model_rules.specs.Views.{last_finalized, current_of, entered_at, term_entered_at, finalized_at}
+use Rattle.model_rules.specs.Deadline.{inactivity_count}
+use Rattle.model_rules.specs.Calls.{pruned_view}
 use Rattle.simplex_state.specs.declared.progress.Progress.{Progress}
 
 -- how far the member is

@@ -2,7 +2,7 @@
 use Rattle.std.specs.Prelude.{ℕ, ◌+◌, nat_le, Bool, false, Option, unwrap_or}
 use Rattle.std.specs.Option.{option_map_or, is_some}
 use Rattle.simplex_values.specs.Maps.{found}
-use Rattle.simplex_rules.specs.Lists.{greatest_below}
+use Rattle.model_rules.specs.Lists.{greatest_below}
 use Rattle.simplex_state.specs.declared.ranges.Ranges.{Ranges}
 
 -- the last start of a run up to the number

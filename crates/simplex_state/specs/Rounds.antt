@@ -8,11 +8,11 @@ use Rattle.simplex_values.specs.declared.proposal.Proposal.{Proposal}
 use Rattle.simplex_values.specs.Proposal.{is_same_proposal}
 use Rattle.simplex_wire.specs.declared.vote.Vote.TheVariants as votes
 use Rattle.simplex_wire.specs.declared.certificate.Certificate.TheVariants as certificates
-use Rattle.simplex_rules.specs.Lists.{first_of}
-use Rattle.simplex_rules.specs.Known.{Fact, FloorAt, Added, Taken, Answered, Approved, Judged, Voted, Expired, Failed, ProposalAsked, ProposalFreed, VerifyAsked, CertifyAsked, ParentAsked, view_of, notarization_of, finalization_of, own_notarize, proposal_of, has_finalized, verdict_of}
-use Rattle.simplex_rules.specs.Ancestry.{floor_in}
-use Rattle.simplex_rules.specs.Deadline.{expired_in, failed_in}
-use Rattle.simplex_rules.specs.Requests.{was_proposal_asked, verify_asked, is_certify_in, is_parent_in}
+use Rattle.model_rules.specs.Lists.{first_of}
+use Rattle.model_rules.specs.Known.{Fact, FloorAt, Added, Taken, Answered, Approved, Judged, Voted, Expired, Failed, ProposalAsked, ProposalFreed, VerifyAsked, CertifyAsked, ParentAsked, view_of, notarization_of, finalization_of, own_notarize, proposal_of, has_finalized, verdict_of}
+use Rattle.model_rules.specs.Ancestry.{floor_in}
+use Rattle.model_rules.specs.Deadline.{expired_in, failed_in}
+use Rattle.model_rules.specs.Requests.{was_proposal_asked, verify_asked, is_certify_in, is_parent_in}
 use Rattle.simplex_state.specs.declared.rounds.RoundRecord.{RoundRecord}
 
 -- the record of a view of which nothing is known

@@ -11,12 +11,12 @@ use Rattle.simplex_values.specs.declared.terms.Terms.{Terms}
 use Rattle.simplex_values.specs.Terms.{term_index, next_term_start}
 use Rattle.simplex_wire.specs.declared.attestation.Attestation.{Attestation}
 use Rattle.simplex_wire.specs.declared.certificate.CertificateKind.TheVariants as kinds
-use Rattle.simplex_rules.specs.Known.{Made, Fact, view_of, was_answered, was_approved, was_broadcast, has_nullified, notarization_of, nullification_of, finalization_of}
-use Rattle.simplex_rules.specs.Views.{least_active}
-use Rattle.simplex_rules.specs.Ancestry.{is_covered, has_true_verdict, has_false_verdict}
-use Rattle.simplex_rules.specs.Deadline.{published_at}
-use Rattle.simplex_rules.specs.Requests.{is_unjudged, is_missing_in}
-use Rattle.simplex_rules.specs.Calls.{Call, known_of, unsent_notarization, unsent_nullification, unsent_finalization}
+use Rattle.model_rules.specs.Known.{Made, Fact, view_of, was_answered, was_approved, was_broadcast, has_nullified, notarization_of, nullification_of, finalization_of}
+use Rattle.model_rules.specs.Views.{least_active}
+use Rattle.model_rules.specs.Ancestry.{is_covered, has_true_verdict, has_false_verdict}
+use Rattle.model_rules.specs.Deadline.{published_at}
+use Rattle.model_rules.specs.Requests.{is_unjudged, is_missing_in}
+use Rattle.model_rules.specs.Calls.{Call, known_of, unsent_notarization, unsent_nullification, unsent_finalization}
 use Rattle.simplex_state.specs.declared.config.StateConfig.{StateConfig}
 use Rattle.simplex_state.specs.declared.settings.Settings.{Settings}
 use Rattle.simplex_state.specs.declared.state.State.{State}

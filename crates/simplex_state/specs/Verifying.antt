@@ -1,10 +1,10 @@
 -- What waits to be verified.
 use Rattle.std.specs.Prelude.{◌&&◌, not, Bool, true, List}
 use Rattle.std.specs.Option.{is_none, is_some}
-use Rattle.simplex_rules.specs.declared.request.Verify.{Verify}
-use Rattle.simplex_rules.specs.declared.request.Verify.TheVariants.{Ready}
-use Rattle.simplex_rules.specs.Known.{Fact, view_of}
-use Rattle.simplex_rules.specs.Requests.{verify_asked}
+use Rattle.model_rules.specs.declared.request.Verify.{Verify}
+use Rattle.model_rules.specs.declared.request.Verify.TheVariants.{Ready}
+use Rattle.model_rules.specs.Known.{Fact, view_of}
+use Rattle.model_rules.specs.Requests.{verify_asked}
 use Rattle.simplex_state.specs.declared.rounds.RoundRecord.{RoundRecord}
 use Rattle.simplex_state.specs.Rounds.{slot_in, own_slot_in}
 

@@ -1,13 +1,13 @@
 //! Which view a proposal may stand on.
-#![tactic(auto, unfolding(crate::specs::Stands::StandsFor, crate::specs::Rounds::round_of, crate::specs::Rounds::slot_in, simplex_rules::specs::Slot::slot_of, crate::specs::Progress::progress_of, simplex_rules::specs::Views::least_active))]
+#![tactic(auto, unfolding(crate::specs::Stands::StandsFor, crate::specs::Rounds::round_of, crate::specs::Rounds::slot_in, model_rules::specs::Slot::slot_of, crate::specs::Progress::progress_of, model_rules::specs::Views::least_active))]
 
 ghost use Rattle.std.specs.Prelude.{◌≡◌, ◌≤◌, ◌<◌, ◌==◌, ◌||◌, ◌^◌, ◌-◌, ℕ, not, true, false, find, List};
 ghost use Rattle.std.specs.List.{range_with_len};
 ghost use Rattle.simplex_values.specs.Terms.{greatest_view, term_index};
-ghost use Rattle.simplex_rules.specs.Known.{Made, Fact};
-ghost use Rattle.simplex_rules.specs.Views.{last_finalized};
-ghost use Rattle.simplex_rules.specs.Ancestry.{gap_between, has_ancestry, greatest_parent, is_certified, is_met};
-ghost use Rattle.simplex_rules.specs.Requests.{is_superseded, is_abandoned};
+ghost use Rattle.model_rules.specs.Known.{Made, Fact};
+ghost use Rattle.model_rules.specs.Views.{last_finalized};
+ghost use Rattle.model_rules.specs.Ancestry.{gap_between, has_ancestry, greatest_parent, is_certified, is_met};
+ghost use Rattle.model_rules.specs.Requests.{is_superseded, is_abandoned};
 ghost use Rattle.simplex_state.specs.Progress.{progress_of};
 ghost use Rattle.simplex_state.specs.Ranges.{holds};
 ghost use Rattle.simplex_state.specs.Stands.{Answers, Keeps, covered_in};
@@ -23,7 +23,7 @@ use std::collections::BTreeMap;
 
 impl<S: Scheme + Drop, L: Elector + Drop> State<S, L> {
     /// Whether a proposal on the context's parent makes room for one on another parent.
-    #[tactic(auto, unfolding(simplex_rules::specs::Requests::is_superseded))]
+    #[tactic(auto, unfolding(model_rules::specs::Requests::is_superseded))]
     pub fn supersede_proposal_request(&self, context: &Context) -> bool
         ensures answer { Answers S.attests L.elects self.now (λ made known. is_superseded made known context.now.parent.view context.now.round.view) result }
     {
@@ -32,7 +32,7 @@ impl<S: Scheme + Drop, L: Elector + Drop> State<S, L> {
     }
 
     /// Whether a handoff is given up: the member gave up its view or its parent's, or the parent failed.
-    #[tactic(auto, unfolding(crate::specs::Stands::StandsFor, simplex_rules::specs::Requests::is_abandoned))]
+    #[tactic(auto, unfolding(crate::specs::Stands::StandsFor, model_rules::specs::Requests::is_abandoned))]
     pub fn pending_handoff_abandonment(&self, context: &Context) -> bool
         ensures answer { Answers S.attests L.elects self.now (λ made known. is_abandoned known context.now.parent.view context.now.round.view) result }
     {
@@ -43,7 +43,7 @@ impl<S: Scheme + Drop, L: Elector + Drop> State<S, L> {
     }
 
     /// Whether a proposal of the view may stand on the parent.
-    #[tactic(auto, unfolding(crate::specs::Stands::StandsFor, crate::specs::Progress::progress_of, simplex_rules::specs::Views::least_active, simplex_rules::specs::Ancestry::has_ancestry))]
+    #[tactic(auto, unfolding(crate::specs::Stands::StandsFor, crate::specs::Progress::progress_of, model_rules::specs::Views::least_active, model_rules::specs::Ancestry::has_ancestry))]
     pub(crate) fn has_ancestry(&self, parent: View, view: View) -> bool
         ensures { Answers S.attests L.elects self.now (λ made known. has_ancestry made known parent view) result }
     {
@@ -74,7 +74,7 @@ impl<S: Scheme + Drop, L: Elector + Drop> State<S, L> {
     }
 
     /// The greatest certified view up to this one, which is not before the last final one.
-    #[tactic(auto, unfolding(crate::specs::Stands::StandsFor, crate::specs::Progress::progress_of, simplex_rules::specs::Views::least_active, simplex_rules::specs::Ancestry::is_certified))]
+    #[tactic(auto, unfolding(crate::specs::Stands::StandsFor, crate::specs::Progress::progress_of, model_rules::specs::Views::least_active, model_rules::specs::Ancestry::is_certified))]
     fn last_certified(&self, view: View) -> View
         ensures above { (made : Made) (known : List Fact) → Keeps S.attests L.elects self.now made known → last_finalized known ≤ result }
         ensures bound { (made : Made) (known : List Fact) → Keeps S.attests L.elects self.now made known → last_finalized known ≤ view → result ≤ view }
@@ -95,7 +95,7 @@ impl<S: Scheme + Drop, L: Elector + Drop> State<S, L> {
     }
 
     /// Whether the parent is the view just before, and the member voted for it and did not give it up.
-    #[tactic(auto, unfolding(crate::specs::Stands::StandsFor, crate::specs::Rounds::round_of, crate::specs::Rounds::slot_in, simplex_rules::specs::Slot::slot_of, simplex_rules::specs::Ancestry::is_met))]
+    #[tactic(auto, unfolding(crate::specs::Stands::StandsFor, crate::specs::Rounds::round_of, crate::specs::Rounds::slot_in, model_rules::specs::Slot::slot_of, model_rules::specs::Ancestry::is_met))]
     pub(crate) fn is_met(&self, parent: View, view: View) -> bool
         ensures { (made : Made) (known : List Fact) → Keeps S.attests L.elects self.now made known
             → (progress_of made known).pruned ≤ parent → result ≡ is_met known parent view }

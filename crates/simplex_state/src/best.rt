@@ -1,14 +1,14 @@
 //! The certificate that shows why the member is in its view.
-#![tactic(auto, unfolding(crate::specs::Stands::StandsFor, crate::specs::Progress::progress_of, crate::specs::Certificates::held_notarization, crate::specs::Certificates::held_nullification, crate::specs::Certificates::held_finalization, simplex_rules::specs::Views::least_active))]
+#![tactic(auto, unfolding(crate::specs::Stands::StandsFor, crate::specs::Progress::progress_of, crate::specs::Certificates::held_notarization, crate::specs::Certificates::held_nullification, crate::specs::Certificates::held_finalization, model_rules::specs::Views::least_active))]
 
 ghost use Rattle.std.specs.Prelude.{◌≡◌, ◌≤◌, ◌<◌, ◌-◌, ◌⊎◌, ℕ, true, None, List, IfSome, IfNone, IfOk, if◌then◌else◌};
 ghost use Rattle.std.specs.Option.{is_some};
 ghost use Rattle.simplex_values.specs.Terms.{greatest_view, next_term_start};
-ghost use Rattle.simplex_rules.specs.Known.{Made, Fact, notarization_of, finalization_of};
-ghost use Rattle.simplex_rules.specs.Views.{current_of};
-ghost use Rattle.simplex_rules.specs.Ancestry.{has_true_verdict};
-ghost use Rattle.simplex_rules.specs.Best.{opening_nullification, best_certificate};
-ghost use Rattle.simplex_rules.specs.Calls.{Call, known_of};
+ghost use Rattle.model_rules.specs.Known.{Made, Fact, notarization_of, finalization_of};
+ghost use Rattle.model_rules.specs.Views.{current_of};
+ghost use Rattle.model_rules.specs.Ancestry.{has_true_verdict};
+ghost use Rattle.model_rules.specs.Best.{opening_nullification, best_certificate};
+ghost use Rattle.model_rules.specs.Calls.{Call, known_of};
 ghost use Rattle.simplex_values.specs.Maps.{found};
 ghost use Rattle.simplex_state.specs.Progress.{progress_of};
 ghost use Rattle.simplex_state.specs.Stands.{StandsFor, Answers, Keeps};

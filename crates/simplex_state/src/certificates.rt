@@ -1,12 +1,12 @@
 //! Certificates that are added, and the verdicts on them.
-#![tactic(auto, unfolding(crate::specs::Stands::StandsFor, crate::specs::Stands::covered_in, simplex_values::specs::Maps::found, crate::specs::Rounds::round_of, crate::specs::Rounds::slot_in, crate::specs::Rounds::learn_round, crate::specs::Progress::progress_of, crate::specs::Certificates::held_notarization, crate::specs::Certificates::held_nullification, crate::specs::Certificates::held_finalization, simplex_rules::specs::Slot::slot_of, simplex_rules::specs::Slot::is_contradicted, simplex_rules::specs::Views::admits_certificate, simplex_rules::specs::Views::least_active, simplex_rules::specs::Calls::known_of, simplex_rules::specs::Calls::facts_of, simplex_rules::specs::Calls::adds_notarization, simplex_rules::specs::Calls::adds_nullification, simplex_rules::specs::Calls::adds_finalization, simplex_rules::specs::Calls::contradicted_leader, simplex_rules::specs::Calls::add_notarization_answer, simplex_rules::specs::Calls::add_finalization_answer, simplex_values::specs::Covers::covers))]
+#![tactic(auto, unfolding(crate::specs::Stands::StandsFor, crate::specs::Stands::covered_in, simplex_values::specs::Maps::found, crate::specs::Rounds::round_of, crate::specs::Rounds::slot_in, crate::specs::Rounds::learn_round, crate::specs::Progress::progress_of, crate::specs::Certificates::held_notarization, crate::specs::Certificates::held_nullification, crate::specs::Certificates::held_finalization, model_rules::specs::Slot::slot_of, model_rules::specs::Slot::is_contradicted, model_rules::specs::Views::admits_certificate, model_rules::specs::Views::least_active, model_rules::specs::Calls::known_of, model_rules::specs::Calls::facts_of, model_rules::specs::Calls::adds_notarization, model_rules::specs::Calls::adds_nullification, model_rules::specs::Calls::adds_finalization, model_rules::specs::Calls::contradicted_leader, model_rules::specs::Calls::add_notarization_answer, model_rules::specs::Calls::add_finalization_answer, simplex_values::specs::Covers::covers))]
 
 ghost use Rattle.std.specs.Prelude.{◌≡◌, ◌≤◌, ◌<◌, ◌^◌, ◌∷◌, ℕ, ◌||◌, false, true, List, Some, OnOk, IfOk};
 ghost use Rattle.simplex_wire.specs.declared.certificate.Certificate.TheVariants as certificates;
 ghost use Rattle.simplex_values.specs.Covers.{covers};
 ghost use Rattle.simplex_values.specs.Terms.{term_index};
-ghost use Rattle.simplex_rules.specs.Known.{Made, Fact, Added, view_of};
-ghost use Rattle.simplex_rules.specs.Calls.{Call, AddNotarization, AddNullification, AddFinalization, known_of, adds_notarization, adds_nullification, adds_finalization, contradicted_leader, add_notarization_answer, add_finalization_answer};
+ghost use Rattle.model_rules.specs.Known.{Made, Fact, Added, view_of};
+ghost use Rattle.model_rules.specs.Calls.{Call, AddNotarization, AddNullification, AddFinalization, known_of, adds_notarization, adds_nullification, adds_finalization, contradicted_leader, add_notarization_answer, add_finalization_answer};
 ghost use Rattle.simplex_values.specs.Maps.{found};
 ghost use Rattle.simplex_state.specs.Certificates.{held};
 ghost use Rattle.simplex_state.specs.Progress.{progress_of};

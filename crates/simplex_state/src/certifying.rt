@@ -1,12 +1,12 @@
 //! Which notarizations the application is asked to certify.
-#![tactic(auto, unfolding(crate::specs::Stands::StandsFor, crate::specs::Rounds::round_of, crate::specs::Rounds::is_open, crate::specs::Progress::progress_of, simplex_rules::specs::Views::least_active, simplex_rules::specs::Requests::is_unjudged, crate::specs::Certifying::open_at, crate::specs::Certifying::is_lacking))]
+#![tactic(auto, unfolding(crate::specs::Stands::StandsFor, crate::specs::Rounds::round_of, crate::specs::Rounds::is_open, crate::specs::Progress::progress_of, model_rules::specs::Views::least_active, model_rules::specs::Requests::is_unjudged, crate::specs::Certifying::open_at, crate::specs::Certifying::is_lacking))]
 
 ghost use Rattle.std.specs.Prelude.{◌≡◌, ◌≤◌, ◌∷◌, ◌++◌, ◌&&◌, ℕ, nat_lt, true, List, map, option_to_list, OnOk, IfOk};
 ghost use Rattle.std.specs.Option.{is_some};
-ghost use Rattle.simplex_rules.specs.declared.request.CertificateFetch.{CertificateFetch};
-ghost use Rattle.simplex_rules.specs.Known.{Made, Fact, CertifyAsked, ParentAsked, view_of};
-ghost use Rattle.simplex_rules.specs.Requests.{certify_requests, parent_fetches};
-ghost use Rattle.simplex_rules.specs.Calls.{CertifyCandidates};
+ghost use Rattle.model_rules.specs.declared.request.CertificateFetch.{CertificateFetch};
+ghost use Rattle.model_rules.specs.Known.{Made, Fact, CertifyAsked, ParentAsked, view_of};
+ghost use Rattle.model_rules.specs.Requests.{certify_requests, parent_fetches};
+ghost use Rattle.model_rules.specs.Calls.{CertifyCandidates};
 ghost use Rattle.simplex_values.specs.Maps.{has};
 ghost use Rattle.simplex_state.specs.Rounds.{round_in, is_open};
 ghost use Rattle.simplex_state.specs.Certifying.{certify_at, fetch_at, open_at, is_lacking};
@@ -15,7 +15,7 @@ ghost use Rattle.simplex_state.specs.Stands.{Takes, Stays, Answers, Keeps};
 
 use crate::rounds::{RoundRecord, put_round, round_at};
 use crate::state::State;
-use simplex_rules::CertificateFetch;
+use model_rules::CertificateFetch;
 use simplex_types::elector::Elector;
 use simplex_values::{Proposal, View};
 use simplex_wire::Scheme;

@@ -1,12 +1,12 @@
 //! Where a member starts, and what it forgets.
-#![tactic(auto, unfolding(crate::specs::Stands::StandsFor, crate::specs::Progress::progress_of, simplex_rules::specs::Calls::known_of, simplex_rules::specs::Calls::facts_of, simplex_rules::specs::Calls::prune_answer))]
+#![tactic(auto, unfolding(crate::specs::Stands::StandsFor, crate::specs::Progress::progress_of, model_rules::specs::Calls::known_of, model_rules::specs::Calls::facts_of, model_rules::specs::Calls::prune_answer))]
 
 ghost use Rattle.std.specs.Prelude.{◌≡◌, ◌≤◌, ◌<◌, ◌^◌, ◌∷◌, List, OnOk, IfOk};
 ghost use Rattle.simplex_wire.specs.declared.certificate.Certificate.TheVariants as certificates;
 ghost use Rattle.simplex_wire.specs.declared.certificate.CertificateKind.TheVariants as kinds;
-ghost use Rattle.simplex_rules.specs.Known.{Made, Fact, FloorAt, Added, Broadcast, Pruned, view_of};
-ghost use Rattle.simplex_rules.specs.Views.{least_active};
-ghost use Rattle.simplex_rules.specs.Calls.{SetFloor, Prune, known_of, set_floor_answer, prune_answer};
+ghost use Rattle.model_rules.specs.Known.{Made, Fact, FloorAt, Added, Broadcast, Pruned, view_of};
+ghost use Rattle.model_rules.specs.Views.{least_active};
+ghost use Rattle.model_rules.specs.Calls.{SetFloor, Prune, known_of, set_floor_answer, prune_answer};
 ghost use Rattle.simplex_state.specs.Progress.{progress_of};
 ghost use Rattle.simplex_state.specs.Stands.{StandsFor, Takes, Answers, Keeps};
 

@@ -2,15 +2,15 @@
 //!
 //! That the current view is given up takes no memory: it stands beside the set of the views given up before,
 //! and goes into that before another view becomes current.
-#![tactic(auto, unfolding(crate::specs::Stands::StandsFor, crate::specs::Progress::progress_of, simplex_rules::specs::Calls::known_of, simplex_rules::specs::Calls::facts_of))]
+#![tactic(auto, unfolding(crate::specs::Stands::StandsFor, crate::specs::Progress::progress_of, model_rules::specs::Calls::known_of, model_rules::specs::Calls::facts_of))]
 
 ghost use Rattle.std.specs.Prelude.{◌≡◌, ◌≤◌, ◌<◌, ◌^◌, ◌∷◌, ◌++◌, ℕ, nat_lt, true, false, None, List, IfSome, IfNone, OnOk, if◌then◌else◌};
 ghost use Rattle.simplex_wire.specs.declared.vote.Nullify as nullifies;
 ghost use Rattle.simplex_wire.specs.declared.vote.Vote.TheVariants as votes;
-ghost use Rattle.simplex_rules.specs.Known.{Made, Fact, Voted, has_nullified};
-ghost use Rattle.simplex_rules.specs.Views.{current_of};
-ghost use Rattle.simplex_rules.specs.Votes.{nullify_at};
-ghost use Rattle.simplex_rules.specs.Calls.{ConstructNullify, construct_nullify_answer, nullify_facts};
+ghost use Rattle.model_rules.specs.Known.{Made, Fact, Voted, has_nullified};
+ghost use Rattle.model_rules.specs.Views.{current_of};
+ghost use Rattle.model_rules.specs.Votes.{nullify_at};
+ghost use Rattle.model_rules.specs.Calls.{ConstructNullify, construct_nullify_answer, nullify_facts};
 ghost use Rattle.simplex_state.specs.Stands.{Takes, Answers, Keeps};
 
 use crate::state::State;
@@ -21,7 +21,7 @@ use std::alloc::AllocError;
 
 impl<S: Scheme + Drop, L: Elector + Drop> State<S, L> {
     /// Gives the current view up, where the scheme signs it. The answer tells whether that is a repeat.
-    #[tactic(auto, unfolding(crate::specs::Stands::StandsFor, simplex_rules::specs::Calls::known_of, simplex_rules::specs::Calls::facts_of, simplex_rules::specs::Calls::construct_nullify_answer))]
+    #[tactic(auto, unfolding(crate::specs::Stands::StandsFor, model_rules::specs::Calls::known_of, model_rules::specs::Calls::facts_of, model_rules::specs::Calls::construct_nullify_answer))]
     pub fn construct_nullify(
         &mut self,
         view: View,
@@ -77,7 +77,7 @@ impl<S: Scheme + Drop, L: Elector + Drop> State<S, L> {
     }
 
     /// The member's nullify of the view.
-    #[tactic(auto, unfolding(crate::specs::Stands::StandsFor, simplex_rules::specs::Votes::nullify_at, simplex_rules::specs::Votes::signed_nullify))]
+    #[tactic(auto, unfolding(crate::specs::Stands::StandsFor, model_rules::specs::Votes::nullify_at, model_rules::specs::Votes::signed_nullify))]
     fn nullify_at(&self, view: View) -> Option<Nullify>
         ensures { Answers S.attests L.elects self.now (λ made known. nullify_at made view) result }
     {

@@ -25,5 +25,5 @@ mod verification;
 mod votes;
 
 pub use config::StateConfig;
-pub use simplex_rules::{CertificateFetch, ProposalRequest, Verify};
+pub use model_rules::{CertificateFetch, ProposalRequest, Verify};
 pub use state::State;

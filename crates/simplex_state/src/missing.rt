@@ -3,7 +3,7 @@
 
 ghost use Rattle.std.specs.Prelude.{◌≡◌, ◌≤◌, ℕ, ◌==◌, ◌&&◌, ◌||◌, false, OnOk};
 ghost use Rattle.simplex_values.specs.declared.ask.Kind as kinds;
-ghost use Rattle.simplex_rules.specs.Requests.{is_kind};
+ghost use Rattle.model_rules.specs.Requests.{is_kind};
 ghost use Rattle.simplex_state.specs.Missing.{has_pair, is_asked};
 
 use simplex_values::{Kind, View};

@@ -1,11 +1,11 @@
 //! Proposals that the batcher or the application gives.
-#![tactic(auto, unfolding(crate::specs::Rounds::round_of, crate::specs::Rounds::slot_in, crate::specs::Rounds::learn_round, crate::specs::Progress::learn_progress, simplex_rules::specs::Slot::slot_of, crate::specs::Stands::StandsFor, crate::specs::Progress::progress_of, simplex_rules::specs::Calls::known_of, simplex_rules::specs::Calls::facts_of, simplex_rules::specs::Slot::records_proposal, simplex_rules::specs::Slot::records_answer, simplex_rules::specs::Known::has_nullified, simplex_rules::specs::Views::admits_vote, simplex_rules::specs::Views::admits_certificate, simplex_rules::specs::Views::least_active))]
+#![tactic(auto, unfolding(crate::specs::Rounds::round_of, crate::specs::Rounds::slot_in, crate::specs::Rounds::learn_round, crate::specs::Progress::learn_progress, model_rules::specs::Slot::slot_of, crate::specs::Stands::StandsFor, crate::specs::Progress::progress_of, model_rules::specs::Calls::known_of, model_rules::specs::Calls::facts_of, model_rules::specs::Slot::records_proposal, model_rules::specs::Slot::records_answer, model_rules::specs::Known::has_nullified, model_rules::specs::Views::admits_vote, model_rules::specs::Views::admits_certificate, model_rules::specs::Views::least_active))]
 
 ghost use Rattle.std.specs.Prelude.{◌≡◌, ◌≤◌, ◌∷◌, true, List, OnOk, IfOk};
 ghost use Rattle.std.specs.Option.{is_none};
-ghost use Rattle.simplex_rules.specs.Known.{Made, Fact, Taken, view_of};
-ghost use Rattle.simplex_rules.specs.Slot.{records_proposal, records_answer};
-ghost use Rattle.simplex_rules.specs.Calls.{SetProposal, Proposed, Verified};
+ghost use Rattle.model_rules.specs.Known.{Made, Fact, Taken, view_of};
+ghost use Rattle.model_rules.specs.Slot.{records_proposal, records_answer};
+ghost use Rattle.model_rules.specs.Calls.{SetProposal, Proposed, Verified};
 ghost use Rattle.simplex_state.specs.Rounds.{round_of, slot_in};
 ghost use Rattle.simplex_state.specs.Progress.{progress_of};
 ghost use Rattle.simplex_state.specs.Stands.{Takes, Answers, Keeps};
@@ -89,7 +89,7 @@ impl<S: Scheme + Drop, L: Elector + Drop> State<S, L> {
     }
 
     /// Whether the application's proposal for the view is recorded.
-    #[tactic(auto, unfolding(crate::specs::Stands::StandsFor, crate::specs::Rounds::round_of, crate::specs::Rounds::slot_in, simplex_rules::specs::Slot::slot_of, crate::specs::Progress::progress_of, simplex_rules::specs::Slot::records_answer))]
+    #[tactic(auto, unfolding(crate::specs::Stands::StandsFor, crate::specs::Rounds::round_of, crate::specs::Rounds::slot_in, model_rules::specs::Slot::slot_of, crate::specs::Progress::progress_of, model_rules::specs::Slot::records_answer))]
     fn records_answer(&self, view: View) -> bool
         ensures { Answers S.attests L.elects self.now (λ made known. records_answer made known view) result }
     {

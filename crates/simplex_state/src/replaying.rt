@@ -1,9 +1,9 @@
 //! Records of a journal, which tell what the member knew before it started.
-#![tactic(auto, unfolding(crate::specs::Stands::StandsFor, crate::specs::Progress::progress_of, simplex_rules::specs::Calls::known_of, simplex_rules::specs::Calls::facts_of, simplex_rules::specs::Calls::judged))]
+#![tactic(auto, unfolding(crate::specs::Stands::StandsFor, crate::specs::Progress::progress_of, model_rules::specs::Calls::known_of, model_rules::specs::Calls::facts_of, model_rules::specs::Calls::judged))]
 
 ghost use Rattle.std.specs.Prelude.{◌≡◌, ◌<◌, ◌^◌, ◌++◌, ℕ, true, false, List, None, if◌then◌else◌, OnOk, IfOk};
-ghost use Rattle.simplex_rules.specs.Known.{Made, Fact, view_of};
-ghost use Rattle.simplex_rules.specs.Calls.{Call, Replay, known_of, replay_answer, contradicted_leader, judged, kept_notarization, kept_nullification, kept_finalization};
+ghost use Rattle.model_rules.specs.Known.{Made, Fact, view_of};
+ghost use Rattle.model_rules.specs.Calls.{Call, Replay, known_of, replay_answer, contradicted_leader, judged, kept_notarization, kept_nullification, kept_finalization};
 ghost use Rattle.simplex_state.specs.Progress.{progress_of};
 ghost use Rattle.simplex_state.specs.Floor.{keeps_view, keeps_record};
 ghost use Rattle.simplex_state.specs.Stands.{StandsFor, Takes, Keeps};

@@ -1,21 +1,21 @@
 //! What the application is asked to propose.
-#![tactic(auto, unfolding(crate::specs::Stands::StandsFor, crate::specs::Rounds::round_of, crate::specs::Rounds::slot_in, simplex_rules::specs::Slot::slot_of, crate::specs::Progress::progress_of, simplex_rules::specs::Views::least_active))]
+#![tactic(auto, unfolding(crate::specs::Stands::StandsFor, crate::specs::Rounds::round_of, crate::specs::Rounds::slot_in, model_rules::specs::Slot::slot_of, crate::specs::Progress::progress_of, model_rules::specs::Views::least_active))]
 
 ghost use Rattle.std.specs.Prelude.{◌≡◌, ◌≤◌, ◌<◌, ◌∷◌, true, not, ◌&&◌, List, find, OnOk, IfOk};
 ghost use Rattle.std.specs.Option.{is_none};
-ghost use Rattle.simplex_rules.specs.Known.{Made, Fact, ProposalAsked, has_nullified};
-ghost use Rattle.simplex_rules.specs.Slot.{slot_of};
-ghost use Rattle.simplex_rules.specs.Views.{admits_certificate};
-ghost use Rattle.simplex_rules.specs.Ancestry.{payload_at};
-ghost use Rattle.simplex_rules.specs.Best.{forwardable_at};
-ghost use Rattle.simplex_rules.specs.Requests.{was_proposal_asked, may_propose, admitted_views, proposal_view, context_at, needs_handoff, proposal_request};
-ghost use Rattle.simplex_rules.specs.Calls.{Call, TryPropose, ReleaseProposalRequest, known_of};
+ghost use Rattle.model_rules.specs.Known.{Made, Fact, ProposalAsked, has_nullified};
+ghost use Rattle.model_rules.specs.Slot.{slot_of};
+ghost use Rattle.model_rules.specs.Views.{admits_certificate};
+ghost use Rattle.model_rules.specs.Ancestry.{payload_at};
+ghost use Rattle.model_rules.specs.Best.{forwardable_at};
+ghost use Rattle.model_rules.specs.Requests.{was_proposal_asked, may_propose, admitted_views, proposal_view, context_at, needs_handoff, proposal_request};
+ghost use Rattle.model_rules.specs.Calls.{Call, TryPropose, ReleaseProposalRequest, known_of};
 ghost use Rattle.simplex_state.specs.Progress.{progress_of};
 ghost use Rattle.simplex_state.specs.Stands.{StandsFor, Takes, Answers, Keeps};
 
 use crate::rounds::{first_round, free_proposal, put_round, round_at};
 use crate::state::State;
-use simplex_rules::ProposalRequest;
+use model_rules::ProposalRequest;
 use simplex_types::elector::Elector;
 use simplex_values::{Context, Digest, Parent, Proposal, Round, View};
 use simplex_wire::Scheme;
@@ -43,7 +43,7 @@ impl<S: Scheme + Drop, L: Elector + Drop> State<S, L> {
     }
 
     /// The proposal of the view, where it was notarized and the member checked it.
-    #[tactic(auto, using(crate::proofs::Checking::forwardable_is), unfolding(crate::specs::Stands::StandsFor, crate::specs::Progress::progress_of, simplex_rules::specs::Views::least_active, simplex_rules::specs::Views::admits_certificate))]
+    #[tactic(auto, using(crate::proofs::Checking::forwardable_is), unfolding(crate::specs::Stands::StandsFor, crate::specs::Progress::progress_of, model_rules::specs::Views::least_active, model_rules::specs::Views::admits_certificate))]
     pub fn forwardable_proposal(&self, view: View) -> Option<Proposal>
         requires active { Answers S.attests L.elects self.now (λ made known. admits_certificate made known view) true }
         ensures answer { Answers S.attests L.elects self.now (λ made known. forwardable_at known view) result }
@@ -56,7 +56,7 @@ impl<S: Scheme + Drop, L: Elector + Drop> State<S, L> {
     }
 
     /// What to ask the application to propose.
-    #[tactic(auto, using(crate::proofs::Walking::parent_above), unfolding(crate::specs::Stands::StandsFor, simplex_rules::specs::Views::least_active, simplex_rules::specs::Requests::proposal_request, simplex_rules::specs::Requests::request_at, simplex_rules::specs::Requests::request_on))]
+    #[tactic(auto, using(crate::proofs::Walking::parent_above), unfolding(crate::specs::Stands::StandsFor, model_rules::specs::Views::least_active, model_rules::specs::Requests::proposal_request, model_rules::specs::Requests::request_at, model_rules::specs::Requests::request_on))]
     fn proposal_request(&self) -> Option<ProposalRequest>
         ensures { Answers S.attests L.elects self.now (λ made known. proposal_request made known) result }
     {
@@ -73,7 +73,7 @@ impl<S: Scheme + Drop, L: Elector + Drop> State<S, L> {
     }
 
     /// The first admitted view, or with handoffs the next term's first, in which the member may propose.
-    #[tactic(auto, unfolding(crate::specs::Stands::StandsFor, crate::specs::Progress::progress_of, simplex_rules::specs::Views::least_active, simplex_rules::specs::Requests::proposal_view))]
+    #[tactic(auto, unfolding(crate::specs::Stands::StandsFor, crate::specs::Progress::progress_of, model_rules::specs::Views::least_active, model_rules::specs::Requests::proposal_view))]
     fn proposal_view(&self) -> Option<View>
         ensures { Answers S.attests L.elects self.now (λ made known. proposal_view made known) result }
     {
@@ -92,7 +92,7 @@ impl<S: Scheme + Drop, L: Elector + Drop> State<S, L> {
 
     /// The first admitted view in which the member may propose. Ahead of the current view only a view whose
     /// parent has the member's vote can be it, so the walk goes over the views of which something is known.
-    #[tactic(auto, unfolding(crate::specs::Stands::StandsFor, crate::specs::Progress::progress_of, simplex_rules::specs::Views::least_active, simplex_rules::specs::Requests::admitted_views))]
+    #[tactic(auto, unfolding(crate::specs::Stands::StandsFor, crate::specs::Progress::progress_of, model_rules::specs::Views::least_active, model_rules::specs::Requests::admitted_views))]
     fn first_admitted(&self) -> Option<View>
         ensures { Answers S.attests L.elects self.now (λ made known. find (may_propose made known) (admitted_views made known)) result }
     {
@@ -114,7 +114,7 @@ impl<S: Scheme + Drop, L: Elector + Drop> State<S, L> {
     }
 
     /// Whether the member may propose in the view: it leads it, and nothing is proposed, given up or asked for yet.
-    #[tactic(auto, using(crate::proofs::Walking::parent_some), unfolding(crate::specs::Stands::StandsFor, simplex_rules::specs::Views::least_active, simplex_rules::specs::Requests::may_propose, simplex_rules::specs::Requests::leader_of))]
+    #[tactic(auto, using(crate::proofs::Walking::parent_some), unfolding(crate::specs::Stands::StandsFor, model_rules::specs::Views::least_active, model_rules::specs::Requests::may_propose, model_rules::specs::Requests::leader_of))]
     fn may_propose(&self, view: View) -> bool
         ensures { Answers S.attests L.elects self.now (λ made known. may_propose made known view) result }
     {
@@ -124,7 +124,7 @@ impl<S: Scheme + Drop, L: Elector + Drop> State<S, L> {
     }
 
     /// Whether nothing is proposed in the view, given up or asked for yet.
-    #[tactic(auto, unfolding(crate::specs::Stands::StandsFor, crate::specs::Rounds::round_of, crate::specs::Rounds::slot_in, simplex_rules::specs::Slot::slot_of))]
+    #[tactic(auto, unfolding(crate::specs::Stands::StandsFor, crate::specs::Rounds::round_of, crate::specs::Rounds::slot_in, model_rules::specs::Slot::slot_of))]
     fn is_free(&self, view: View) -> bool
         ensures { (made : Made) (known : List Fact) → Keeps S.attests L.elects self.now made known
             → (progress_of made known).pruned ≤ view
@@ -135,7 +135,7 @@ impl<S: Scheme + Drop, L: Elector + Drop> State<S, L> {
     }
 
     /// Whether a term begins on a parent that is not certified.
-    #[tactic(auto, unfolding(crate::specs::Stands::StandsFor, simplex_rules::specs::Requests::needs_handoff))]
+    #[tactic(auto, unfolding(crate::specs::Stands::StandsFor, model_rules::specs::Requests::needs_handoff))]
     fn needs_handoff(&self, parent: View, view: View) -> bool
         ensures { Answers S.attests L.elects self.now (λ made known. needs_handoff made known parent view) result }
     {
@@ -143,7 +143,7 @@ impl<S: Scheme + Drop, L: Elector + Drop> State<S, L> {
     }
 
     /// A proposal of the view on the parent.
-    #[tactic(auto, unfolding(crate::specs::Stands::StandsFor, simplex_rules::specs::Requests::context_at, simplex_rules::specs::Requests::leader_of))]
+    #[tactic(auto, unfolding(crate::specs::Stands::StandsFor, model_rules::specs::Requests::context_at, model_rules::specs::Requests::leader_of))]
     pub(crate) fn context(&self, parent: View, view: View) -> Context
         ensures { (made : Made) (calls : List Call) → StandsFor S.attests L.elects self.now made calls
             → (progress_of made (known_of made calls)).pruned ≤ parent → result ≡ context_at made (known_of made calls) parent view }
@@ -162,7 +162,7 @@ impl<S: Scheme + Drop, L: Elector + Drop> State<S, L> {
     }
 
     /// The payload of a parent: the floor's, else the finalized one, else the slot's, else that of genesis.
-    #[tactic(auto, unfolding(crate::specs::Stands::StandsFor, crate::specs::Rounds::round_of, crate::specs::Rounds::slot_in, simplex_rules::specs::Slot::slot_of, simplex_rules::specs::Ancestry::payload_at))]
+    #[tactic(auto, unfolding(crate::specs::Stands::StandsFor, crate::specs::Rounds::round_of, crate::specs::Rounds::slot_in, model_rules::specs::Slot::slot_of, model_rules::specs::Ancestry::payload_at))]
     pub(crate) fn payload(&self, view: View) -> Digest
         ensures { (made : Made) (known : List Fact) → Keeps S.attests L.elects self.now made known
             → (progress_of made known).pruned ≤ view → result ≡ payload_at made known view }

@@ -1,8 +1,8 @@
 //! Certificates that are handed out for sending.
-#![tactic(auto, unfolding(crate::specs::Stands::StandsFor, simplex_rules::specs::Calls::known_of, simplex_rules::specs::Calls::facts_of))]
+#![tactic(auto, unfolding(crate::specs::Stands::StandsFor, model_rules::specs::Calls::known_of, model_rules::specs::Calls::facts_of))]
 
 ghost use Rattle.std.specs.Prelude.{OnOk, IfOk};
-ghost use Rattle.simplex_rules.specs.Calls.{BroadcastNotarization, BroadcastNullification, BroadcastFinalization, unsent_notarization, unsent_nullification, unsent_finalization};
+ghost use Rattle.model_rules.specs.Calls.{BroadcastNotarization, BroadcastNullification, BroadcastFinalization, unsent_notarization, unsent_nullification, unsent_finalization};
 ghost use Rattle.simplex_state.specs.Stands.{Takes, Answers};
 
 use crate::held::{copy_unsent, mark_sent};

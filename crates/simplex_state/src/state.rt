@@ -1,9 +1,9 @@
 //! What one member knows, and what it answers by the rules.
-#![tactic(auto, unfolding(crate::specs::Stands::StandsFor, crate::specs::Stands::made_of, crate::specs::Stands::covered_in, crate::specs::Rounds::round_in, crate::specs::Rounds::round_of, crate::specs::Progress::progress_of, crate::specs::Certificates::held_notarization, crate::specs::Certificates::held_nullification, crate::specs::Certificates::held_finalization, simplex_rules::specs::Lists::first_of, simplex_rules::specs::Lists::last_of, simplex_rules::specs::Lists::greatest_of, simplex_rules::specs::Known::reached, simplex_rules::specs::Known::notarization_of, simplex_rules::specs::Known::nullification_of, simplex_rules::specs::Known::finalization_of, simplex_rules::specs::Known::was_broadcast, simplex_rules::specs::Known::verdict_of, simplex_rules::specs::Known::proposal_of, simplex_rules::specs::Known::was_answered, simplex_rules::specs::Known::was_approved, simplex_rules::specs::Known::own_notarize, simplex_rules::specs::Known::has_nullified, simplex_rules::specs::Known::has_finalized, simplex_rules::specs::Views::last_finalized, simplex_rules::specs::Views::current_of, simplex_rules::specs::Views::entered_at, simplex_rules::specs::Views::term_entered_at, simplex_rules::specs::Views::finalized_at, simplex_rules::specs::Views::least_active, simplex_rules::specs::Ancestry::is_covered, simplex_rules::specs::Ancestry::has_true_verdict, simplex_rules::specs::Ancestry::has_false_verdict, simplex_rules::specs::Deadline::published_at, simplex_rules::specs::Deadline::inactivity_count, simplex_rules::specs::Requests::was_proposal_asked, simplex_rules::specs::Requests::verify_asked, simplex_rules::specs::Calls::known_of, simplex_rules::specs::Calls::unsent_notarization, simplex_rules::specs::Calls::unsent_nullification, simplex_rules::specs::Calls::unsent_finalization))]
+#![tactic(auto, unfolding(crate::specs::Stands::StandsFor, crate::specs::Stands::made_of, crate::specs::Stands::covered_in, crate::specs::Rounds::round_in, crate::specs::Rounds::round_of, crate::specs::Progress::progress_of, crate::specs::Certificates::held_notarization, crate::specs::Certificates::held_nullification, crate::specs::Certificates::held_finalization, model_rules::specs::Lists::first_of, model_rules::specs::Lists::last_of, model_rules::specs::Lists::greatest_of, model_rules::specs::Known::reached, model_rules::specs::Known::notarization_of, model_rules::specs::Known::nullification_of, model_rules::specs::Known::finalization_of, model_rules::specs::Known::was_broadcast, model_rules::specs::Known::verdict_of, model_rules::specs::Known::proposal_of, model_rules::specs::Known::was_answered, model_rules::specs::Known::was_approved, model_rules::specs::Known::own_notarize, model_rules::specs::Known::has_nullified, model_rules::specs::Known::has_finalized, model_rules::specs::Views::last_finalized, model_rules::specs::Views::current_of, model_rules::specs::Views::entered_at, model_rules::specs::Views::term_entered_at, model_rules::specs::Views::finalized_at, model_rules::specs::Views::least_active, model_rules::specs::Ancestry::is_covered, model_rules::specs::Ancestry::has_true_verdict, model_rules::specs::Ancestry::has_false_verdict, model_rules::specs::Deadline::published_at, model_rules::specs::Deadline::inactivity_count, model_rules::specs::Requests::was_proposal_asked, model_rules::specs::Requests::verify_asked, model_rules::specs::Calls::known_of, model_rules::specs::Calls::unsent_notarization, model_rules::specs::Calls::unsent_nullification, model_rules::specs::Calls::unsent_finalization))]
 
 ghost use Rattle.std.specs.Prelude.{◌≡◌, ◌<◌, ◌^◌, [], IfOk};
-ghost use Rattle.simplex_rules.specs.Views.{last_finalized, current_of, least_active, admits_certificate, admits_vote};
-ghost use Rattle.simplex_rules.specs.Requests.{leader_of};
+ghost use Rattle.model_rules.specs.Views.{last_finalized, current_of, least_active, admits_certificate, admits_vote};
+ghost use Rattle.model_rules.specs.Requests.{leader_of};
 ghost use Rattle.simplex_state.specs.Stands.{StandsFor, Answers, IsConfigured, made_of};
 
 use crate::config::StateConfig;
@@ -122,7 +122,7 @@ impl<S: Scheme + Drop, L: Elector + Drop> State<S, L> {
     }
 
     /// Whether a certificate of the view is of use.
-    #[tactic(auto, unfolding(crate::specs::Stands::StandsFor, crate::specs::Progress::progress_of, simplex_rules::specs::Views::admits_certificate, simplex_rules::specs::Views::least_active))]
+    #[tactic(auto, unfolding(crate::specs::Stands::StandsFor, crate::specs::Progress::progress_of, model_rules::specs::Views::admits_certificate, model_rules::specs::Views::least_active))]
     pub fn admits_certificate(&self, view: View) -> bool
         ensures { Answers S.attests L.elects self.now (λ made known. admits_certificate made known view) result }
     {
@@ -130,7 +130,7 @@ impl<S: Scheme + Drop, L: Elector + Drop> State<S, L> {
     }
 
     /// Whether a vote of the view is of use.
-    #[tactic(auto, unfolding(crate::specs::Stands::StandsFor, crate::specs::Progress::progress_of, simplex_rules::specs::Views::admits_vote))]
+    #[tactic(auto, unfolding(crate::specs::Stands::StandsFor, crate::specs::Progress::progress_of, model_rules::specs::Views::admits_vote))]
     pub fn admits_vote(&self, view: View) -> bool
         ensures { Answers S.attests L.elects self.now (λ made known. admits_vote made known view) result }
     {
@@ -138,7 +138,7 @@ impl<S: Scheme + Drop, L: Elector + Drop> State<S, L> {
     }
 
     /// The leader of the view.
-    #[tactic(auto, unfolding(crate::specs::Stands::StandsFor, crate::specs::Progress::progress_of, simplex_rules::specs::Requests::leader_of))]
+    #[tactic(auto, unfolding(crate::specs::Stands::StandsFor, crate::specs::Progress::progress_of, model_rules::specs::Requests::leader_of))]
     pub fn leader_index(&self, view: View) -> Participant
         ensures { Answers S.attests L.elects self.now (λ made known. leader_of made view) result }
     {

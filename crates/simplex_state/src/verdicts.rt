@@ -1,12 +1,12 @@
 //! Verdicts on notarizations.
-#![tactic(auto, unfolding(crate::specs::Stands::StandsFor, crate::specs::Rounds::round_of, crate::specs::Progress::progress_of, crate::specs::Certificates::held_notarization, simplex_rules::specs::Views::least_active, simplex_rules::specs::Calls::takes_verdict, simplex_rules::specs::Calls::certified_answer))]
+#![tactic(auto, unfolding(crate::specs::Stands::StandsFor, crate::specs::Rounds::round_of, crate::specs::Progress::progress_of, crate::specs::Certificates::held_notarization, model_rules::specs::Views::least_active, model_rules::specs::Calls::takes_verdict, model_rules::specs::Calls::certified_answer))]
 
 ghost use Rattle.std.specs.Prelude.{◌≡◌, ◌<◌, ◌^◌, ◌∷◌, ◌++◌, [], true, false, List, None, if◌then◌else◌, OnOk, IfOk};
 ghost use Rattle.simplex_values.specs.declared.timeout.TimeoutReason.TheVariants.{FailedCertification};
-ghost use Rattle.simplex_rules.specs.Known.{Made, Fact, Judged, verdict_of};
-ghost use Rattle.simplex_rules.specs.Ancestry.{is_certified};
-ghost use Rattle.simplex_rules.specs.Deadline.{triggered};
-ghost use Rattle.simplex_rules.specs.Calls.{Certified, takes_verdict, certified_answer};
+ghost use Rattle.model_rules.specs.Known.{Made, Fact, Judged, verdict_of};
+ghost use Rattle.model_rules.specs.Ancestry.{is_certified};
+ghost use Rattle.model_rules.specs.Deadline.{triggered};
+ghost use Rattle.model_rules.specs.Calls.{Certified, takes_verdict, certified_answer};
 ghost use Rattle.simplex_state.specs.Progress.{progress_of};
 ghost use Rattle.simplex_state.specs.Stands.{StandsFor, Takes, Answers, Keeps};
 
@@ -106,7 +106,7 @@ impl<S: Scheme + Drop, L: Elector + Drop> State<S, L> {
     }
 
     /// Whether the view is the last final one, or a later one with a true verdict.
-    #[tactic(auto, unfolding(crate::specs::Stands::StandsFor, crate::specs::Progress::progress_of, simplex_rules::specs::Ancestry::is_certified, simplex_rules::specs::Views::least_active))]
+    #[tactic(auto, unfolding(crate::specs::Stands::StandsFor, crate::specs::Progress::progress_of, model_rules::specs::Ancestry::is_certified, model_rules::specs::Views::least_active))]
     pub(crate) fn is_certified(&self, view: View) -> bool
         ensures { Answers S.attests L.elects self.now (λ made known. is_certified known view) result }
     {

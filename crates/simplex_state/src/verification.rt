@@ -1,23 +1,23 @@
 //! What the application is asked to verify, and what is missing for it.
-#![tactic(auto, unfolding(crate::specs::Stands::StandsFor, crate::specs::Rounds::round_of, crate::specs::Rounds::slot_in, simplex_rules::specs::Slot::slot_of, crate::specs::Progress::progress_of, simplex_rules::specs::Views::least_active))]
+#![tactic(auto, unfolding(crate::specs::Stands::StandsFor, crate::specs::Rounds::round_of, crate::specs::Rounds::slot_in, model_rules::specs::Slot::slot_of, crate::specs::Progress::progress_of, model_rules::specs::Views::least_active))]
 
 ghost use Rattle.std.specs.Prelude.{◌≡◌, ◌≤◌, ◌+◌, ◌-◌, ◌&&◌, ◌++◌, ◌∷◌, true, not, List, None, find, unwrap_or, IfSome, OnOk, IfOk};
 ghost use Rattle.std.specs.Option.{is_none, option_map, option_and_then};
 ghost use Rattle.std.specs.List.{range_with_len};
 ghost use Rattle.simplex_values.specs.declared.ask.Kind as kinds;
-ghost use Rattle.simplex_rules.specs.declared.request.Verify.TheVariants as requests;
-ghost use Rattle.simplex_rules.specs.Known.{Made, Fact, VerifyAsked, MissingAsked, view_of, notarization_of};
-ghost use Rattle.simplex_rules.specs.Slot.{slot_of};
-ghost use Rattle.simplex_rules.specs.Ancestry.{is_certified, is_met};
-ghost use Rattle.simplex_rules.specs.Requests.{wants_verify, is_founded, verify_of, verify_asked, missing_below, resolve_of, verify_request};
-ghost use Rattle.simplex_rules.specs.Calls.{Call, TryVerify, known_of, verify_facts};
+ghost use Rattle.model_rules.specs.declared.request.Verify.TheVariants as requests;
+ghost use Rattle.model_rules.specs.Known.{Made, Fact, VerifyAsked, MissingAsked, view_of, notarization_of};
+ghost use Rattle.model_rules.specs.Slot.{slot_of};
+ghost use Rattle.model_rules.specs.Ancestry.{is_certified, is_met};
+ghost use Rattle.model_rules.specs.Requests.{wants_verify, is_founded, verify_of, verify_asked, missing_below, resolve_of, verify_request};
+ghost use Rattle.model_rules.specs.Calls.{Call, TryVerify, known_of, verify_facts};
 ghost use Rattle.simplex_state.specs.Progress.{progress_of};
 ghost use Rattle.simplex_state.specs.Verifying.{is_unasked};
 ghost use Rattle.simplex_state.specs.Stands.{StandsFor, Takes, Answers, Keeps};
 
 use crate::rounds::{first_round, put_round, round_at};
 use crate::state::State;
-use simplex_rules::Verify;
+use model_rules::Verify;
 use simplex_types::elector::Elector;
 use simplex_values::maps::contains;
 use simplex_values::{Context, Kind, Parent, Proposal, View};
@@ -100,7 +100,7 @@ impl<S: Scheme + Drop, L: Elector + Drop> State<S, L> {
     }
 
     /// Whether the view's slot may stand on its parent.
-    #[tactic(auto, unfolding(crate::specs::Stands::StandsFor, crate::specs::Rounds::round_of, crate::specs::Rounds::slot_in, simplex_rules::specs::Slot::slot_of, simplex_rules::specs::Requests::is_founded))]
+    #[tactic(auto, unfolding(crate::specs::Stands::StandsFor, crate::specs::Rounds::round_of, crate::specs::Rounds::slot_in, model_rules::specs::Slot::slot_of, model_rules::specs::Requests::is_founded))]
     fn is_founded(&self, view: View) -> bool
         ensures { (made : Made) (calls : List Call) → StandsFor S.attests L.elects self.now made calls
             → (progress_of made (known_of made calls)).pruned ≤ view
@@ -113,7 +113,7 @@ impl<S: Scheme + Drop, L: Elector + Drop> State<S, L> {
     }
 
     /// The slot of the view, to be verified.
-    #[tactic(auto, using(crate::proofs::Wanting::founded_above), unfolding(crate::specs::Stands::StandsFor, crate::specs::Rounds::round_of, crate::specs::Rounds::slot_in, crate::specs::Progress::progress_of, simplex_rules::specs::Views::least_active, simplex_rules::specs::Slot::slot_of, simplex_rules::specs::Requests::verify_of))]
+    #[tactic(auto, using(crate::proofs::Wanting::founded_above), unfolding(crate::specs::Stands::StandsFor, crate::specs::Rounds::round_of, crate::specs::Rounds::slot_in, crate::specs::Progress::progress_of, model_rules::specs::Views::least_active, model_rules::specs::Slot::slot_of, model_rules::specs::Requests::verify_of))]
     fn ready_verify(&self, view: View) -> Verify
         ensures answer { (made : Made) (calls : List Call) → StandsFor S.attests L.elects self.now made calls
             → (progress_of made (known_of made calls)).pruned ≤ view
@@ -139,7 +139,7 @@ impl<S: Scheme + Drop, L: Elector + Drop> State<S, L> {
     }
 
     /// What is missing below the slot of the view, where it was not asked for.
-    #[tactic(auto, unfolding(crate::specs::Stands::StandsFor, simplex_rules::specs::Requests::resolve_of))]
+    #[tactic(auto, unfolding(crate::specs::Stands::StandsFor, model_rules::specs::Requests::resolve_of))]
     fn missing_verify(&self, view: View) -> Verify
         ensures answer { (made : Made) (calls : List Call) → StandsFor S.attests L.elects self.now made calls
             → (progress_of made (known_of made calls)).pruned ≤ view
@@ -161,7 +161,7 @@ impl<S: Scheme + Drop, L: Elector + Drop> State<S, L> {
     }
 
     /// The least missing view below the slot of the view, and what is missing of it.
-    #[tactic(auto, unfolding(crate::specs::Stands::StandsFor, crate::specs::Rounds::round_of, crate::specs::Rounds::slot_in, crate::specs::Progress::progress_of, simplex_rules::specs::Views::least_active, simplex_rules::specs::Slot::slot_of, simplex_rules::specs::Requests::missing_below))]
+    #[tactic(auto, unfolding(crate::specs::Stands::StandsFor, crate::specs::Rounds::round_of, crate::specs::Rounds::slot_in, crate::specs::Progress::progress_of, model_rules::specs::Views::least_active, model_rules::specs::Slot::slot_of, model_rules::specs::Requests::missing_below))]
     fn missing_below(&self, view: View) -> Option<(View, Kind)>
         ensures { (made : Made) (calls : List Call) → StandsFor S.attests L.elects self.now made calls
             → (progress_of made (known_of made calls)).pruned ≤ view

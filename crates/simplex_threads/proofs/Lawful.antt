@@ -11,14 +11,14 @@ use Rattle.simplex_messages.specs.declared.call.Call.TheVariants as calls
 use Rattle.simplex_messages.specs.declared.step.Stop.{Stop}
 use Rattle.simplex_messages.specs.declared.step.Stop.TheVariants as stops
 use Rattle.simplex_messages.specs.declared.voter.VoterInput.{VoterInput}
-use Rattle.simplex_rules.specs.Known.{Made}
-use Rattle.simplex_steps.specs.Desk.{Doing}
-use Rattle.simplex_steps.specs.Performed.{performed, broken, whole, stop_place, stop_outcome}
-use Rattle.simplex_steps.specs.Voter.{Standing, acted, stepped}
-use Rattle.simplex_steps.specs.VoterLife.{VoterMade, place_of, step_given, idle}
-use Rattle.simplex_steps.specs.Engine.{is_whole}
-use Rattle.simplex_voter_laws.specs.Syncs.{unsynced}
-use Rattle.simplex_voter_laws.specs.Votes.{vote_packets, packet_of, votes_by_rule}
+use Rattle.model_rules.specs.Known.{Made}
+use Rattle.model_steps.specs.Desk.{Doing}
+use Rattle.model_steps.specs.Performed.{performed, broken, whole, stop_place, stop_outcome}
+use Rattle.model_steps.specs.Voter.{Standing, acted, stepped}
+use Rattle.model_steps.specs.VoterLife.{VoterMade, place_of, step_given, idle}
+use Rattle.model_steps.specs.Engine.{is_whole}
+use Rattle.law_member.specs.Syncs.{unsynced}
+use Rattle.law_member.specs.VoterVotes.{vote_packets, packet_of, votes_by_rule}
 use Rattle.simplex_turns.specs.Voting.{VoterPlace, Found, Turn, finds, voter_step, voter_turn, step_outcome, turn_outcome}
 use Rattle.simplex_threads.specs.Laws.{SendsWhatIsSynced, VotesByRule, AllSendWhatIsSynced, AllVoteByRule}
 

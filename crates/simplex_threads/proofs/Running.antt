@@ -19,8 +19,8 @@ use Rattle.simplex_shared.specs.declared.terms.Terms.{Terms}
 use Rattle.simplex_shared.specs.Calls.{calls_by}
 use Rattle.simplex_shared.specs.History.{caller_of}
 use Rattle.simplex_shared.specs.Passes.{Viewer, IsSamePass, calls_of}
-use Rattle.simplex_steps.specs.Engine.{none_skipped}
-use Rattle.simplex_steps.specs.VoterLife.{VoterMade, Given, Place, place_of}
+use Rattle.model_steps.specs.Engine.{none_skipped}
+use Rattle.model_steps.specs.VoterLife.{VoterMade, Given, Place, place_of}
 use Rattle.simplex_messages.specs.declared.step.Outcome.{Outcome}
 use Rattle.simplex_voter.specs.declared.actor.Actor.{Actor}
 use Rattle.simplex_voter.specs.Actor.{StandsFor, journal_of}

@@ -5,10 +5,10 @@ use Rattle.simplex_values.specs.declared.plan.Recipients.{Recipients}
 use Rattle.simplex_messages.specs.declared.call.Call.{Call}
 use Rattle.simplex_messages.specs.declared.call.Call.TheVariants as calls
 use Rattle.simplex_messages.specs.declared.step.StepOut.{StepOut}
-use Rattle.simplex_steps.specs.VoterLife.{VoterMade, place_of}
-use Rattle.simplex_steps.specs.Engine.{is_whole}
-use Rattle.simplex_voter_laws.specs.Syncs.{unsynced}
-use Rattle.simplex_voter_laws.specs.Votes.{vote_packets, packet_of, votes_by_rule}
+use Rattle.model_steps.specs.VoterLife.{VoterMade, place_of}
+use Rattle.model_steps.specs.Engine.{is_whole}
+use Rattle.law_member.specs.Syncs.{unsynced}
+use Rattle.law_member.specs.VoterVotes.{vote_packets, packet_of, votes_by_rule}
 use Rattle.simplex_turns.specs.Voting.{VoterPlace, Found, Turn, finds, voter_turn, turn_outcome}
 
 -- where something is sent, nothing that was appended before it stands unsynced

@@ -12,8 +12,8 @@ use Rattle.simplex_shared.specs.declared.op.Op.{Op}
 use Rattle.simplex_shared.specs.declared.op.Op.TheVariants.{Took}
 use Rattle.simplex_shared.specs.Calls.{calls_by}
 use Rattle.simplex_shared.specs.History.{caller_of}
-use Rattle.simplex_steps.specs.VoterLife.{place_of}
-use Rattle.simplex_steps.specs.Engine.{none_skipped}
+use Rattle.model_steps.specs.VoterLife.{place_of}
+use Rattle.model_steps.specs.Engine.{none_skipped}
 use Rattle.simplex_engine.specs.Parts.{Parts}
 use Rattle.simplex_turns.specs.declared.feed.Delivery.{Delivery}
 use Rattle.simplex_turns.specs.declared.feed.FeedItem.{FeedItem}

@@ -4,7 +4,7 @@ use Rattle.simplex_wire.specs.declared.scheme.Scheme as scheme
 use Rattle.simplex_types.specs.declared.elector.Elector as elector
 use Rattle.simplex_journal.specs.declared.journal.Journal as journal
 use Rattle.simplex_shared.specs.Passes.{calls_of}
-use Rattle.simplex_steps.specs.Engine.{none_skipped}
+use Rattle.model_steps.specs.Engine.{none_skipped}
 use Rattle.simplex_engine.specs.declared.crew.Crew.{Crew}
 use Rattle.simplex_turns.specs.declared.team.Team.{Team}
 use Rattle.simplex_turns.specs.Handing.{Filled}

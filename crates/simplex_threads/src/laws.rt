@@ -1,10 +1,10 @@
 //! What holds of a voter's turns, from the definitions alone.
-ghost use Rattle.simplex_steps.specs.VoterLife.{VoterMade};
+ghost use Rattle.model_steps.specs.VoterLife.{VoterMade};
 ghost use Rattle.simplex_turns.specs.Voting.{VoterPlace, Turn};
 ghost use Rattle.simplex_threads.specs.Laws.{AllSendWhatIsSynced, AllVoteByRule};
 ghost use Rattle.std.specs.Prelude.{List};
 
-use simplex_voter_laws::{sends_follow_syncs, sent_votes_are_by_rule};
+use law_member::{sends_follow_syncs, sent_votes_are_by_rule};
 
 /// In each turn of a voter, nothing is sent while a record that the turn appended before it stands unsynced.
 pub fn turns_send_what_is_synced()

@@ -11,7 +11,7 @@ mod start;
 
 pub use laws::{turns_send_what_is_synced, turns_vote_by_rule};
 pub use run::{Feed, ThreadRun};
-pub use simplex_gate::{Gate, OpenGate};
+pub use simplex_mailbox::{Gate, OpenGate};
 pub use simplex_turns::{Delivery, FeedItem, Logs};
 pub use simplex_voter::AskKind;
 pub use start::start_threads;

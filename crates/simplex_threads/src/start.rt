@@ -1,6 +1,6 @@
 //! Each actor of an engine on a thread of its own.
 ghost use Rattle.std.specs.Prelude.{◌≡◌, ◌<◌, ◌^◌, List, All, true, false, IfOk, IfErr, OnOk};
-ghost use Rattle.simplex_steps.specs.Engine.{EngineMade, Did, runs};
+ghost use Rattle.model_steps.specs.Engine.{EngineMade, Did, runs};
 ghost use Rattle.simplex_engine.specs.Parts.{Parts, parts_of};
 ghost use Rattle.simplex_engine.specs.Polled.{is_memory};
 ghost use Rattle.simplex_engine.specs.Stands.{StandsFor, StandsOver, Holds, clock_of, faults_of, faults_in, is_running, not_running};
@@ -10,8 +10,8 @@ ghost use Rattle.simplex_threads.specs.Ready.{IsReady};
 
 use crate::run::{Feed, ThreadRun};
 use simplex_engine::{Boxes, Crew, Engine, PollError};
-use simplex_gate::Gate;
 use simplex_journal::Journal;
+use simplex_mailbox::Gate;
 use simplex_turns::{
     BatcherThread, Mailboxes, Outs, ResolverThread, Team, VoterThread, open_for_three, open_for_two,
 };

@@ -1,7 +1,7 @@
 //! What an event did.
 use crate::node::{Node, Ref};
+use model_rules::Asked;
 use simplex_messages::{Call, Handed, Outcome};
-use simplex_rules::Asked;
 use simplex_types::{Answer, Bytes, Certificate, Channel, Sequence};
 
 /// A packet of the network.

@@ -13,7 +13,7 @@ use Rattle.simplex_messages.specs.Handing.{for_voter}
 use Rattle.simplex_messages.specs.Step.{no_out}
 use Rattle.simplex_shared.specs.declared.op.Op.TheVariants.{Took}
 use Rattle.simplex_shared.specs.Passes.{calls_of}
-use Rattle.simplex_steps.specs.Batcher.{Made, Timed, step_out}
+use Rattle.model_steps.specs.Batcher.{Made, Timed, step_out}
 use Rattle.simplex_batcher.specs.declared.actor.Actor.{Actor}
 use Rattle.simplex_batcher.specs.Stands.{StandsFor, Takes, Answers}
 use Rattle.simplex_turns.specs.declared.feed.Delivery.{Delivery}

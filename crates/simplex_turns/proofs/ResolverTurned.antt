@@ -14,8 +14,8 @@ use Rattle.simplex_messages.specs.Handing.{for_voter}
 use Rattle.simplex_messages.specs.Step.{no_out}
 use Rattle.simplex_shared.specs.declared.op.Op.TheVariants.{Took}
 use Rattle.simplex_shared.specs.Passes.{calls_of}
-use Rattle.simplex_resolving.specs.Resolver.{Made, Given, Stepped, HandlerTaken, step_out, handler_message, holds_handled, deadline_after, standing_after}
-use Rattle.simplex_resolving.specs.Views.{is_reached}
+use Rattle.model_resolver.specs.Resolver.{Made, Given, Stepped, HandlerTaken, step_out, handler_message, holds_handled, deadline_after, standing_after}
+use Rattle.model_resolver.specs.Views.{is_reached}
 use Rattle.simplex_resolver.specs.Stands.{StandsFor, Takes, Answers}
 use Rattle.simplex_turns.specs.declared.feed.Delivery.{Delivery}
 use Rattle.simplex_turns.specs.declared.resolver.ResolverThread.{ResolverThread}

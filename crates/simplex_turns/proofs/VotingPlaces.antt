@@ -11,15 +11,15 @@ use Rattle.simplex_messages.specs.declared.voter.VoterInput.TheVariants as input
 use Rattle.simplex_messages.specs.declared.step.Stop.{Stop}
 use Rattle.simplex_messages.specs.declared.step.Stop.TheVariants as stops
 use Rattle.simplex_messages.specs.declared.step.Outcome.TheVariants as outcomes
-use Rattle.simplex_rules.specs.Known.{Made}
-use Rattle.simplex_rules.specs.Ancestry.{is_certified}
-use Rattle.simplex_rules.specs.Pending.{Pending, pending_parent}
-use Rattle.simplex_rules.specs.declared.request.ProposalState.{ProposalState}
-use Rattle.simplex_rules.specs.declared.request.ProposalState.TheVariants.{Held}
-use Rattle.simplex_steps.specs.Desk.{Doing}
-use Rattle.simplex_steps.specs.Performed.{performed, stop_place}
-use Rattle.simplex_steps.specs.Voter.{Standing, takes_answer, answered, acted, stepped, take_proposal}
-use Rattle.simplex_steps.specs.VoterLife.{VoterMade, Given, Started, Stepped, Answered, place_of, step_given, idle}
+use Rattle.model_rules.specs.Known.{Made}
+use Rattle.model_rules.specs.Ancestry.{is_certified}
+use Rattle.model_rules.specs.Pending.{Pending, pending_parent}
+use Rattle.model_rules.specs.declared.request.ProposalState.{ProposalState}
+use Rattle.model_rules.specs.declared.request.ProposalState.TheVariants.{Held}
+use Rattle.model_steps.specs.Desk.{Doing}
+use Rattle.model_steps.specs.Performed.{performed, stop_place}
+use Rattle.model_steps.specs.Voter.{Standing, takes_answer, answered, acted, stepped, take_proposal}
+use Rattle.model_steps.specs.VoterLife.{VoterMade, Given, Started, Stepped, Answered, place_of, step_given, idle}
 use Rattle.simplex_voter.specs.declared.kind.AskKind.{AskKind}
 use Rattle.simplex_voter.specs.Unanswered.{unanswered}
 use Rattle.simplex_voter.specs.Turned.{step_left}

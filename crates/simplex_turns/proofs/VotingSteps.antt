@@ -16,7 +16,7 @@ use Rattle.simplex_messages.specs.Step.{no_out}
 use Rattle.simplex_shared.specs.declared.op.Op.TheVariants.{Took}
 use Rattle.simplex_shared.specs.declared.op.Op.{Op}
 use Rattle.simplex_shared.specs.Passes.{Viewer, IsSamePass, calls_of}
-use Rattle.simplex_steps.specs.VoterLife.{VoterMade, Given, Stepped, Place, place_of, step_given}
+use Rattle.model_steps.specs.VoterLife.{VoterMade, Given, Stepped, Place, place_of, step_given}
 use Rattle.simplex_values.specs.declared.proposal.Subject.{Subject}
 use Rattle.simplex_values.specs.declared.round.Round.{Round}
 use Rattle.simplex_wire.specs.declared.attestation.Attestation.{Attestation}

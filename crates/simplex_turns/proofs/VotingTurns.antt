@@ -11,7 +11,7 @@ use Rattle.simplex_messages.specs.declared.step.Outcome.TheVariants as outcomes
 use Rattle.simplex_messages.specs.Handing.{for_batcher, for_resolver}
 use Rattle.simplex_shared.specs.declared.op.Op.TheVariants.{Took}
 use Rattle.simplex_shared.specs.Passes.{calls_of}
-use Rattle.simplex_steps.specs.VoterLife.{VoterMade}
+use Rattle.model_steps.specs.VoterLife.{VoterMade}
 use Rattle.simplex_voter.specs.Actor.{journal_of}
 use Rattle.simplex_voter.specs.Turned.{FaultsAt}
 use Rattle.simplex_turns.specs.declared.voter.VoterThread.{VoterThread}

@@ -9,7 +9,7 @@ use Rattle.simplex_messages.specs.declared.batcher.BatcherInput.{BatcherInput}
 use Rattle.simplex_messages.specs.declared.batcher.BatcherInput.TheVariants as inputs
 use Rattle.simplex_messages.specs.declared.step.StepOut.{StepOut}
 use Rattle.simplex_messages.specs.Step.{no_out}
-use Rattle.simplex_steps.specs.Batcher.{Made, Timed, step_out}
+use Rattle.model_steps.specs.Batcher.{Made, Timed, step_out}
 use Rattle.simplex_turns.specs.declared.feed.Delivery.{Delivery}
 
 -- where a batcher's turns have come: what it was given, the newest first, and what of its feed is left

@@ -3,7 +3,7 @@ use Rattle.std.specs.Prelude.{◌≡◌, Option}
 use Rattle.simplex_wire.specs.declared.scheme.Scheme as scheme
 use Rattle.simplex_messages.specs.declared.resolver.MailboxMessage.{MailboxMessage}
 use Rattle.simplex_messages.specs.declared.resolver.ResolverInput.{ResolverInput}
-use Rattle.simplex_resolving.specs.Resolver.{Made}
+use Rattle.model_resolver.specs.Resolver.{Made}
 use Rattle.simplex_turns.specs.declared.resolver.ResolverThread.{ResolverThread}
 use Rattle.simplex_turns.specs.Resolving.{ResolverPlace, resolver_step, resolver_turn}
 use Rattle.simplex_turns.specs.Threads.{ResolverIsAt}

@@ -8,8 +8,8 @@ use Rattle.simplex_messages.specs.declared.resolver.ResolverInput.{ResolverInput
 use Rattle.simplex_messages.specs.declared.resolver.ResolverInput.TheVariants as inputs
 use Rattle.simplex_messages.specs.declared.step.StepOut.{StepOut}
 use Rattle.simplex_messages.specs.Step.{no_out}
-use Rattle.simplex_resolving.specs.Views.{is_reached}
-use Rattle.simplex_resolving.specs.Resolver.{Made, Given, Stepped, HandlerTaken, step_out, handler_message, deadline_after}
+use Rattle.model_resolver.specs.Views.{is_reached}
+use Rattle.model_resolver.specs.Resolver.{Made, Given, Stepped, HandlerTaken, step_out, handler_message, deadline_after}
 use Rattle.simplex_turns.specs.declared.feed.Delivery.{Delivery}
 
 -- where a resolver's turns have come: what it was given, the newest first, and what of its feed is left

@@ -8,7 +8,7 @@ use Rattle.simplex_shared.specs.declared.op.Op.{Op}
 use Rattle.simplex_shared.specs.Calls.{calls_by}
 use Rattle.simplex_shared.specs.History.{caller_of}
 use Rattle.simplex_shared.specs.Passes.{Viewer, calls_of}
-use Rattle.simplex_steps.specs.Engine.{none_skipped}
+use Rattle.model_steps.specs.Engine.{none_skipped}
 use Rattle.simplex_turns.specs.declared.batcher.BatcherThread.{BatcherThread}
 use Rattle.simplex_turns.specs.declared.logs.Logs.{Logs}
 use Rattle.simplex_turns.specs.declared.mailboxes.Mailboxes.{Mailboxes}

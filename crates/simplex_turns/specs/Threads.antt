@@ -17,9 +17,9 @@ use Rattle.simplex_messages.specs.declared.step.Outcome.TheVariants as outcomes
 use Rattle.simplex_messages.specs.Handing.{for_batcher, for_voter, for_resolver}
 use Rattle.simplex_shared.specs.declared.op.Op.TheVariants.{Took}
 use Rattle.simplex_shared.specs.Passes.{IsSamePass, calls_of}
-use Rattle.simplex_steps.specs.Batcher as batching
-use Rattle.simplex_steps.specs.VoterLife.{VoterMade, Given, place_of}
-use Rattle.simplex_resolving.specs.Resolver as resolving
+use Rattle.model_steps.specs.Batcher as batching
+use Rattle.model_steps.specs.VoterLife.{VoterMade, Given, place_of}
+use Rattle.model_resolver.specs.Resolver as resolving
 use Rattle.simplex_batcher.specs.Stands as batchers
 use Rattle.simplex_resolver.specs.Stands as resolvers
 use Rattle.simplex_voter.specs.Actor.{VoterStands, journal_of}

@@ -13,13 +13,13 @@ use Rattle.simplex_messages.specs.declared.step.Outcome.TheVariants as outcomes
 use Rattle.simplex_messages.specs.declared.step.Stop.{Stop}
 use Rattle.simplex_messages.specs.declared.step.Stop.TheVariants as stops
 use Rattle.simplex_messages.specs.Step.{no_out}
-use Rattle.simplex_rules.specs.Known.{Fact}
-use Rattle.simplex_rules.specs.Ancestry.{is_certified}
-use Rattle.simplex_rules.specs.Pending.{Pending, pending_parent}
-use Rattle.simplex_rules.specs.declared.request.ProposalState.{ProposalState}
-use Rattle.simplex_rules.specs.declared.request.ProposalState.TheVariants.{Held}
-use Rattle.simplex_steps.specs.Voter.{Standing, takes_answer}
-use Rattle.simplex_steps.specs.VoterLife.{VoterMade, Given, Stepped, Answered, place_of, step_given}
+use Rattle.model_rules.specs.Known.{Fact}
+use Rattle.model_rules.specs.Ancestry.{is_certified}
+use Rattle.model_rules.specs.Pending.{Pending, pending_parent}
+use Rattle.model_rules.specs.declared.request.ProposalState.{ProposalState}
+use Rattle.model_rules.specs.declared.request.ProposalState.TheVariants.{Held}
+use Rattle.model_steps.specs.Voter.{Standing, takes_answer}
+use Rattle.model_steps.specs.VoterLife.{VoterMade, Given, Stepped, Answered, place_of, step_given}
 use Rattle.simplex_voter.specs.declared.kind.AskKind.{AskKind}
 use Rattle.simplex_voter.specs.declared.kind.AskKind.TheVariants.{Prepare, Propose, Verify, Certify}
 use Rattle.simplex_voter.specs.Unanswered.{unanswered}

@@ -5,12 +5,11 @@ ghost use Rattle.simplex_turns.specs.Voting.{taken_by};
 use crate::feed::FeedItem;
 use crate::handing::put_all;
 use crate::mailboxes::Mailboxes;
-use simplex_gate::Gate;
+use model_rules::ProposalState;
 use simplex_journal::Journal;
-use simplex_mailbox::{Held, posted_are_held};
+use simplex_mailbox::{Gate, Held, posted_are_held};
 use simplex_messages::resolver::MailboxMessage;
 use simplex_messages::{Outcome, StepOut, Stop, VoterInput, batcher, voter};
-use simplex_rules::ProposalState;
 use simplex_shared::Pass;
 use simplex_types::elector::Elector;
 use simplex_types::{Answer, Scheme};
@@ -44,7 +43,7 @@ pub struct VoterThread<S: Scheme, L: Elector, J: Journal> {
 
 impl<S: Scheme + Drop, L: Elector + Drop, J: Journal + Drop> VoterThread<S, L, J> {
     ghost use Rattle.simplex_shared.specs.Passes.{IsSamePass};
-    ghost use Rattle.simplex_steps.specs.VoterLife.{VoterMade, place_of};
+    ghost use Rattle.model_steps.specs.VoterLife.{VoterMade, place_of};
     ghost use Rattle.simplex_turns.specs.declared.feed.FeedItem.TheVariants as items;
     ghost use Rattle.simplex_turns.specs.Threads.{VoterIsAt, KeepsVoter, Finds, VoterSteps, VoterTurns, VoterRuns, IsSameVoter, IsInTime};
     ghost use Rattle.simplex_turns.specs.Voting.{VoterPlace, finds, on_item, holds_candidate};

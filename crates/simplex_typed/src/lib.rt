@@ -1,9 +1,9 @@
 //! That the values of an entry keep to their types.
 #![tactic(auto)]
 
-ghost use Rattle.simplex_safety.specs.Sayings.{Each};
+ghost use Rattle.law_run.specs.Sayings.{Each};
 ghost use Rattle.simplex_wire.specs.Fits.{IsBytes, IsRaw, FitsRound, FitsProposal};
-ghost use Rattle.simplex_backing.specs.Fitting.{RecordFits, CallFits, HandedFits, IsOfBytes, IsTyped};
+ghost use Rattle.law_run.specs.Fitting.{RecordFits, CallFits, HandedFits, IsOfBytes, IsTyped};
 
 use simplex_messages::{Call, Handed, batcher};
 use simplex_transcript::{Entry, Packet};

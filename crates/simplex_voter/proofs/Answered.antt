@@ -5,10 +5,10 @@ use Rattle.std.specs.List.{list_any, list_all}
 use Rattle.std.proofs.lemmas.Grind.{common_steps}
 use Rattle.std.proofs.lemmas.Bool.Decides.{nat_tests}
 use Rattle.simplex_values.specs.declared.answer.Answer.{Answer}
-use Rattle.simplex_rules.specs.Pending.{Desk, Opened, Pending, is_open}
-use Rattle.simplex_rules.specs.declared.request.ProposalState.{ProposalState}
-use Rattle.simplex_rules.specs.declared.request.ProposalState.TheVariants.{Preparing, Proposing}
-use Rattle.simplex_steps.specs.Voter.{Standing, answer_to, fits_proposal, fits_verdict, takes_answer, answered, marked_answered}
+use Rattle.model_rules.specs.Pending.{Desk, Opened, Pending, is_open}
+use Rattle.model_rules.specs.declared.request.ProposalState.{ProposalState}
+use Rattle.model_rules.specs.declared.request.ProposalState.TheVariants.{Preparing, Proposing}
+use Rattle.model_steps.specs.Voter.{Standing, answer_to, fits_proposal, fits_verdict, takes_answer, answered, marked_answered}
 use Rattle.simplex_voter.specs.declared.request.Arrival.{Arrival}
 use Rattle.simplex_voter.specs.declared.request.OpenRequest.{OpenRequest}
 use Rattle.simplex_voter.specs.declared.request.PendingProposal.{PendingProposal}
@@ -16,8 +16,8 @@ use Rattle.simplex_voter.specs.Arrivals.{arrival_from, arrival_of, pending_of, o
 use Rattle.simplex_values.specs.declared.proposal.Subject.{Subject}
 use Rattle.simplex_values.specs.declared.round.Round.{Round}
 use Rattle.simplex_wire.specs.declared.attestation.Attestation.{Attestation}
-use Rattle.simplex_rules.specs.Known.{Made}
-use Rattle.simplex_steps.specs.Desk.{Doing, begun}
+use Rattle.model_rules.specs.Known.{Made}
+use Rattle.model_steps.specs.Desk.{Doing, begun}
 use Rattle.simplex_voter.specs.declared.planner.Planner.{Planner}
 use Rattle.simplex_voter.specs.Stands.{Stands, doing_of}
 use Rattle.simplex_voter.proofs.Taking.{answer-kept}

@@ -2,10 +2,10 @@
 use Rattle.std.proofs.Common.{◌≡◌, ℕ, ◌+◌, ◌-◌, ◌<◌, ◌≤◌, ◌^◌, min, max, List, [], ◌∷◌, true, arith}
 use Rattle.std.proofs.lemmas.Bool.Decides.{nat_tests}
 use Rattle.simplex_values.specs.Terms.{next_of}
-use Rattle.simplex_rules.specs.Known.{Made, Fact, Added, Judged}
+use Rattle.model_rules.specs.Known.{Made, Fact, Added, Judged}
 use Rattle.simplex_wire.specs.declared.certificate.Certificate.TheVariants as certificates
-use Rattle.simplex_rules.specs.Lists.{greatest_of}
-use Rattle.simplex_rules.specs.Views.{finalized_view, opened_view, last_finalized, current_of, least_active, admits_certificate}
+use Rattle.model_rules.specs.Lists.{greatest_of}
+use Rattle.model_rules.specs.Views.{finalized_view, opened_view, last_finalized, current_of, least_active, admits_certificate}
 
 -- what opens a view is at least one above what is final, up to the greatest view
 fact-opens : (length : ℕ) (fact : Fact) → min (finalized_view fact + 1) (2 ^ 64 - 1) ≤ max 1 (opened_view length fact)

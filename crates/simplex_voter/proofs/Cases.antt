@@ -8,18 +8,18 @@ use Rattle.simplex_values.specs.declared.answer.Handoff.{Handoff}
 use Rattle.simplex_values.specs.declared.answer.Handoff.TheVariants as handoffs
 use Rattle.simplex_values.specs.declared.plan.Plan.TheVariants as plans
 use Rattle.simplex_values.specs.declared.timeout.TimeoutReason.TheVariants.{LeaderTimeout}
-use Rattle.simplex_rules.specs.Known.{Made, Fact, has_nullified}
-use Rattle.simplex_rules.specs.Views.{current_of}
-use Rattle.simplex_rules.specs.Votes.{nullify_at}
-use Rattle.simplex_rules.specs.Best.{best_certificate}
-use Rattle.simplex_rules.specs.Calls as state
-use Rattle.simplex_rules.specs.Calls.{adds_notarization, adds_finalization, contradicted_leader, add_notarization_answer, add_finalization_answer, construct_nullify_answer, facts_of}
-use Rattle.simplex_rules.specs.Slot.{records_answer}
-use Rattle.simplex_rules.specs.Ancestry.{is_certified}
-use Rattle.simplex_rules.specs.Pending.{Pending, pending_view, pending_parent}
+use Rattle.model_rules.specs.Known.{Made, Fact, has_nullified}
+use Rattle.model_rules.specs.Views.{current_of}
+use Rattle.model_rules.specs.Votes.{nullify_at}
+use Rattle.model_rules.specs.Best.{best_certificate}
+use Rattle.model_rules.specs.Calls as state
+use Rattle.model_rules.specs.Calls.{adds_notarization, adds_finalization, contradicted_leader, add_notarization_answer, add_finalization_answer, construct_nullify_answer, facts_of}
+use Rattle.model_rules.specs.Slot.{records_answer}
+use Rattle.model_rules.specs.Ancestry.{is_certified}
+use Rattle.model_rules.specs.Pending.{Pending, pending_view, pending_parent}
 use Rattle.simplex_messages.specs.declared.call.Call.TheVariants as calls
-use Rattle.simplex_steps.specs.Desk.{Doing, tell, make}
-use Rattle.simplex_steps.specs.Voter.{settle_proposal, propose, stage, act_on_deadline, act_on_proposal}
+use Rattle.model_steps.specs.Desk.{Doing, tell, make}
+use Rattle.model_steps.specs.Voter.{settle_proposal, propose, stage, act_on_deadline, act_on_proposal}
 use Rattle.simplex_voter.specs.Stands.{with_nullify, act_on_handoff}
 
 pub propose-recorded : (made : Made) (p : Pending) (payload : List ℕ) (doing : Doing) → records_answer made doing.desk.known (pending_view p) ≡ true

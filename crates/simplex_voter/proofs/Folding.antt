@@ -1,8 +1,8 @@
 -- A loop that folds a change of the desk over a list.
 use Rattle.std.proofs.Common.{◌≡◌, ℕ, ◌+◌, ◌<◌, List, ◌∷◌, length, get_or, fold, drop, ap, sym, ◌∙◌, add-one, suc}
 use Rattle.std.proofs.Math.Seq.{drop-cons}
-use Rattle.simplex_rules.specs.Pending.{Desk}
-use Rattle.simplex_steps.specs.Desk.{Doing}
+use Rattle.model_rules.specs.Pending.{Desk}
+use Rattle.model_steps.specs.Desk.{Doing}
 use Rattle.simplex_voter.specs.Stands.{on_desk}
 
 -- what was done so far, from which what is left gives the same as all from what was done before

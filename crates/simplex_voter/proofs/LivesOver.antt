@@ -7,7 +7,7 @@ use Rattle.simplex_values.specs.declared.round.Round.{Round}
 use Rattle.simplex_values.specs.declared.answer.Answer.{Answer}
 use Rattle.simplex_wire.specs.declared.attestation.Attestation.{Attestation}
 use Rattle.simplex_wire.specs.declared.artifact.Artifact.{Artifact}
-use Rattle.simplex_rules.specs.Known.{Made}
+use Rattle.model_rules.specs.Known.{Made}
 use Rattle.simplex_journal.specs.Journal.{Section, replayed}
 use Rattle.simplex_messages.specs.declared.step.Stop.{Stop}
 use Rattle.simplex_messages.specs.declared.step.Stop.TheVariants as stops
@@ -16,10 +16,10 @@ use Rattle.simplex_messages.specs.declared.step.Outcome.TheVariants as outcomes
 use Rattle.simplex_messages.specs.declared.step.StepOut.{StepOut}
 use Rattle.simplex_messages.specs.declared.voter.VoterInput.{VoterInput}
 use Rattle.simplex_messages.specs.Step.{no_out}
-use Rattle.simplex_steps.specs.Desk.{Doing, begun}
-use Rattle.simplex_steps.specs.Performed.{Performed, performed}
-use Rattle.simplex_steps.specs.Voter.{blank_desk, stepped, started}
-use Rattle.simplex_steps.specs.VoterLife.{VoterMade, Given, Started, Stepped, Place, place_of, rest, unreadable, start_at, start_given, step_given}
+use Rattle.model_steps.specs.Desk.{Doing, begun}
+use Rattle.model_steps.specs.Performed.{Performed, performed}
+use Rattle.model_steps.specs.Voter.{blank_desk, stepped, started}
+use Rattle.model_steps.specs.VoterLife.{VoterMade, Given, Started, Stepped, Place, place_of, rest, unreadable, start_at, start_given, step_given}
 use Rattle.simplex_voter.specs.declared.planner.Planner.{Planner}
 use Rattle.simplex_voter.specs.declared.actor.Actor.{Actor}
 use Rattle.simplex_voter.specs.Actor.{StaysOver, StandsOver, Fares, FaresFirst, journal_of, floor_calls}

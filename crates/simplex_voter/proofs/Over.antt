@@ -13,8 +13,8 @@ use Rattle.simplex_messages.specs.declared.step.Stop.TheVariants as stops
 use Rattle.simplex_messages.specs.declared.step.Outcome.TheVariants as outcomes
 use Rattle.simplex_messages.specs.declared.step.StepOut.{StepOut}
 use Rattle.simplex_messages.specs.Step.{no_out}
-use Rattle.simplex_steps.specs.Desk.{Doing}
-use Rattle.simplex_steps.specs.Performed.{is_of_journal, journal_place, stop_place, stop_outcome, after_call, after_calls, after_failing, performed}
+use Rattle.model_steps.specs.Desk.{Doing}
+use Rattle.model_steps.specs.Performed.{is_of_journal, journal_place, stop_place, stop_outcome, after_call, after_calls, after_failing, performed}
 use Rattle.simplex_voter.specs.declared.performing.Break.{Break}
 use Rattle.simplex_voter.specs.Turned.{Becomes, left_as}
 use Rattle.simplex_voter.specs.Performing.{Heeds, FailsPart, broken_at, out_of, FailedAt, Reached, FaultsBy, BrokeOver, MadeOver, FaultsWith, GaveOver, SettledOver}

@@ -7,10 +7,10 @@ use Rattle.simplex_messages.specs.declared.step.Stop.TheVariants as stops
 use Rattle.simplex_messages.specs.declared.step.Outcome.TheVariants as outcomes
 use Rattle.simplex_messages.specs.declared.voter.VoterInput.{VoterInput}
 use Rattle.simplex_messages.specs.Step.{no_out}
-use Rattle.simplex_steps.specs.Desk.{Doing}
-use Rattle.simplex_steps.specs.Performed.{performed, kept_by}
-use Rattle.simplex_steps.specs.Voter.{stepped}
-use Rattle.simplex_steps.specs.VoterLife.{VoterMade, Given, Started, Stepped, place_of, rest, unreadable, unread, start_performed, start_at, start_given, step_given, idle}
+use Rattle.model_steps.specs.Desk.{Doing}
+use Rattle.model_steps.specs.Performed.{performed, kept_by}
+use Rattle.model_steps.specs.Voter.{stepped}
+use Rattle.model_steps.specs.VoterLife.{VoterMade, Given, Started, Stepped, place_of, rest, unreadable, unread, start_performed, start_at, start_given, step_given, idle}
 use Rattle.simplex_voter.specs.Actor.{floor_calls}
 use Rattle.simplex_voter.specs.Performing.{past_reading}
 use Rattle.simplex_voter.proofs.Restoring.{begins-so}

@@ -4,9 +4,9 @@ use Rattle.simplex_values.specs.declared.proposal.Subject.{Subject}
 use Rattle.simplex_values.specs.declared.answer.Answer.{Answer}
 use Rattle.simplex_values.specs.declared.round.Round.{Round}
 use Rattle.simplex_wire.specs.declared.attestation.Attestation.{Attestation}
-use Rattle.simplex_rules.specs.Known.{Made}
-use Rattle.simplex_rules.specs.Calls.{known_of}
-use Rattle.simplex_steps.specs.Desk.{Doing}
+use Rattle.model_rules.specs.Known.{Made}
+use Rattle.model_rules.specs.Calls.{known_of}
+use Rattle.model_steps.specs.Desk.{Doing}
 use Rattle.simplex_voter.specs.declared.planner.Planner.{Planner}
 use Rattle.simplex_voter.specs.Stands.{Stands, doing_of}
 

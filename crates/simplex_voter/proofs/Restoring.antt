@@ -11,16 +11,16 @@ use Rattle.simplex_types.specs.declared.floor.Floor.{Floor}
 use Rattle.simplex_types.specs.declared.floor.Floor.TheVariants as floors
 use Rattle.simplex_values.specs.declared.timeout.TimeoutReason.{TimeoutReason}
 use Rattle.simplex_values.specs.declared.timeout.TimeoutReason.TheVariants.{FailedCertification}
-use Rattle.simplex_rules.specs.Lists.{greatest_of}
-use Rattle.simplex_rules.specs.Known.{Made, Fact, Expired, Failed, Judged}
-use Rattle.simplex_rules.specs.Deadline.{triggered, expires, fails}
-use Rattle.simplex_rules.specs.Calls as state
-use Rattle.simplex_rules.specs.Calls.{pruned_view, replay_answer, certified_answer, takes_verdict, judged, facts_of}
+use Rattle.model_rules.specs.Lists.{greatest_of}
+use Rattle.model_rules.specs.Known.{Made, Fact, Expired, Failed, Judged}
+use Rattle.model_rules.specs.Deadline.{triggered, expires, fails}
+use Rattle.model_rules.specs.Calls as state
+use Rattle.model_rules.specs.Calls.{pruned_view, replay_answer, certified_answer, takes_verdict, judged, facts_of}
 use Rattle.simplex_messages.specs.declared.call.Call.{Call}
 use Rattle.simplex_messages.specs.declared.call.Call.TheVariants as calls
-use Rattle.simplex_steps.specs.Desk.{Doing, begun, tell}
-use Rattle.simplex_steps.specs.Voter.{block_for, report_if, updated_if, replay_verdict, activity_of, certificate_in, replay_record, replay_all, stand_on, keep_floor, prune_at, prune, begin_iteration, started, blank_desk}
-use Rattle.simplex_steps.specs.VoterLife.{before_reading}
+use Rattle.model_steps.specs.Desk.{Doing, begun, tell}
+use Rattle.model_steps.specs.Voter.{block_for, report_if, updated_if, replay_verdict, activity_of, certificate_in, replay_record, replay_all, stand_on, keep_floor, prune_at, prune, begin_iteration, started, blank_desk}
+use Rattle.model_steps.specs.VoterLife.{before_reading}
 use Rattle.simplex_values.specs.declared.round.Round.{Round}
 use Rattle.simplex_wire.specs.declared.certificate.Finalization.{Finalization}
 use Rattle.simplex_voter.proofs.Folding.{drop-item}

@@ -4,7 +4,7 @@ use Rattle.std.specs.List.{position_or_len, position, insert}
 use Rattle.std.proofs.lemmas.Grind.{common_steps}
 use Rattle.std.proofs.lemmas.List.Edits.{insert_end}
 use Rattle.std.proofs.lemmas.Bool.Decides.{nat_tests}
-use Rattle.simplex_rules.specs.Pending.{put_number}
+use Rattle.model_rules.specs.Pending.{put_number}
 
 insert-cons : (x n : ℕ) (xs : List ℕ) (k : ℕ) → insert (x ∷ xs) (1 + k) n ≡ x ∷ insert xs k n
 insert-cons x n xs k = grind (arith, common_steps)

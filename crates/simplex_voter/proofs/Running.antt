@@ -10,14 +10,14 @@ use Rattle.simplex_messages.specs.declared.call.Call.TheVariants as made_calls
 use Rattle.simplex_messages.specs.declared.step.Stop.{Stop}
 use Rattle.simplex_messages.specs.declared.step.Stop.TheVariants as stops
 use Rattle.simplex_messages.specs.declared.step.Outcome.TheVariants as outcomes
-use Rattle.simplex_steps.specs.Performed.{is_of_journal, journal_place, stop_place, stop_outcome, kept_by, after_call, after_calls, after_failing, failing_at, performed}
+use Rattle.model_steps.specs.Performed.{is_of_journal, journal_place, stop_place, stop_outcome, kept_by, after_call, after_calls, after_failing, failing_at, performed}
 use Rattle.simplex_voter.specs.declared.performing.Break.{Break}
 use Rattle.std.specs.Global.{Vec}
 use Rattle.simplex_wire.specs.declared.artifact.Artifact.{Artifact}
 use Rattle.simplex_messages.specs.declared.step.StepOut.{StepOut}
 use Rattle.simplex_messages.specs.Step.{no_out}
-use Rattle.simplex_steps.specs.Desk.{Doing}
-use Rattle.simplex_steps.specs.VoterLife.{unreadable}
+use Rattle.model_steps.specs.Desk.{Doing}
+use Rattle.model_steps.specs.VoterLife.{unreadable}
 use Rattle.simplex_voter.specs.Performing.{after_order, fails_at, broken_at, out_of, Tells, Ran, Passed, Made, Gave, Settled, Reads, Read}
 
 -- ---- lists of calls

@@ -5,16 +5,16 @@ use Rattle.simplex_values.specs.declared.proposal.Subject.{Subject}
 use Rattle.simplex_values.specs.declared.answer.Answer.{Answer}
 use Rattle.simplex_values.specs.declared.round.Round.{Round}
 use Rattle.simplex_wire.specs.declared.attestation.Attestation.{Attestation}
-use Rattle.simplex_rules.specs.Known.{Made}
-use Rattle.simplex_rules.specs.Ancestry.{is_certified}
-use Rattle.simplex_rules.specs.Deadline.{deadline_of}
-use Rattle.simplex_rules.specs.Views.{current_of}
-use Rattle.simplex_rules.specs.Pending.{Desk, Pending, Opened, pending_parent}
-use Rattle.simplex_rules.specs.declared.request.ProposalState.{ProposalState}
-use Rattle.simplex_rules.specs.declared.request.ProposalState.TheVariants.{Preparing, Proposing, Waiting, Held, Closed}
+use Rattle.model_rules.specs.Known.{Made}
+use Rattle.model_rules.specs.Ancestry.{is_certified}
+use Rattle.model_rules.specs.Deadline.{deadline_of}
+use Rattle.model_rules.specs.Views.{current_of}
+use Rattle.model_rules.specs.Pending.{Desk, Pending, Opened, pending_parent}
+use Rattle.model_rules.specs.declared.request.ProposalState.{ProposalState}
+use Rattle.model_rules.specs.declared.request.ProposalState.TheVariants.{Preparing, Proposing, Waiting, Held, Closed}
 use Rattle.simplex_messages.specs.declared.voter.VoterInput.TheVariants as inputs
-use Rattle.simplex_steps.specs.Desk.{Doing, begun}
-use Rattle.simplex_steps.specs.Voter.{Standing, answer_to, acted, take_proposal, act_on_deadline, propose, act_on_proposal, act_on_verify, act_on_certify, with_answer}
+use Rattle.model_steps.specs.Desk.{Doing, begun}
+use Rattle.model_steps.specs.Voter.{Standing, answer_to, acted, take_proposal, act_on_deadline, propose, act_on_proposal, act_on_verify, act_on_certify, with_answer}
 use Rattle.simplex_voter.specs.declared.request.Arrival.{Arrival}
 use Rattle.simplex_voter.specs.declared.request.OpenRequest.{OpenRequest}
 use Rattle.simplex_voter.specs.declared.request.PendingProposal.{PendingProposal}

@@ -5,11 +5,11 @@ use Rattle.std.proofs.lemmas.Bool.Decides.{nat_tests}
 use Rattle.std.specs.Option.{option_map}
 use Rattle.simplex_values.specs.declared.answer.Answer.{Answer}
 use Rattle.simplex_values.specs.declared.answer.Answer.TheVariants as answers
-use Rattle.simplex_rules.specs.Known.{Made}
-use Rattle.simplex_rules.specs.Pending.{Desk, Pending, Opened}
+use Rattle.model_rules.specs.Known.{Made}
+use Rattle.model_rules.specs.Pending.{Desk, Pending, Opened}
 use Rattle.simplex_messages.specs.declared.voter.VoterInput.TheVariants as inputs
-use Rattle.simplex_steps.specs.Desk.{Doing, begun}
-use Rattle.simplex_steps.specs.Voter.{answer_to, first_answered, with_answer, take_proposal, begin_iteration, ended, finished, acted, act_on_verify, act_on_certify}
+use Rattle.model_steps.specs.Desk.{Doing, begun}
+use Rattle.model_steps.specs.Voter.{answer_to, first_answered, with_answer, take_proposal, begin_iteration, ended, finished, acted, act_on_verify, act_on_certify}
 use Rattle.simplex_voter.specs.declared.request.Arrival.{Arrival}
 use Rattle.simplex_voter.specs.declared.request.OpenRequest.{OpenRequest}
 use Rattle.simplex_voter.specs.Arrivals.{arrival_from, opened_of, least_of, is_before, is_before_at, AllKept, IsKept}

@@ -5,12 +5,12 @@ use Rattle.simplex_values.specs.declared.proposal.Subject.{Subject}
 use Rattle.simplex_values.specs.declared.answer.Answer.{Answer}
 use Rattle.simplex_values.specs.declared.round.Round.{Round}
 use Rattle.simplex_wire.specs.declared.attestation.Attestation.{Attestation}
-use Rattle.simplex_rules.specs.Known.{Made}
-use Rattle.simplex_rules.specs.Pending.{Desk, Pending, Opened}
-use Rattle.simplex_rules.specs.declared.request.ProposalState.{ProposalState}
-use Rattle.simplex_rules.specs.declared.request.ProposalState.TheVariants.{Preparing, Proposing, Waiting, Held, Closed}
-use Rattle.simplex_steps.specs.Desk.{Doing, begun}
-use Rattle.simplex_steps.specs.Voter.{Standing, answer_to}
+use Rattle.model_rules.specs.Known.{Made}
+use Rattle.model_rules.specs.Pending.{Desk, Pending, Opened}
+use Rattle.model_rules.specs.declared.request.ProposalState.{ProposalState}
+use Rattle.model_rules.specs.declared.request.ProposalState.TheVariants.{Preparing, Proposing, Waiting, Held, Closed}
+use Rattle.model_steps.specs.Desk.{Doing, begun}
+use Rattle.model_steps.specs.Voter.{Standing, answer_to}
 use Rattle.simplex_voter.specs.declared.kind.AskKind.TheVariants.{Prepare, Propose, Verify, Certify}
 use Rattle.simplex_voter.specs.declared.request.Arrival.{Arrival}
 use Rattle.simplex_voter.specs.declared.request.OpenRequest.{OpenRequest}

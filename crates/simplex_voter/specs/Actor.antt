@@ -9,7 +9,7 @@ use Rattle.simplex_wire.specs.declared.attestation.Attestation.{Attestation}
 use Rattle.simplex_types.specs.declared.floor.Floor.{Floor}
 use Rattle.simplex_types.specs.declared.floor.Floor.TheVariants as floors
 use Rattle.simplex_types.specs.declared.activity.Activity.TheVariants as activities
-use Rattle.simplex_rules.specs.Pending.{Pending, Opened}
+use Rattle.model_rules.specs.Pending.{Pending, Opened}
 use Rattle.simplex_journal.specs.Journal.{Section}
 use Rattle.simplex_journal.specs.Order.{Order, no_order}
 use Rattle.simplex_state.specs.Stands.{made_of}
@@ -22,10 +22,10 @@ use Rattle.simplex_messages.specs.declared.step.Outcome.TheVariants as outcomes
 use Rattle.simplex_messages.specs.declared.step.StepOut.{StepOut}
 use Rattle.simplex_messages.specs.declared.voter.VoterInput.{VoterInput}
 use Rattle.simplex_messages.specs.declared.voter.VoterInput.TheVariants as inputs
-use Rattle.simplex_steps.specs.Desk.{begun}
-use Rattle.simplex_steps.specs.Performed.{Performed}
-use Rattle.simplex_steps.specs.Voter.{Standing, answer_to, first_answered}
-use Rattle.simplex_steps.specs.VoterLife.{VoterMade, Given, Place, place_of}
+use Rattle.model_steps.specs.Desk.{begun}
+use Rattle.model_steps.specs.Performed.{Performed}
+use Rattle.model_steps.specs.Voter.{Standing, answer_to, first_answered}
+use Rattle.model_steps.specs.VoterLife.{VoterMade, Given, Place, place_of}
 use Rattle.simplex_voter.specs.Arrivals.{with_number}
 use Rattle.simplex_voter.specs.Stands.{Stands}
 use Rattle.simplex_voter.specs.Turned.{Becomes, BecomesFirst}

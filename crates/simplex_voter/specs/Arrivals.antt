@@ -3,8 +3,8 @@ use Rattle.std.specs.Prelude.{◌≡◌, ℕ, ◌+◌, ◌<◌, ◌≤◌, ◌==
 use Rattle.std.specs.List.{list_all, list_any}
 use Rattle.std.specs.Option.{is_some, is_none, option_map, option_map_or, option_and_then}
 use Rattle.simplex_values.specs.declared.answer.Answer.{Answer}
-use Rattle.simplex_rules.specs.Pending.{Pending, Opened, is_open, put_number}
-use Rattle.simplex_steps.specs.Voter.{Standing, fits_proposal, fits_verdict, marked_answered}
+use Rattle.model_rules.specs.Pending.{Pending, Opened, is_open, put_number}
+use Rattle.model_steps.specs.Voter.{Standing, fits_proposal, fits_verdict, marked_answered}
 use Rattle.simplex_voter.specs.Unanswered.{prepare_of, propose_of}
 use Rattle.simplex_voter.specs.declared.request.Arrival.{Arrival}
 use Rattle.simplex_voter.specs.declared.request.PendingProposal.{PendingProposal}

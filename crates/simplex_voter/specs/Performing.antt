@@ -14,9 +14,9 @@ use Rattle.simplex_messages.specs.declared.step.Stop.TheVariants as stops
 use Rattle.simplex_messages.specs.declared.step.Outcome.{Outcome}
 use Rattle.simplex_messages.specs.declared.step.Outcome.TheVariants as outcomes
 use Rattle.simplex_messages.specs.declared.step.StepOut.{StepOut}
-use Rattle.simplex_steps.specs.Desk.{Doing}
-use Rattle.simplex_steps.specs.Performed.{Performed, is_of_journal, journal_place, stop_place, stop_outcome, kept_by, after_calls, after_failing, failing_at, performed}
-use Rattle.simplex_steps.specs.VoterLife.{unreadable}
+use Rattle.model_steps.specs.Desk.{Doing}
+use Rattle.model_steps.specs.Performed.{Performed, is_of_journal, journal_place, stop_place, stop_outcome, kept_by, after_calls, after_failing, failing_at, performed}
+use Rattle.model_steps.specs.VoterLife.{unreadable}
 use Rattle.simplex_voter.specs.declared.performing.Break.{Break}
 use Rattle.simplex_voter.specs.Turned.{Becomes, left_by, left_as, FaultsAt}
 pub use Rattle.simplex_voter.specs.Turned.{past_reading}

@@ -17,19 +17,19 @@ use Rattle.simplex_types.specs.declared.floor.Floor.{Floor}
 use Rattle.simplex_types.specs.declared.floor.Floor.TheVariants as floors
 use Rattle.simplex_messages.specs.declared.handed.Handed.TheVariants as handed
 use Rattle.simplex_messages.specs.declared.resolver.MailboxMessage.TheVariants as resolver
-use Rattle.simplex_rules.specs.Lists.{greatest_of}
-use Rattle.simplex_rules.specs.Known.{Made, Fact, view_of}
-use Rattle.simplex_rules.specs.Calls as state
-use Rattle.simplex_rules.specs.Calls.{Call, known_of, pruned_view, replay_answer, certified_answer}
-use Rattle.simplex_rules.specs.Pending.{Desk, Sought, Pending, pending_parent}
-use Rattle.simplex_rules.specs.Ancestry.{is_certified}
-use Rattle.simplex_rules.specs.declared.request.ProposalState.TheVariants.{Waiting}
+use Rattle.model_rules.specs.Lists.{greatest_of}
+use Rattle.model_rules.specs.Known.{Made, Fact, view_of}
+use Rattle.model_rules.specs.Calls as state
+use Rattle.model_rules.specs.Calls.{Call, known_of, pruned_view, replay_answer, certified_answer}
+use Rattle.model_rules.specs.Pending.{Desk, Sought, Pending, pending_parent}
+use Rattle.model_rules.specs.Ancestry.{is_certified}
+use Rattle.model_rules.specs.declared.request.ProposalState.TheVariants.{Waiting}
 use Rattle.simplex_values.specs.declared.answer.Handoff.{Handoff}
 use Rattle.simplex_values.specs.declared.answer.Handoff.TheVariants as handoffs
 use Rattle.simplex_state.specs.Stands as low
 use Rattle.simplex_messages.specs.declared.voter.VoterInput.{VoterInput}
-use Rattle.simplex_steps.specs.Desk.{Doing, begun, hand, append, tell, report}
-use Rattle.simplex_steps.specs.Voter.{Standing, stepped, proposal_stands, stage, propose, block_for, record_of, sync, is_final_from, activity_of, certificate_in, report_if, updated_if, replay_verdict, replay_record}
+use Rattle.model_steps.specs.Desk.{Doing, begun, hand, append, tell, report}
+use Rattle.model_steps.specs.Voter.{Standing, stepped, proposal_stands, stage, propose, block_for, record_of, sync, is_final_from, activity_of, certificate_in, report_if, updated_if, replay_verdict, replay_record}
 use Rattle.simplex_voter.specs.Arrivals.{pending_of, opened_of, Arrived}
 use Rattle.simplex_voter.specs.declared.planner.Missing.{Missing}
 use Rattle.simplex_voter.specs.declared.planner.Planner.{Planner}

@@ -9,9 +9,9 @@ use Rattle.simplex_messages.specs.declared.step.Stop.TheVariants as stops
 use Rattle.simplex_messages.specs.declared.step.Outcome.{Outcome}
 use Rattle.simplex_messages.specs.declared.step.Outcome.TheVariants as outcomes
 use Rattle.simplex_messages.specs.declared.voter.VoterInput.{VoterInput}
-use Rattle.simplex_steps.specs.Performed.{stop_place, after_calls, failing_at}
-use Rattle.simplex_steps.specs.Voter.{stepped}
-use Rattle.simplex_steps.specs.VoterLife.{VoterMade, Given, place_of, start_at, unreadable}
+use Rattle.model_steps.specs.Performed.{stop_place, after_calls, failing_at}
+use Rattle.model_steps.specs.Voter.{stepped}
+use Rattle.model_steps.specs.VoterLife.{VoterMade, Given, place_of, start_at, unreadable}
 
 -- no order to cut a step short: none at all, or one that lets a call of the journal fail
 abbrev pub IsOfJournal : Stop → Type 0

@@ -2,10 +2,10 @@
 use Rattle.std.specs.Prelude.{ℕ, List, Option, Some, None, find, if◌then◌else◌}
 use Rattle.std.specs.Option.{is_none, option_map, option_and_then}
 use Rattle.simplex_values.specs.declared.answer.Answer.{Answer}
-use Rattle.simplex_rules.specs.declared.request.ProposalState.{ProposalState}
-use Rattle.simplex_rules.specs.declared.request.ProposalState.TheVariants.{Preparing, Proposing}
-use Rattle.simplex_rules.specs.Pending.{Pending, Opened}
-use Rattle.simplex_steps.specs.Voter.{Standing, answer_to}
+use Rattle.model_rules.specs.declared.request.ProposalState.{ProposalState}
+use Rattle.model_rules.specs.declared.request.ProposalState.TheVariants.{Preparing, Proposing}
+use Rattle.model_rules.specs.Pending.{Pending, Opened}
+use Rattle.model_steps.specs.Voter.{Standing, answer_to}
 use Rattle.simplex_voter.specs.declared.kind.AskKind.{AskKind}
 use Rattle.simplex_voter.specs.declared.kind.AskKind.TheVariants.{Prepare, Propose, Verify, Certify}
 

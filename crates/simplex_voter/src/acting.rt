@@ -1,17 +1,17 @@
 //! What a step does with what its source holds. Each call gives the view that it touches; none ends the step there.
 ghost use Rattle.std.specs.Prelude.{◌≡◌, ◌==◌, ◌++◌, ◌∷◌, [], ◌<◌, ◌^◌, not, filter, if◌then◌else◌, OnOk, IfOk, true, false, Some, None};
-ghost use Rattle.simplex_rules.specs.Calls.{SetProposal, replay_answer};
-ghost use Rattle.simplex_rules.specs.Slot.{records_proposal};
-ghost use Rattle.simplex_rules.specs.Pending.{is_open};
-ghost use Rattle.simplex_steps.specs.Desk.{tell};
-ghost use Rattle.simplex_steps.specs.Voter.{act_on_deadline, settle_proposal, proposal_stands, propose, stage, give_up, act_on_proposal, act_on_verify, settle_certify, take_verdict, act_on_certify, record_of, adds, adding, act_on_certificate, act_on_mail};
+ghost use Rattle.model_rules.specs.Calls.{SetProposal, replay_answer};
+ghost use Rattle.model_rules.specs.Slot.{records_proposal};
+ghost use Rattle.model_rules.specs.Pending.{is_open};
+ghost use Rattle.model_steps.specs.Desk.{tell};
+ghost use Rattle.model_steps.specs.Voter.{act_on_deadline, settle_proposal, proposal_stands, propose, stage, give_up, act_on_proposal, act_on_verify, settle_certify, take_verdict, act_on_certify, record_of, adds, adding, act_on_certificate, act_on_mail};
 ghost use Rattle.simplex_voter.specs.Arrivals.{pending_of, opened_of};
 ghost use Rattle.simplex_voter.specs.Stands.{Does, Knows, Finds, on_desk, recorded, with_nullify, act_on_handoff};
 
 use crate::planner::Planner;
 use crate::request::{OpenRequest, PendingProposal};
+use model_rules::ProposalState;
 use simplex_messages::{Call, Handed, resolver, voter};
-use simplex_rules::ProposalState;
 use simplex_types::elector::Elector;
 use simplex_types::{
     Answer, Artifact, Certificate, Digest, Handoff, Keep, Notarization, Nullify, Participant, Plan,
@@ -41,7 +41,7 @@ impl<S: Scheme + Drop, L: Elector + Drop> Planner<S, L> {
     }
 
     /// The own nullify of the current view: the first time it is appended; a repeat takes the best certificate along.
-    #[tactic(auto, unfolding(crate::specs::Stands::doing_of, simplex_steps::specs::Voter::act_on_deadline, simplex_rules::specs::Calls::construct_nullify_answer))]
+    #[tactic(auto, unfolding(crate::specs::Stands::doing_of, model_steps::specs::Voter::act_on_deadline, model_rules::specs::Calls::construct_nullify_answer))]
     pub(crate) fn act_on_deadline(&mut self, now: u64) -> Result<(), AllocError>
         requires clock { now < 2 ^ 63 }
         ensures { OnOk result (Does S.attests L.elects self.old self.new (λ made. act_on_deadline made now)) }
@@ -76,7 +76,7 @@ impl<S: Scheme + Drop, L: Elector + Drop> Planner<S, L> {
     }
 
     /// The application's payload is recorded and relayed, where its view is still free for it.
-    #[tactic(auto, unfolding(crate::specs::Stands::doing_of, simplex_steps::specs::Voter::propose))]
+    #[tactic(auto, unfolding(crate::specs::Stands::doing_of, model_steps::specs::Voter::propose))]
     pub(crate) fn propose(
         &mut self,
         pending: &PendingProposal,
@@ -99,7 +99,7 @@ impl<S: Scheme + Drop, L: Elector + Drop> Planner<S, L> {
     }
 
     // A payload for the next term waits until its parent is certified.
-    #[tactic(auto, unfolding(crate::specs::Stands::doing_of, simplex_steps::specs::Voter::stage))]
+    #[tactic(auto, unfolding(crate::specs::Stands::doing_of, model_steps::specs::Voter::stage))]
     fn stage(
         &mut self,
         pending: &PendingProposal,
@@ -123,7 +123,7 @@ impl<S: Scheme + Drop, L: Elector + Drop> Planner<S, L> {
     }
 
     // No payload comes: the view of an ordinary request fails, that of a handoff once its parent is certified.
-    #[tactic(auto, unfolding(crate::specs::Stands::doing_of, simplex_steps::specs::Voter::give_up))]
+    #[tactic(auto, unfolding(crate::specs::Stands::doing_of, model_steps::specs::Voter::give_up))]
     fn give_up(&mut self, pending: &PendingProposal, now: u64) -> Result<(), AllocError>
         requires clock { now < 2 ^ 63 }
         requires own { self.old.proposal ≡ Some pending.now }
@@ -144,7 +144,7 @@ impl<S: Scheme + Drop, L: Elector + Drop> Planner<S, L> {
     }
 
     // The application's decision on a proposal for the next term.
-    #[tactic(auto, unfolding(simplex_steps::specs::Voter::act_on_proposal))]
+    #[tactic(auto, unfolding(model_steps::specs::Voter::act_on_proposal))]
     fn act_on_handoff(
         &mut self,
         pending: &PendingProposal,
@@ -171,7 +171,7 @@ impl<S: Scheme + Drop, L: Elector + Drop> Planner<S, L> {
     }
 
     /// The answer to the pending proposal request.
-    #[tactic(auto, unfolding(simplex_steps::specs::Voter::act_on_proposal, simplex_steps::specs::Voter::give_up))]
+    #[tactic(auto, unfolding(model_steps::specs::Voter::act_on_proposal, model_steps::specs::Voter::give_up))]
     pub(crate) fn act_on_proposal(
         &mut self,
         pending: &PendingProposal,
@@ -201,7 +201,7 @@ impl<S: Scheme + Drop, L: Elector + Drop> Planner<S, L> {
     }
 
     /// The application's judgement of the proposal that it was given to verify.
-    #[tactic(auto, unfolding(crate::specs::Stands::doing_of, simplex_steps::specs::Voter::act_on_verify))]
+    #[tactic(auto, unfolding(crate::specs::Stands::doing_of, model_steps::specs::Voter::act_on_verify))]
     pub(crate) fn act_on_verify(
         &mut self,
         request: &OpenRequest,
@@ -262,7 +262,7 @@ impl<S: Scheme + Drop, L: Elector + Drop> Planner<S, L> {
     }
 
     /// The application's verdict on a notarized proposal.
-    #[tactic(auto, unfolding(simplex_steps::specs::Voter::act_on_certify))]
+    #[tactic(auto, unfolding(model_steps::specs::Voter::act_on_certify))]
     pub(crate) fn act_on_certify(
         &mut self,
         request: &OpenRequest,
@@ -283,7 +283,7 @@ impl<S: Scheme + Drop, L: Elector + Drop> Planner<S, L> {
     }
 
     // The state adds the certificate. The answer tells whether it did, and whom the certificate contradicts.
-    #[tactic(auto, unfolding(simplex_rules::specs::Calls::add_notarization_answer, simplex_rules::specs::Calls::add_finalization_answer))]
+    #[tactic(auto, unfolding(model_rules::specs::Calls::add_notarization_answer, model_rules::specs::Calls::add_finalization_answer))]
     fn add_certificate(
         &mut self,
         certificate: &Certificate,
@@ -337,7 +337,7 @@ impl<S: Scheme + Drop, L: Elector + Drop> Planner<S, L> {
     }
 
     // A certificate that verifies.
-    #[tactic(auto, unfolding(crate::specs::Stands::doing_of, simplex_steps::specs::Voter::act_on_certificate))]
+    #[tactic(auto, unfolding(crate::specs::Stands::doing_of, model_steps::specs::Voter::act_on_certificate))]
     fn act_on_certificate(
         &mut self,
         certificate: Certificate,
@@ -371,7 +371,7 @@ impl<S: Scheme + Drop, L: Elector + Drop> Planner<S, L> {
     }
 
     /// A message.
-    #[tactic(auto, unfolding(simplex_steps::specs::Voter::act_on_mail))]
+    #[tactic(auto, unfolding(model_steps::specs::Voter::act_on_mail))]
     pub(crate) fn act_on_mail(
         &mut self,
         message: voter::Message,

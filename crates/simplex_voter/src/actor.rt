@@ -2,14 +2,14 @@
 ghost use Rattle.std.specs.Prelude.{◌≡◌, ◌<◌, ◌^◌, List, [], Some, OnOk, IfOk};
 ghost use Rattle.std.specs.List.{filter_map};
 ghost use Rattle.std.specs.Option.{is_some, option_map};
-ghost use Rattle.simplex_rules.specs.Views.{current_of};
+ghost use Rattle.model_rules.specs.Views.{current_of};
 ghost use Rattle.simplex_journal.specs.Order.{no_order};
 ghost use Rattle.simplex_mailbox.specs.Post.{Posted};
 ghost use Rattle.simplex_messages.specs.Step.{no_out};
 ghost use Rattle.simplex_state.specs.Stands.{IsConfigured};
-ghost use Rattle.simplex_steps.specs.Engine.{for_batcher, for_resolver};
-ghost use Rattle.simplex_steps.specs.Voter.{takes_answer, acted};
-ghost use Rattle.simplex_steps.specs.VoterLife.{VoterMade, Given, Started, Stepped, Answered, place_of, start_given, step_given};
+ghost use Rattle.model_steps.specs.Engine.{for_batcher, for_resolver};
+ghost use Rattle.model_steps.specs.Voter.{takes_answer, acted};
+ghost use Rattle.model_steps.specs.VoterLife.{VoterMade, Given, Started, Stepped, Answered, place_of, start_given, step_given};
 ghost use Rattle.simplex_voter.specs.Actor.{state_config, voter_made, StandsFor, Takes, Answers, Gives, Starts, GivesFirst, StandsOver, TakesOver, AnswersOver, Fares, FaresFirst, journal_of, next_answer};
 ghost use Rattle.simplex_voter.specs.Turned.{FaultsAt, step_left, start_left};
 ghost use Rattle.simplex_voter.specs.Unanswered.{unanswered};
@@ -20,10 +20,10 @@ use crate::performing::settle;
 use crate::planner::Planner;
 use crate::posting::post_all;
 use crate::records::{list_floor, past_reading, read};
+use model_rules::ProposalState;
 use simplex_journal::Journal;
 use simplex_mailbox::Post;
 use simplex_messages::{Outcome, StepOut, Stop, VoterInput, batcher, resolver};
-use simplex_rules::ProposalState;
 use simplex_state::StateConfig;
 use simplex_types::elector::Elector;
 use simplex_types::{Answer, Floor, Scheme, View};
@@ -171,7 +171,7 @@ impl<S: Scheme + Drop, L: Elector + Drop, J: Journal + Drop> Actor<S, L, J> {
     }
 
     /// Takes the application's answer, if its request is open, unanswered and asks for such an answer. Whether it did.
-    #[tactic(auto, unfolding(crate::specs::Actor::StandsFor, crate::specs::Actor::StandsOver, simplex_steps::specs::VoterLife::place_of))]
+    #[tactic(auto, unfolding(crate::specs::Actor::StandsFor, crate::specs::Actor::StandsOver, model_steps::specs::VoterLife::place_of))]
     pub fn answer(&mut self, request: u64, answer: Answer) -> bool
         ensures stands { Takes S.attests L.elects J.sections J.order self.old self.new (Answered request answer) }
         ensures answer { Answers S.attests L.elects J.sections J.order self.old (λ made past. takes_answer (place_of made past).standing request answer) result }

@@ -3,13 +3,13 @@ ghost use Rattle.std.specs.Prelude.{◌≡◌, ◌+◌, ◌==◌, ◌||◌, nat_
 ghost use Rattle.std.specs.Option.{option_map, option_map_or};
 ghost use Rattle.std.specs.List.{list_any};
 ghost use Rattle.simplex_messages.specs.declared.voter.VoterInput.TheVariants as inputs;
-ghost use Rattle.simplex_steps.specs.Voter.{fits_proposal, fits_verdict, takes_answer, answered};
+ghost use Rattle.model_steps.specs.Voter.{fits_proposal, fits_verdict, takes_answer, answered};
 ghost use Rattle.simplex_voter.specs.Arrivals.{mark_pending, mark_request, pending_takes, request_takes, takes_in, taken_answer};
 ghost use Rattle.simplex_voter.specs.Stands.{Becomes, Says};
 
 use crate::planner::Planner;
 use crate::request::{Arrival, OpenRequest, PendingProposal};
-use simplex_rules::ProposalState;
+use model_rules::ProposalState;
 use simplex_types::elector::Elector;
 use simplex_types::{Answer, Scheme};
 

@@ -2,7 +2,7 @@
 ghost use Rattle.std.specs.Prelude.{◌≡◌, false, None, Some};
 ghost use Rattle.std.specs.Option.{is_some, option_map, option_and_then};
 ghost use Rattle.simplex_messages.specs.declared.voter.VoterInput.TheVariants as inputs;
-ghost use Rattle.simplex_steps.specs.Voter.{acted};
+ghost use Rattle.model_steps.specs.Voter.{acted};
 ghost use Rattle.simplex_voter.specs.Actor.{next_answer};
 ghost use Rattle.simplex_voter.specs.Arrivals.{answer_kept, with_number};
 ghost use Rattle.simplex_voter.specs.Stands.{Says};
@@ -10,8 +10,8 @@ ghost use Rattle.simplex_voter.specs.Stands.{Says};
 use crate::planner::Planner;
 use crate::request::{Arrival, OpenRequest, PendingProposal};
 use crate::stepping::first_answered;
+use model_rules::ProposalState;
 use simplex_messages::VoterInput;
-use simplex_rules::ProposalState;
 use simplex_types::elector::Elector;
 use simplex_types::{Answer, Scheme};
 
@@ -50,7 +50,7 @@ impl<S: Scheme + Drop, L: Elector + Drop> Planner<S, L> {
     }
 
     /// Whether the source holds anything.
-    #[tactic(auto, unfolding(simplex_steps::specs::Voter::acted))]
+    #[tactic(auto, unfolding(model_steps::specs::Voter::acted))]
     pub(crate) fn holds(&self, input: &VoterInput, now: u64) -> bool
         ensures { Says S.attests L.elects self.now (λ made s. is_some (acted made now s input.now)) result }
     {

@@ -1,7 +1,7 @@
 //! Rising lists of numbers.
 ghost use Rattle.std.specs.Prelude.{◌≡◌, OnOk, nat_le};
 ghost use Rattle.std.specs.List.{position};
-ghost use Rattle.simplex_rules.specs.Pending.{put_number};
+ghost use Rattle.model_rules.specs.Pending.{put_number};
 
 use std::alloc::AllocError;
 

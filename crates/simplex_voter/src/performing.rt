@@ -2,7 +2,7 @@
 ghost use Rattle.std.specs.Prelude.{◌≡◌, ◌-◌, ◌&&◌, nat_lt, nat_le, if◌then◌else◌, IfOk, OnOk, IsErrOf, take, Some, None};
 ghost use Rattle.simplex_journal.specs.Order.{Order, no_order};
 ghost use Rattle.simplex_messages.specs.Step.{no_out};
-ghost use Rattle.simplex_steps.specs.Performed.{after_call};
+ghost use Rattle.model_steps.specs.Performed.{after_call};
 ghost use Rattle.simplex_journal.specs.Faults.{Counts};
 ghost use Rattle.simplex_messages.specs.declared.step.Outcome.TheVariants as outcomes;
 ghost use Rattle.std.specs.Option.{option_map};

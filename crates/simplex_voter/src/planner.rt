@@ -1,17 +1,17 @@
 //! What a voter plans its steps on: what it knows, its open requests, and what the step does.
 ghost use Rattle.std.specs.Prelude.{◌≡◌, ◌++◌, ◌<◌, ◌^◌, [], map, OnOk, IfOk};
 ghost use Rattle.std.specs.Option.{option_map};
-ghost use Rattle.simplex_rules.specs.Views.{current_of};
+ghost use Rattle.model_rules.specs.Views.{current_of};
 ghost use Rattle.simplex_state.specs.Stands.{IsConfigured, made_of};
 ghost use Rattle.simplex_messages.specs.declared.handed.Handed.TheVariants.{Resolver};
-ghost use Rattle.simplex_steps.specs.Desk.{begun, hand, make, append, seek, send_vote, send_certificate, report, resolve_of};
-ghost use Rattle.simplex_steps.specs.Voter.{blank_desk, block_for};
+ghost use Rattle.model_steps.specs.Desk.{begun, hand, make, append, seek, send_vote, send_certificate, report, resolve_of};
+ghost use Rattle.model_steps.specs.Voter.{blank_desk, block_for};
 ghost use Rattle.simplex_voter.specs.Performing.{out_of};
 ghost use Rattle.simplex_voter.specs.Stands.{Stands, Does, Finds, Knows, rested, sought_of};
 
 use crate::request::{OpenRequest, PendingProposal};
+use model_rules::ProposalState;
 use simplex_messages::{Call, Handed, StepOut, batcher, resolver};
-use simplex_rules::ProposalState;
 use simplex_state::{State, StateConfig};
 use simplex_types::elector::Elector;
 use simplex_types::{
@@ -55,7 +55,7 @@ pub(crate) struct Planner<S, L> {
 #[tactic(auto, unfolding(crate::specs::Stands::doing_of))]
 impl<S: Scheme + Drop, L: Elector + Drop> Planner<S, L> {
     /// Nothing is known and nothing is open.
-    #[tactic(auto, unfolding(crate::specs::Stands::doing_of, simplex_state::specs::Stands::made_of, simplex_rules::specs::Calls::known_of, crate::specs::Arrivals::AllKept, crate::specs::Arrivals::AllBelow))]
+    #[tactic(auto, unfolding(crate::specs::Stands::doing_of, simplex_state::specs::Stands::made_of, model_rules::specs::Calls::known_of, crate::specs::Arrivals::AllKept, crate::specs::Arrivals::AllBelow))]
     pub(crate) fn new(
         alloc: Global,
         config: StateConfig<S, L>,

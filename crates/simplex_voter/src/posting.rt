@@ -2,7 +2,7 @@
 ghost use Rattle.std.specs.Prelude.{OnOk, ◌∷◌, []};
 ghost use Rattle.std.specs.List.{filter_map};
 ghost use Rattle.simplex_mailbox.specs.Post.{Posted};
-ghost use Rattle.simplex_steps.specs.Engine.{for_batcher, for_resolver};
+ghost use Rattle.model_steps.specs.Engine.{for_batcher, for_resolver};
 
 use simplex_mailbox::Post;
 use simplex_messages::{Handed, batcher, resolver};

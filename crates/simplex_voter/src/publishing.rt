@@ -2,11 +2,11 @@
 ghost use Rattle.std.specs.Prelude.{◌<◌, ◌^◌, ◌-◌, OnOk, IfOk};
 ghost use Rattle.std.specs.Option.{option_map_or};
 ghost use Rattle.simplex_wire.specs.declared.vote.Vote.TheVariants as votes;
-ghost use Rattle.simplex_rules.specs.Votes.{notarize_at, finalize_at};
-ghost use Rattle.simplex_rules.specs.Views.{current_of};
-ghost use Rattle.simplex_rules.specs.Best.{forwardable_at};
-ghost use Rattle.simplex_steps.specs.Desk.{send_vote};
-ghost use Rattle.simplex_steps.specs.Voter.{vote_notarize, vote_finalize, open_requests, sync, publish_verdict, publish_nullify, publish_notarization, publish_nullification, publish_finalization, update_message, update_batcher, end_of_step, prune, begin_iteration, ended, finished};
+ghost use Rattle.model_rules.specs.Votes.{notarize_at, finalize_at};
+ghost use Rattle.model_rules.specs.Views.{current_of};
+ghost use Rattle.model_rules.specs.Best.{forwardable_at};
+ghost use Rattle.model_steps.specs.Desk.{send_vote};
+ghost use Rattle.model_steps.specs.Voter.{vote_notarize, vote_finalize, open_requests, sync, publish_verdict, publish_nullify, publish_notarization, publish_nullification, publish_finalization, update_message, update_batcher, end_of_step, prune, begin_iteration, ended, finished};
 ghost use Rattle.simplex_voter.specs.Stands.{Does, Knows};
 
 use crate::planner::Planner;
@@ -21,7 +21,7 @@ use std::alloc::AllocError;
 #[tactic(auto, unfolding(crate::specs::Stands::doing_of))]
 impl<S: Scheme + Drop, L: Elector + Drop> Planner<S, L> {
     // The vote that the vote rule gives for the view's proposal is appended.
-    #[tactic(auto, unfolding(simplex_steps::specs::Voter::vote_notarize))]
+    #[tactic(auto, unfolding(model_steps::specs::Voter::vote_notarize))]
     fn vote_notarize(&mut self, view: View) -> Result<Option<Notarize>, AllocError>
         ensures stands { OnOk result (Does S.attests L.elects self.old self.new (λ made. vote_notarize made view)) }
         ensures vote { IfOk result (Knows S.attests L.elects self.old (λ made known. notarize_at made known view)) }
@@ -34,7 +34,7 @@ impl<S: Scheme + Drop, L: Elector + Drop> Planner<S, L> {
     }
 
     // The vote that the vote rule gives for the finality of the view's proposal is appended.
-    #[tactic(auto, unfolding(simplex_steps::specs::Voter::vote_finalize))]
+    #[tactic(auto, unfolding(model_steps::specs::Voter::vote_finalize))]
     fn vote_finalize(&mut self, view: View) -> Result<Option<Finalize>, AllocError>
         ensures stands { OnOk result (Does S.attests L.elects self.old self.new (λ made. vote_finalize made view)) }
         ensures vote { IfOk result (Knows S.attests L.elects self.old (λ made known. finalize_at made known view)) }
@@ -47,7 +47,7 @@ impl<S: Scheme + Drop, L: Elector + Drop> Planner<S, L> {
     }
 
     // The open requests are brought up to date.
-    #[tactic(auto, unfolding(simplex_steps::specs::Voter::open_requests))]
+    #[tactic(auto, unfolding(model_steps::specs::Voter::open_requests))]
     fn open_requests(&mut self, now: u64) -> Result<(), AllocError>
         requires clock { now < 2 ^ 63 }
         ensures { OnOk result (Does S.attests L.elects self.old self.new (λ made. open_requests made now)) }
@@ -68,7 +68,7 @@ impl<S: Scheme + Drop, L: Elector + Drop> Planner<S, L> {
     }
 
     // The verdict that was taken goes to the resolver, and is reported where it is true.
-    #[tactic(auto, unfolding(crate::specs::Stands::doing_of, simplex_steps::specs::Voter::publish_verdict))]
+    #[tactic(auto, unfolding(crate::specs::Stands::doing_of, model_steps::specs::Voter::publish_verdict))]
     fn publish_verdict(&mut self) -> Result<(), AllocError>
         ensures { OnOk result (Does S.attests L.elects self.old self.new (λ made. publish_verdict)) }
     {
@@ -89,7 +89,7 @@ impl<S: Scheme + Drop, L: Elector + Drop> Planner<S, L> {
     }
 
     // The own nullify is sent, and behind it, where it is a repeat, the best certificate.
-    #[tactic(auto, unfolding(crate::specs::Stands::doing_of, simplex_steps::specs::Voter::publish_nullify))]
+    #[tactic(auto, unfolding(crate::specs::Stands::doing_of, model_steps::specs::Voter::publish_nullify))]
     fn publish_nullify(&mut self) -> Result<(), AllocError>
         ensures { OnOk result (Does S.attests L.elects self.old self.new (λ made. publish_nullify)) }
     {
@@ -128,7 +128,7 @@ impl<S: Scheme + Drop, L: Elector + Drop> Planner<S, L> {
     }
 
     // The view's notarization is sent and reported, once.
-    #[tactic(auto, unfolding(simplex_steps::specs::Voter::publish_notarization))]
+    #[tactic(auto, unfolding(model_steps::specs::Voter::publish_notarization))]
     fn publish_notarization(&mut self, view: View) -> Result<(), AllocError>
         ensures { OnOk result (Does S.attests L.elects self.old self.new (λ made. publish_notarization made view)) }
     {
@@ -142,7 +142,7 @@ impl<S: Scheme + Drop, L: Elector + Drop> Planner<S, L> {
     }
 
     // The view's nullification is sent and reported, once.
-    #[tactic(auto, unfolding(simplex_steps::specs::Voter::publish_nullification))]
+    #[tactic(auto, unfolding(model_steps::specs::Voter::publish_nullification))]
     fn publish_nullification(&mut self, view: View) -> Result<(), AllocError>
         ensures { OnOk result (Does S.attests L.elects self.old self.new (λ made. publish_nullification made view)) }
     {
@@ -156,7 +156,7 @@ impl<S: Scheme + Drop, L: Elector + Drop> Planner<S, L> {
     }
 
     // The view's finalization is sent and reported, once.
-    #[tactic(auto, unfolding(simplex_steps::specs::Voter::publish_finalization))]
+    #[tactic(auto, unfolding(model_steps::specs::Voter::publish_finalization))]
     fn publish_finalization(&mut self, view: View) -> Result<(), AllocError>
         ensures { OnOk result (Does S.attests L.elects self.old self.new (λ made. publish_finalization made view)) }
     {
@@ -183,7 +183,7 @@ impl<S: Scheme + Drop, L: Elector + Drop> Planner<S, L> {
     }
 
     // The proposal of the view before the current one, where it is worth forwarding.
-    #[tactic(auto, unfolding(crate::specs::Stands::doing_of, simplex_rules::specs::Views::admits_certificate, simplex_rules::specs::Views::least_active))]
+    #[tactic(auto, unfolding(crate::specs::Stands::doing_of, model_rules::specs::Views::admits_certificate, model_rules::specs::Views::least_active))]
     fn forwardable(&self) -> Option<Proposal>
         ensures { Knows S.attests L.elects self.now (λ made known. forwardable_at known (current_of made known - 1)) result }
     {
@@ -201,7 +201,7 @@ impl<S: Scheme + Drop, L: Elector + Drop> Planner<S, L> {
     }
 
     // The batcher is told where the member is, where its view rose.
-    #[tactic(auto, unfolding(crate::specs::Stands::doing_of, simplex_steps::specs::Voter::update_batcher))]
+    #[tactic(auto, unfolding(crate::specs::Stands::doing_of, model_steps::specs::Voter::update_batcher))]
     fn update_batcher(&mut self, before: View) -> Result<(), AllocError>
         ensures { OnOk result (Does S.attests L.elects self.old self.new (λ made. update_batcher made before)) }
     {
@@ -234,7 +234,7 @@ impl<S: Scheme + Drop, L: Elector + Drop> Planner<S, L> {
     }
 
     // The journal is pruned, where the least active view rose.
-    #[tactic(auto, unfolding(simplex_steps::specs::Voter::prune))]
+    #[tactic(auto, unfolding(model_steps::specs::Voter::prune))]
     fn prune(&mut self) -> Result<(), AllocError>
         ensures { OnOk result (Does S.attests L.elects self.old self.new (λ made. prune made)) }
     {
@@ -246,7 +246,7 @@ impl<S: Scheme + Drop, L: Elector + Drop> Planner<S, L> {
     }
 
     /// The start of the next iteration.
-    #[tactic(auto, unfolding(simplex_steps::specs::Voter::begin_iteration))]
+    #[tactic(auto, unfolding(model_steps::specs::Voter::begin_iteration))]
     pub(crate) fn begin_iteration(&mut self, now: u64) -> Result<(), AllocError>
         requires clock { now < 2 ^ 63 }
         ensures { OnOk result (Does S.attests L.elects self.old self.new (λ made. begin_iteration made now)) }
@@ -258,7 +258,7 @@ impl<S: Scheme + Drop, L: Elector + Drop> Planner<S, L> {
     }
 
     /// What comes behind acting: the end of the step on the view that it touched, if any, and the next iteration.
-    #[tactic(auto, unfolding(simplex_steps::specs::Voter::finished))]
+    #[tactic(auto, unfolding(model_steps::specs::Voter::finished))]
     pub(crate) fn finish(
         &mut self,
         now: u64,

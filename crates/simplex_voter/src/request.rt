@@ -1,5 +1,5 @@
 //! Open requests to the application, each with the answer that came.
-use simplex_rules::ProposalState;
+use model_rules::ProposalState;
 use simplex_types::{Answer, Context, View};
 
 /// An answer that no step has taken yet.

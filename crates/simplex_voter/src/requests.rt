@@ -1,16 +1,16 @@
 //! The open requests are brought up to date.
 ghost use Rattle.std.specs.Prelude.{◌≡◌, ◌+◌, ◌||◌, ◌++◌, ◌∷◌, [], true, nat_lt, fold, map, filter, IfOk, OnOk, ◌<◌, ◌^◌};
-ghost use Rattle.simplex_rules.specs.declared.request.Verify.TheVariants.{Ready};
-ghost use Rattle.simplex_rules.specs.Views.{current_of};
-ghost use Rattle.simplex_rules.specs.Requests.{is_superseded};
-ghost use Rattle.simplex_rules.specs.Pending.{drop_number, drop_request, drop_proposal, drop_verify, abandon_handoff, end_waiting, open_request, with_request, open_proposal, with_verify, open_verify, reconciled, drop_certify, open_certify, seek_parent, certifying, iterated, pending_view, pending_parent, is_open};
+ghost use Rattle.model_rules.specs.declared.request.Verify.TheVariants.{Ready};
+ghost use Rattle.model_rules.specs.Views.{current_of};
+ghost use Rattle.model_rules.specs.Requests.{is_superseded};
+ghost use Rattle.model_rules.specs.Pending.{drop_number, drop_request, drop_proposal, drop_verify, abandon_handoff, end_waiting, open_request, with_request, open_proposal, with_verify, open_verify, reconciled, drop_certify, open_certify, seek_parent, certifying, iterated, pending_view, pending_parent, is_open};
 ghost use Rattle.simplex_voter.specs.Arrivals.{pending_of, opened_of, drop_final_number};
 ghost use Rattle.simplex_voter.specs.Stands.{Does, Knows, on_desk, sought_of};
 
 use crate::numbers::insert_number;
 use crate::planner::{Missing, Planner};
 use crate::request::{OpenRequest, PendingProposal};
-use simplex_rules::{Asked, CertificateFetch, ProposalRequest, ProposalState, Verify};
+use model_rules::{Asked, CertificateFetch, ProposalRequest, ProposalState, Verify};
 use simplex_types::elector::Elector;
 use simplex_types::{Context, Kind, Proposal, Scheme, TimeoutReason, View};
 use std::alloc::AllocError;
@@ -47,7 +47,7 @@ impl<S: Scheme + Drop, L: Elector + Drop> Planner<S, L> {
     }
 
     // A pending proposal that is stale is dropped.
-    #[tactic(auto, unfolding(crate::specs::Stands::doing_of, simplex_rules::specs::Pending::drop_proposal))]
+    #[tactic(auto, unfolding(crate::specs::Stands::doing_of, model_rules::specs::Pending::drop_proposal))]
     fn drop_proposal(&mut self) -> Result<(), AllocError>
         ensures { OnOk result (Does S.attests L.elects self.old self.new (λ made. on_desk (drop_proposal made))) }
     {
@@ -62,7 +62,7 @@ impl<S: Scheme + Drop, L: Elector + Drop> Planner<S, L> {
     }
 
     // The pending Verify is dropped where its view is past.
-    #[tactic(auto, unfolding(crate::specs::Stands::doing_of, simplex_rules::specs::Pending::drop_verify))]
+    #[tactic(auto, unfolding(crate::specs::Stands::doing_of, model_rules::specs::Pending::drop_verify))]
     fn drop_verify(&mut self) -> Result<(), AllocError>
         ensures { OnOk result (Does S.attests L.elects self.old self.new (λ made. on_desk (drop_verify made))) }
     {
@@ -77,7 +77,7 @@ impl<S: Scheme + Drop, L: Elector + Drop> Planner<S, L> {
     }
 
     // A Prepare without an answer becomes Waiting where its handoff is given up.
-    #[tactic(auto, unfolding(crate::specs::Stands::doing_of, simplex_rules::specs::Pending::abandon_handoff))]
+    #[tactic(auto, unfolding(crate::specs::Stands::doing_of, model_rules::specs::Pending::abandon_handoff))]
     fn abandon_handoff(&mut self) -> Result<(), AllocError>
         ensures { OnOk result (Does S.attests L.elects self.old self.new (λ made. on_desk abandon_handoff)) }
     {
@@ -101,7 +101,7 @@ impl<S: Scheme + Drop, L: Elector + Drop> Planner<S, L> {
     }
 
     // Waiting or Closed ends once the parent is certified: the one frees its view, the other fails it.
-    #[tactic(auto, unfolding(crate::specs::Stands::doing_of, simplex_rules::specs::Pending::end_waiting, simplex_rules::specs::Calls::known_of))]
+    #[tactic(auto, unfolding(crate::specs::Stands::doing_of, model_rules::specs::Pending::end_waiting, model_rules::specs::Calls::known_of))]
     fn end_waiting(&mut self, now: u64) -> Result<(), AllocError>
         requires clock { now < 2 ^ 63 }
         ensures { OnOk result (Does S.attests L.elects self.old self.new (λ made. on_desk (end_waiting made now))) }
@@ -179,7 +179,7 @@ impl<S: Scheme + Drop, L: Elector + Drop> Planner<S, L> {
     }
 
     // A proposal is asked for, where none is pending.
-    #[tactic(auto, unfolding(crate::specs::Stands::doing_of, simplex_rules::specs::Pending::open_proposal))]
+    #[tactic(auto, unfolding(crate::specs::Stands::doing_of, model_rules::specs::Pending::open_proposal))]
     fn open_proposal(&mut self) -> Result<(), AllocError>
         ensures { OnOk result (Does S.attests L.elects self.old self.new (λ made. on_desk (open_proposal made))) }
     {
@@ -244,7 +244,7 @@ impl<S: Scheme + Drop, L: Elector + Drop> Planner<S, L> {
     }
 
     // A proposal is given to verify, or a missing view sought, where no Verify is pending.
-    #[tactic(auto, unfolding(crate::specs::Stands::doing_of, simplex_rules::specs::Pending::open_verify))]
+    #[tactic(auto, unfolding(crate::specs::Stands::doing_of, model_rules::specs::Pending::open_verify))]
     fn open_verify(&mut self) -> Result<(), AllocError>
         ensures { OnOk result (Does S.attests L.elects self.old self.new (λ made. on_desk (open_verify made))) }
     {
@@ -257,7 +257,7 @@ impl<S: Scheme + Drop, L: Elector + Drop> Planner<S, L> {
     }
 
     /// The proposal and the Verify are brought up to date.
-    #[tactic(auto, unfolding(simplex_rules::specs::Pending::reconciled))]
+    #[tactic(auto, unfolding(model_rules::specs::Pending::reconciled))]
     pub(crate) fn reconcile(&mut self, now: u64) -> Result<(), AllocError>
         requires clock { now < 2 ^ 63 }
         ensures { OnOk result (Does S.attests L.elects self.old self.new (λ made. on_desk (reconciled made now))) }
@@ -272,7 +272,7 @@ impl<S: Scheme + Drop, L: Elector + Drop> Planner<S, L> {
     }
 
     // Certify requests at or below the last final view are dropped.
-    #[tactic(auto, unfolding(crate::specs::Stands::doing_of, simplex_rules::specs::Pending::drop_certify))]
+    #[tactic(auto, unfolding(crate::specs::Stands::doing_of, model_rules::specs::Pending::drop_certify))]
     fn drop_certify(&mut self) -> Result<(), AllocError>
         ensures { OnOk result (Does S.attests L.elects self.old self.new (λ made. on_desk drop_certify)) }
     {
@@ -326,7 +326,7 @@ impl<S: Scheme + Drop, L: Elector + Drop> Planner<S, L> {
     }
 
     // What can be certified is given to certify, and the parents that this lacks are sought.
-    #[tactic(auto, unfolding(simplex_rules::specs::Pending::certifying))]
+    #[tactic(auto, unfolding(model_rules::specs::Pending::certifying))]
     fn certify(&mut self) -> Result<(), AllocError>
         ensures { OnOk result (Does S.attests L.elects self.old self.new (λ made. on_desk (certifying made))) }
     {
@@ -338,7 +338,7 @@ impl<S: Scheme + Drop, L: Elector + Drop> Planner<S, L> {
     }
 
     /// The requests at the start of each iteration.
-    #[tactic(auto, unfolding(simplex_rules::specs::Pending::iterated))]
+    #[tactic(auto, unfolding(model_rules::specs::Pending::iterated))]
     pub(crate) fn iterate(&mut self, now: u64) -> Result<(), AllocError>
         requires clock { now < 2 ^ 63 }
         ensures { OnOk result (Does S.attests L.elects self.old self.new (λ made. on_desk (iterated made now))) }

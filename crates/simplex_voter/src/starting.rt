@@ -1,9 +1,9 @@
 //! A start of the voter: it stands on its floor, and knows again what its journal kept.
 ghost use Rattle.std.specs.Prelude.{◌≡◌, ◌<◌, ◌^◌, [], if◌then◌else◌, IfOk, OnOk};
 ghost use Rattle.std.specs.List.{list_any};
-ghost use Rattle.simplex_rules.specs.Known.{Made};
-ghost use Rattle.simplex_steps.specs.Desk.{begun};
-ghost use Rattle.simplex_steps.specs.Voter.{activity_of, certificate_in, report_if, updated_if, replay_verdict, is_final_from, replay_record, replay_all, floor_view, stand_on, started, blank_desk};
+ghost use Rattle.model_rules.specs.Known.{Made};
+ghost use Rattle.model_steps.specs.Desk.{begun};
+ghost use Rattle.model_steps.specs.Voter.{activity_of, certificate_in, report_if, updated_if, replay_verdict, is_final_from, replay_record, replay_all, floor_view, stand_on, started, blank_desk};
 ghost use Rattle.simplex_voter.specs.Stands.{Does, Restores, Stands, tell_floor, holds_floor, append_floor, restore_record, restore_verdict, replay_above, verdict_in};
 
 use crate::planner::Planner;

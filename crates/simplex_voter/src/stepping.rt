@@ -1,18 +1,18 @@
 //! A step of the voter, planned whole.
 ghost use Rattle.std.specs.Prelude.{◌≡◌, ◌<◌, ◌^◌, nat_le, true, None, Some, IfOk};
-ghost use Rattle.simplex_rules.specs.Deadline.{deadline_of};
+ghost use Rattle.model_rules.specs.Deadline.{deadline_of};
 ghost use Rattle.simplex_messages.specs.declared.voter.VoterInput.TheVariants as inputs;
-ghost use Rattle.simplex_steps.specs.Voter.{acted, answer_to, act_on_proposal, take_proposal};
-ghost use Rattle.simplex_steps.specs.Desk.{begun};
-ghost use Rattle.simplex_rules.specs.Pending.{is_open};
+ghost use Rattle.model_steps.specs.Voter.{acted, answer_to, act_on_proposal, take_proposal};
+ghost use Rattle.model_steps.specs.Desk.{begun};
+ghost use Rattle.model_rules.specs.Pending.{is_open};
 ghost use Rattle.std.specs.Option.{option_map};
 ghost use Rattle.simplex_voter.specs.Arrivals.{is_before, least_of, pending_of};
 ghost use Rattle.simplex_voter.specs.Stands.{Acts, Knows, Plans, take_held_payload};
 
 use crate::planner::Planner;
 use crate::request::{OpenRequest, PendingProposal};
+use model_rules::ProposalState;
 use simplex_messages::VoterInput;
-use simplex_rules::ProposalState;
 use simplex_types::elector::Elector;
 use simplex_types::{Digest, Scheme, View};
 use std::alloc::AllocError;

@@ -1,18 +1,18 @@
 //! What the planner's state is told.
 ghost use Rattle.std.specs.Prelude.{◌≡◌, ℕ, List, IfOk, OnOk, ◌<◌, ◌^◌};
 ghost use Rattle.simplex_values.specs.declared.answer.Answer.{Answer};
-ghost use Rattle.simplex_rules.specs.Known.{Made};
-ghost use Rattle.simplex_rules.specs.Calls.{SetFloor, Replay, SetProposal, Proposed, Verified, VerificationFailed, Certified, AddNotarization, AddNullification, AddFinalization, TriggerTimeout, ConstructNotarize, ConstructNullify, ConstructFinalize, BroadcastNotarization, BroadcastNullification, BroadcastFinalization, TryPropose, TryVerify, CertifyCandidates, Prune, certified_answer, add_notarization_answer, adds_nullification, add_finalization_answer, construct_nullify_answer, unsent_notarization, unsent_nullification, unsent_finalization, prune_answer, replay_answer};
-ghost use Rattle.simplex_rules.specs.Views.{current_of};
-ghost use Rattle.simplex_rules.specs.Slot.{records_proposal, records_answer};
-ghost use Rattle.simplex_rules.specs.Votes.{notarize_at, finalize_at};
-ghost use Rattle.simplex_rules.specs.Requests.{proposal_request, verify_request, certify_requests, parent_fetches};
-ghost use Rattle.simplex_steps.specs.Desk.{Doing, tell};
+ghost use Rattle.model_rules.specs.Known.{Made};
+ghost use Rattle.model_rules.specs.Calls.{SetFloor, Replay, SetProposal, Proposed, Verified, VerificationFailed, Certified, AddNotarization, AddNullification, AddFinalization, TriggerTimeout, ConstructNotarize, ConstructNullify, ConstructFinalize, BroadcastNotarization, BroadcastNullification, BroadcastFinalization, TryPropose, TryVerify, CertifyCandidates, Prune, certified_answer, add_notarization_answer, adds_nullification, add_finalization_answer, construct_nullify_answer, unsent_notarization, unsent_nullification, unsent_finalization, prune_answer, replay_answer};
+ghost use Rattle.model_rules.specs.Views.{current_of};
+ghost use Rattle.model_rules.specs.Slot.{records_proposal, records_answer};
+ghost use Rattle.model_rules.specs.Votes.{notarize_at, finalize_at};
+ghost use Rattle.model_rules.specs.Requests.{proposal_request, verify_request, certify_requests, parent_fetches};
+ghost use Rattle.model_steps.specs.Desk.{Doing, tell};
 ghost use Rattle.simplex_state.specs.Stands.{Answers};
 ghost use Rattle.simplex_voter.specs.Stands.{Does, Knows, Restores, Stands, IsWhole};
 
 use crate::planner::Planner;
-use simplex_rules::{CertificateFetch, ProposalRequest, Verify};
+use model_rules::{CertificateFetch, ProposalRequest, Verify};
 use simplex_types::elector::Elector;
 use simplex_types::{
     Artifact, Context, Digest, Finalization, Finalize, Floor, Notarization, Notarize,
@@ -20,7 +20,7 @@ use simplex_types::{
 };
 use std::alloc::AllocError;
 
-#[tactic(auto, unfolding(crate::specs::Stands::doing_of, simplex_rules::specs::Calls::known_of))]
+#[tactic(auto, unfolding(crate::specs::Stands::doing_of, model_rules::specs::Calls::known_of))]
 impl<S: Scheme + Drop, L: Elector + Drop> Planner<S, L> {
     pub(crate) fn set_proposal(&mut self, proposal: &Proposal) -> Result<bool, AllocError>
         ensures stands { OnOk result (Does S.attests L.elects self.old self.new (λ made. tell made (SetProposal proposal.now.round.view proposal.now))) }

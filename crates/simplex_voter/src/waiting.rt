@@ -8,7 +8,7 @@ ghost use Rattle.simplex_voter.specs.Unanswered.{unanswered};
 use crate::kind::AskKind;
 use crate::planner::Planner;
 use crate::request::{Arrival, OpenRequest, PendingProposal};
-use simplex_rules::ProposalState;
+use model_rules::ProposalState;
 use simplex_types::Scheme;
 use simplex_types::elector::Elector;
 

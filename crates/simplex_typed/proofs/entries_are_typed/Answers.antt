@@ -1,5 +1,5 @@
 use Rattle.std.proofs.Common.{subst, ◌≡◌, arith, length}
-use Rattle.simplex_backing.specs.Fitting.{IsTyped}
+use Rattle.law_run.specs.Fitting.{IsTyped}
 use Rattle.simplex_typed.proofs.Eaches.{each_more, each_all}
 use Rattle.simplex_typed.proofs.entries_are_typed.Goals as goal
 

@@ -1,6 +1,6 @@
 use Rattle.std.proofs.Common.{take}
-use Rattle.simplex_safety.specs.Sayings.{Each}
-use Rattle.simplex_backing.specs.Fitting.{IsTyped}
+use Rattle.law_run.specs.Sayings.{Each}
+use Rattle.law_run.specs.Fitting.{IsTyped}
 use Rattle.simplex_typed.proofs.entries_are_typed.Given as goal
 
 abbrev pub invariant-loop-entry : goal.invariant-loop-entry

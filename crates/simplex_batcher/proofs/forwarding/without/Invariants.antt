@@ -1,5 +1,5 @@
 use Rattle.std.proofs.Common.{◌≡◌, ◌++◌, ◌==◌, filter, not, drop}
-use Rattle.simplex_steps.specs.Batcher.{some_passes}
+use Rattle.model_steps.specs.Batcher.{some_passes}
 use Rattle.simplex_batcher.proofs.forwarding.without.Given as goal
 
 abbrev pub invariant-loop-member : goal.invariant-loop-member

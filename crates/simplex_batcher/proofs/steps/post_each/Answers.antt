@@ -1,7 +1,7 @@
 use Rattle.std.proofs.Common.{◌≡◌, ◌∙◌, ◌∷◌, ◌+◌, [], ap, sym, refl, drop, arith}
 use Rattle.std.specs.Prelude.{filter_map}
 use Rattle.std.proofs.lemmas.List.{drop_more, drop_all}
-use Rattle.simplex_steps.specs.Engine.{for_voter}
+use Rattle.model_steps.specs.Engine.{for_voter}
 use Rattle.simplex_batcher.proofs.steps.post_each.Goals as goal
 
 pub loop-message-preserved : goal.loop-message-preserved

@@ -1,7 +1,7 @@
 use Rattle.std.proofs.Common.{drop}
 use Rattle.std.specs.Prelude.{filter_map}
 use Rattle.simplex_mailbox.specs.Post.{Posted}
-use Rattle.simplex_steps.specs.Engine.{for_voter}
+use Rattle.model_steps.specs.Engine.{for_voter}
 use Rattle.simplex_batcher.proofs.steps.post_each.Given as goal
 
 -- what is posted behind the messages that are left is posted behind all

@@ -4,7 +4,7 @@ use Rattle.std.specs.Option.{option_map, option_map_or}
 use Rattle.simplex_round.specs.Assembly.{constructed}
 use Rattle.simplex_round.specs.Calls.{TryConstruct}
 use Rattle.simplex_round.specs.Stands.{StandsFor}
-use Rattle.simplex_steps.specs.Batcher.{Standing, RoundHistory, constructing, called, known_in, with_batch}
+use Rattle.model_steps.specs.Batcher.{Standing, RoundHistory, constructing, called, known_in, with_batch}
 use Rattle.simplex_batcher.specs.Rounds.{round_of}
 use Rattle.simplex_batcher.specs.Stands.{work_of}
 use Rattle.simplex_batcher.specs.Holding.{Holds}

@@ -1,7 +1,7 @@
 use Rattle.std.proofs.Common.{◌≡◌, ◌∙◌, ap, refl, Option, Some, None}
 use Rattle.std.specs.Option.{option_map, option_map_or}
 use Rattle.simplex_round.specs.Calls.{TryForward}
-use Rattle.simplex_steps.specs.Batcher.{RoundHistory, forwarded, called, number_of}
+use Rattle.model_steps.specs.Batcher.{RoundHistory, forwarded, called, number_of}
 use Rattle.simplex_round.specs.Stands.{StandsFor}
 use Rattle.simplex_batcher.specs.Rounds.{round_of}
 use Rattle.simplex_batcher.specs.Holding.{Holds}

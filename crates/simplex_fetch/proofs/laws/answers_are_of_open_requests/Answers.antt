@@ -1,6 +1,6 @@
 use Rattle.simplex_wire.specs.Format.{whole}
 use Rattle.simplex_wire.specs.ResolverMessage.{resolver_message}
-use Rattle.simplex_resolving.specs.Fetcher.{heard}
+use Rattle.model_resolver.specs.Fetcher.{heard}
 use Rattle.simplex_fetch.proofs.Rounds.{message_opens}
 use Rattle.simplex_fetch.proofs.laws.answers_are_of_open_requests.Goals as goal
 

@@ -1,4 +1,4 @@
-use Rattle.simplex_resolving.specs.Fetcher.{served}
+use Rattle.model_resolver.specs.Fetcher.{served}
 use Rattle.simplex_fetch.proofs.Rounds.{served_none, none_sent}
 use Rattle.simplex_fetch.proofs.laws.requests_are_served_once.Goals as goal
 

@@ -1,8 +1,8 @@
 use Rattle.std.proofs.Common.{◌≡◌, ◌++◌, ◌&&◌, true, ℕ, List, length}
 use Rattle.std.specs.List.{flat_map, list_all}
-use Rattle.simplex_run.specs.Kinds.{is_node, runs_engine}
-use Rattle.simplex_run.specs.Life.{Noted, clock_of, life_in}
-use Rattle.simplex_generated.specs.Setup.{setup_of}
+use Rattle.model_run.specs.Kinds.{is_node, runs_engine}
+use Rattle.model_run.specs.Life.{Noted, clock_of, life_in}
+use Rattle.simplex_generator.specs.Setup.{setup_of}
 use Rattle.simplex_network.specs.Stands.{StandsFor}
 use Rattle.simplex_generator.specs.Generated.{setting_for, held_at, held}
 use Rattle.simplex_generator.proofs.held.all_held.Given as goal

@@ -1,6 +1,6 @@
 use Rattle.std.proofs.Common.{◌≡◌, ◌++◌, true, List, length}
-use Rattle.simplex_steps.specs.Engine.{EngineMade, Did, runs}
-use Rattle.simplex_run.specs.Life.{Running}
+use Rattle.model_steps.specs.Engine.{EngineMade, Did, runs}
+use Rattle.model_run.specs.Life.{Running}
 use Rattle.simplex_network.specs.NodeEngine.{EngineStands}
 use Rattle.simplex_generator.specs.Generated.{held_of, held_at}
 use Rattle.simplex_generator.proofs.held.push_sources.Given as goal

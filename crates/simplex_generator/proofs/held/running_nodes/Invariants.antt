@@ -1,9 +1,9 @@
 use Rattle.std.proofs.Common.{◌≡◌, ◌++◌, true, ℕ, List, length}
 use Rattle.std.specs.Prelude.{filter}
 use Rattle.std.specs.List.{list_all}
-use Rattle.simplex_run.specs.Kinds.{is_node}
-use Rattle.simplex_run.specs.Life.{Noted}
-use Rattle.simplex_generated.specs.Setup.{setup_of}
+use Rattle.model_run.specs.Kinds.{is_node}
+use Rattle.model_run.specs.Life.{Noted}
+use Rattle.simplex_generator.specs.Setup.{setup_of}
 use Rattle.simplex_network.specs.Stands.{StandsFor}
 use Rattle.simplex_generator.specs.Generated as generated
 use Rattle.simplex_generator.proofs.held.running_nodes.Given as goal

@@ -1,5 +1,5 @@
 use Rattle.std.proofs.Common.{◌≡◌}
-use Rattle.simplex_generated.specs.Setup.{setup_of}
+use Rattle.simplex_generator.specs.Setup.{setup_of}
 use Rattle.simplex_generator.proofs.Leading.{Leads}
 use Rattle.simplex_generator.proofs.run.events_of.Given as goal
 

@@ -1,6 +1,6 @@
 use Rattle.std.proofs.Common.{ap, sym, ◌∙◌}
-use Rattle.simplex_run.specs.Setting.{setting_of}
-use Rattle.simplex_run.specs.Wrapped.{behavior_of}
+use Rattle.model_run.specs.Setting.{setting_of}
+use Rattle.model_run.specs.Wrapped.{behavior_of}
 use Rattle.simplex_members.specs.Leading.{elects}
 use Rattle.simplex_members.proofs.Configs.{setup-allowed, setup-stall, setup-lookahead, setup-made}
 use Rattle.simplex_members.proofs.config.config_of.Goals as goal

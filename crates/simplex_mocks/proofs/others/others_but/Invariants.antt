@@ -1,6 +1,6 @@
 use Rattle.std.proofs.Common.{◌≡◌}
 use Rattle.std.specs.Prelude.{filter}
-use Rattle.simplex_faults.specs.Equivocator.{others_than}
+use Rattle.model_faults.specs.Equivocator.{others_than}
 use Rattle.simplex_mocks.proofs.Without.{is_not}
 use Rattle.simplex_mocks.proofs.others.others_but.Given as goal
 

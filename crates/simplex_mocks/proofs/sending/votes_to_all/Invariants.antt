@@ -1,5 +1,5 @@
 use Rattle.std.proofs.Common.{◌≡◌, ◌++◌, drop}
-use Rattle.simplex_faults.specs.Heard.{votes_to_all}
+use Rattle.model_faults.specs.Heard.{votes_to_all}
 use Rattle.simplex_mocks.proofs.sending.votes_to_all.Given as goal
 
 abbrev pub invariant-loop-subject : goal.invariant-loop-subject

@@ -1,7 +1,7 @@
 use Rattle.std.proofs.Common.{ap, ◌∙◌, length, ◌+◌}
 use Rattle.std.proofs.lemmas.Result.{IfOk-weaker}
 use Rattle.std.specs.Option.{option_or}
-use Rattle.simplex_run.specs.Entries.{entry_with}
+use Rattle.model_run.specs.Entries.{entry_with}
 use Rattle.simplex_network.proofs.inputs.enter.Goals as goal
 
 pub returns-clause-entry : goal.returns-clause-entry

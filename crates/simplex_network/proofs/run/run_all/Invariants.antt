@@ -1,5 +1,5 @@
 use Rattle.std.proofs.Common.{drop}
-use Rattle.simplex_run.specs.Setting.{setting_of}
+use Rattle.model_run.specs.Setting.{setting_of}
 use Rattle.simplex_network.proofs.Runs.{Ran}
 use Rattle.simplex_network.proofs.run.run_all.Given as goal
 

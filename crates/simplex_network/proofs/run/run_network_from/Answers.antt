@@ -3,9 +3,9 @@ use Rattle.std.specs.Result.{IfOk}
 use Rattle.std.proofs.lemmas.Result.{IfOk-weaker, IfErr-weaker}
 use Rattle.simplex_transcript.specs.declared.event.Event.{Event}
 use Rattle.simplex_transcript.specs.declared.refusal.Refusal.{Refusal}
-use Rattle.simplex_run.specs.Setting.{Setting, setting_of}
-use Rattle.simplex_run.specs.Run.{RunFrom}
-use Rattle.simplex_run_laws.specs.Complete.{HasRun}
+use Rattle.model_run.specs.Setting.{Setting, setting_of}
+use Rattle.model_run.specs.Run.{RunFrom}
+use Rattle.law_run.specs.Complete.{HasRun}
 use Rattle.simplex_network.specs.Answer.{is_memory}
 use Rattle.simplex_network.proofs.run.run_network_from.Goals as goal
 

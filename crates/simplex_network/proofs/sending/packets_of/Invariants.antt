@@ -1,6 +1,6 @@
 use Rattle.std.proofs.Common.{◌≡◌, ◌++◌, map}
 use Rattle.std.specs.Vec.Iter.{into_iter_items}
-use Rattle.simplex_run.specs.Entries.{sent_by}
+use Rattle.model_run.specs.Entries.{sent_by}
 use Rattle.simplex_network.proofs.sending.packets_of.Given as goal
 
 abbrev pub invariant-loop-one : goal.invariant-loop-one

@@ -1,5 +1,5 @@
 use Rattle.std.proofs.Common.{◌≤◌, ◌-◌, drop, length}
-use Rattle.simplex_run.specs.Setting.{at_epoch_genesis}
+use Rattle.model_run.specs.Setting.{at_epoch_genesis}
 use Rattle.simplex_network.proofs.Runs.{Ran}
 use Rattle.simplex_par.proofs.run.run_all.Given as goal
 

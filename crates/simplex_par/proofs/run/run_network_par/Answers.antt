@@ -4,9 +4,9 @@ use Rattle.std.proofs.lemmas.Result.{IfOk-weaker, IfErr-weaker}
 use Rattle.simplex_transcript.specs.declared.event.Event.{Event}
 use Rattle.simplex_transcript.specs.declared.refusal.Refusal.{Refusal}
 use Rattle.simplex_transcript.specs.declared.setup.Setup.{Setup}
-use Rattle.simplex_run.specs.Setting.{at_epoch_genesis}
-use Rattle.simplex_run.specs.Run.{Run}
-use Rattle.simplex_run_laws.specs.Complete.{HasRun}
+use Rattle.model_run.specs.Setting.{at_epoch_genesis}
+use Rattle.model_run.specs.Run.{Run}
+use Rattle.law_run.specs.Complete.{HasRun}
 use Rattle.simplex_network.specs.Answer.{is_memory}
 use Rattle.simplex_par.proofs.run.run_network_par.Goals as goal
 

@@ -1,5 +1,5 @@
 use Rattle.std.proofs.Common.{◌≡◌, ◌++◌, drop}
-use Rattle.simplex_run.specs.Entries.{packets_of}
+use Rattle.model_run.specs.Entries.{packets_of}
 use Rattle.simplex_records.proofs.packets.packets_of.Given as goal
 
 abbrev pub invariant-loop-call : goal.invariant-loop-call

@@ -1,6 +1,6 @@
 use Rattle.std.proofs.Common.{◌≡◌}
 use Rattle.std.specs.Vec.Iter.{into_iter_items}
-use Rattle.simplex_resolving.specs.Resolver.{Doing}
+use Rattle.model_resolver.specs.Resolver.{Doing}
 use Rattle.simplex_resolver.specs.Stands.{work_of}
 use Rattle.simplex_resolver.proofs.Leading.{Called}
 use Rattle.simplex_resolver.proofs.minding.call_each.Given as goal

@@ -1,6 +1,6 @@
 use Rattle.std.proofs.Common.{◌≡◌, ◌++◌, drop}
 use Rattle.std.specs.List.{filter_map}
-use Rattle.simplex_resolving.specs.Resolver.{fetch_of}
+use Rattle.model_resolver.specs.Resolver.{fetch_of}
 use Rattle.simplex_resolver.proofs.repairing.fetches_of.Given as goal
 
 abbrev pub invariant-loop-effect : goal.invariant-loop-effect

@@ -1,6 +1,6 @@
 use Rattle.std.proofs.Common.{◌≡◌, ◌++◌, drop}
 use Rattle.std.specs.List.{filter_map}
-use Rattle.simplex_resolving.specs.Resolver.{retire_of}
+use Rattle.model_resolver.specs.Resolver.{retire_of}
 use Rattle.simplex_resolver.proofs.repairing.retires_of.Given as goal
 
 abbrev pub invariant-loop-effect : goal.invariant-loop-effect

@@ -1,6 +1,6 @@
 use Rattle.std.proofs.Common.{◌∙◌, ap, refl, Err}
 use Rattle.std.proofs.lemmas.List.{take_all, drop_all}
-use Rattle.simplex_steps.specs.Performed.{after_calls}
+use Rattle.model_steps.specs.Performed.{after_calls}
 use Rattle.simplex_voter.proofs.Folding.{drop-item}
 use Rattle.simplex_voter.proofs.Over.{made-over, failed-over, ended-over, rose-over}
 use Rattle.simplex_voter.proofs.Running.{running-begins, running-made, running-failed, running-ended}

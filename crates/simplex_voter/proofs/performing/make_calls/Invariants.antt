@@ -1,6 +1,6 @@
 use Rattle.std.proofs.Common.{◌≡◌, Some, take}
 use Rattle.simplex_journal.specs.Order.{Order}
-use Rattle.simplex_steps.specs.Performed.{after_calls}
+use Rattle.model_steps.specs.Performed.{after_calls}
 use Rattle.simplex_voter.proofs.Running.{Running}
 use Rattle.simplex_voter.proofs.performing.make_calls.Given as goal
 

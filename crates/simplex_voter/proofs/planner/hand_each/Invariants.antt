@@ -1,6 +1,6 @@
 use Rattle.std.proofs.Common.{◌≡◌, ◌++◌, map, drop}
 use Rattle.simplex_messages.specs.declared.handed.Handed.TheVariants.{Resolver}
-use Rattle.simplex_steps.specs.Desk.{resolve_of}
+use Rattle.model_steps.specs.Desk.{resolve_of}
 use Rattle.simplex_voter.specs.Stands.{sought_of}
 use Rattle.simplex_voter.proofs.planner.hand_each.Given as goal
 

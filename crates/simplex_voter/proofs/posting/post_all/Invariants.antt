@@ -1,4 +1,4 @@
-use Rattle.simplex_steps.specs.Engine.{for_batcher, for_resolver}
+use Rattle.model_steps.specs.Engine.{for_batcher, for_resolver}
 use Rattle.simplex_voter.proofs.Posts.{Posting}
 use Rattle.simplex_voter.proofs.posting.post_all.Given as goal
 

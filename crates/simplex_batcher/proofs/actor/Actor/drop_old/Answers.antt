@@ -1,5 +1,5 @@
 use Rattle.std.proofs.Common.{◌≡◌, ℕ, ◌-◌, ◌∙◌, nat_le, if◌then◌else◌, None, sym, ap, subst}
-use Rattle.simplex_steps.specs.Batcher.{Made, dropped, retains_view}
+use Rattle.model_steps.specs.Batcher.{Made, dropped, retains_view}
 use Rattle.simplex_batcher.specs.Rounds.{round_at}
 use Rattle.simplex_batcher.specs.Stands.{batcher_made}
 use Rattle.simplex_batcher.proofs.Moving.{moved}

@@ -1,5 +1,5 @@
 use Rattle.std.proofs.Common.{ℕ, List, subst}
-use Rattle.simplex_steps.specs.Batcher.{finished, dropped, worked_all}
+use Rattle.model_steps.specs.Batcher.{finished, dropped, worked_all}
 use Rattle.simplex_batcher.specs.Stands.{Stands}
 use Rattle.simplex_batcher.proofs.actor.Actor.finish.Goals as goal
 

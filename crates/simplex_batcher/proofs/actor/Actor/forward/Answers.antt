@@ -1,6 +1,6 @@
 use Rattle.std.proofs.Common.{◌≡◌, ◌∙◌, ap, refl, Some, None}
 use Rattle.std.specs.Option.{option_map}
-use Rattle.simplex_steps.specs.Batcher.{forwarding}
+use Rattle.model_steps.specs.Batcher.{forwarding}
 use Rattle.simplex_batcher.specs.Rounds.{round_of}
 use Rattle.simplex_batcher.specs.Stands.{Stands}
 use Rattle.simplex_batcher.proofs.Cases.{forward-at}

@@ -1,6 +1,6 @@
 use Rattle.std.proofs.Common.{◌≡◌, ap, refl, ◌∙◌}
 use Rattle.simplex_round.specs.Acceptance.{heard_from}
-use Rattle.simplex_steps.specs.Batcher.{with_heard, round_for, known_in}
+use Rattle.model_steps.specs.Batcher.{with_heard, round_for, known_in}
 use Rattle.simplex_batcher.specs.declared.others.Heard.{Heard}
 use Rattle.simplex_batcher.specs.Hearing.{IsAlone}
 use Rattle.simplex_batcher.specs.Rounds.{given}

@@ -1,6 +1,6 @@
 use Rattle.std.proofs.Common.{◌≡◌, ◌∙◌, ap, sym, true, false}
 use Rattle.std.specs.Option.{is_some}
-use Rattle.simplex_steps.specs.Batcher.{new_round}
+use Rattle.model_steps.specs.Batcher.{new_round}
 use Rattle.simplex_batcher.specs.Hearing.{voted}
 use Rattle.simplex_batcher.specs.Rounds.{round_at}
 use Rattle.simplex_batcher.specs.Working.{bare_round}

@@ -1,5 +1,5 @@
 use Rattle.std.proofs.Common.{◌∙◌, sym}
-use Rattle.simplex_steps.specs.Batcher.{seen_now}
+use Rattle.model_steps.specs.Batcher.{seen_now}
 use Rattle.simplex_batcher.proofs.Cases.{certificate-foreign, certificate-own}
 use Rattle.simplex_batcher.proofs.actor.Actor.hear_certificate.Goals as goal
 

@@ -1,7 +1,7 @@
 use Rattle.std.proofs.Common.{◌≡◌, refl, ◌∙◌}
 use Rattle.simplex_round.specs.Acceptance.{heard}
 use Rattle.simplex_round.specs.Calls.{AcceptVote}
-use Rattle.simplex_steps.specs.Batcher.{with_heard, round_for, known_in, called}
+use Rattle.model_steps.specs.Batcher.{with_heard, round_for, known_in, called}
 use Rattle.simplex_batcher.specs.Rounds.{round_at}
 use Rattle.simplex_batcher.specs.Working.{own_heard_at, put}
 use Rattle.simplex_batcher.proofs.Moving.{moved}

@@ -1,5 +1,5 @@
 use Rattle.std.proofs.Common.{◌≡◌, ap, sym, ◌∙◌, false}
-use Rattle.simplex_steps.specs.Batcher.{has_skipping}
+use Rattle.model_steps.specs.Batcher.{has_skipping}
 use Rattle.simplex_batcher.specs.Stands.{batcher_made}
 use Rattle.simplex_batcher.proofs.Cases.{vote-nullified}
 use Rattle.simplex_batcher.proofs.actor.Actor.hint_at_vote.Goals as goal

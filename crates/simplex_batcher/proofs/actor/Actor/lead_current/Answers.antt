@@ -1,5 +1,5 @@
 use Rattle.std.proofs.Common.{ℕ, ◌∙◌, sym, subst}
-use Rattle.simplex_steps.specs.Batcher.{Standing, round_for}
+use Rattle.model_steps.specs.Batcher.{Standing, round_for}
 use Rattle.simplex_batcher.specs.Stands.{IsAt}
 use Rattle.simplex_batcher.specs.Working.{put}
 use Rattle.simplex_batcher.proofs.Updating.{leader-is, window-same}

@@ -1,5 +1,5 @@
 use Rattle.std.proofs.Common.{drop}
-use Rattle.simplex_steps.specs.Batcher.{Made, Standing}
+use Rattle.model_steps.specs.Batcher.{Made, Standing}
 use Rattle.simplex_batcher.specs.Stands.{IsAt}
 use Rattle.simplex_batcher.proofs.Leading.{Led}
 use Rattle.simplex_batcher.proofs.actor.Actor.lead_each.Given as goal

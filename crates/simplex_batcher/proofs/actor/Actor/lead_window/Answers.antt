@@ -1,5 +1,5 @@
 use Rattle.std.proofs.Common.{◌≡◌, ◌∙◌, ap, subst}
-use Rattle.simplex_steps.specs.Batcher.{Standing, window_views}
+use Rattle.model_steps.specs.Batcher.{Standing, window_views}
 use Rattle.simplex_batcher.specs.Stands.{IsAt}
 use Rattle.simplex_batcher.specs.Working.{with_leads, with_window}
 use Rattle.simplex_batcher.proofs.Updating.{window-is}

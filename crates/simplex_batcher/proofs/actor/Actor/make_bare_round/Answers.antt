@@ -1,5 +1,5 @@
 use Rattle.std.proofs.Common.{sym, refl, ◌∙◌, unwrap_or}
-use Rattle.simplex_steps.specs.Batcher.{new_round}
+use Rattle.model_steps.specs.Batcher.{new_round}
 use Rattle.simplex_batcher.specs.Rounds.{round_at}
 use Rattle.simplex_batcher.proofs.Moving.{moved}
 use Rattle.simplex_batcher.proofs.Placing.{placed-already, placed-new, set}

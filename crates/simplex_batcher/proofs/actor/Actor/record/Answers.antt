@@ -1,6 +1,6 @@
 use Rattle.std.proofs.Common.{refl, ◌∙◌}
 use Rattle.simplex_round.specs.Calls.{RecordCertificate}
-use Rattle.simplex_steps.specs.Batcher.{round_for, called}
+use Rattle.model_steps.specs.Batcher.{round_for, called}
 use Rattle.simplex_batcher.specs.Rounds.{round_at}
 use Rattle.simplex_batcher.specs.Working.{recorded_at, put}
 use Rattle.simplex_batcher.proofs.Moving.{moved}

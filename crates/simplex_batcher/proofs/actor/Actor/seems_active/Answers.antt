@@ -1,6 +1,6 @@
 use Rattle.std.proofs.Common.{arith}
 use Rattle.std.proofs.lemmas.Grind.{common_steps}
-use Rattle.simplex_steps.specs.Batcher.{is_active}
+use Rattle.model_steps.specs.Batcher.{is_active}
 use Rattle.simplex_batcher.proofs.actor.Actor.seems_active.Goals as goal
 
 pub returns-then-was_seen : goal.returns-then-was_seen

@@ -1,7 +1,7 @@
 use Rattle.std.proofs.Common.{◌≡◌, ◌∙◌, ◌==◌, ap, sym, not, filter, List, ℕ, Option}
 use Rattle.simplex_round.specs.Stands.{StandsFor}
 use Rattle.simplex_round.specs.Forwarding.{missing_voters}
-use Rattle.simplex_steps.specs.Batcher.{Made, targets_of, some_passes, known_in}
+use Rattle.model_steps.specs.Batcher.{Made, targets_of, some_passes, known_in}
 use Rattle.simplex_batcher.specs.Rounds.{round_of}
 use Rattle.simplex_batcher.specs.Stands.{batcher_made}
 use Rattle.simplex_batcher.proofs.actor.Actor.silent_voters.Goals as goal

@@ -1,4 +1,4 @@
-use Rattle.simplex_steps.specs.Batcher.{standing_after, step_out}
+use Rattle.model_steps.specs.Batcher.{standing_after, step_out}
 use Rattle.simplex_batcher.specs.Stands.{StandsFor}
 use Rattle.simplex_batcher.proofs.actor.Actor.step.Goals as goal
 

@@ -1,4 +1,4 @@
-use Rattle.simplex_steps.specs.Batcher.{begun, step}
+use Rattle.model_steps.specs.Batcher.{begun, step}
 use Rattle.simplex_batcher.proofs.actor.Actor.take.Goals as goal
 
 pub returns : goal.returns

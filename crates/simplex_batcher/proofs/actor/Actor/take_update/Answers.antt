@@ -1,5 +1,5 @@
 use Rattle.std.proofs.Common.{◌∷◌, ◌∙◌, ap}
-use Rattle.simplex_steps.specs.Batcher.{took_update, with_leader, window_views}
+use Rattle.model_steps.specs.Batcher.{took_update, with_leader, window_views}
 use Rattle.simplex_batcher.specs.Working.{entered}
 use Rattle.simplex_batcher.proofs.actor.Actor.take_update.Goals as goal
 

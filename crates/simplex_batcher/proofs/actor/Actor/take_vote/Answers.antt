@@ -1,5 +1,5 @@
 use Rattle.std.proofs.Common.{sym, ◌∙◌}
-use Rattle.simplex_steps.specs.Batcher.{with_heard}
+use Rattle.model_steps.specs.Batcher.{with_heard}
 use Rattle.simplex_batcher.specs.Working.{heard_at}
 use Rattle.simplex_batcher.proofs.Cases.{vote-outside, vote-inside}
 use Rattle.simplex_batcher.proofs.Hearing.{nullified-here}

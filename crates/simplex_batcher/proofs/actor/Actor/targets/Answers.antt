@@ -1,5 +1,5 @@
 use Rattle.std.proofs.Common.{◌∙◌, ap, sym}
-use Rattle.simplex_steps.specs.Batcher.{Made, targets_of}
+use Rattle.model_steps.specs.Batcher.{Made, targets_of}
 use Rattle.simplex_batcher.specs.Stands.{batcher_made}
 use Rattle.simplex_batcher.proofs.actor.Actor.targets.Goals as goal
 

@@ -2,7 +2,7 @@ use Rattle.std.proofs.Common.{◌≡◌, ◌==◌, false, ◌≤◌, ◌<◌, �
 use Rattle.std.proofs.lemmas.Grind.{common_steps}
 use Rattle.std.proofs.lemmas.Bool.Decides.{nat_tests}
 use Rattle.simplex_values.specs.Terms.{admission_limit}
-use Rattle.simplex_steps.specs.Batcher.{Made}
+use Rattle.model_steps.specs.Batcher.{Made}
 use Rattle.simplex_batcher.specs.Rounds.{found}
 use Rattle.simplex_batcher.specs.Stands.{batcher_made}
 use Rattle.simplex_batcher.proofs.Apart.{apart-is}

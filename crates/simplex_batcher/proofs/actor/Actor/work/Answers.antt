@@ -1,7 +1,7 @@
 use Rattle.std.proofs.Common.{◌≡◌, sym, ap, nat_le, true, false, ◌∙◌, arith}
 use Rattle.std.proofs.lemmas.Grind.{common_steps}
 use Rattle.std.proofs.lemmas.Bool.Decides.{nat_tests}
-use Rattle.simplex_steps.specs.Batcher.{Made}
+use Rattle.model_steps.specs.Batcher.{Made}
 use Rattle.simplex_batcher.specs.Rounds.{round_at}
 use Rattle.simplex_batcher.specs.Stands.{batcher_made}
 use Rattle.simplex_batcher.specs.Working.{forwarded_at, worked_near}

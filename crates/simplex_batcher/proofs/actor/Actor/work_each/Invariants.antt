@@ -1,5 +1,5 @@
 use Rattle.std.proofs.Common.{drop, List, ℕ}
-use Rattle.simplex_steps.specs.Batcher.{Made, Doing}
+use Rattle.model_steps.specs.Batcher.{Made, Doing}
 use Rattle.simplex_batcher.specs.Stands.{Stands}
 use Rattle.simplex_batcher.proofs.Leading.{Done}
 use Rattle.simplex_batcher.proofs.actor.Actor.work_each.Given as goal

@@ -1,6 +1,6 @@
 use Rattle.std.proofs.Common.{◌≡◌, ◌∙◌, ◌∷◌, ◌++◌, ap}
 use Rattle.std.specs.Option.{option_to_list}
-use Rattle.simplex_steps.specs.Batcher.{worked, worked_all}
+use Rattle.model_steps.specs.Batcher.{worked, worked_all}
 use Rattle.simplex_batcher.proofs.actor.Actor.work_marked.Goals.{in-Some+in_ok-work, in_default}
 use Rattle.simplex_batcher.proofs.actor.Actor.work_marked.Goals as goal
 

@@ -1,6 +1,6 @@
 use Rattle.std.proofs.Common.{◌≡◌, ◌∙◌, ◌==◌, ◌&&◌, not, length, ap}
 use Rattle.simplex_round.specs.Acceptance.{heard}
-use Rattle.simplex_steps.specs.Batcher.{known_in}
+use Rattle.model_steps.specs.Batcher.{known_in}
 use Rattle.simplex_batcher.proofs.Accepting.{heard-shows}
 use Rattle.simplex_batcher.proofs.rounds.Rounds.accept_vote.Goals as goal
 

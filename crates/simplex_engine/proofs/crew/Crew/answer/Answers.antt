@@ -1,5 +1,5 @@
 use Rattle.std.proofs.Common.{sym, ◌∙◌, ◌∷◌}
-use Rattle.simplex_steps.specs.VoterLife.{Answered}
+use Rattle.model_steps.specs.VoterLife.{Answered}
 use Rattle.simplex_engine.proofs.Places.{place-more, place-refused}
 use Rattle.simplex_engine.proofs.Voters.{either-takes, either-answers}
 use Rattle.simplex_engine.proofs.crew.Crew.answer.Goals as goal

@@ -1,6 +1,6 @@
 use Rattle.std.proofs.Common.{refl, ap, [], ◌∷◌}
-use Rattle.simplex_steps.specs.VoterLife.{Started, start_given}
-use Rattle.simplex_steps.specs.Engine.{begun}
+use Rattle.model_steps.specs.VoterLife.{Started, start_given}
+use Rattle.model_steps.specs.Engine.{begun}
 use Rattle.simplex_engine.specs.declared.boxes.Boxes.{Boxes}
 use Rattle.simplex_engine.specs.Stands.{CrewStands}
 use Rattle.simplex_engine.proofs.VoterMail.{start-quiet}

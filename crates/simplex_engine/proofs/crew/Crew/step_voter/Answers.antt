@@ -1,5 +1,5 @@
 use Rattle.std.proofs.Common.{◌∷◌}
-use Rattle.simplex_steps.specs.VoterLife.{Stepped}
+use Rattle.model_steps.specs.VoterLife.{Stepped}
 use Rattle.simplex_engine.proofs.Places.{place-more, step-at, left-at}
 use Rattle.simplex_engine.proofs.crew.Crew.step_voter.Goals as goal
 

@@ -1,5 +1,5 @@
 use Rattle.std.proofs.Common.{◌∙◌, sym, true, false}
-use Rattle.simplex_steps.specs.Engine.{begun}
+use Rattle.model_steps.specs.Engine.{begun}
 use Rattle.simplex_engine.specs.Stands.{StandsFor, StandsOver}
 use Rattle.simplex_engine.proofs.Stages.{start-stands, start-gives, start-over, start-faults, settled-stops, running-started}
 use Rattle.simplex_engine.proofs.engine.Engine.start.Goals as goal

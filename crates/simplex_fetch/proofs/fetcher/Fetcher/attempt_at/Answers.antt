@@ -1,5 +1,5 @@
 use Rattle.std.proofs.Common.{◌≡◌, Some, rules}
-use Rattle.simplex_resolving.specs.Views.{entry_at}
+use Rattle.model_resolver.specs.Views.{entry_at}
 use Rattle.simplex_fetch.proofs.Taken.{attempting_is}
 use Rattle.simplex_fetch.proofs.fetcher.Fetcher.attempt_at.Goals as goal
 

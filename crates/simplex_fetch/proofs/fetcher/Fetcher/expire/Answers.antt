@@ -1,8 +1,8 @@
 use Rattle.std.proofs.Common.{◌≡◌, ◌∷◌, [], ap, ◌++◌, ◌∙◌, rules, arith, length, suc}
 use Rattle.std.proofs.lemmas.List.{nil_from_length}
 use Rattle.simplex_fetch.specs.Index.{is_due}
-use Rattle.simplex_resolving.specs.Views.{views_where}
-use Rattle.simplex_resolving.specs.Fetcher.{expiring, expired, visited}
+use Rattle.model_resolver.specs.Views.{views_where}
+use Rattle.model_resolver.specs.Fetcher.{expiring, expired, visited}
 use Rattle.simplex_fetch.proofs.Taken.{expiring_ids}
 use Rattle.simplex_fetch.proofs.Visits.{visit_more, visit_fetcher, visit_outs}
 use Rattle.simplex_fetch.proofs.fetcher.Fetcher.expire.Goals as goal

@@ -1,5 +1,5 @@
 use Rattle.std.proofs.Common.{◌≡◌, Some, rules}
-use Rattle.simplex_resolving.specs.Views.{entry_at}
+use Rattle.model_resolver.specs.Views.{entry_at}
 use Rattle.simplex_fetch.proofs.Taken.{expiring_asked, expiring_waiting}
 use Rattle.simplex_fetch.proofs.fetcher.Fetcher.expire_at.Goals as goal
 

@@ -1,5 +1,5 @@
 use Rattle.std.proofs.Common.{◌≡◌, [], map, drop}
-use Rattle.simplex_resolving.specs.Fetcher.{fetched_beside, of_all}
+use Rattle.model_resolver.specs.Fetcher.{fetched_beside, of_all}
 use Rattle.simplex_fetch.proofs.fetcher.Fetcher.fetch_all.Given as goal
 
 abbrev pub invariant-loop-fetch : goal.invariant-loop-fetch

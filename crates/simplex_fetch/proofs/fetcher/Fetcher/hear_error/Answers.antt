@@ -1,5 +1,5 @@
 use Rattle.std.proofs.Common.{◌≡◌, Some, rules}
-use Rattle.simplex_resolving.specs.Views.{entry_at, asked_view}
+use Rattle.model_resolver.specs.Views.{entry_at, asked_view}
 use Rattle.simplex_fetch.proofs.Taken.{refused_is}
 use Rattle.simplex_fetch.proofs.fetcher.Fetcher.hear_error.Goals as goal
 

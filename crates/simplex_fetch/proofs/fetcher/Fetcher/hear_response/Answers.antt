@@ -1,6 +1,6 @@
 use Rattle.std.proofs.Common.{◌≡◌, Some, rules}
-use Rattle.simplex_resolving.specs.Views.{entry_at, asked_view}
-use Rattle.simplex_resolving.specs.Fetcher.{IsSoundEntry, IsDrawn}
+use Rattle.model_resolver.specs.Views.{entry_at, asked_view}
+use Rattle.model_resolver.specs.Fetcher.{IsSoundEntry, IsDrawn}
 use Rattle.simplex_fetch.proofs.Indexing.{asked_open}
 use Rattle.simplex_fetch.proofs.Taken.{drawn_put}
 use Rattle.simplex_fetch.proofs.fetcher.Fetcher.hear_response.Goals as goal

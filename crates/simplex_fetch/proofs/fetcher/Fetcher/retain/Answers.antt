@@ -1,7 +1,7 @@
 use Rattle.std.proofs.Common.{◌≡◌, ◌<◌, ◌+◌, ◌∷◌, ◌++◌, ◌&&◌, ap, ◌∙◌, rules, length, drop, get_or, add-one, drop-cons}
-use Rattle.simplex_resolving.specs.Retirement.{reaches, touches}
-use Rattle.simplex_resolving.specs.Views.{views_where}
-use Rattle.simplex_resolving.specs.Fetcher.{retained, retiring, visited, IsSound}
+use Rattle.model_resolver.specs.Retirement.{reaches, touches}
+use Rattle.model_resolver.specs.Views.{views_where}
+use Rattle.model_resolver.specs.Fetcher.{retained, retiring, visited, IsSound}
 use Rattle.simplex_fetch.proofs.Untouched.{retained_touched}
 use Rattle.simplex_fetch.proofs.Visits.{visit_more, visit_fetcher, visit_outs, dropped_all}
 use Rattle.simplex_fetch.proofs.fetcher.Fetcher.retain.Goals as goal

@@ -1,5 +1,5 @@
 use Rattle.std.proofs.Common.{drop}
-use Rattle.simplex_resolving.specs.Fetcher.{retiring}
+use Rattle.model_resolver.specs.Fetcher.{retiring}
 use Rattle.simplex_fetch.proofs.Visits.{Visiting}
 use Rattle.simplex_fetch.proofs.fetcher.Fetcher.retain.Given as goal
 

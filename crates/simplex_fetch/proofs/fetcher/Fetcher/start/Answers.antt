@@ -1,6 +1,6 @@
 use Rattle.std.proofs.Common.{◌≡◌, ◌∷◌, [], ap, ◌++◌, rules, arith, length, suc}
 use Rattle.std.proofs.lemmas.List.{nil_from_length}
-use Rattle.simplex_resolving.specs.Fetcher.{attempting}
+use Rattle.model_resolver.specs.Fetcher.{attempting}
 use Rattle.simplex_fetch.proofs.Taken.{attempting_ids}
 use Rattle.simplex_fetch.proofs.Visits.{visit_more, visit_fetcher, visit_outs}
 use Rattle.simplex_fetch.proofs.fetcher.Fetcher.start.Goals as goal

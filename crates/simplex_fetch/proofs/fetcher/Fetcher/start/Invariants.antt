@@ -1,6 +1,6 @@
 use Rattle.std.proofs.Common.{◌≤◌, ◌+◌, length}
 use Rattle.std.specs.BTreeSet.{btree_set_len}
-use Rattle.simplex_resolving.specs.Fetcher.{attempting}
+use Rattle.model_resolver.specs.Fetcher.{attempting}
 use Rattle.simplex_fetch.proofs.Visits.{Visiting}
 use Rattle.simplex_fetch.proofs.fetcher.Fetcher.start.Given as goal
 

@@ -1,6 +1,6 @@
 use Rattle.std.proofs.Common.{◌≡◌, [], Some, None, rules, arith}
 use Rattle.std.proofs.lemmas.Grind.{common_steps}
-use Rattle.simplex_resolving.specs.Views.{entry_at, judged_view}
+use Rattle.model_resolver.specs.Views.{entry_at, judged_view}
 use Rattle.simplex_fetch.proofs.Taken.{judged_is}
 use Rattle.simplex_fetch.proofs.fetcher.Fetcher.verdict.Goals as goal
 

@@ -3,8 +3,8 @@ use Rattle.std.specs.Ordering.{nat_cmp}
 use Rattle.std.specs.Map.{lookup}
 use Rattle.std.specs.BTreeMap.{is_at}
 use Rattle.std.proofs.lemmas.Grind.{common_steps}
-use Rattle.simplex_resolving.specs.declared.entry.Entry.{Entry}
-use Rattle.simplex_resolving.specs.Views.{entry_at, is_asked_as}
+use Rattle.model_resolver.specs.declared.entry.Entry.{Entry}
+use Rattle.model_resolver.specs.Views.{entry_at, is_asked_as}
 use Rattle.simplex_fetch.proofs.Entries.{passes}
 use Rattle.simplex_fetch.proofs.Indexing.{found-unknown, found-no, found-yes, asked_needs}
 use Rattle.simplex_fetch.proofs.views.Views.asked_view.Goals as goal

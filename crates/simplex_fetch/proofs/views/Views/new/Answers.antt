@@ -1,6 +1,6 @@
 use Rattle.std.proofs.Common.{arith}
 use Rattle.std.proofs.lemmas.Grind.{common_steps}
-use Rattle.simplex_resolving.specs.Views.{entry_at}
+use Rattle.model_resolver.specs.Views.{entry_at}
 use Rattle.simplex_fetch.specs.Index.{AreHolders}
 use Rattle.simplex_fetch.proofs.views.Views.new.Goals as goal
 

@@ -1,6 +1,6 @@
 use Rattle.std.proofs.Common.{◌≡◌, None, rules}
-use Rattle.simplex_resolving.specs.Asks.{held_of}
-use Rattle.simplex_resolving.specs.Views.{entry_at, with_entry, id_of}
+use Rattle.model_resolver.specs.Asks.{held_of}
+use Rattle.model_resolver.specs.Views.{entry_at, with_entry, id_of}
 use Rattle.simplex_fetch.specs.Index.{IsFree}
 use Rattle.simplex_fetch.specs.Holders.{IsNoted, IsForgotten}
 use Rattle.simplex_fetch.proofs.Entries.{entry_at-put}

@@ -2,8 +2,8 @@ use Rattle.std.proofs.Common.{◌≡◌, ◌==◌, ℕ, Some, None, rules, arith
 use Rattle.std.specs.Prelude.{if◌then◌else◌}
 use Rattle.std.specs.Cmp.{unsigned_tied}
 use Rattle.std.proofs.lemmas.Grind.{common_steps}
-use Rattle.simplex_resolving.specs.Views.{entry_at, without_entry}
-use Rattle.simplex_resolving.specs.Asks.{held_of}
+use Rattle.model_resolver.specs.Views.{entry_at, without_entry}
+use Rattle.model_resolver.specs.Asks.{held_of}
 use Rattle.simplex_fetch.specs.Holders.{IsForgotten}
 use Rattle.simplex_fetch.proofs.Indexing.{removed, freed}
 use Rattle.simplex_fetch.proofs.Holding.{held_take}

@@ -1,7 +1,7 @@
 use Rattle.std.proofs.Common.{sym, ◌∙◌}
 use Rattle.std.proofs.lemmas.Result.{IfOk-weaker}
 use Rattle.simplex_values.specs.declared.ask.Until.TheVariants as until
-use Rattle.simplex_resolving.specs.Asks.{same_kind, same_until}
+use Rattle.model_resolver.specs.Asks.{same_kind, same_until}
 use Rattle.simplex_fetch.specs.Holders.{of_kind}
 use Rattle.simplex_fetch.proofs.Holding.{held_kind}
 use Rattle.simplex_fetch.proofs.Touched.{touches_kind, touches_all, touches_floor, touched-held, touched-all, touched-none}

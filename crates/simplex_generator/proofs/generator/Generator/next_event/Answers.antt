@@ -1,6 +1,6 @@
 use Rattle.std.proofs.Common.{refl, sym, ap, ◌∙◌}
 use Rattle.std.proofs.lemmas.Result.{IfOk-weaker}
-use Rattle.simplex_generated.specs.Drawing as drawing
+use Rattle.simplex_generator.specs.Drawing as drawing
 use Rattle.simplex_generator.proofs.Steps.{draws_event, draws_delivery, draws_step, drew}
 use Rattle.simplex_generator.proofs.generator.Generator.next_event.Goals as goal
 

@@ -1,8 +1,8 @@
 use Rattle.std.proofs.Common.{◌≡◌, ◌∙◌, sym, ap, subst, ◌+◌, Some, None, ◌∷◌}
 use Rattle.simplex_mocks.specs.Drawing.{answers_of}
 use Rattle.std.specs.Prelude.{IfOk}
-use Rattle.simplex_faults.specs.Words.{Draws}
-use Rattle.simplex_faults.specs.Equivocator.{Made, equivocator_drew}
+use Rattle.model_faults.specs.Words.{Draws}
+use Rattle.model_faults.specs.Equivocator.{Made, equivocator_drew}
 use Rattle.simplex_mocks.specs.Equivocating.{speaker}
 use Rattle.simplex_mocks.proofs.Speaking.{not_answered, is_answered, heard_more}
 use Rattle.simplex_mocks.proofs.Standing.{stands_made, stands_draws, stands_on, on_ok, three_words, round_of}

@@ -1,8 +1,8 @@
 use Rattle.std.proofs.Common.{◌≡◌, ◌∙◌, sym, refl, subst, None, ◌∷◌}
 use Rattle.simplex_mocks.specs.Drawing.{answers_of}
-use Rattle.simplex_faults.specs.Words.{Draws}
-use Rattle.simplex_faults.specs.Heard.{Heard, certificate_heard}
-use Rattle.simplex_faults.specs.Equivocator.{proposal_in}
+use Rattle.model_faults.specs.Words.{Draws}
+use Rattle.model_faults.specs.Heard.{Heard, certificate_heard}
+use Rattle.model_faults.specs.Equivocator.{proposal_in}
 use Rattle.simplex_mocks.proofs.Speaking.{none_heard, heard_same}
 use Rattle.simplex_mocks.proofs.Standing.{stands_draws, stands_heard, stands_on}
 use Rattle.simplex_mocks.proofs.equivocator.Equivocator.hear.Goals as goal

@@ -1,6 +1,6 @@
 use Rattle.std.proofs.Common.{sym, ap, ◌∙◌}
 use Rattle.std.proofs.lemmas.Result.{IfOk-weaker, IfErr-weaker}
-use Rattle.simplex_run.specs.Life.{Running}
+use Rattle.model_run.specs.Life.{Running}
 use Rattle.simplex_network.specs.Stands.{entered}
 use Rattle.simplex_network.proofs.Acting.{act-input, act-missing, act-stopped}
 use Rattle.simplex_network.proofs.Found.{found-none, found-stopped, found-running, found-faulty}

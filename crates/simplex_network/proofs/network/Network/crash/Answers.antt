@@ -2,7 +2,7 @@ use Rattle.std.proofs.Common.{refl, sym, ap, ◌∙◌, inr}
 use Rattle.std.specs.Prelude.{Ok}
 use Rattle.std.proofs.lemmas.Result.{IfOk-weaker}
 use Rattle.simplex_transcript.specs.declared.event.Event.TheVariants as events
-use Rattle.simplex_run.specs.Life.{Running}
+use Rattle.model_run.specs.Life.{Running}
 use Rattle.simplex_network.specs.Stands.{entered}
 use Rattle.simplex_network.proofs.Polled.{same-ok}
 use Rattle.simplex_network.proofs.Found.{found-none, found-stopped, found-running, found-faulty}

@@ -1,6 +1,6 @@
 use Rattle.std.proofs.Common.{refl, sym, ap, ◌∙◌, length, ◌+◌}
 use Rattle.std.specs.Prelude.{None, Ok}
-use Rattle.simplex_run.specs.Kinds.{node_of}
+use Rattle.model_run.specs.Kinds.{node_of}
 use Rattle.simplex_records.specs.Events.{spoken_entry}
 use Rattle.simplex_network.specs.Stands.{entered}
 use Rattle.simplex_network.proofs.Polled.{same-ok}

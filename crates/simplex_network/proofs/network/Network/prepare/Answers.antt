@@ -1,6 +1,6 @@
 use Rattle.std.proofs.Common.{◌∙◌}
 use Rattle.std.proofs.lemmas.Result.{IfOk-weaker, IfErr-weaker}
-use Rattle.simplex_run.specs.Life.{Running}
+use Rattle.model_run.specs.Life.{Running}
 use Rattle.simplex_network.proofs.Acting.{act-missing, act-stopped, tested-honest, never-faulty}
 use Rattle.simplex_network.proofs.Found.{found-none, found-stopped, found-running, found-faulty}
 use Rattle.simplex_network.proofs.network.Network.prepare.Goals as goal

@@ -1,6 +1,6 @@
 use Rattle.std.proofs.Common.{refl, sym, ap, ◌∙◌}
 use Rattle.std.specs.Prelude.{Ok}
-use Rattle.simplex_run.specs.Life.{life_in}
+use Rattle.model_run.specs.Life.{life_in}
 use Rattle.simplex_network.specs.Stands.{entered}
 use Rattle.simplex_network.proofs.Polled.{same-ok}
 use Rattle.simplex_network.proofs.Found.{found-none, found-stopped, found-running, found-faulty}

@@ -1,7 +1,7 @@
 use Rattle.std.proofs.Common.{refl, arith}
 use Rattle.simplex_members.proofs.Good.{good-few}
 use Rattle.simplex_network.proofs.Networks.{network-new}
-use Rattle.simplex_run.specs.Setting.{setting_of}
+use Rattle.model_run.specs.Setting.{setting_of}
 use Rattle.simplex_network.proofs.network.Network.with_setup.Goals as goal
 
 pub new-requires-2 : goal.new-requires-2

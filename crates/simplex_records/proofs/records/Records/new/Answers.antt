@@ -1,5 +1,5 @@
 use Rattle.std.proofs.Common.{refl}
-use Rattle.simplex_run.specs.Entries.{was_reported}
+use Rattle.model_run.specs.Entries.{was_reported}
 use Rattle.simplex_records.proofs.KeptPackets.{no-packets}
 use Rattle.simplex_records.proofs.records.Records.new.Goals as goal
 

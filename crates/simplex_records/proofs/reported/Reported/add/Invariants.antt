@@ -2,7 +2,7 @@ use Rattle.std.proofs.Common.{◌≡◌, take}
 use Rattle.std.specs.Prelude.{◌||◌}
 use Rattle.std.specs.List.{list_any}
 use Rattle.simplex_wire.specs.declared.certificate.Finalization.{Finalization}
-use Rattle.simplex_run.specs.Entries.{reports}
+use Rattle.model_run.specs.Entries.{reports}
 use Rattle.simplex_records.specs.Reported.{has_reported}
 use Rattle.simplex_records.proofs.reported.Reported.add.Given as goal
 

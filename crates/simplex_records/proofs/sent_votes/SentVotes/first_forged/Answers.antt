@@ -1,6 +1,6 @@
 use Rattle.std.proofs.Common.{sym, ap, ◌∙◌, drop, ◌+◌}
 use Rattle.std.specs.Option.{option_or}
-use Rattle.simplex_run.specs.Forged.{signed_by_faulty}
+use Rattle.model_run.specs.Forged.{signed_by_faulty}
 use Rattle.simplex_records.specs.Forgeries.{is_unsent, first_of}
 use Rattle.simplex_records.proofs.Forging.{packets-left}
 use Rattle.simplex_records.proofs.sent_votes.SentVotes.first_forged.Goals as goal

@@ -1,5 +1,5 @@
 use Rattle.std.proofs.Common.{◌≡◌, drop}
-use Rattle.simplex_run.specs.Forged.{signed_by_faulty}
+use Rattle.model_run.specs.Forged.{signed_by_faulty}
 use Rattle.simplex_records.specs.Forgeries.{is_unsent, first_of}
 use Rattle.simplex_records.proofs.sent_votes.SentVotes.first_forged.Given as goal
 

@@ -1,6 +1,6 @@
 use Rattle.std.proofs.Common.{◌≡◌, drop}
 use Rattle.std.specs.Prelude.{map}
-use Rattle.simplex_run.specs.Forged.{signed}
+use Rattle.model_run.specs.Forged.{signed}
 use Rattle.simplex_records.specs.Forgeries.{is_unsent, first_of}
 use Rattle.simplex_records.proofs.sent_votes.SentVotes.forged_among.Given as goal
 

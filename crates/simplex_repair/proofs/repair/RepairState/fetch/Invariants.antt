@@ -1,6 +1,6 @@
 use Rattle.std.proofs.Common.{◌≡◌, ℕ, ◌-◌, ◌++◌, map, List}
-use Rattle.simplex_rules.specs.declared.effect.Effect.TheVariants.{Fetch}
-use Rattle.simplex_rules.specs.Repair.{RepairCall}
+use Rattle.model_rules.specs.declared.effect.Effect.TheVariants.{Fetch}
+use Rattle.model_rules.specs.Repair.{RepairCall}
 use Rattle.simplex_repair.specs.Gaps.{gaps_between}
 use Rattle.simplex_repair.specs.Stands.{StandsFor}
 use Rattle.simplex_repair.proofs.repair.RepairState.fetch.Given as goal

@@ -1,8 +1,8 @@
 use Rattle.std.proofs.Common.{arith}
 use Rattle.std.proofs.lemmas.Grind.{common_steps}
 use Rattle.simplex_values.specs.Terms.{term_index}
-use Rattle.simplex_rules.specs.Lists.{first_of, greatest_of}
-use Rattle.simplex_rules.specs.Repair.{notarization_held, nullification_held, finalization_held, is_good, is_failed, final_view, repair_floor, is_final, covering_nullification, top_of}
+use Rattle.model_rules.specs.Lists.{first_of, greatest_of}
+use Rattle.model_rules.specs.Repair.{notarization_held, nullification_held, finalization_held, is_good, is_failed, final_view, repair_floor, is_final, covering_nullification, top_of}
 use Rattle.simplex_repair.specs.Stands.{StandsFor}
 use Rattle.simplex_repair.proofs.Terms.{term_rises}
 use Rattle.simplex_repair.proofs.repair.RepairState.note_finalization.Goals as goal

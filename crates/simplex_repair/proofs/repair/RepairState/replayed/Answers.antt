@@ -1,6 +1,6 @@
 use Rattle.std.proofs.Common.{◌∷◌, arith}
 use Rattle.std.proofs.lemmas.Grind.{common_steps}
-use Rattle.simplex_rules.specs.Repair.{Replayed}
+use Rattle.model_rules.specs.Repair.{Replayed}
 use Rattle.simplex_repair.specs.Stands.{StandsFor}
 use Rattle.simplex_repair.proofs.Leads.{replay_effects, replay_again_effects}
 use Rattle.simplex_repair.proofs.repair.RepairState.replayed.Goals as goal

@@ -1,7 +1,7 @@
 use Rattle.std.proofs.Common.{◌∷◌, arith}
 use Rattle.std.proofs.lemmas.Grind.{common_steps}
 use Rattle.simplex_wire.specs.declared.certificate.Certificate.TheVariants as certificates
-use Rattle.simplex_rules.specs.Repair.{Updated}
+use Rattle.model_rules.specs.Repair.{Updated}
 use Rattle.simplex_repair.specs.Stands.{StandsFor}
 use Rattle.simplex_repair.proofs.Leads.{finalization_effects}
 use Rattle.simplex_repair.proofs.repair.RepairState.take_finalization.Goals as goal

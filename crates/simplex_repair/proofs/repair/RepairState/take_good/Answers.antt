@@ -1,6 +1,6 @@
 use Rattle.std.proofs.Common.{◌∷◌, true, arith}
 use Rattle.std.proofs.lemmas.Grind.{common_steps}
-use Rattle.simplex_rules.specs.Repair.{Certified}
+use Rattle.model_rules.specs.Repair.{Certified}
 use Rattle.simplex_repair.specs.Stands.{StandsFor}
 use Rattle.simplex_repair.proofs.Leads.{good_effects}
 use Rattle.simplex_repair.proofs.repair.RepairState.take_good.Goals as goal

@@ -1,4 +1,4 @@
-use Rattle.simplex_rules.specs.Repair as repair
+use Rattle.model_rules.specs.Repair as repair
 use Rattle.simplex_resolver.specs.Stands.{Stands}
 use Rattle.simplex_resolver.proofs.Moving.{recorded-moves, accepted-as}
 use Rattle.simplex_resolver.proofs.actor.Actor.accept.Goals as goal

@@ -1,5 +1,5 @@
 use Rattle.std.proofs.Common.{◌≡◌, ◌≤◌, ◌+◌, drop}
-use Rattle.simplex_resolving.specs.Resolver.{Made, Standing, settled_count}
+use Rattle.model_resolver.specs.Resolver.{Made, Standing, settled_count}
 use Rattle.simplex_resolver.specs.Stands.{IsAt}
 use Rattle.simplex_resolver.proofs.actor.Actor.count_settled.Given as goal
 

@@ -1,5 +1,5 @@
-use Rattle.simplex_resolving.specs.Fetcher.{expired}
-use Rattle.simplex_resolving.specs.Resolver.{expiring}
+use Rattle.model_resolver.specs.Fetcher.{expired}
+use Rattle.model_resolver.specs.Resolver.{expiring}
 use Rattle.simplex_resolver.proofs.Moving.{fetcher-moves}
 use Rattle.simplex_resolver.proofs.actor.Actor.expire.Goals as goal
 

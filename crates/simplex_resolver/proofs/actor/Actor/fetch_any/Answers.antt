@@ -1,6 +1,6 @@
 use Rattle.std.proofs.Common.{◌∷◌, []}
-use Rattle.simplex_resolving.specs.Fetcher.{fetched, of_all}
-use Rattle.simplex_resolving.specs.Resolver.{fetching}
+use Rattle.model_resolver.specs.Fetcher.{fetched, of_all}
+use Rattle.model_resolver.specs.Resolver.{fetching}
 use Rattle.simplex_resolver.proofs.Moving.{fetcher-moves}
 use Rattle.simplex_resolver.proofs.actor.Actor.fetch_any.Goals as goal
 

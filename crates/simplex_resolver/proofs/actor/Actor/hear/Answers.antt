@@ -1,5 +1,5 @@
-use Rattle.simplex_resolving.specs.Fetcher.{heard}
-use Rattle.simplex_resolving.specs.Resolver.{hearing}
+use Rattle.model_resolver.specs.Fetcher.{heard}
+use Rattle.model_resolver.specs.Resolver.{hearing}
 use Rattle.simplex_resolver.proofs.Moving.{fetcher-moves}
 use Rattle.simplex_resolver.proofs.actor.Actor.hear.Goals as goal
 

@@ -1,5 +1,5 @@
-use Rattle.simplex_resolving.specs.Fetcher.{judged}
-use Rattle.simplex_resolving.specs.Resolver.{judging}
+use Rattle.model_resolver.specs.Fetcher.{judged}
+use Rattle.model_resolver.specs.Resolver.{judging}
 use Rattle.simplex_resolver.proofs.Moving.{fetcher-moves}
 use Rattle.simplex_resolver.proofs.actor.Actor.judge.Goals as goal
 

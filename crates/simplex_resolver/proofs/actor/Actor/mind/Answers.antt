@@ -1,4 +1,4 @@
-use Rattle.simplex_resolving.specs.Resolver.{minded}
+use Rattle.model_resolver.specs.Resolver.{minded}
 use Rattle.simplex_resolver.proofs.actor.Actor.mind.Goals as goal
 
 pub returns-in-Left : goal.returns-in-Left

@@ -1,5 +1,5 @@
 use Rattle.std.specs.Vec.Iter.{into_iter_items}
-use Rattle.simplex_resolving.specs.Resolver.{Made, Doing}
+use Rattle.model_resolver.specs.Resolver.{Made, Doing}
 use Rattle.simplex_resolver.specs.Stands.{Stands}
 use Rattle.simplex_resolver.proofs.Leading.{Minded}
 use Rattle.simplex_resolver.proofs.actor.Actor.mind_each.Given as goal

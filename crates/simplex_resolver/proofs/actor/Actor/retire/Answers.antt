@@ -1,5 +1,5 @@
-use Rattle.simplex_resolving.specs.Fetcher.{retained}
-use Rattle.simplex_resolving.specs.Resolver.{retiring}
+use Rattle.model_resolver.specs.Fetcher.{retained}
+use Rattle.model_resolver.specs.Resolver.{retiring}
 use Rattle.simplex_resolver.proofs.Moving.{fetcher-moves}
 use Rattle.simplex_resolver.proofs.actor.Actor.retire.Goals as goal
 

@@ -1,5 +1,5 @@
 use Rattle.std.proofs.Common.{drop}
-use Rattle.simplex_resolving.specs.Resolver.{Made, Doing}
+use Rattle.model_resolver.specs.Resolver.{Made, Doing}
 use Rattle.simplex_resolver.specs.Stands.{Stands}
 use Rattle.simplex_resolver.proofs.Leading.{Retired}
 use Rattle.simplex_resolver.proofs.actor.Actor.retire_each.Given as goal

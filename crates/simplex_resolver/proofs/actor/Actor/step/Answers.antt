@@ -2,8 +2,8 @@ use Rattle.std.proofs.Common.{◌∙◌, ◌++◌, ap}
 use Rattle.simplex_messages.specs.Step.{no_out}
 use Rattle.simplex_messages.specs.declared.step.StepOut.{StepOut}
 use Rattle.simplex_resolver.specs.declared.work.Work.{Work}
-use Rattle.simplex_resolving.specs.Sends.{send_calls}
-use Rattle.simplex_resolving.specs.Resolver.{standing_after, step_out}
+use Rattle.model_resolver.specs.Sends.{send_calls}
+use Rattle.model_resolver.specs.Resolver.{standing_after, step_out}
 use Rattle.simplex_resolver.specs.Stands.{StandsFor}
 use Rattle.simplex_resolver.proofs.actor.Actor.step.Goals as goal
 

@@ -1,4 +1,4 @@
-use Rattle.simplex_resolving.specs.Resolver.{begun, step}
+use Rattle.model_resolver.specs.Resolver.{begun, step}
 use Rattle.simplex_resolver.proofs.actor.Actor.take.Goals as goal
 
 pub returns : goal.returns

@@ -1,5 +1,5 @@
-use Rattle.simplex_rules.specs.Repair as repair
-use Rattle.simplex_resolving.specs.Resolver.{repairing}
+use Rattle.model_rules.specs.Repair as repair
+use Rattle.model_resolver.specs.Resolver.{repairing}
 use Rattle.simplex_resolver.proofs.Moving.{recorded-moves}
 use Rattle.simplex_resolver.proofs.actor.Actor.take_verdict.Goals as goal
 

@@ -1,7 +1,7 @@
 use Rattle.std.proofs.Common.{◌≡◌, [], rules, arith}
 use Rattle.std.proofs.lemmas.Grind.{common_steps}
 use Rattle.std.proofs.lemmas.List.{nil_from_length}
-use Rattle.simplex_resolving.specs.Sends.{send_calls}
+use Rattle.model_resolver.specs.Sends.{send_calls}
 use Rattle.simplex_resolver.proofs.Sending.{sends-last}
 use Rattle.simplex_resolver.proofs.sends.Sends.call_each.Goals as goal
 

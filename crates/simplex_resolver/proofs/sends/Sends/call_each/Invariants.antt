@@ -1,5 +1,5 @@
 use Rattle.std.proofs.Common.{◌≡◌, ◌++◌, length}
-use Rattle.simplex_resolving.specs.Sends.{send_calls}
+use Rattle.model_resolver.specs.Sends.{send_calls}
 use Rattle.simplex_resolver.proofs.sends.Sends.call_each.Given as goal
 
 abbrev pub invariant-loop-sent : goal.invariant-loop-sent

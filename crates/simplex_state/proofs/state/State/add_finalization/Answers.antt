@@ -1,11 +1,11 @@
 use Rattle.std.proofs.Common.{arith, ◌∷◌, []}
 use Rattle.std.proofs.lemmas.Grind.{common_steps}
 use Rattle.simplex_state.proofs.Proposing.{takes_facts}
-use Rattle.simplex_rules.specs.Known.{Added}
+use Rattle.model_rules.specs.Known.{Added}
 use Rattle.simplex_wire.specs.declared.certificate.Certificate.TheVariants as certificates
 use Rattle.simplex_state.specs.Stands.{StandsFor}
-use Rattle.simplex_rules.specs.Calls.{facts_of, known_of, adds_finalization}
-use Rattle.simplex_rules.specs.Views.{admits_certificate}
+use Rattle.model_rules.specs.Calls.{facts_of, known_of, adds_finalization}
+use Rattle.model_rules.specs.Views.{admits_certificate}
 use Rattle.simplex_state.proofs.state.State.add_finalization.Goals as goal
 
 pub returns-clause-stands : goal.returns-clause-stands

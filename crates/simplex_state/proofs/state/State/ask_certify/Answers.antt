@@ -1,5 +1,5 @@
 use Rattle.std.proofs.Common.{arith, ap, ◌-◌, ◌++◌, map, drop}
-use Rattle.simplex_rules.specs.Known.{CertifyAsked, view_of}
+use Rattle.model_rules.specs.Known.{CertifyAsked, view_of}
 use Rattle.simplex_state.specs.Stands.{Keeps}
 use Rattle.simplex_state.proofs.Waiting.{marked_more, marked_first, marked_all}
 use Rattle.simplex_state.proofs.state.State.ask_certify.Goals as goal

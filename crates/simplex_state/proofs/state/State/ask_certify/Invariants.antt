@@ -1,6 +1,6 @@
 use Rattle.std.proofs.Common.{◌≤◌, ◌++◌, length, drop, map}
 use Rattle.std.specs.Prelude.{List}
-use Rattle.simplex_rules.specs.Known.{Made, Fact, CertifyAsked, view_of}
+use Rattle.model_rules.specs.Known.{Made, Fact, CertifyAsked, view_of}
 use Rattle.simplex_state.specs.Stands.{Keeps}
 use Rattle.simplex_state.proofs.state.State.ask_certify.Given as goal
 

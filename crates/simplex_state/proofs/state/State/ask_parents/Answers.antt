@@ -1,6 +1,6 @@
 use Rattle.std.proofs.Common.{arith, ap, sym, ◌-◌, ◌++◌, map, drop}
-use Rattle.simplex_rules.specs.declared.request.CertificateFetch.{CertificateFetch}
-use Rattle.simplex_rules.specs.Known.{ParentAsked}
+use Rattle.model_rules.specs.declared.request.CertificateFetch.{CertificateFetch}
+use Rattle.model_rules.specs.Known.{ParentAsked}
 use Rattle.simplex_state.specs.Stands.{Keeps}
 use Rattle.simplex_state.proofs.Waiting.{marked_more, marked_first, marked_all}
 use Rattle.simplex_state.proofs.state.State.ask_parents.Goals as goal

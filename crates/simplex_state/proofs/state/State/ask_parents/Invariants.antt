@@ -1,7 +1,7 @@
 use Rattle.std.proofs.Common.{◌≤◌, ◌++◌, length, drop, map}
 use Rattle.std.specs.Prelude.{List}
-use Rattle.simplex_rules.specs.declared.request.CertificateFetch.{CertificateFetch}
-use Rattle.simplex_rules.specs.Known.{Made, Fact, ParentAsked}
+use Rattle.model_rules.specs.declared.request.CertificateFetch.{CertificateFetch}
+use Rattle.model_rules.specs.Known.{Made, Fact, ParentAsked}
 use Rattle.simplex_state.specs.Stands.{Keeps}
 use Rattle.simplex_state.proofs.state.State.ask_parents.Given as goal
 

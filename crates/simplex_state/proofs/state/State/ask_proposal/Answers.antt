@@ -3,7 +3,7 @@ use Rattle.std.proofs.lemmas.Grind.{common_steps}
 use Rattle.simplex_state.proofs.Recording.{keeps_record}
 use Rattle.simplex_state.specs.Rounds.{learn_round}
 use Rattle.simplex_state.specs.Progress.{learn_progress}
-use Rattle.simplex_rules.specs.Known.{ProposalAsked}
+use Rattle.model_rules.specs.Known.{ProposalAsked}
 use Rattle.simplex_state.proofs.state.State.ask_proposal.Goals as goal
 
 pub returns : goal.returns

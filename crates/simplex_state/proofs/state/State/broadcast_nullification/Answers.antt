@@ -1,8 +1,8 @@
 use Rattle.std.proofs.Common.{arith, ◌∷◌, []}
 use Rattle.std.proofs.lemmas.Grind.{common_steps}
-use Rattle.simplex_rules.specs.Known.{Broadcast}
+use Rattle.model_rules.specs.Known.{Broadcast}
 use Rattle.simplex_wire.specs.declared.certificate.CertificateKind.TheVariants as kinds
-use Rattle.simplex_rules.specs.Calls.{facts_of, known_of}
+use Rattle.model_rules.specs.Calls.{facts_of, known_of}
 use Rattle.simplex_state.specs.Stands.{StandsFor}
 use Rattle.simplex_state.proofs.Proposing.{takes_facts}
 use Rattle.simplex_state.proofs.Moves.{keeps_sent_nullification}

@@ -1,7 +1,7 @@
 use Rattle.std.proofs.Common.{◌≡◌, ◌∷◌, [], ◌∙◌, rules}
 use Rattle.std.specs.Ordering.{nat_cmp}
 use Rattle.std.specs.List.Sorted.{IsStrictlySortedBy}
-use Rattle.simplex_rules.specs.Calls.{known_of}
+use Rattle.model_rules.specs.Calls.{known_of}
 use Rattle.simplex_state.specs.Certifying.{certify_at, fetch_at}
 use Rattle.simplex_state.specs.Stands.{StandsFor}
 use Rattle.simplex_state.proofs.Waiting.{walk_turn, walk_end, certify_walk, fetch_walk}

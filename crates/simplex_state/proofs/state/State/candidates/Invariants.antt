@@ -1,8 +1,8 @@
 use Rattle.std.proofs.Common.{◌≡◌, ◌++◌}
 use Rattle.std.specs.Prelude.{List}
 use Rattle.std.specs.List.{filter_map}
-use Rattle.simplex_rules.specs.Known.{Made}
-use Rattle.simplex_rules.specs.Calls.{Call, known_of}
+use Rattle.model_rules.specs.Known.{Made}
+use Rattle.model_rules.specs.Calls.{Call, known_of}
 use Rattle.simplex_state.specs.Certifying.{certify_at, fetch_at}
 use Rattle.simplex_state.specs.Stands.{StandsFor}
 use Rattle.simplex_state.proofs.state.State.candidates.Given as goal

@@ -1,9 +1,9 @@
 use Rattle.std.proofs.Common.{arith, ◌∷◌, ◌++◌, [], if◌then◌else◌}
 use Rattle.std.proofs.lemmas.Grind.{common_steps}
 use Rattle.simplex_values.specs.declared.timeout.TimeoutReason.TheVariants.{FailedCertification}
-use Rattle.simplex_rules.specs.Known.{Judged}
-use Rattle.simplex_rules.specs.Deadline.{triggered}
-use Rattle.simplex_rules.specs.Calls.{facts_of, known_of, judged}
+use Rattle.model_rules.specs.Known.{Judged}
+use Rattle.model_rules.specs.Deadline.{triggered}
+use Rattle.model_rules.specs.Calls.{facts_of, known_of, judged}
 use Rattle.simplex_state.specs.Stands.{StandsFor, Keeps}
 use Rattle.simplex_state.proofs.Proposing.{takes_facts}
 use Rattle.simplex_state.proofs.Expiring.{behind_one, verdict_none}

@@ -1,5 +1,5 @@
 use Rattle.std.proofs.Common.{◌∙◌}
-use Rattle.simplex_rules.specs.Calls.{known_of}
+use Rattle.model_rules.specs.Calls.{known_of}
 use Rattle.simplex_state.specs.Stands.{StandsFor, Keeps}
 use Rattle.simplex_state.proofs.Proposing.{takes_facts}
 use Rattle.simplex_state.proofs.Waiting.{behind_both, asked_is}

@@ -1,10 +1,10 @@
 use Rattle.std.proofs.Common.{arith, ◌∷◌, []}
 use Rattle.std.proofs.lemmas.Grind.{common_steps}
-use Rattle.simplex_rules.specs.Calls.{facts_of, known_of}
+use Rattle.model_rules.specs.Calls.{facts_of, known_of}
 use Rattle.simplex_state.specs.Stands.{StandsFor}
 use Rattle.simplex_state.proofs.Proposing.{takes_facts}
 use Rattle.simplex_wire.specs.declared.vote.Vote.TheVariants as votes
-use Rattle.simplex_rules.specs.Known.{Voted}
+use Rattle.model_rules.specs.Known.{Voted}
 use Rattle.simplex_state.proofs.Checking.{notarize_view}
 use Rattle.simplex_state.proofs.state.State.construct_notarize.Goals as goal
 

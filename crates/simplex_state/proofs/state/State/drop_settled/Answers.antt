@@ -1,8 +1,8 @@
 use Rattle.std.proofs.Common.{arith, refl}
 use Rattle.std.proofs.lemmas.Grind.{common_steps}
-use Rattle.simplex_rules.specs.Calls.{known_of}
-use Rattle.simplex_rules.specs.Requests.{is_unjudged}
-use Rattle.simplex_rules.specs.Views.{least_active}
+use Rattle.model_rules.specs.Calls.{known_of}
+use Rattle.model_rules.specs.Requests.{is_unjudged}
+use Rattle.model_rules.specs.Views.{least_active}
 use Rattle.simplex_state.specs.Progress.{progress_of}
 use Rattle.simplex_state.specs.Rounds.{round_of, is_open}
 use Rattle.simplex_state.specs.Stands.{StandsFor}

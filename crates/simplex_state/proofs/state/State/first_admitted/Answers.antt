@@ -1,8 +1,8 @@
 use Rattle.std.proofs.Common.{◌≡◌, ◌<◌, ◌≤◌, ◌+◌, ◌^◌, inl, inr, arith, rules}
 use Rattle.std.proofs.lemmas.Grind.{common_steps}
 use Rattle.simplex_values.specs.Terms.{next_of}
-use Rattle.simplex_rules.specs.Calls.{known_of}
-use Rattle.simplex_rules.specs.Requests.{may_propose}
+use Rattle.model_rules.specs.Calls.{known_of}
+use Rattle.model_rules.specs.Requests.{may_propose}
 use Rattle.simplex_state.specs.Stands.{StandsFor}
 use Rattle.simplex_state.proofs.Following.{at_same, behind, none_to, unmet_next, propose_here, propose_later, propose_never}
 use Rattle.simplex_state.proofs.Wanting.{current_kept}

@@ -1,8 +1,8 @@
 use Rattle.std.proofs.Common.{◌≡◌, ◌≤◌, ◌-◌, ℕ, false}
 use Rattle.std.specs.Prelude.{List}
-use Rattle.simplex_rules.specs.Known.{Made}
-use Rattle.simplex_rules.specs.Calls.{Call, known_of}
-use Rattle.simplex_rules.specs.Requests.{may_propose}
+use Rattle.model_rules.specs.Known.{Made}
+use Rattle.model_rules.specs.Calls.{Call, known_of}
+use Rattle.model_rules.specs.Requests.{may_propose}
 use Rattle.simplex_state.specs.Stands.{StandsFor}
 use Rattle.simplex_state.proofs.state.State.first_admitted.Given as goal
 

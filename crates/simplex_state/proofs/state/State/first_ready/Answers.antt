@@ -1,7 +1,7 @@
 use Rattle.std.proofs.Common.{arith, rules, ◌+◌, ◌<◌, ◌^◌, ◌∙◌}
 use Rattle.std.proofs.lemmas.Grind.{common_steps}
 use Rattle.simplex_values.specs.Terms.{next_of}
-use Rattle.simplex_rules.specs.Calls.{known_of}
+use Rattle.model_rules.specs.Calls.{known_of}
 use Rattle.simplex_state.specs.Stands.{StandsFor}
 use Rattle.simplex_state.proofs.Wanting.{ready_here, ready_on, ready_end, ready_out}
 use Rattle.simplex_state.proofs.state.State.first_ready.Goals as goal

@@ -1,9 +1,9 @@
 use Rattle.std.proofs.Common.{◌≡◌, ◌≤◌, ◌-◌, ◌+◌, ◌&&◌}
 use Rattle.std.specs.Prelude.{find, List}
 use Rattle.std.specs.List.{range_with_len}
-use Rattle.simplex_rules.specs.Known.{Made}
-use Rattle.simplex_rules.specs.Calls.{Call, known_of}
-use Rattle.simplex_rules.specs.Requests.{wants_verify, is_founded}
+use Rattle.model_rules.specs.Known.{Made}
+use Rattle.model_rules.specs.Calls.{Call, known_of}
+use Rattle.model_rules.specs.Requests.{wants_verify, is_founded}
 use Rattle.simplex_state.specs.Progress.{progress_of}
 use Rattle.simplex_state.specs.Stands.{StandsFor}
 use Rattle.simplex_state.proofs.state.State.first_ready.Given as goal

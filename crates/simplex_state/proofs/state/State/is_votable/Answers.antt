@@ -1,6 +1,6 @@
 use Rattle.std.proofs.Common.{arith, sym}
 use Rattle.std.proofs.lemmas.Grind.{common_steps}
-use Rattle.simplex_rules.specs.Calls.{known_of}
+use Rattle.model_rules.specs.Calls.{known_of}
 use Rattle.simplex_state.specs.Stands.{StandsFor}
 use Rattle.simplex_state.specs.Progress.{progress_of}
 use Rattle.simplex_state.proofs.Checking.{unvotable}

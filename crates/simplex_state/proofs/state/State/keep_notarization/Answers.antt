@@ -1,7 +1,7 @@
 use Rattle.std.proofs.Common.{arith}
 use Rattle.std.proofs.lemmas.Grind.{common_steps}
-use Rattle.simplex_rules.specs.Lists.{first_of}
-use Rattle.simplex_rules.specs.Known.{notarization_of}
+use Rattle.model_rules.specs.Lists.{first_of}
+use Rattle.model_rules.specs.Known.{notarization_of}
 use Rattle.simplex_state.proofs.Moves.{keeps_sent_notarization}
 use Rattle.simplex_state.proofs.state.State.keep_notarization.Goals as goal
 

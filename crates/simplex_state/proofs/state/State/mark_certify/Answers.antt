@@ -3,7 +3,7 @@ use Rattle.std.proofs.lemmas.Grind.{common_steps}
 use Rattle.simplex_state.proofs.Recording.{keeps_record}
 use Rattle.simplex_state.specs.Rounds.{learn_round}
 use Rattle.simplex_state.specs.Progress.{learn_progress}
-use Rattle.simplex_rules.specs.Known.{CertifyAsked}
+use Rattle.model_rules.specs.Known.{CertifyAsked}
 use Rattle.simplex_state.proofs.state.State.mark_certify.Goals as goal
 
 pub returns : goal.returns

@@ -1,8 +1,8 @@
 use Rattle.std.proofs.Common.{◌≡◌, ◌≤◌, ◌-◌, ◌+◌}
 use Rattle.std.specs.Prelude.{find, List}
 use Rattle.std.specs.List.{range_with_len}
-use Rattle.simplex_rules.specs.Known.{Made, Fact}
-use Rattle.simplex_rules.specs.Requests.{wants_verify}
+use Rattle.model_rules.specs.Known.{Made, Fact}
+use Rattle.model_rules.specs.Requests.{wants_verify}
 use Rattle.simplex_state.specs.Progress.{progress_of}
 use Rattle.simplex_state.specs.Stands.{Keeps}
 use Rattle.simplex_state.proofs.state.State.next_wanting.Given as goal

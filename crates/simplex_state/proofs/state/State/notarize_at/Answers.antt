@@ -1,7 +1,7 @@
 use Rattle.std.proofs.Common.{arith, ◌≡◌, sym, ◌∙◌}
 use Rattle.std.proofs.lemmas.Grind.{common_steps}
-use Rattle.simplex_rules.specs.Calls.{known_of}
-use Rattle.simplex_rules.specs.Votes.{notarize_at, signed_notarize}
+use Rattle.model_rules.specs.Calls.{known_of}
+use Rattle.model_rules.specs.Votes.{notarize_at, signed_notarize}
 use Rattle.simplex_state.specs.Stands.{StandsFor}
 use Rattle.simplex_state.proofs.Proposing.{slot_is}
 use Rattle.simplex_state.proofs.Checking.{notarize_by, signed_is}

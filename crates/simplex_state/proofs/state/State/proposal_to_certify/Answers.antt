@@ -1,6 +1,6 @@
 use Rattle.std.proofs.Common.{arith, refl}
 use Rattle.std.proofs.lemmas.Grind.{common_steps}
-use Rattle.simplex_rules.specs.Calls.{known_of}
+use Rattle.model_rules.specs.Calls.{known_of}
 use Rattle.simplex_state.proofs.Waiting.{certify_by}
 use Rattle.simplex_state.proofs.state.State.proposal_to_certify.Goals as goal
 

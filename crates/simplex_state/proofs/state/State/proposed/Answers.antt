@@ -1,11 +1,11 @@
 use Rattle.std.proofs.Common.{arith, ◌∷◌, []}
 use Rattle.std.proofs.lemmas.Grind.{common_steps}
 use Rattle.simplex_state.proofs.Proposing.{takes_facts, keeps_answered, slot_is}
-use Rattle.simplex_rules.specs.Known.{Answered}
-use Rattle.simplex_rules.specs.Slot.{records_answer}
+use Rattle.model_rules.specs.Known.{Answered}
+use Rattle.model_rules.specs.Slot.{records_answer}
 use Rattle.simplex_state.specs.Stands.{StandsFor}
 use Rattle.simplex_state.specs.Progress.{progress_of}
-use Rattle.simplex_rules.specs.Calls.{facts_of, known_of, proposal_on}
+use Rattle.model_rules.specs.Calls.{facts_of, known_of, proposal_on}
 use Rattle.simplex_state.proofs.state.State.proposed.Goals as goal
 
 pub returns-clause-stands : goal.returns-clause-stands

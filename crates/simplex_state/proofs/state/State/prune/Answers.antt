@@ -1,9 +1,9 @@
 use Rattle.std.proofs.Common.{arith, rules, ◌∷◌, ◌<◌, ◌^◌, []}
 use Rattle.std.proofs.lemmas.Grind.{common_steps}
 use Rattle.simplex_state.specs.Progress.{progress_of}
-use Rattle.simplex_rules.specs.Known.{Pruned}
-use Rattle.simplex_rules.specs.Views.{least_active}
-use Rattle.simplex_rules.specs.Calls.{facts_of, known_of, prune_answer}
+use Rattle.model_rules.specs.Known.{Pruned}
+use Rattle.model_rules.specs.Views.{least_active}
+use Rattle.model_rules.specs.Calls.{facts_of, known_of, prune_answer}
 use Rattle.simplex_state.specs.Stands.{StandsFor}
 use Rattle.simplex_state.proofs.Proposing.{takes_facts}
 use Rattle.simplex_state.proofs.Ahead.{last_below}

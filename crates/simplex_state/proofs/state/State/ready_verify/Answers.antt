@@ -1,5 +1,5 @@
 use Rattle.std.proofs.Common.{arith}
-use Rattle.simplex_rules.specs.Calls.{known_of}
+use Rattle.model_rules.specs.Calls.{known_of}
 use Rattle.simplex_state.specs.Stands.{StandsFor}
 use Rattle.simplex_state.proofs.Proposing.{slot_is}
 use Rattle.simplex_state.proofs.Wanting.{unasked_slot}

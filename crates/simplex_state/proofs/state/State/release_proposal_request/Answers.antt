@@ -3,10 +3,10 @@ use Rattle.std.proofs.lemmas.Grind.{common_steps}
 use Rattle.simplex_state.proofs.Recording.{keeps_record}
 use Rattle.simplex_state.specs.Rounds.{learn_round}
 use Rattle.simplex_state.specs.Progress.{learn_progress}
-use Rattle.simplex_rules.specs.Calls.{facts_of, known_of}
+use Rattle.model_rules.specs.Calls.{facts_of, known_of}
 use Rattle.simplex_state.specs.Stands.{StandsFor}
 use Rattle.simplex_state.proofs.Proposing.{takes_facts}
-use Rattle.simplex_rules.specs.Known.{ProposalFreed}
+use Rattle.model_rules.specs.Known.{ProposalFreed}
 use Rattle.simplex_state.proofs.state.State.release_proposal_request.Goals as goal
 
 pub returns : goal.returns

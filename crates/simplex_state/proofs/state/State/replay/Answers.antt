@@ -1,5 +1,5 @@
 use Rattle.std.proofs.Common.{refl}
-use Rattle.simplex_rules.specs.Calls.{Replay, known_of, facts_of, kept_notarization, kept_finalization}
+use Rattle.model_rules.specs.Calls.{Replay, known_of, facts_of, kept_notarization, kept_finalization}
 use Rattle.simplex_state.specs.Stands.{StandsFor}
 use Rattle.simplex_state.proofs.Proposing.{takes_facts}
 use Rattle.simplex_state.proofs.state.State.replay.Goals as goal

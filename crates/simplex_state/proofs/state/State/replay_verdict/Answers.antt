@@ -1,5 +1,5 @@
 use Rattle.std.proofs.Common.{arith}
-use Rattle.simplex_rules.specs.Calls.{known_of}
+use Rattle.model_rules.specs.Calls.{known_of}
 use Rattle.simplex_state.specs.Stands.{StandsFor, Keeps}
 use Rattle.simplex_state.proofs.Expiring.{behind_one, verdict_none}
 use Rattle.simplex_state.proofs.Replays.{judged_taken, judged_none}

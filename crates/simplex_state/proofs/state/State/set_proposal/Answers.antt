@@ -1,9 +1,9 @@
 use Rattle.std.proofs.Common.{arith, ◌∷◌, []}
 use Rattle.std.proofs.lemmas.Grind.{common_steps}
 use Rattle.simplex_state.proofs.Proposing.{takes_facts, records_active, records_empty}
-use Rattle.simplex_rules.specs.Known.{Taken}
+use Rattle.model_rules.specs.Known.{Taken}
 use Rattle.simplex_state.specs.Stands.{StandsFor}
-use Rattle.simplex_rules.specs.Calls.{facts_of, known_of}
+use Rattle.model_rules.specs.Calls.{facts_of, known_of}
 use Rattle.simplex_state.proofs.state.State.set_proposal.Goals as goal
 
 pub returns-clause-stands : goal.returns-clause-stands

@@ -1,10 +1,10 @@
 use Rattle.std.proofs.Common.{arith, ◌∷◌, [], sym}
 use Rattle.std.proofs.lemmas.Grind.{common_steps}
-use Rattle.simplex_rules.specs.Calls.{facts_of, known_of}
+use Rattle.model_rules.specs.Calls.{facts_of, known_of}
 use Rattle.simplex_state.specs.Stands.{StandsFor}
 use Rattle.simplex_state.proofs.Proposing.{takes_facts}
-use Rattle.simplex_rules.specs.Known.{ProposalAsked}
-use Rattle.simplex_rules.specs.Calls.{request_context}
+use Rattle.model_rules.specs.Known.{ProposalAsked}
+use Rattle.model_rules.specs.Calls.{request_context}
 use Rattle.simplex_state.proofs.state.State.try_propose.Goals as goal
 
 pub returns-clause-stands : goal.returns-clause-stands

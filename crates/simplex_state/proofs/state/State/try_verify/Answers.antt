@@ -1,6 +1,6 @@
 use Rattle.std.proofs.Common.{arith}
 use Rattle.std.proofs.lemmas.Grind.{common_steps}
-use Rattle.simplex_rules.specs.Calls.{facts_of, known_of, verify_facts}
+use Rattle.model_rules.specs.Calls.{facts_of, known_of, verify_facts}
 use Rattle.simplex_state.specs.Stands.{StandsFor}
 use Rattle.simplex_state.proofs.Proposing.{takes_facts}
 use Rattle.simplex_state.proofs.state.State.try_verify.Goals as goal

@@ -1,8 +1,8 @@
 use Rattle.std.proofs.Common.{arith, refl}
 use Rattle.std.proofs.lemmas.Grind.{common_steps}
-use Rattle.simplex_rules.specs.Known.{Approved}
-use Rattle.simplex_rules.specs.Requests.{verify_asked}
-use Rattle.simplex_rules.specs.Calls.{facts_of, fact_of, known_of}
+use Rattle.model_rules.specs.Known.{Approved}
+use Rattle.model_rules.specs.Requests.{verify_asked}
+use Rattle.model_rules.specs.Calls.{facts_of, fact_of, known_of}
 use Rattle.simplex_state.specs.Stands.{StandsFor}
 use Rattle.simplex_state.proofs.Proposing.{takes_facts}
 use Rattle.simplex_state.proofs.Verifying.{keeps_verified}

@@ -1,7 +1,7 @@
 use Rattle.std.proofs.Common.{arith, ◌+◌, ◌&&◌, ◌≡◌, ◌∙◌, sym}
 use Rattle.simplex_values.specs.Terms.{admission_limit}
-use Rattle.simplex_rules.specs.Calls.{known_of}
-use Rattle.simplex_rules.specs.Requests.{wants_verify, is_founded}
+use Rattle.model_rules.specs.Calls.{known_of}
+use Rattle.model_rules.specs.Requests.{wants_verify, is_founded}
 use Rattle.simplex_state.specs.Stands.{StandsFor}
 use Rattle.simplex_state.proofs.Wanting.{current_kept, admitted_find, both_from, ready_facts, request_wait, request_ready, request_missing}
 use Rattle.simplex_state.proofs.state.State.verify_request.Goals as goal

@@ -4,7 +4,7 @@ use Rattle.simplex_state.proofs.Recording.{keeps_record}
 use Rattle.simplex_state.specs.Rounds.{learn_round}
 use Rattle.simplex_state.specs.Progress.{learn_progress}
 use Rattle.simplex_wire.specs.declared.vote.Vote.TheVariants as votes
-use Rattle.simplex_rules.specs.Known.{Voted}
+use Rattle.model_rules.specs.Known.{Voted}
 use Rattle.simplex_state.proofs.state.State.vote_final.Goals as goal
 
 pub returns : goal.returns

@@ -1,6 +1,6 @@
 use Rattle.std.proofs.Common.{◌∙◌, sym, ap, if◌then◌else◌, Some, None}
 use Rattle.simplex_messages.specs.declared.resolver.ResolverInput.TheVariants as inputs
-use Rattle.simplex_resolving.specs.Views.{is_reached}
+use Rattle.model_resolver.specs.Views.{is_reached}
 use Rattle.simplex_turns.proofs.resolver.ResolverThread.find_deadline.Goals as goal
 
 pub returns-then-is_reached : goal.returns-then-is_reached

@@ -1,5 +1,5 @@
 use Rattle.std.proofs.Common.{◌∷◌}
-use Rattle.simplex_resolving.specs.Resolver.{HandlerTaken}
+use Rattle.model_resolver.specs.Resolver.{HandlerTaken}
 use Rattle.simplex_turns.proofs.ResolverTurned.{found-handler}
 use Rattle.simplex_turns.proofs.resolver.ResolverThread.find_handled.Goals as goal
 

@@ -1,6 +1,6 @@
 use Rattle.std.proofs.Common.{rules, ◌≡◌, sym, refl, ap, ◌∙◌, false, Some, None, ℕ, max, arith}
 use Rattle.simplex_mailbox.specs.Waiting.{front}
-use Rattle.simplex_steps.specs.VoterLife.{place_of}
+use Rattle.model_steps.specs.VoterLife.{place_of}
 use Rattle.simplex_turns.specs.declared.feed.FeedItem.TheVariants as items
 use Rattle.simplex_turns.specs.Voting.{holds_candidate}
 use Rattle.simplex_turns.proofs.VotingPlaces.{finds-own, finds-item, popped-first, time-left, time-now}

@@ -1,9 +1,9 @@
 use Rattle.std.proofs.Common.{◌≡◌, sym, ap, ◌∙◌, true, false, Some}
 use Rattle.std.specs.Option.{is_some}
-use Rattle.simplex_rules.specs.declared.request.ProposalState.{ProposalState}
+use Rattle.model_rules.specs.declared.request.ProposalState.{ProposalState}
 use Rattle.simplex_messages.specs.declared.voter.VoterInput.TheVariants as inputs
-use Rattle.simplex_steps.specs.Voter.{acted}
-use Rattle.simplex_steps.specs.VoterLife.{Place, VoterMade, place_of}
+use Rattle.model_steps.specs.Voter.{acted}
+use Rattle.model_steps.specs.VoterLife.{Place, VoterMade, place_of}
 use Rattle.simplex_turns.proofs.VotingPlaces.{is_held, state_in, none-held, not-held, candidate-held, candidate-unheld}
 use Rattle.simplex_turns.proofs.VotingSteps.{told-at}
 use Rattle.simplex_turns.proofs.voter.VoterThread.holds_candidate.Goals as goal

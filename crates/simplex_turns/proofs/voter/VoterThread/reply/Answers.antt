@@ -1,6 +1,6 @@
 use Rattle.std.proofs.Common.{rules, ◌≡◌, sym, refl, ap, ◌∙◌, true, false, ◌∷◌, Some, None}
-use Rattle.simplex_steps.specs.Voter.{takes_answer}
-use Rattle.simplex_steps.specs.VoterLife.{Place, VoterMade, Answered, place_of}
+use Rattle.model_steps.specs.Voter.{takes_answer}
+use Rattle.model_steps.specs.VoterLife.{Place, VoterMade, Answered, place_of}
 use Rattle.simplex_voter.specs.Unanswered.{unanswered}
 use Rattle.simplex_turns.proofs.VotingPlaces.{place-more, place-refused, replied-none, replied-refused, replied-taken}
 use Rattle.simplex_turns.proofs.VotingSteps.{told-at, answered-at}

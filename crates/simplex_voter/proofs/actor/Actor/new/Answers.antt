@@ -1,5 +1,5 @@
 use Rattle.std.proofs.Common.{refl}
-use Rattle.simplex_steps.specs.VoterLife.{place_of}
+use Rattle.model_steps.specs.VoterLife.{place_of}
 use Rattle.simplex_voter.specs.Actor.{StandsFor, StandsOver, voter_made}
 use Rattle.simplex_voter.proofs.actor.Actor.new.Goals as goal
 

@@ -1,6 +1,6 @@
 use Rattle.std.proofs.Common.{refl}
-use Rattle.simplex_steps.specs.Desk.{begun}
-use Rattle.simplex_steps.specs.Voter.{acted, act_on_mail}
+use Rattle.model_steps.specs.Desk.{begun}
+use Rattle.model_steps.specs.Voter.{acted, act_on_mail}
 use Rattle.simplex_voter.proofs.Taking.{acted-so}
 use Rattle.simplex_voter.proofs.planner.Planner.act.Goals as goal
 

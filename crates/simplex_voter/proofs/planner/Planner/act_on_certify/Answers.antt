@@ -1,4 +1,4 @@
-use Rattle.simplex_steps.specs.Voter.{act_on_certify}
+use Rattle.model_steps.specs.Voter.{act_on_certify}
 use Rattle.simplex_voter.proofs.planner.Planner.act_on_certify.Goals as goal
 
 pub returns-clause-view : goal.returns-clause-view

@@ -1,4 +1,4 @@
-use Rattle.simplex_steps.specs.Voter.{act_on_mail}
+use Rattle.model_steps.specs.Voter.{act_on_mail}
 use Rattle.simplex_voter.proofs.planner.Planner.act_on_mail.Goals as goal
 
 pub returns-in_ok-view-in-Proposal-clause-view : goal.returns-in_ok-view-in-Proposal-clause-view

@@ -1,4 +1,4 @@
-use Rattle.simplex_steps.specs.Voter.{act_on_proposal}
+use Rattle.model_steps.specs.Voter.{act_on_proposal}
 use Rattle.simplex_voter.specs.Arrivals.{pending_of}
 use Rattle.simplex_voter.proofs.Cases.{handoff-is}
 use Rattle.simplex_voter.proofs.planner.Planner.act_on_proposal.Goals as goal

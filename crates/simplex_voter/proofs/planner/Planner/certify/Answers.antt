@@ -1,4 +1,4 @@
-use Rattle.simplex_rules.specs.Pending.{drop_certify, certifying}
+use Rattle.model_rules.specs.Pending.{drop_certify, certifying}
 use Rattle.simplex_voter.proofs.planner.Planner.certify.Goals as goal
 
 pub returns : goal.returns

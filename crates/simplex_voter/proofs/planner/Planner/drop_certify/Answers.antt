@@ -1,5 +1,5 @@
 use Rattle.std.proofs.Common.{arith, nat_lt, refl}
-use Rattle.simplex_rules.specs.Pending.{drop_certify}
+use Rattle.model_rules.specs.Pending.{drop_certify}
 use Rattle.simplex_voter.specs.declared.request.OpenRequest.{OpenRequest}
 use Rattle.simplex_voter.specs.Stands.{doing_of}
 use Rattle.simplex_voter.proofs.Arriving.{map-opened-filter, below-filter, kept-filter, waits-filter}

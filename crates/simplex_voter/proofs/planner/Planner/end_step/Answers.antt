@@ -1,4 +1,4 @@
-use Rattle.simplex_steps.specs.Voter.{end_of_step}
+use Rattle.model_steps.specs.Voter.{end_of_step}
 use Rattle.simplex_voter.proofs.planner.Planner.end_step.Goals as goal
 
 pub returns : goal.returns

@@ -1,6 +1,6 @@
 use Rattle.std.proofs.Common.{◌∙◌, sym, ap, List}
-use Rattle.simplex_rules.specs.Known.{Fact}
-use Rattle.simplex_rules.specs.Ancestry.{is_certified}
+use Rattle.model_rules.specs.Known.{Fact}
+use Rattle.model_rules.specs.Ancestry.{is_certified}
 use Rattle.simplex_voter.proofs.Reading.{known-is}
 use Rattle.simplex_voter.proofs.Sources.{proposal-held-none, proposal-held}
 use Rattle.simplex_voter.proofs.planner.Planner.holds_proposal.Goals as goal

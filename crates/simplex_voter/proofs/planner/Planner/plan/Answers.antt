@@ -1,6 +1,6 @@
 use Rattle.std.proofs.Common.{ap, sym, ◌∙◌}
-use Rattle.simplex_rules.specs.Views.{current_of}
-use Rattle.simplex_steps.specs.Voter.{stepped, finished}
+use Rattle.model_rules.specs.Views.{current_of}
+use Rattle.model_steps.specs.Voter.{stepped, finished}
 use Rattle.simplex_voter.proofs.Reading.{known-is}
 use Rattle.simplex_voter.proofs.Taking.{planned-none, planned-some, finished-from}
 use Rattle.simplex_voter.proofs.planner.Planner.plan.Goals as goal

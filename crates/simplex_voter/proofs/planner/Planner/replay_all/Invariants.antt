@@ -1,7 +1,7 @@
 use Rattle.std.proofs.Common.{List, ℕ, drop}
-use Rattle.simplex_rules.specs.Known.{Made}
+use Rattle.model_rules.specs.Known.{Made}
 use Rattle.simplex_values.specs.declared.answer.Answer.{Answer}
-use Rattle.simplex_steps.specs.Desk.{Doing}
+use Rattle.model_steps.specs.Desk.{Doing}
 use Rattle.simplex_voter.specs.Stands.{Stands, IsWhole}
 use Rattle.simplex_voter.proofs.Restoring.{Replaying}
 use Rattle.simplex_voter.proofs.planner.Planner.replay_all.Given as goal

@@ -1,8 +1,8 @@
 use Rattle.std.proofs.Common.{List, ℕ, drop}
-use Rattle.simplex_rules.specs.Known.{Made}
-use Rattle.simplex_rules.specs.Pending.{seek_parent}
+use Rattle.model_rules.specs.Known.{Made}
+use Rattle.model_rules.specs.Pending.{seek_parent}
 use Rattle.simplex_values.specs.declared.answer.Answer.{Answer}
-use Rattle.simplex_steps.specs.Desk.{Doing}
+use Rattle.model_steps.specs.Desk.{Doing}
 use Rattle.simplex_voter.specs.Stands.{Stands}
 use Rattle.simplex_voter.proofs.Folding.{Folded}
 use Rattle.simplex_voter.proofs.planner.Planner.seek_parents.Given as goal

@@ -1,6 +1,6 @@
 use Rattle.std.proofs.Common.{[]}
-use Rattle.simplex_steps.specs.Desk.{begun}
-use Rattle.simplex_steps.specs.Voter.{started, blank_desk}
+use Rattle.model_steps.specs.Desk.{begun}
+use Rattle.model_steps.specs.Voter.{started, blank_desk}
 use Rattle.simplex_voter.proofs.Restoring.{whole-blank, whole-floor, keeps-floor}
 use Rattle.simplex_voter.proofs.planner.Planner.start.Goals as goal
 

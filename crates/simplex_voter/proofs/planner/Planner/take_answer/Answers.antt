@@ -1,6 +1,6 @@
 use Rattle.std.proofs.Common.{refl}
-use Rattle.simplex_steps.specs.Desk.{begun}
-use Rattle.simplex_steps.specs.Voter.{act_on_proposal}
+use Rattle.model_steps.specs.Desk.{begun}
+use Rattle.model_steps.specs.Voter.{act_on_proposal}
 use Rattle.simplex_voter.specs.Arrivals.{pending_of}
 use Rattle.simplex_voter.proofs.Taking.{nothing-acted, acted-so, answer-kept}
 use Rattle.simplex_voter.proofs.planner.Planner.take_answer.Goals as goal

@@ -1,6 +1,6 @@
 use Rattle.std.proofs.Common.{ap}
-use Rattle.simplex_steps.specs.Desk.{Doing, begun}
-use Rattle.simplex_steps.specs.Voter.{act_on_certify}
+use Rattle.model_steps.specs.Desk.{Doing, begun}
+use Rattle.model_steps.specs.Voter.{act_on_certify}
 use Rattle.simplex_voter.specs.Arrivals.{opened_of}
 use Rattle.simplex_voter.specs.Stands.{doing_of}
 use Rattle.simplex_voter.proofs.Taking.{nothing-acted, acted-so, certify-acts}

@@ -1,7 +1,7 @@
 use Rattle.std.proofs.Common.{sym, ◌∙◌, refl, Some}
-use Rattle.simplex_rules.specs.Views.{current_of}
-use Rattle.simplex_steps.specs.Desk.{begun}
-use Rattle.simplex_steps.specs.Voter.{acted, act_on_deadline}
+use Rattle.model_rules.specs.Views.{current_of}
+use Rattle.model_steps.specs.Desk.{begun}
+use Rattle.model_steps.specs.Voter.{acted, act_on_deadline}
 use Rattle.simplex_voter.proofs.Reading.{known-is}
 use Rattle.simplex_voter.proofs.Taking.{nothing-acted, acted-so}
 use Rattle.simplex_voter.proofs.planner.Planner.take_deadline.Goals as goal

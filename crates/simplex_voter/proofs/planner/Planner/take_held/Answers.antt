@@ -1,6 +1,6 @@
 use Rattle.std.proofs.Common.{refl}
-use Rattle.simplex_steps.specs.Desk.{begun}
-use Rattle.simplex_steps.specs.Voter.{propose}
+use Rattle.model_steps.specs.Desk.{begun}
+use Rattle.model_steps.specs.Voter.{propose}
 use Rattle.simplex_voter.specs.Arrivals.{pending_of}
 use Rattle.simplex_voter.proofs.Reading.{known-is}
 use Rattle.simplex_voter.proofs.Taking.{nothing-acted, acted-so}

@@ -1,6 +1,6 @@
 use Rattle.std.proofs.Common.{ap}
-use Rattle.simplex_rules.specs.declared.request.ProposalState.{ProposalState}
-use Rattle.simplex_steps.specs.Voter.{take_proposal}
+use Rattle.model_rules.specs.declared.request.ProposalState.{ProposalState}
+use Rattle.model_steps.specs.Voter.{take_proposal}
 use Rattle.simplex_voter.specs.Arrivals.{pending_of}
 use Rattle.simplex_voter.proofs.Taking.{acted-as}
 use Rattle.simplex_voter.proofs.planner.Planner.take_pending.Goals as goal

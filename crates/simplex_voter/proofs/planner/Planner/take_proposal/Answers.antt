@@ -1,5 +1,5 @@
 use Rattle.std.proofs.Common.{ap}
-use Rattle.simplex_steps.specs.Desk.{Doing}
+use Rattle.model_steps.specs.Desk.{Doing}
 use Rattle.simplex_voter.specs.Arrivals.{pending_of}
 use Rattle.simplex_voter.specs.Stands.{doing_of}
 use Rattle.simplex_voter.proofs.Taking.{nothing-acted, proposal-none, proposal-some}

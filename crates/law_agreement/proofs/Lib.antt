@@ -1,0 +1,17 @@
+pub mod Safety
+pub mod Counting
+pub mod ListFacts
+pub mod Meeting
+pub mod SmallWorlds
+pub mod TermFacts
+pub mod Behind
+pub mod CallFacts
+pub mod Goods
+pub mod Invariant
+pub mod Keeping
+pub mod JournalFacts
+pub mod Knowing
+pub mod KnownFacts
+pub mod Replays
+pub mod SmallLives
+pub mod VoteFacts

@@ -1,0 +1,11 @@
+pub mod Conflict
+pub mod WorldExamples
+pub mod Quorums
+pub mod Terms
+pub mod World
+pub mod Artifacts
+pub mod LifeExamples
+pub mod Invariant
+pub mod Journal
+pub mod Member
+pub mod Votes

@@ -1,0 +1,5 @@
+use Rattle.law_member.proofs.VoterStepping.{step_tells}
+use Rattle.law_member.proofs.knowledge.certificates_are_handed_on.Goals as goal
+
+pub returns : goal.returns
+returns c = λ made now input standing doing e. let t = step_tells made now input standing doing e in t.new

@@ -1,0 +1,5 @@
+use Rattle.law_member.proofs.VoterStepping.{step_tells}
+use Rattle.law_member.proofs.voter_votes.own_votes_are_by_rule.Goals as goal
+
+pub returns : goal.returns
+returns c = λ made now input standing doing e. let t = step_tells made now input standing doing e in t.constructed

@@ -1,0 +1,13 @@
+pub mod Words
+pub mod Heard
+pub mod Payload
+pub mod Conflicter
+pub mod Equivocator
+pub mod Impersonator
+pub mod Nuller
+pub mod NullifyOnly
+pub mod Outdated
+pub mod Reconfigurer
+pub mod Wrapped
+pub mod Samples
+pub mod Computed

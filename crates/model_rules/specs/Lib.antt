@@ -1,0 +1,15 @@
+pub mod Lists
+pub mod Known
+pub mod Views
+pub mod Slot
+pub mod Ancestry
+pub mod Votes
+pub mod Deadline
+pub mod Best
+pub mod Requests
+pub mod Pending
+pub mod Repair
+pub mod Calls
+pub mod Laws
+pub mod Samples
+pub mod Computed

@@ -1,5 +1,0 @@
-pub mod Conflict
-pub mod Examples
-pub mod Quorums
-pub mod Terms
-pub mod World

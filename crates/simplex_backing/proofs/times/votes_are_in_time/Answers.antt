@@ -1,5 +1,0 @@
-use Rattle.simplex_backing.proofs.InTime.{votes_in_time}
-use Rattle.simplex_backing.proofs.times.votes_are_in_time.Goals as goal
-
-pub returns : goal.returns
-returns c = votes_in_time

@@ -1,5 +1,0 @@
-use Rattle.simplex_batcher_laws.proofs.Marking.{accepted_worked}
-use Rattle.simplex_batcher_laws.proofs.certificates.accepted_votes_are_worked.Goals as goal
-
-pub returns : goal.returns
-returns c made past given vote = accepted_worked made past given vote

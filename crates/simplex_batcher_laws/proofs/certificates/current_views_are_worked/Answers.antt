@@ -1,5 +1,0 @@
-use Rattle.simplex_batcher_laws.proofs.Marking.{update_works}
-use Rattle.simplex_batcher_laws.proofs.certificates.current_views_are_worked.Goals as goal
-
-pub returns : goal.returns
-returns c made past given current leader finalized proposal = update_works made past given current leader finalized proposal

@@ -1,5 +1,0 @@
-use Rattle.simplex_batcher_laws.proofs.Steps.{handed_founded}
-use Rattle.simplex_batcher_laws.proofs.certificates.handed_certificates_are_founded.Goals as goal
-
-pub returns : goal.returns
-returns c made past given fits = handed_founded made past given fits

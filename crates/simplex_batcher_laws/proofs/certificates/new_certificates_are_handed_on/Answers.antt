@@ -1,5 +1,0 @@
-use Rattle.simplex_batcher_laws.proofs.Handing.{verified_handed}
-use Rattle.simplex_batcher_laws.proofs.certificates.new_certificates_are_handed_on.Goals as goal
-
-pub returns : goal.returns
-returns c made past given certificate is = verified_handed made past given certificate is

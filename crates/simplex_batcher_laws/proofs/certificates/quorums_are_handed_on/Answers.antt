@@ -1,5 +1,0 @@
-use Rattle.simplex_batcher_laws.proofs.Turns.{quorum_handed}
-use Rattle.simplex_batcher_laws.proofs.certificates.quorums_are_handed_on.Goals as goal
-
-pub returns : goal.returns
-returns c made past given view round kind subject = quorum_handed made past given view round kind subject

@@ -1,5 +1,0 @@
-use Rattle.simplex_batcher_laws.proofs.Steps.{accepted_came}
-use Rattle.simplex_batcher_laws.proofs.votes.accepted_votes_came_from_their_signers.Goals as goal
-
-pub returns : goal.returns
-returns c made past vote was = accepted_came made past vote was

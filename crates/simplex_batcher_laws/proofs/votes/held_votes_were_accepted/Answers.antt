@@ -1,5 +1,0 @@
-use Rattle.simplex_batcher_laws.proofs.Steps.{held_accepted}
-use Rattle.simplex_batcher_laws.proofs.votes.held_votes_were_accepted.Goals as goal
-
-pub returns : goal.returns
-returns c made past view round is = held_accepted made past view round is

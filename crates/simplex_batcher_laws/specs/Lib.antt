@@ -1,4 +1,0 @@
-pub mod Votes
-pub mod Reports
-pub mod Certificates
-pub mod Quorums

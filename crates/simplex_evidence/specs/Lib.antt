@@ -1,3 +1,0 @@
-pub mod Evidence
-pub mod Samples
-pub mod Wire

@@ -1,8 +1,0 @@
-pub mod Engines
-pub mod Impersonating
-pub mod Mocking
-pub mod Owned
-pub mod Passing
-pub mod Sampling
-pub mod Subjects
-pub mod Unforged

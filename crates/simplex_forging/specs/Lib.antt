@@ -1,2 +1,0 @@
-pub mod Forging
-pub mod Samples

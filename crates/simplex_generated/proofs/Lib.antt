@@ -1,6 +1,0 @@
-pub mod Choosing
-pub mod Counts
-pub mod Delivered
-pub mod Dropped
-pub mod First
-pub mod TakenIn

@@ -1,4 +1,0 @@
-pub mod Beside
-pub mod Quiet
-pub mod Apart
-pub mod Whole

@@ -1,4 +1,0 @@
-pub mod Sending
-pub mod Entries
-pub mod Transcripts
-pub mod Sampling

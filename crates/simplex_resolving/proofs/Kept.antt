@@ -1,9 +1,0 @@
--- Asks that are kept.
-use Rattle.std.proofs.Common.{◌≡◌, refl, ap, List, [], ◌∷◌}
-use Rattle.simplex_resolving.specs.declared.arrivals.Arrival.{Arrival}
-use Rattle.simplex_resolving.specs.Asks.{without_asks, holds_ask}
-
--- where no ask is dropped all stay
-pub without_none : (xs : List Arrival) → without_asks (holds_ask []) xs ≡ xs
-without_none [] = refl
-without_none (x ∷ xs) = ap (λ ys. x ∷ ys) (without_none xs)

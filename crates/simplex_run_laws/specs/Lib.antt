@@ -1,4 +1,0 @@
-pub mod Earlier
-pub mod Forging
-pub mod Conditions
-pub mod Complete

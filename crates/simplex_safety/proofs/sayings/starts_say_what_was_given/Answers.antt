@@ -1,9 +1,0 @@
-use Rattle.simplex_journal.specs.Journal.{replayed}
-use Rattle.simplex_steps.specs.Voter.{started}
-use Rattle.simplex_safety.specs.Sayings.{Passes}
-use Rattle.simplex_safety.proofs.Telling.{started_says, said_at_start}
-use Rattle.simplex_safety.proofs.sayings.starts_say_what_was_given.Goals as goal
-
-pub returns : goal.returns
-returns c = λ good made now floor stop sections f r.
-    said_at_start (Passes good) stop floor (started made now floor (replayed sections)) sections (started_says (Passes good) made now floor (replayed sections) f r)

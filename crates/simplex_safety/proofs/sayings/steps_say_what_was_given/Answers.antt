@@ -1,7 +1,0 @@
-use Rattle.simplex_safety.specs.Sayings.{Passes}
-use Rattle.simplex_safety.proofs.Telling.{stepped_says, said}
-use Rattle.simplex_safety.proofs.sayings.steps_say_what_was_given.Goals as goal
-
-pub returns : goal.returns
-returns c = λ good made now input stop standing sections doing g k e.
-    said (Passes good) stop doing sections (stepped_says (Passes good) made now standing input doing g k e)

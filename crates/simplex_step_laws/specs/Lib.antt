@@ -1,4 +1,0 @@
-pub mod Journal
-pub mod Batcher
-pub mod Resolver
-pub mod Samples

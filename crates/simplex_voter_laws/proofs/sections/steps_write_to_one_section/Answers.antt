@@ -1,5 +1,0 @@
-use Rattle.simplex_voter_laws.proofs.Stepping.{step_tells}
-use Rattle.simplex_voter_laws.proofs.sections.steps_write_to_one_section.Goals as goal
-
-pub returns : goal.returns
-returns c = λ made now input standing doing e. let t = step_tells made now input standing doing e in t.sections

@@ -1,5 +1,0 @@
-use Rattle.simplex_voter_laws.proofs.Starting.{start_sound}
-use Rattle.simplex_voter_laws.proofs.syncs.starts_send_nothing.Goals as goal
-
-pub returns : goal.returns
-returns c = λ made now floor records. let s = start_sound made now floor records in s.silent
