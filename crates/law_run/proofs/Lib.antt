@@ -76,3 +76,10 @@ pub mod Sending
 pub mod Entries
 pub mod Transcripts
 pub mod LimitSampling
+pub mod AskedListing
+pub mod Knowing
+pub mod Asking
+pub mod AskedStepping
+pub mod Numbers
+pub mod AskedRunning
+pub mod AskedEvents

@@ -30,6 +30,7 @@ mostly_honest_is_safe setting noted o =
       ruled = λ node honest. run_by_rule setting noted node honest o.ran;
       ordered = all_well_sent setting noted o;
       blameless = run_blameless setting noted o;
+      above = floors_hold setting noted o;
     }
 
 -- as many as the setup's limit counts

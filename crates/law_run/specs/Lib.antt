@@ -31,3 +31,7 @@ pub mod EventForging
 pub mod ForgingSamples
 pub mod Limits
 pub mod LimitSamples
+pub mod Answers
+pub mod Asked
+pub mod Answered
+pub mod Rooted

@@ -11,7 +11,7 @@ use Rattle.model_run.specs.Life.{Noted}
 use Rattle.model_run.specs.Run as runs
 use Rattle.law_agreement.specs.Conflict.{Conflict}
 use Rattle.law_run.specs.Faulty.{faulty_of}
-use Rattle.law_run.specs.Histories.{AreStored}
+use Rattle.law_run.specs.Histories.{AreStored, AreFloors}
 use Rattle.law_run.specs.Ruled.{AreByRule}
 use Rattle.law_run.specs.Backed.{IsVerifying, AreBacked, StandsIn}
 use Rattle.law_run.specs.Blame.{AreBlameless}
@@ -44,7 +44,7 @@ EachHonest setup P = (node : Node) → ¬ (Contains (faulty_of setup) node.membe
 -- verifies; no two certificates that verify conflict, and each names the setup's epoch; an honest member notarized each
 -- proposal that they name; it signs a vote and stores it before it sends it, and sends in each whole step exactly the votes
 -- that the rules give; over all its lives each of its votes may stand by itself and may follow all that it sent before, by
--- what had come to it; and no evidence names it
+-- what had come to it; no evidence names it; and no start is at a finalization of view 0
 pub record IsSafe (setting : Setting) (noted : List Noted) : Type 0 where
   pub backed : AreBacked setting.setup noted
   pub genuine : AreGenuine setting.setup noted
@@ -55,6 +55,7 @@ pub record IsSafe (setting : Setting) (noted : List Noted) : Type 0 where
   pub ruled : EachHonest setting.setup (λ node. AreByRule setting node noted)
   pub ordered : AllWellSent setting.setup noted
   pub blameless : AreBlameless setting.setup noted
+  pub above : AreFloors noted
 
 -- so it is with the entries that these events make
 abbrev pub RunsSafely : Setting → List Event → Type 0

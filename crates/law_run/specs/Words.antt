@@ -1,4 +1,5 @@
--- The words of the headline, one by one, but for the one that follows from others: that no two certificates conflict.
+-- The words of the headline that say what members do, one by one. Two of the headline's are not among them: that no two
+-- certificates conflict follows from these, and that no start is at view 0 is said of the events alone.
 use Rattle.std.specs.Prelude.{◌≡◌, List}
 use Rattle.model_run.specs.Setting.{Setting}
 use Rattle.model_run.specs.Life.{Noted}

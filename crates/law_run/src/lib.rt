@@ -8,6 +8,7 @@
 //! - Where few members are faulty: certificates are backed, no two of them conflict, and no honest member is blamed.
 //! - Which events may make a forgery: bytes that are injected, and what an impersonator hears.
 //! - How long the payloads of a run are.
+//! - What stands behind the requests and the notarizes of a run: answers of the application, and the genesis digest.
 //!
 //! Each law is the contract of a function below, and is about the definitions alone.
 #![tactic(auto)]
@@ -28,6 +29,7 @@ mod reports;
 mod safe;
 mod sayings;
 mod times;
+mod vouching;
 
 pub use backing_laws::{
     agreement_follows, certificates_agree, certificates_are_backed, certificates_are_genuine,
@@ -53,3 +55,4 @@ pub use reports::{reported_finalizations_agree, transcripts_report_one_chain};
 pub use safe::runs_are_safe;
 pub use sayings::{starts_say_what_was_given, steps_say_what_was_given};
 pub use times::votes_are_in_time;
+pub use vouching::{notarized_payloads_were_answered, requests_name_the_genesis};
