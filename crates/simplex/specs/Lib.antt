@@ -17,6 +17,7 @@ pub use Rattle.simplex_program.specs.Words
 pub use Rattle.simplex_program.specs.Exit
 pub use Rattle.simplex_program.specs.Cause
 pub use Rattle.simplex_program.specs.Whole
+pub use Rattle.simplex_network.specs.WholeRuns
 pub use Rattle.simplex_form.specs.Input
 pub use Rattle.simplex_text.specs.Lines
 pub use Rattle.simplex_io.specs.Io
@@ -31,6 +32,14 @@ pub use Rattle.law_run.specs.Founded
 pub use Rattle.law_run.specs.MostlyHonest
 pub use Rattle.law_run.specs.Voting
 pub use Rattle.law_run.specs.WellSent
+pub use Rattle.law_run.specs.Genuine
+pub use Rattle.law_run.specs.InTime
+pub use Rattle.law_run.specs.Held
+pub use Rattle.law_run.specs.Keeping
+pub use Rattle.law_run.specs.OneChain
+pub use Rattle.law_run.specs.Chains
+pub use Rattle.law_run.specs.Answered
+pub use Rattle.law_run.specs.Rooted
 pub use Rattle.law_run.specs.Faulty
 pub use Rattle.law_run.specs.Histories
 pub use Rattle.law_run.specs.Ruled
@@ -42,6 +51,7 @@ pub use Rattle.law_agreement.specs.Quorums
 pub use Rattle.law_agreement.specs.World
 pub use Rattle.law_member.specs.Life as Conduct
 pub use Rattle.law_agreement.specs.Member
+pub use Rattle.law_agreement.specs.Invariant
 pub use Rattle.law_member.specs.Evidence
 -- Of an engine, its actors, and threads.
 pub use Rattle.model_steps.specs.Engine

@@ -2,15 +2,21 @@
 
 // Of whole runs.
 pub use law_run::{
-    conditions_are_exact, honest_votes_keep_order, impersonators_forge_by_equal_digests,
-    members_are_safe, only_impersonators_and_injected_bytes_forge, payloads_keep_the_limit,
-    possible_events_run, runs_are_possible, runs_are_safe, runs_have_one_entry_each,
-    sent_votes_are_the_same,
+    agreement_follows, certificates_are_genuine, conditions_are_exact, held_certificates_are_sound,
+    honest_votes_keep_order, impersonators_forge_by_equal_digests, members_are_safe,
+    nodes_keep_the_invariant, notarized_payloads_were_answered,
+    only_impersonators_and_injected_bytes_forge, payloads_keep_the_limit, possible_events_run,
+    reported_finalizations_agree, requests_name_the_genesis, runs_are_possible, runs_are_safe,
+    runs_have_one_entry_each, sent_votes_are_the_same, transcripts_report_one_chain,
+    votes_are_in_time,
 };
 pub use model_run::{groups_change_nothing, steps_of_a_group_stand_apart};
 
 // Of the lives of voters, and why they agree.
-pub use law_agreement::{backing_lasts, lives_agree, lives_are_honest, no_conflict, quorums_meet};
+pub use law_agreement::{
+    backing_lasts, lives_agree, lives_are_honest, lives_keep_the_invariant, no_conflict,
+    quorums_meet,
+};
 pub use law_member::{crashes_are_lived, starts_are_lived, steps_are_lived};
 
 // Of the steps of an actor.

@@ -6,3 +6,4 @@ pub mod Parts
 pub mod Polls
 pub mod Stages
 pub mod Stands
+pub mod WholeRuns

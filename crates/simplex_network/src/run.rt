@@ -6,13 +6,18 @@ ghost use Rattle.model_run.specs.Setups as setups;
 ghost use Rattle.law_run.specs.Complete.{IsOneEach, IsPossible};
 ghost use Rattle.law_run.specs.Sayings.{Each};
 ghost use Rattle.law_run.specs.Fitting.{IsTyped};
+ghost use Rattle.law_run.specs.Limits.{KeepsTheLimit};
+ghost use Rattle.law_run.specs.OneChain.{ReportOneChain};
 ghost use Rattle.law_run.specs.Safe.{RunsSafely};
 ghost use Rattle.simplex_network.specs.Answer.{is_memory};
 ghost use Rattle.simplex_network.specs.Stands.{MadeBy};
 
 use crate::network::Network;
 use crate::nodes::genesis_at;
-use law_run::{possible_events_run, runs_are_possible, runs_are_safe, runs_have_one_entry_each};
+use law_run::{
+    payloads_keep_the_limit, possible_events_run, runs_are_possible, runs_are_safe,
+    runs_have_one_entry_each, transcripts_report_one_chain,
+};
 use simplex_members::are_few;
 use simplex_transcript::{Entry, Event, Field, Refusal, RunError, Setup};
 use simplex_typed::entries_are_typed;
@@ -33,9 +38,14 @@ pub fn run_network(alloc: Global, setup: &Setup, events: &[Event]) -> Result<Tra
     ensures network { IfOk result (λ transcript. MadeBy transcript.network (at_epoch_genesis setup.now) (runs.run (at_epoch_genesis setup.now) [] events.now)) }
     ensures refused { IfErr result (λ refusal. is_memory refusal.error ≡ false → runs.Run setup.now events.now ≡ Err refusal) }
     // Each certificate that stands in the transcript and verifies is backed and of the setup's epoch, no two of them
-    // conflict; of each honest member each vote was stored first, the votes of each event that no stop broke are those that
-    // the rules give, and over all its lives they keep their order; and no honest member is blamed.
+    // conflict, and what an engine says for a certificate verifies; of each honest member each vote was stored first, the
+    // votes of each event that no stop broke are those that the rules give, and over all its lives they keep their order, by
+    // what had come to it; and no honest member is blamed.
     ensures safe { IfOk result (λ transcript. RunsSafely (at_epoch_genesis setup.now) events.now) }
+    // What any two engines report as final is of one chain: of one view it is one proposal, and no later one skips an earlier.
+    ensures one_chain { IfOk result (λ transcript. ReportOneChain transcript.entries) }
+    // No packet of an honest member is longer than `max_payload_size` says for so many members.
+    ensures limit { IfOk result (λ transcript. Each (KeepsTheLimit setup.now) transcript.entries) }
     // One entry for each event: as many, numbered from 1, each of the node that its event names.
     ensures entries { IfOk result (λ transcript. IsOneEach transcript.entries events.now) }
     // A valid setup and events that each meet their conditions make a transcript, or want memory; and nothing else does.
@@ -57,11 +67,15 @@ pub fn run_network_from(
     ensures refused { IfErr result (λ refusal. is_memory refusal.error ≡ false → runs.RunFrom (setting_of setup.now genesis) events.now ≡ Err refusal) }
     // What holds of the run at the epoch's genesis digest.
     ensures safe { IfOk result (λ transcript. RunsSafely (setting_of setup.now genesis) events.now) }
+    ensures one_chain { IfOk result (λ transcript. ReportOneChain transcript.entries) }
+    ensures limit { IfOk result (λ transcript. Each (KeepsTheLimit setup.now) transcript.entries) }
     ensures entries { IfOk result (λ transcript. IsOneEach transcript.entries events.now) }
     ensures complete { IfErr result (λ refusal. IsPossible (setting_of setup.now genesis) events.now → is_memory refusal.error ≡ true) }
     ensures possible { IfOk result (λ transcript. IsPossible (setting_of setup.now genesis) events.now) }
 {
     runs_are_safe();
+    transcripts_report_one_chain();
+    payloads_keep_the_limit();
     runs_have_one_entry_each();
     possible_events_run();
     runs_are_possible();

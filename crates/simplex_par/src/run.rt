@@ -6,12 +6,17 @@ ghost use Rattle.model_run.specs.Setups as setups;
 ghost use Rattle.law_run.specs.Complete.{IsOneEach, IsPossible};
 ghost use Rattle.law_run.specs.Sayings.{Each};
 ghost use Rattle.law_run.specs.Fitting.{IsTyped};
+ghost use Rattle.law_run.specs.Limits.{KeepsTheLimit};
+ghost use Rattle.law_run.specs.OneChain.{ReportOneChain};
 ghost use Rattle.law_run.specs.Safe.{RunsSafely};
 ghost use Rattle.simplex_network.specs.Answer.{is_memory};
 ghost use Rattle.simplex_network.specs.Stands.{MadeBy};
 
 use crate::group::{push, refused, step_group};
-use law_run::{possible_events_run, runs_are_possible, runs_are_safe, runs_have_one_entry_each};
+use law_run::{
+    payloads_keep_the_limit, possible_events_run, runs_are_possible, runs_are_safe,
+    runs_have_one_entry_each, transcripts_report_one_chain,
+};
 use simplex_mailbox::Gate;
 use simplex_members::are_few;
 use simplex_network::{Network, Transcript};
@@ -37,9 +42,14 @@ pub fn run_network_par<G: Gate, R: Threads + Sync>(
     ensures network { IfOk result (λ transcript. MadeBy transcript.network (at_epoch_genesis setup.now) (runs.run (at_epoch_genesis setup.now) [] events.now)) }
     ensures refused { IfErr result (λ refusal. is_memory refusal.error ≡ false → runs.Run setup.now events.now ≡ Err refusal) }
     // Each certificate that stands in the transcript and verifies is backed and of the setup's epoch, no two of them
-    // conflict; of each honest member each vote was stored first, the votes of each event that no stop broke are those that
-    // the rules give, and over all its lives they keep their order; and no honest member is blamed.
+    // conflict, and what an engine says for a certificate verifies; of each honest member each vote was stored first, the
+    // votes of each event that no stop broke are those that the rules give, and over all its lives they keep their order, by
+    // what had come to it; and no honest member is blamed.
     ensures safe { IfOk result (λ transcript. RunsSafely (at_epoch_genesis setup.now) events.now) }
+    // What any two engines report as final is of one chain: of one view it is one proposal, and no later one skips an earlier.
+    ensures one_chain { IfOk result (λ transcript. ReportOneChain transcript.entries) }
+    // No packet of an honest member is longer than `max_payload_size` says for so many members.
+    ensures limit { IfOk result (λ transcript. Each (KeepsTheLimit setup.now) transcript.entries) }
     // One entry for each event: as many, numbered from 1, each of the node that its event names.
     ensures entries { IfOk result (λ transcript. IsOneEach transcript.entries events.now) }
     // A valid setup and events that each meet their conditions make a transcript, or want memory; and nothing else does.
@@ -47,6 +57,8 @@ pub fn run_network_par<G: Gate, R: Threads + Sync>(
     ensures possible { IfOk result (λ transcript. IsPossible (at_epoch_genesis setup.now) events.now) }
 {
     runs_are_safe();
+    transcripts_report_one_chain();
+    payloads_keep_the_limit();
     runs_have_one_entry_each();
     possible_events_run();
     runs_are_possible();

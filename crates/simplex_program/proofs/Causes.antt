@@ -12,7 +12,10 @@ use Rattle.simplex_form.specs.Input.{input_of}
 use Rattle.model_run.specs.Setting.{at_epoch_genesis}
 use Rattle.model_run.specs.Run.{Run, run, refused}
 use Rattle.law_run.specs.Complete.{IsOneEach}
+use Rattle.law_run.specs.Limits.{KeepsTheLimit}
+use Rattle.law_run.specs.OneChain.{ReportOneChain}
 use Rattle.law_run.specs.Safe.{RunsSafely}
+use Rattle.law_run.specs.Sayings.{Each}
 use Rattle.simplex_text.specs.Lines.{PrintedRun}
 use Rattle.simplex_generator.specs.Setup.{setup_of}
 use Rattle.simplex_generator.specs.Summary.{summary}
@@ -390,10 +393,11 @@ run_read words old new telling events result exit written after decided (inr cut
 -- a whole run, as it was made
 pub made_whole : (setup : Setup) (events : List Event) (made : Transcript)
     → Run setup events ≡ Ok made.entries → IsOneEach made.entries events → MadeBy made.network (at_epoch_genesis setup) (run (at_epoch_genesis setup) [] events) → RunsSafely (at_epoch_genesis setup) events
+    → ReportOneChain made.entries → Each (KeepsTheLimit setup) made.entries
     → (transcript : Transcript) → Done made ≡ Done transcript → WholeRun setup events transcript
-made_whole setup events made entries each network safe transcript is =
+made_whole setup events made entries each network safe one_chain limit transcript is =
     let same : made ≡ transcript = cc in
-    subst (WholeRun setup events) same (record { entries = entries; each = each; network = network; safe = safe })
+    subst (WholeRun setup events) same (record { entries = entries; each = each; network = network; safe = safe; one_chain = one_chain; limit = limit })
 
 -- and of what the bytes say
 pub says_whole : (bytes : List ℕ) (setup : Setup) (events : List Event) (transcript : Transcript) → input_of bytes ≡ Ok (record { setup = setup; events = events })

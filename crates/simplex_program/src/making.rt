@@ -3,7 +3,10 @@ ghost use Rattle.std.specs.Prelude.{◌≡◌, ◌<◌, [], Ok, Err, IfOk, IfErr
 ghost use Rattle.model_run.specs.Setting.{at_epoch_genesis};
 ghost use Rattle.model_run.specs.Run.{Run, run};
 ghost use Rattle.law_run.specs.Complete.{IsOneEach};
+ghost use Rattle.law_run.specs.Limits.{KeepsTheLimit};
+ghost use Rattle.law_run.specs.OneChain.{ReportOneChain};
 ghost use Rattle.law_run.specs.Safe.{RunsSafely};
+ghost use Rattle.law_run.specs.Sayings.{Each};
 ghost use Rattle.simplex_network.specs.Answer.{is_memory};
 ghost use Rattle.simplex_network.specs.Stands.{MadeBy};
 
@@ -42,6 +45,8 @@ impl Making {
         ensures network { IfOk result (λ transcript. MadeBy transcript.network (at_epoch_genesis setup.now) (run (at_epoch_genesis setup.now) [] events.now)) }
         ensures refused { IfErr result (λ refusal. is_memory refusal.error ≡ false → Run setup.now events.now ≡ Err refusal) }
         ensures safe { IfOk result (λ transcript. RunsSafely (at_epoch_genesis setup.now) events.now) }
+        ensures one_chain { IfOk result (λ transcript. ReportOneChain transcript.entries) }
+        ensures limit { IfOk result (λ transcript. Each (KeepsTheLimit setup.now) transcript.entries) }
         ensures entries { IfOk result (λ transcript. IsOneEach transcript.entries events.now) }
     {
         match self {

@@ -28,6 +28,17 @@ returns-clause-safe c =
     both c.run_typed.result _ _ _ (λ transcript made typed. c.runs_are_safe.ensures (setting_of c.args.setup.now c.args.genesis) c.args.events.now transcript.entries made typed)
     c.run_typed.ensures.done c.run_typed.ensures.typed
 
+pub returns-clause-one_chain : goal.returns-clause-one_chain
+returns-clause-one_chain c =
+    both c.run_typed.result _ _ _
+    (λ transcript made typed. c.transcripts_report_one_chain.ensures (setting_of c.args.setup.now c.args.genesis) c.args.events.now transcript.entries made (c.runs_are_safe.ensures (setting_of c.args.setup.now c.args.genesis) c.args.events.now transcript.entries made typed))
+    c.run_typed.ensures.done c.run_typed.ensures.typed
+
+pub returns-clause-limit : goal.returns-clause-limit
+returns-clause-limit c =
+    both c.run_typed.result _ _ _ (λ transcript made typed. c.payloads_keep_the_limit.ensures (setting_of c.args.setup.now c.args.genesis) c.args.events.now transcript.entries made typed)
+    c.run_typed.ensures.done c.run_typed.ensures.typed
+
 pub returns-clause-entries : goal.returns-clause-entries
 returns-clause-entries c =
     IfOk-weaker c.run_typed.result _ _
