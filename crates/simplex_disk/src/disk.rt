@@ -21,6 +21,9 @@ pub trait Disk {
     // which call from now on fails, counted from 1, if the disk tells it and fails no other; 0: none
     ghost order: { Self → Option ℕ };
 
+    // A disk that tells its order fails no other call, and a call that fails does nothing: the clause `ordered` of those that
+    // might happen in part.
+
     /// The bytes of the file, none where it is not there.
     fn read(&mut self, alloc: Global, file: u64) -> Result<Vec<u8>, DiskError>
         ensures bytes { IfOk result (λ bytes. bytes.items ≡ bytes_of (contents self.old file)) }
@@ -42,6 +45,7 @@ pub trait Disk {
         ensures ok { OnOk result ((calls : List Call) → StandsFor self.old calls → StandsFor self.new (Write file place (length bytes.now) bytes.now ∷ calls)) }
         ensures in_part { OnErr result ((calls : List Call) → StandsFor self.old calls → WritesInPart file place (length bytes.now) calls (StandsFor self.new)) }
         ensures memory { IsErrOf result DiskError.Memory → (calls : List Call) → StandsFor self.old calls → StandsFor self.new calls }
+        ensures ordered { OnErr result (IfSome (order self.old) (λ _. (calls : List Call) → StandsFor self.old calls → StandsFor self.new calls)) }
         ensures counts { Counts result (fault_count self.old) (fault_count self.new) }
         ensures heeds { Heeds (order self.old) result (order self.new) };
 
@@ -50,6 +54,7 @@ pub trait Disk {
         ensures ok { OnOk result ((calls : List Call) → StandsFor self.old calls → StandsFor self.new (Cut file len true ∷ calls)) }
         ensures in_part { OnErr result ((calls : List Call) → StandsFor self.old calls → CutsInPart file len calls (StandsFor self.new)) }
         ensures memory { IsErrOf result DiskError.Memory → (calls : List Call) → StandsFor self.old calls → StandsFor self.new calls }
+        ensures ordered { OnErr result (IfSome (order self.old) (λ _. (calls : List Call) → StandsFor self.old calls → StandsFor self.new calls)) }
         ensures counts { Counts result (fault_count self.old) (fault_count self.new) }
         ensures heeds { Heeds (order self.old) result (order self.new) };
 
@@ -65,6 +70,7 @@ pub trait Disk {
     fn remove(&mut self, file: u64) -> Result<(), DiskError>
         ensures ok { OnOk result ((calls : List Call) → StandsFor self.old calls → StandsFor self.new (Remove file true ∷ calls)) }
         ensures in_part { OnErr result ((calls : List Call) → StandsFor self.old calls → RemovesInPart file calls (StandsFor self.new)) }
+        ensures ordered { OnErr result (IfSome (order self.old) (λ _. (calls : List Call) → StandsFor self.old calls → StandsFor self.new calls)) }
         ensures room { IsErrOf result DiskError.Memory → ⊥ }
         ensures counts { Counts result (fault_count self.old) (fault_count self.new) }
         ensures heeds { Heeds (order self.old) result (order self.new) };

@@ -55,6 +55,7 @@ pub(crate) fn numbers_of(files: &Files, alloc: Global) -> Result<Vec<u64>, Alloc
     ensures { IfOk result (λ numbers. IsListing (file_in (kept_of files.now.entries)) numbers.items) }
 {
     let mut numbers = Vec::new(alloc);
+    // The length is asked for its clause, which says that the numbers rise.
     let _ordered = files.len();
     for (number, _) in files {
         numbers.push(*number)?;

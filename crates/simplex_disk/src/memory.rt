@@ -134,6 +134,7 @@ impl Disk for MemoryDisk {
         ensures ok { OnOk result ((calls : List Call) → IsLeftBy self.old.kept calls → IsLeftBy self.new.kept (Write file place (length bytes.now) bytes.now ∷ calls)) }
         ensures in_part { OnErr result ((calls : List Call) → IsLeftBy self.old.kept calls → WritesInPart file place (length bytes.now) calls (IsLeftBy self.new.kept)) }
         ensures memory { IsErrOf result DiskError.Memory → (calls : List Call) → IsLeftBy self.old.kept calls → IsLeftBy self.new.kept calls }
+        ensures ordered { OnErr result (IfSome (order_told self.old.failing self.old.ordered) (λ _. (calls : List Call) → IsLeftBy self.old.kept calls → IsLeftBy self.new.kept calls)) }
         ensures counts { Counts result self.old.faults self.new.faults }
         ensures heeds { Heeds (order_told self.old.failing self.old.ordered) result (order_told self.new.failing self.new.ordered) }
         // The calls of the numbers to fail do fail, and no other. Each that is answered is counted, and one that failed does nothing.
@@ -152,6 +153,7 @@ impl Disk for MemoryDisk {
         ensures ok { OnOk result ((calls : List Call) → IsLeftBy self.old.kept calls → IsLeftBy self.new.kept (Cut file len true ∷ calls)) }
         ensures in_part { OnErr result ((calls : List Call) → IsLeftBy self.old.kept calls → CutsInPart file len calls (IsLeftBy self.new.kept)) }
         ensures memory { IsErrOf result DiskError.Memory → (calls : List Call) → IsLeftBy self.old.kept calls → IsLeftBy self.new.kept calls }
+        ensures ordered { OnErr result (IfSome (order_told self.old.failing self.old.ordered) (λ _. (calls : List Call) → IsLeftBy self.old.kept calls → IsLeftBy self.new.kept calls)) }
         ensures counts { Counts result self.old.faults self.new.faults }
         ensures heeds { Heeds (order_told self.old.failing self.old.ordered) result (order_told self.new.failing self.new.ordered) }
         // The calls of the numbers to fail do fail, and no other. Each that is answered is counted, and one that failed does nothing.
@@ -188,6 +190,7 @@ impl Disk for MemoryDisk {
         ensures ok { OnOk result ((calls : List Call) → IsLeftBy self.old.kept calls → IsLeftBy self.new.kept (Remove file true ∷ calls)) }
         ensures in_part { OnErr result ((calls : List Call) → IsLeftBy self.old.kept calls → RemovesInPart file calls (IsLeftBy self.new.kept)) }
         ensures room { IsErrOf result DiskError.Memory → ⊥ }
+        ensures ordered { OnErr result (IfSome (order_told self.old.failing self.old.ordered) (λ _. (calls : List Call) → IsLeftBy self.old.kept calls → IsLeftBy self.new.kept calls)) }
         ensures counts { Counts result self.old.faults self.new.faults }
         ensures heeds { Heeds (order_told self.old.failing self.old.ordered) result (order_told self.new.failing self.new.ordered) }
         // The calls of the numbers to fail do fail, and no other. Each that is answered is counted, and one that failed does nothing.

@@ -54,6 +54,7 @@ pub(crate) fn open_files<D: Disk>(disk: &mut D, alloc: Global) -> Result<Index, 
         let segment = open_file(disk, alloc, *number)?;
         put(&mut index, *number, segment)?;
     }
+    // The length is asked for its clause, which says that the numbers rise.
     let _ordered = index.len();
     Ok(index)
 }

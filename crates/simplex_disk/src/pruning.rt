@@ -24,6 +24,7 @@ fn first_below(index: &Index, least: u64) -> Option<u64>
     ensures first { MatchOption result (HasNoneBelow least index.now.entries) (λ n. (n < least) × BeginsAt n index.now.entries) }
     ensures ordered { IsStrictlySortedBy nat_cmp (keys_of index.now.entries) }
 {
+    // The length is asked for its clause, which says that the numbers rise.
     let _ordered = index.len();
     match index.first_key_value() {
         Some((number, _)) if *number < least => Some(*number),
@@ -131,6 +132,7 @@ pub(crate) fn prune_files<D: Disk>(
 fn sections_below(index: &Index, least: u64) -> u64
     ensures { result ≡ count_below least index.now.entries }
 {
+    // The length is asked for its clause, which says that it is a u64: so the count, which is no more, does not wrap.
     let _all = index.len();
     let mut count = 0;
     for (number, _) in index {
@@ -153,6 +155,7 @@ pub(crate) fn call_to_fail(
     ensures number { IfSome result (λ number. number ≡ failing_disk_call leaving.now (min sections (count_below least index.now.entries))) }
     ensures ordered { IsStrictlySortedBy nat_cmp (keys_of index.now.entries) }
 {
+    // The length is asked for its clause, which says that the numbers rise.
     let _ordered = index.len();
     let dropped = sections.min(sections_below(index, least));
     if dropped == 0 {

@@ -41,7 +41,7 @@ impl Segment {
     pub(crate) fn count_synced(&mut self)
         ensures { CountsSynced self.old self.new }
     {
-        // No file has more records than bytes.
+        // No file has more records than bytes: the end is read for what its type says of it.
         let _end = self.end;
         self.synced = self.synced.saturating_add(self.gates.len() as u64);
         self.gates.clear();

@@ -84,6 +84,7 @@ pub(crate) fn crash<D: StopDisk>(disk: &mut D, index: &mut Index, keep: u64)
     ensures faults { D.fault_count disk.new ≡ D.fault_count disk.old }
     ensures order { OrderStands (D.order disk.old) (D.order disk.new) }
 {
+    // The length is asked for its clause, which says that the numbers rise.
     let _ordered = index.len();
     disk.settle();
     let mut next = first_section(index);

@@ -26,6 +26,7 @@ fn open_each<D: Disk>(disk: &mut D, index: &Index) -> Result<(), DiskError>
     ensures ends { Ends (D.fault_count disk.old) (D.order disk.old) result (D.fault_count disk.new) (D.order disk.new) }
     ensures named { 0 < length index.now.entries → IsNamed (D.order disk.old) result }
 {
+    // The length is asked for its clause, which says that the numbers rise.
     let _ordered = index.len();
     for (number, segment) in index {
         open_segment(disk, *number, segment)?;

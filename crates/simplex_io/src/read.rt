@@ -19,7 +19,7 @@ pub enum InputEnd {
     #[error("the input could not be read")]
     ReadFault,
     /// Want of memory.
-    #[error("there is no memory left for the input")]
+    #[error("out of memory")]
     Memory,
 }
 

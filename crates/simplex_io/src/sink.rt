@@ -8,7 +8,7 @@ use thiserror::Error;
 #[derive(Clone, Copy, Debug, PartialEq, Eq, Error)]
 pub enum SinkError {
     /// Want of memory.
-    #[error("there is no memory left for the bytes that were to be written")]
+    #[error("out of memory")]
     Memory,
     /// The sink failed, and its count of faults rose.
     #[error("the write failed")]

@@ -58,8 +58,7 @@ impl<M: Policy> Held<M> {
     pub fn put_into(self, mailbox: &mut Mailbox<M>) -> Result<(), AllocError>
         ensures { OnOk result (mailbox.new ≡ all_enqueued M.handle mailbox.old self) }
     {
-        put_each(self.into_messages(), mailbox)?;
-        Ok(())
+        put_each(self.into_messages(), mailbox)
     }
 }
 

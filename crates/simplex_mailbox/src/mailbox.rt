@@ -9,7 +9,7 @@ use crate::overflow::Overflow;
 use crate::policy::Policy;
 use crate::post::Post;
 use crate::requested::leave_each;
-use simplex_values::Feedback;
+use simplex_values::{Feedback, Keep};
 use std::alloc::{AllocError, Global};
 use std::collections::VecDeque;
 use std::marker::Model;
@@ -87,6 +87,13 @@ impl<M: Policy> Mailbox<M> {
         self.is_closed = true;
     }
 
+    /// Whether it was closed.
+    pub fn is_closed(&self) -> bool
+        ensures { result ≡ self.now.closed }
+    {
+        self.is_closed
+    }
+
     /// How many messages are ready at most.
     pub fn capacity(&self) -> u32
         ensures { result ≡ self.now.capacity }
@@ -108,6 +115,18 @@ impl<M: Policy> Mailbox<M> {
     {
         leave_each(self.ready.make_contiguous(), id);
         self.overflow.leave(id);
+    }
+}
+
+impl<M: Policy + Keep> Mailbox<M> {
+    /// A copy of the message that is taken next.
+    pub fn copy_front(&self, alloc: Global) -> Result<Option<M>, AllocError>
+        ensures { IfOk result (λ copy. copy ≡ received self.now) }
+    {
+        match self.ready.front() {
+            None => Ok(None),
+            Some(first) => Ok(Some(first.keep(alloc)?)),
+        }
     }
 }
 

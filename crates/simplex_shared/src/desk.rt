@@ -5,10 +5,9 @@ ghost use Rattle.simplex_mailbox.specs.Mail.{no_mail};
 ghost use Rattle.simplex_shared.specs.declared.op.Op.TheVariants.{Put, Took, Shut};
 ghost use Rattle.simplex_shared.specs.History.{is_shut, IsLegal};
 
-use crate::inbox::Inbox;
 use crate::logged::Logged;
 use crate::op::Op;
-use simplex_mailbox::Policy;
+use simplex_mailbox::{Mailbox, Policy};
 use simplex_values::{Feedback, Keep};
 use std::alloc::{AllocError, Global};
 use std::marker::Model;
@@ -17,7 +16,7 @@ use std::marker::Model;
 #[derive(Drop)]
 pub struct Desk<M: Policy> {
     alloc: Global,
-    inbox: Inbox<M>,
+    mailbox: Mailbox<M>,
     log: Vec<Op<M>>,
 }
 
@@ -27,9 +26,9 @@ impl<M: Policy> Model for Desk<M> {
 
     ghost Value = { Recorded M };
 
-    ghost view = { λ d. record { mail = d.inbox; log = d.log.items } };
+    ghost view = { λ d. record { mail = d.mailbox; log = d.log.items } };
 
-    ghost invariant = { λ d. Replays M.handle M.is_skipped d.inbox.capacity d.log.items d.inbox };
+    ghost invariant = { λ d. Replays M.handle M.is_skipped d.mailbox.capacity d.log.items d.mailbox };
 }
 
 impl<M: Policy> Logged<Op<M>> for Desk<M> {
@@ -52,7 +51,7 @@ impl<M: Policy + Keep> Desk<M> {
     {
         Ok(Desk {
             alloc,
-            inbox: Inbox::new(alloc, capacity)?,
+            mailbox: Mailbox::new(alloc, capacity)?,
             log: Vec::new(alloc),
         })
     }
@@ -69,7 +68,7 @@ impl<M: Policy + Keep> Desk<M> {
         ensures closed { result ≡ self.now.mail.closed }
         ensures shut { result ≡ is_shut self.now.log }
     {
-        self.inbox.is_closed()
+        self.mailbox.is_closed()
     }
 
     /// Puts the message, which comes back for want of memory.
@@ -81,14 +80,18 @@ impl<M: Policy + Keep> Desk<M> {
         ensures legal { IsLegal M.handle M.is_skipped self.new.mail.capacity self.new.log }
         ensures capacity { self.new.mail.capacity ≡ self.old.mail.capacity }
     {
-        let Desk { alloc, inbox, log } = self;
+        let Desk {
+            alloc,
+            mailbox,
+            log,
+        } = self;
         let Ok(copy) = message.keep(*alloc) else {
             return Err(message);
         };
         if log.reserve(1).is_err() {
             return Err(message);
         }
-        let Ok(feedback) = inbox.enqueue(copy) else {
+        let Ok(feedback) = mailbox.enqueue(copy) else {
             return Err(message);
         };
         log.push_reserved(Op::Put {
@@ -106,10 +109,14 @@ impl<M: Policy + Keep> Desk<M> {
         ensures legal { IsLegal M.handle M.is_skipped self.new.mail.capacity self.new.log }
         ensures capacity { self.new.mail.capacity ≡ self.old.mail.capacity }
     {
-        let Desk { alloc, inbox, log } = self;
-        let copy = inbox.keep_first(*alloc)?;
+        let Desk {
+            alloc,
+            mailbox,
+            log,
+        } = self;
+        let copy = mailbox.copy_front(*alloc)?;
         log.reserve(1)?;
-        let got = inbox.recv();
+        let got = mailbox.recv();
         log.push_reserved(Op::Took { caller, got: copy });
         Ok(got)
     }
@@ -121,9 +128,9 @@ impl<M: Policy + Keep> Desk<M> {
         ensures legal { IsLegal M.handle M.is_skipped self.new.mail.capacity self.new.log }
         ensures capacity { self.new.mail.capacity ≡ self.old.mail.capacity }
     {
-        let Desk { inbox, log, .. } = self;
+        let Desk { mailbox, log, .. } = self;
         log.reserve(1)?;
-        inbox.close();
+        mailbox.close();
         log.push_reserved(Op::Shut { caller });
         Ok(())
     }

@@ -39,6 +39,12 @@ impl Config for RoundRobin {
     }
 }
 
+impl Keep for RoundRobin {
+    fn keep(&self, _alloc: Global) -> Result<RoundRobin, AllocError> {
+        Ok(*self)
+    }
+}
+
 /// The elector of a [`RoundRobin`].
 #[derive(Clone, Copy, Debug, PartialEq, Eq)]
 pub struct RoundRobinElector {

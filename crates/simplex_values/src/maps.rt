@@ -90,6 +90,7 @@ pub fn remove_below(views: &mut BTreeSet<u64>, least: u64)
 
 /// The least view of the set from this one on.
 pub fn first_from(views: &BTreeSet<u64>, view: u64) -> Option<u64>
+    ensures member { IfSome result (λ u. has views.now u ≡ true) }
     ensures bound { IfSome result (λ u. view ≤ u) }
     ensures least { IfSome result (λ u. (q : ℕ) → view ≤ q → q < u → has views.now q ≡ false) }
     ensures none { IfNone result ((q : ℕ) → view ≤ q → has views.now q ≡ false) }
@@ -115,6 +116,7 @@ pub fn last_up_to(views: &BTreeSet<u64>, view: u64) -> Option<u64>
 
 /// The least view of the map from one to another.
 pub fn first_between<V>(values: &BTreeMap<u64, V>, first: u64, last: u64) -> Option<u64>
+    ensures member { IfSome result (λ view. is_some (found values.now view) ≡ true) }
     ensures bounds { IfSome result (λ view. (first ≤ view) × (view ≤ last)) }
     ensures least { IfSome result (λ view. (q : ℕ) → first ≤ q → q < view → found values.now q ≡ None) }
     ensures none { IfNone result ((q : ℕ) → first ≤ q → q ≤ last → found values.now q ≡ None) }

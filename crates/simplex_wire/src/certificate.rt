@@ -1,6 +1,6 @@
 //! Certificates: a quorum's votes for one thing.
 ghost use Rattle.std.specs.Prelude.{◌≡◌};
-ghost use Rattle.simplex_wire.specs.Fields.{certificate_subject, certificate_kind, certificate_epoch, certificate_view, subject_round};
+ghost use Rattle.simplex_wire.specs.Fields.{certificate_subject, certificate_kind, certificate_signatures, certificate_epoch, certificate_view, subject_round};
 
 use crate::signatures::Signatures;
 use simplex_values::{Epoch, Keep, Proposal, Round, Subject, View};
@@ -171,6 +171,17 @@ impl Certificate {
             Certificate::Notarization(certificate) => Subject::Notarize(certificate.proposal),
             Certificate::Nullification(certificate) => Subject::Nullify(certificate.round),
             Certificate::Finalization(certificate) => Subject::Finalize(certificate.proposal),
+        }
+    }
+
+    /// The signatures of the quorum.
+    pub fn signatures(&self) -> &Signatures
+        ensures { result.now ≡ certificate_signatures self.now }
+    {
+        match self {
+            Certificate::Notarization(it) => &it.certificate,
+            Certificate::Nullification(it) => &it.certificate,
+            Certificate::Finalization(it) => &it.certificate,
         }
     }
 

@@ -30,3 +30,4 @@ pub use samples::{numbers_come_out, quorums_come_out};
 pub use scheme::{AssemblyError, Scheme, a_verifying_quorum_certifies};
 pub use signatures::Signatures;
 pub use vote::{Finalize, Notarize, Nullify, Vote};
+pub use writing::push_number;

@@ -19,8 +19,8 @@ use std::alloc::AllocError;
 /// The most bytes that an attestation may need.
 const ATTESTATION_ROOM: usize = 37;
 
-/// Writes the number in its shortest form.
-fn push_number(out: &mut Vec<u8>, number: u64) -> Result<(), AllocError>
+/// Writes the number in its shortest form, little-endian in base 128. For want of memory a first part of it may be written.
+pub fn push_number(out: &mut Vec<u8>, number: u64) -> Result<(), AllocError>
     ensures { OnOk result (out.new.items ≡ out.old.items ++ varint number) }
 {
     let mut rest = number;

@@ -8,5 +8,5 @@ pub returns-clause-shut : goal.returns-clause-shut
 returns-clause-shut g c =
     let inside = c.self.inside in
     c.is_closed.ensures
-    ∙ replays-closed g.M.Policy.handle g.M.Requested.is_skipped inside.inbox.capacity inside.log.items inside.inbox c.self.invariant
+    ∙ replays-closed g.M.Policy.handle g.M.Requested.is_skipped inside.mailbox.capacity inside.log.items inside.mailbox c.self.invariant
     ∙ ap (λ (d : Recorded g.row.M.Denot). is_shut d.log) c.self.view_is
