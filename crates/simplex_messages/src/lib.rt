@@ -11,6 +11,7 @@ mod by_view;
 mod call;
 mod handed;
 mod laws;
+mod posting;
 pub mod resolver;
 mod samples;
 mod step;
@@ -20,6 +21,7 @@ pub use batcher::BatcherInput;
 pub use call::Call;
 pub use handed::Handed;
 pub use laws::{finality_rules, none_waits_twice, replayed_survives, update_rules};
+pub use posting::post_to_voter;
 pub use resolver::ResolverInput;
 pub use samples::{
     batcher_mail_comes_out, handler_mail_comes_out, resolver_mail_comes_out, voter_mail_comes_out,

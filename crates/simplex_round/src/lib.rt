@@ -19,3 +19,4 @@ pub use laws::{accepted_votes_are_their_senders, evidence_names_its_signer};
 pub use round::Round;
 pub use samples::{certificates_come_out, proposals_come_out, votes_come_out};
 pub use verifier::Verifier;
+pub use votes::is_same_subject;

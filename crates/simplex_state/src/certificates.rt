@@ -132,8 +132,7 @@ impl<S: Scheme + Drop, L: Elector + Drop> State<S, L> {
         round.notarized = round.notarized.or(Some(notarization.proposal));
         put_round(&mut self.rounds, view, round)?;
         add(&mut self.waiting, view)?;
-        hold(&mut self.notarizations, view, notarization)?;
-        Ok(())
+        hold(&mut self.notarizations, view, notarization)
     }
 
     /// Takes a nullification for known.
@@ -155,8 +154,7 @@ impl<S: Scheme + Drop, L: Elector + Drop> State<S, L> {
         complete(&mut self.whole, length, view)?;
         self.published = self.published_in(next);
         self.progress.open(next, length, now);
-        hold(&mut self.nullifications, view.0, nullification)?;
-        Ok(())
+        hold(&mut self.nullifications, view.0, nullification)
     }
 
     /// Takes a finalization for known.
@@ -178,8 +176,7 @@ impl<S: Scheme + Drop, L: Elector + Drop> State<S, L> {
         self.published = self.published_in(view.next());
         self.progress
             .finalize(view, self.settings.terms.length, now);
-        hold(&mut self.finalizations, view.0, finalization)?;
-        Ok(())
+        hold(&mut self.finalizations, view.0, finalization)
     }
 }
 

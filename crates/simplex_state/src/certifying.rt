@@ -173,8 +173,7 @@ impl<S: Scheme + Drop, L: Elector + Drop> State<S, L> {
     {
         let mut round = round_at(&self.rounds, view.0);
         round.certify_asked = true;
-        put_round(&mut self.rounds, view.0, round)?;
-        Ok(())
+        put_round(&mut self.rounds, view.0, round)
     }
 
     /// The notarization of the parent of the view's proposal is asked for.
@@ -184,8 +183,7 @@ impl<S: Scheme + Drop, L: Elector + Drop> State<S, L> {
     {
         let mut round = round_at(&self.rounds, view.0);
         round.parent_asked = true;
-        put_round(&mut self.rounds, view.0, round)?;
-        Ok(())
+        put_round(&mut self.rounds, view.0, round)
     }
 }
 

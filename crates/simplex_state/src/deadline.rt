@@ -173,8 +173,7 @@ impl<S: Scheme + Drop, L: Elector + Drop> State<S, L> {
     {
         let mut round = round_at(&self.rounds, view.0);
         round.failed = round.failed.or(Some(reason));
-        put_round(&mut self.rounds, view.0, round)?;
-        Ok(())
+        put_round(&mut self.rounds, view.0, round)
     }
 }
 

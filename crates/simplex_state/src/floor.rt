@@ -63,8 +63,7 @@ impl<S: Scheme + Drop, L: Elector + Drop> State<S, L> {
     {
         let view = finalization.view();
         self.know_floor(view, &finalization.proposal.payload)?;
-        self.keep_finalization(finalization, now)?;
-        Ok(())
+        self.keep_finalization(finalization, now)
     }
 
     /// Takes the view's payload for final.
@@ -74,8 +73,7 @@ impl<S: Scheme + Drop, L: Elector + Drop> State<S, L> {
     {
         let mut round = round_at(&self.rounds, view.0);
         round.floor = round.floor.or(Some(*payload));
-        put_round(&mut self.rounds, view.0, round)?;
-        Ok(())
+        put_round(&mut self.rounds, view.0, round)
     }
 
     /// Forgets what is below the view.

@@ -59,8 +59,7 @@ impl<S: Scheme + Drop, L: Elector + Drop> State<S, L> {
             return Ok(());
         }
         round.approved = true;
-        put_round(&mut self.rounds, view.0, round)?;
-        Ok(())
+        put_round(&mut self.rounds, view.0, round)
     }
 
     /// Takes a proposal for its view's.
@@ -74,8 +73,7 @@ impl<S: Scheme + Drop, L: Elector + Drop> State<S, L> {
         let view = proposal.view().0;
         let mut round = round_at(&self.rounds, view);
         round.proposed = Some(*proposal);
-        put_round(&mut self.rounds, view, round)?;
-        Ok(())
+        put_round(&mut self.rounds, view, round)
     }
 
     /// Whether a proposal from the batcher is recorded.

@@ -165,7 +165,6 @@ impl<S: Scheme + Drop, L: Elector + Drop> State<S, L> {
         if !self.takes_verdict(view) {
             return Ok(());
         }
-        self.judge(view, good, now)?;
-        Ok(())
+        self.judge(view, good, now)
     }
 }

@@ -187,7 +187,6 @@ impl<S: Scheme + Drop, L: Elector + Drop> State<S, L> {
     {
         let mut round = round_at(&self.rounds, view.0);
         round.proposal_asked = true;
-        put_round(&mut self.rounds, view.0, round)?;
-        Ok(())
+        put_round(&mut self.rounds, view.0, round)
     }
 }

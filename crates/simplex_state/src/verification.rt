@@ -217,8 +217,7 @@ impl<S: Scheme + Drop, L: Elector + Drop> State<S, L> {
         let view = proposal.view();
         let mut round = round_at(&self.rounds, view.0);
         round.asked = round.asked.or(Some(*proposal));
-        put_round(&mut self.rounds, view.0, round)?;
-        Ok(())
+        put_round(&mut self.rounds, view.0, round)
     }
 
     /// For the proposal of the first view, the certificate of this kind of the second is asked for.
@@ -226,7 +225,6 @@ impl<S: Scheme + Drop, L: Elector + Drop> State<S, L> {
         ensures { OnOk result ((made : Made) (known : List Fact) → Keeps S.attests L.elects self.old made known
             → Keeps S.attests L.elects self.new made (MissingAsked proposal view kind ∷ known)) }
     {
-        self.missing.ask(proposal, view, kind)?;
-        Ok(())
+        self.missing.ask(proposal, view, kind)
     }
 }

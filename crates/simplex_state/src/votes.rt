@@ -88,8 +88,7 @@ impl<S: Scheme + Drop, L: Elector + Drop> State<S, L> {
     {
         let mut round = round_at(&self.rounds, view.0);
         round.voted = round.voted.or(Some(vote.proposal));
-        put_round(&mut self.rounds, view.0, round)?;
-        Ok(())
+        put_round(&mut self.rounds, view.0, round)
     }
 
     /// The member's vote that the view's proposal is final.
@@ -137,7 +136,6 @@ impl<S: Scheme + Drop, L: Elector + Drop> State<S, L> {
     {
         let mut round = round_at(&self.rounds, view.0);
         round.voted_final = true;
-        put_round(&mut self.rounds, view.0, round)?;
-        Ok(())
+        put_round(&mut self.rounds, view.0, round)
     }
 }

@@ -1,5 +1,6 @@
 use Rattle.std.proofs.Common.{arith, refl}
 use Rattle.std.proofs.lemmas.Grind.{common_steps}
+use Rattle.std.proofs.lemmas.Result.{on_ok_weaker}
 use Rattle.simplex_state.proofs.Recording.{keeps_record}
 use Rattle.simplex_state.specs.Rounds.{learn_round}
 use Rattle.simplex_state.specs.Progress.{learn_progress}
@@ -8,6 +9,6 @@ use Rattle.simplex_state.proofs.state.State.mark_certify.Goals as goal
 
 pub returns : goal.returns
 unfolding learn_round learn_progress
-returns g c = λ made known k.
+returns g c = on_ok_weaker c.put_round.result (λ did. λ made known k.
     keeps_record _ _ _ made known (CertifyAsked c.args.view) _ k refl refl (omega arith) refl
-    (λ q. grind (arith, common_steps, c.in_ok-put_round.ensures q))
+    (λ q. grind (arith, common_steps, did q))) c.put_round.ensures

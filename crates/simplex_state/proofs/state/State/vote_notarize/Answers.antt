@@ -1,5 +1,6 @@
 use Rattle.std.proofs.Common.{arith, refl}
 use Rattle.std.proofs.lemmas.Grind.{common_steps}
+use Rattle.std.proofs.lemmas.Result.{on_ok_weaker}
 use Rattle.simplex_state.proofs.Recording.{keeps_record}
 use Rattle.simplex_state.specs.Rounds.{learn_round}
 use Rattle.simplex_state.specs.Progress.{learn_progress}
@@ -9,6 +10,6 @@ use Rattle.simplex_state.proofs.state.State.vote_notarize.Goals as goal
 
 pub returns : goal.returns
 unfolding learn_round learn_progress
-returns g c = λ made known k e.
+returns g c = on_ok_weaker c.put_round.result (λ did. λ made known k e.
     keeps_record _ _ _ made known (Voted (votes.Notarize c.args.vote.now)) _ k refl refl (omega arith) refl
-    (λ q. grind (arith, common_steps, c.in_ok-put_round.ensures q, e))
+    (λ q. grind (arith, common_steps, did q, e))) c.put_round.ensures
