@@ -1,5 +1,5 @@
 //! Cases that come out as the definitions mean them. Each clause is computed.
-#![tactic(auto, unfolding(crate::specs::Links::proposals_of, crate::specs::Links::finals_of, crate::specs::Walks::walk_within, crate::specs::Log::log_of, crate::specs::Log::gap_of, crate::specs::Observing::clash_of, model_rules::specs::Lists::greatest_of))]
+#![tactic(auto, unfolding(crate::specs::Computed::logs))]
 
 ghost use Rattle.std.specs.Prelude.{◌≡◌, true, false, [], ◌∷◌, Ok, Err, Some, None};
 ghost use Rattle.model_log.specs.declared.entry.LogError.TheVariants.{Clash};

@@ -1,0 +1,5 @@
+pub mod Answers
+pub mod Faults
+pub mod Lines
+pub mod Samples
+pub mod Whole

@@ -1,0 +1,5 @@
+pub mod Balances
+pub mod Blocks
+pub mod Computed
+pub mod Ledger
+pub mod Samples
