@@ -1,44 +1,46 @@
 //! What is proved of the definitions themselves. A proof that calls one of these may use what its clause says.
+//!
+//! - [`runs`]: whole runs are safe, what they report agrees, which setups and events have one, who can forge;
+//! - [`members`]: what a step of a voter, a batcher or a resolver does; that a voter lives an honest member's life;
+//! - [`agreement`]: why members that vote so agree, and how they keep to it over crashes;
+//! - [`logs`], [`ledgers`], [`epochs`]: the finalized logs of a run, accounts over them, and one network per epoch;
+//! - the rest, by its subject: groups of events, rules, mail, journals, threads, bytes.
 
-// Of whole runs.
-pub use law_run::{
-    agreement_follows, certificates_are_genuine, conditions_are_exact, held_certificates_are_sound,
-    honest_votes_keep_order, impersonators_forge_by_equal_digests, members_are_safe,
-    nodes_keep_the_invariant, notarized_payloads_were_answered,
-    only_impersonators_and_injected_bytes_forge, payloads_keep_the_limit, possible_events_run,
-    reported_finalizations_agree, requests_name_the_genesis, runs_are_possible, runs_are_safe,
-    runs_have_one_entry_each, sent_votes_are_the_same, transcripts_report_one_chain,
-    votes_are_in_time,
+pub use law_agreement as agreement;
+pub use law_epochs as epochs;
+pub use law_ledger as ledgers;
+pub use law_log as logs;
+pub use law_member as members;
+pub use law_run as runs;
+
+// Of lists of reports, and of transfers.
+pub use model_ledger::totals_are_kept;
+pub use model_log::{
+    a_link_moves_ends, consistent_links_do_not_clash, consistent_logs_are_fronts,
+    log_changes_with_its_tip,
 };
+
+// Of runs whose members are stepped at once, and of engines on threads.
 pub use model_run::{groups_change_nothing, steps_of_a_group_stand_apart};
+pub use simplex_threads::{turns_send_what_is_synced, turns_vote_by_rule};
 
-// Of the lives of voters, and why they agree.
-pub use law_agreement::{
-    backing_lasts, lives_agree, lives_are_honest, lives_keep_the_invariant, no_conflict,
-    quorums_meet,
+// Of rules, of what a member asks for, and of what is handed on inside it.
+pub use model_resolver::{
+    handed_certificates_verify, nullifications_answer_what_they_cover, sends_rise_by_view,
 };
-pub use law_member::{crashes_are_lived, starts_are_lived, steps_are_lived};
-
-// Of the steps of an actor.
-pub use law_member::{
-    asks_are_of_what_is_not_settled, batchers_stand_where_they_were_told,
-    evidence_names_no_honest_member, fetches_are_of_unsettled_gaps,
-    handed_certificates_are_founded, leaders_are_known, prunes_follow_syncs, reports_are_founded,
-    reports_follow_syncs, sends_follow_syncs, sent_votes_are_by_rule, starts_follow_syncs,
-    starts_send_nothing, steps_end_synced, steps_write_to_one_section, voters_blame_nobody,
-};
+pub use model_rules::votes_are_sound;
+pub use simplex_engine::{batcher_hands_to_the_voter_alone, voter_hands_itself_nothing};
 pub use simplex_fetch::{
     answers_are_of_open_requests, requests_are_served_once, untargeted_asks_go_round,
 };
 pub use simplex_repair::gaps_are_what_is_lacking;
-pub use simplex_threads::{turns_send_what_is_synced, turns_vote_by_rule};
+pub use simplex_resolver::{each_gap_has_an_open_ask, new_gaps_are_asked_for};
 
-// Of journals, mailboxes, answers, and bytes.
-pub use law_member::{
-    appended_and_synced_records_are_read, records_are_read_by_section, stops_keep_what_was_synced,
-    synced_records_stay,
+// Of mailboxes, reports, and bytes.
+pub use simplex_mailbox::{
+    all_goes_in_turn, order_is_kept, posted_are_enqueued, posted_are_held, waiting_goes_in_turn,
 };
-pub use simplex_mailbox::{all_goes_in_turn, order_is_kept, posted_are_enqueued, posted_are_held};
+pub use simplex_messages::{finality_rules, none_waits_twice, replayed_survives, update_rules};
 pub use simplex_report::{no_payload_is_longer, order_of_answers_does_not_matter};
 pub use simplex_shared::own_calls_stay_in_order;
 pub use simplex_wire::{
