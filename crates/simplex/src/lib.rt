@@ -1,6 +1,21 @@
 //! The Simplex engine as one dependency: the public names of all the crates below, in the modules in which the ported crate
 //! has them.
 //!
+//! | I want to | Call | Example |
+//! |---|---|---|
+//! | run members under a list of events, and rest a promise on the run | [`run_network`] | `crates/example_run` |
+//! | look at the network between two events | [`Network::new`], [`Network::apply`] | `crates/test_network` |
+//! | run the same by several threads, or from another genesis digest | [`run_network_par`], [`run_network_from`] | `crates/test_par` |
+//! | step the engine of one member | [`Engine::new`], [`Engine::start`], [`Engine::poll`] | `crates/test_engine` |
+//! | let its actors run on threads | [`threads::start_threads`] | `crates/test_threads` |
+//! | keep its journal in files | [`journal::DiskJournal`], over a [`journal::Disk`] | `crates/test_disk` |
+//! | propose, verify and certify by an application | [`mocks::application`] | `crates/test_application` |
+//! | be told what a member reports | [`types::Reporter`], [`hand_reports`], [`mocks::reporter`] | `crates/test_recording` |
+//! | try members that break the rules | [`mocks`], [`twins`], [`MemberKind`] | `crates/test_mocks` |
+//! | read an input, and print its run | [`form::read_run`], [`text::printed_run`], or both by [`program`] | `crates/simplex_net` |
+//! | make an input from a number | [`gen_run`] | `crates/test_program` |
+//! | cite why no two members disagree | [`laws::runs`], `runs_are_safe` and `transcripts_report_one_chain` | docs/AGREEMENT.md |
+//!
 //! Nothing is made or decided here. It hands on:
 //!
 //! - [`types`]: votes, certificates, evidence and activities, keys, and the traits that an engine is connected to; and
@@ -22,7 +37,7 @@
 //! - [`state`], [`round`], [`repair`], [`fetch`]: the parts of which the actors are made;
 //! - [`laws`]: what is proved of the definitions themselves.
 //!
-//! Whoever writes contracts finds the definitions that these promise in this crate's `specs/`. `Network::lend` and `enter` and
+//! Whoever writes contracts finds each definition that these promise in this crate's `specs/`, by one path. `Network::lend` and `enter` and
 //! `Engine::into_crew` serve [`run_network_par`] and [`threads`], and their types stay below. The crate may assume nothing, and
 //! owes nothing but the names: each clause is that of the crate below.
 #![tactic(auto)]
