@@ -1,5 +1,5 @@
 //! Tables of calls against a policy of the tests, and an actor that is generic in its post.
-ghost use Rattle.std.specs.Prelude.{OnOk};
+ghost use Rattle.std.specs.Prelude.{OnOk, ◌<◌};
 ghost use Rattle.simplex_mailbox.specs.Post.{Posted};
 
 use crate::note::Note;
@@ -15,8 +15,10 @@ use std::test::Fail;
 enum Call {
     Put(Note, Feedback),
     Take(Option<Note>),
+    Next(Option<Note>),
     Leave(u64),
     Close,
+    IsClosed(bool),
 }
 
 fn plain(writer: u64) -> Note {
@@ -44,10 +46,11 @@ fn of_one_who_left(writer: u64) -> Note {
 }
 
 /// Makes the call: it stands with what it answers then.
-fn make(mailbox: &mut Mailbox<Note>, call: Call) -> Result<Call, AllocError> {
+fn make(alloc: Global, mailbox: &mut Mailbox<Note>, call: Call) -> Result<Call, AllocError> {
     match call {
         Call::Put(note, _) => Ok(Call::Put(note, mailbox.enqueue(note)?)),
         Call::Take(_) => Ok(Call::Take(mailbox.recv())),
+        Call::Next(_) => Ok(Call::Next(mailbox.copy_front(alloc)?)),
         Call::Leave(id) => {
             mailbox.leave(id);
             Ok(call)
@@ -56,13 +59,18 @@ fn make(mailbox: &mut Mailbox<Note>, call: Call) -> Result<Call, AllocError> {
             mailbox.close();
             Ok(call)
         }
+        Call::IsClosed(_) => Ok(Call::IsClosed(mailbox.is_closed())),
     }
 }
 
-/// Each call answers what it is to answer, and nothing is left.
-fn run(rt: &impl Abort, mailbox: &mut Mailbox<Note>, calls: &[Call]) -> Result<(), AllocError> {
+/// Each call of a mailbox of so many answers what it is to answer, and nothing is left.
+fn run(rt: &impl Abort, alloc: Global, capacity: u32, calls: &[Call]) -> Result<(), AllocError>
+    requires { 0 < capacity }
+{
+    let mut mailbox = Mailbox::new(alloc, capacity)?;
+    same(rt, "its capacity", &mailbox.capacity(), &capacity);
     for (at, call) in calls.iter().enumerate() {
-        let made = make(mailbox, *call)?;
+        let made = make(alloc, &mut mailbox, *call)?;
         same(rt, "a call of the table", &(at, made), &(at, *call));
     }
     same(rt, "nothing is left", &mailbox.is_empty(), &true);
@@ -73,8 +81,10 @@ fn run(rt: &impl Abort, mailbox: &mut Mailbox<Note>, calls: &[Call]) -> Result<(
 fn the_newest_urgent_note_goes_first(rt: HostRuntime) -> Result<(), Fail> {
     let calls = [
         Call::Take(None),
+        Call::Next(None),
         Call::Put(plain(1), Feedback::Ok),
         Call::Put(plain(2), Feedback::Backoff),
+        Call::Next(Some(plain(1))),
         Call::Put(urgent(3), Feedback::Backoff),
         Call::Put(urgent(4), Feedback::Backoff),
         Call::Take(Some(plain(1))),
@@ -83,13 +93,14 @@ fn the_newest_urgent_note_goes_first(rt: HostRuntime) -> Result<(), Fail> {
         Call::Take(Some(plain(2))),
         Call::Take(Some(plain(5))),
         Call::Put(plain(6), Feedback::Ok),
+        Call::IsClosed(false),
         Call::Close,
+        Call::IsClosed(true),
         Call::Put(plain(7), Feedback::Closed),
         Call::Take(Some(plain(6))),
         Call::Take(None),
     ];
-    let mut mailbox = Mailbox::new(rt.alloc(), 1)?;
-    run(&rt, &mut mailbox, &calls)?;
+    run(&rt, rt.alloc(), 1, &calls)?;
     Ok(())
 }
 
@@ -109,8 +120,7 @@ fn a_note_whose_writer_left_is_skipped_while_it_waits(rt: HostRuntime) -> Result
         Call::Take(Some(plain(5))),
         Call::Take(None),
     ];
-    let mut mailbox = Mailbox::new(rt.alloc(), 2)?;
-    run(&rt, &mut mailbox, &calls)?;
+    run(&rt, rt.alloc(), 2, &calls)?;
     Ok(())
 }
 

@@ -3,7 +3,8 @@ ghost use Rattle.std.specs.Prelude.{◌==◌, ◌&&◌, if◌then◌else◌, not
 ghost use Rattle.simplex_mailbox.specs.Waiting.{put_last};
 
 use simplex_mailbox::{Pending, Policy, Requested};
-use std::alloc::AllocError;
+use simplex_values::Keep;
+use std::alloc::{AllocError, Global};
 
 /// A note of a writer.
 #[derive(Clone, Copy, Debug, PartialEq, Eq)]
@@ -40,5 +41,11 @@ impl Policy for Note {
             return Ok(());
         }
         pending.push(note)
+    }
+}
+
+impl Keep for Note {
+    fn keep(&self, _alloc: Global) -> Result<Note, AllocError> {
+        Ok(*self)
     }
 }
