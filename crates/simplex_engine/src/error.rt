@@ -32,8 +32,8 @@ pub enum PollError {
     /// An earlier call answered want of memory.
     #[error("failed before")]
     Failed,
-    /// It was not started, or a step was broken off.
-    #[error("stopped")]
+    /// It does not run: it was not started, or a step was broken off.
+    #[error("the engine does not run")]
     Stopped,
     /// The request is not open, was answered, or is not of the answer's kind.
     #[error("no such request is pending")]

@@ -189,6 +189,7 @@ fn member_at(setup: &Setup, seat: usize) -> Participant
     ensures member { result ≡ seat / 2 }
     ensures below { result < length setup.now.members }
 {
+    // The number of members is asked for its clause: of what lies behind a reference the proof knows what the body reads.
     let _members = setup.members.len();
     Participant((seat / 2) as u32)
 }

@@ -41,6 +41,9 @@ pub struct Actor<S, L, J> {
 impl<S: Scheme + Drop, L: Elector + Drop, J: Journal + Drop> Actor<S, L, J> {
     /// A voter that has not started yet, over what the journal holds. Of a journal that tells which of its calls fails,
     /// and names none, more is known than of any other.
+    ///
+    /// Give it the clock of its start, in milliseconds: what counts from the start, as the deadlines of the first view, counts
+    /// from this one.
     pub fn new(
         alloc: Global,
         config: Config<S, L>,
@@ -74,7 +77,7 @@ impl<S: Scheme + Drop, L: Elector + Drop, J: Journal + Drop> Actor<S, L, J> {
         })
     }
 
-    /// Starts: stands on the floor, and knows again what the journal kept.
+    /// Starts: stands on the floor, and knows again what the journal kept. The clock is to be that of `new`.
     pub fn start<B: Post<batcher::Message>, R: Post<resolver::MailboxMessage>>(
         &mut self,
         now: u64,
