@@ -1,7 +1,6 @@
 -- Where walks end as one more link comes.
-use Rattle.std.proofs.Common.{◌≡◌, ℕ, zero, suc, ◌<◌, ◌≤◌, ◌==◌, Bool, true, false, List, [], ◌∷◌, ◌++◌, Contains, Option, Some, None, refl, sym, ap, subst, ◌∙◌, inl, inr, arith, eqb-true, eq-eqb, if◌then◌else◌}
+use Rattle.std.proofs.Common.{◌≡◌, ℕ, zero, suc, ◌<◌, ◌≤◌, ◌==◌, Bool, true, false, List, [], ◌∷◌, ◌++◌, Option, Some, None, refl, sym, ap, subst, ◌∙◌, inl, inr, arith, eqb-true, eq-eqb, if◌then◌else◌}
 use Rattle.std.specs.Option.{option_or}
-use Rattle.std.proofs.lemmas.Bool.{cases_eq}
 use Rattle.simplex_values.specs.declared.proposal.Proposal.{Proposal}
 use Rattle.std.proofs.lemmas.List.Elements.{Contains-push_cases}
 use Rattle.model_log.specs.Walks.{link_at, with_walk, walk_within, walk, end_of}
@@ -14,19 +13,19 @@ none_at_zero links down (Some p) e = let f = found links 0 p e in absurd (omega 
 
 -- ---- the bound does not matter
 
-none_there : (n : ℕ) (links : List Proposal) (view : ℕ) → link_at links view ≡ None → walk_within n links view ≡ []
+pub none_there : (n : ℕ) (links : List Proposal) (view : ℕ) → link_at links view ≡ None → walk_within n links view ≡ []
 unfolding walk_within
 none_there zero links view e = refl
 none_there (suc n) links view e = ap (with_walk (walk_within n links)) e
 
-some_there : (n : ℕ) (links : List Proposal) (view : ℕ) (p : Proposal) → link_at links view ≡ Some p → walk_within (suc n) links view ≡ p ∷ walk_within n links p.parent
+pub some_there : (n : ℕ) (links : List Proposal) (view : ℕ) (p : Proposal) → link_at links view ≡ Some p → walk_within (suc n) links view ≡ p ∷ walk_within n links p.parent
 unfolding walk_within
 some_there n links view p e = ap (with_walk (walk_within n links)) e
 
-lower : (links : List Proposal) → GoDown links → (view : ℕ) (p : Proposal) → link_at links view ≡ Some p → p.parent < view
+pub lower : (links : List Proposal) → GoDown links → (view : ℕ) (p : Proposal) → link_at links view ≡ Some p → p.parent < view
 lower links down view p e = (let f = found links view p e in omega (arith, f.1, down p f.0))
 
-enough : (links : List Proposal) → GoDown links → (n m view : ℕ) → view ≤ n → view ≤ m → walk_within n links view ≡ walk_within m links view
+pub enough : (links : List Proposal) → GoDown links → (n m view : ℕ) → view ≤ n → view ≤ m → walk_within n links view ≡ walk_within m links view
 enough links down zero m view le lf = none_there zero links view at_zero ∙ sym (none_there m links view at_zero)
   where
     at_zero : link_at links view ≡ None
@@ -43,14 +42,23 @@ enough links down (suc n) (suc m) view le lf = at (link_at links view) refl (λ 
 
 -- ---- a walk by its first link
 
-end_none : (links : List Proposal) (view : ℕ) → link_at links view ≡ None → end_in links view ≡ view
+pub end_none : (links : List Proposal) (view : ℕ) → link_at links view ≡ None → end_in links view ≡ view
 end_none links view e = ap (end_of view) (none_there view links view e)
 
-end_some : (links : List Proposal) → GoDown links → (view : ℕ) (p : Proposal) → link_at links view ≡ Some p → end_in links view ≡ end_in links p.parent
+pub end_some : (links : List Proposal) → GoDown links → (view : ℕ) (p : Proposal) → link_at links view ≡ Some p → end_in links view ≡ end_in links p.parent
 end_some links down view p e =
     let low = lower links down view p e in
     ap (end_of view) (enough links down view (suc view) view (omega arith) (omega arith) ∙ some_there view links view p e)
     ∙ ap (end_of p.parent) (enough links down view p.parent p.parent (omega (arith, low)) (omega arith))
+
+pub walk_none : (links : List Proposal) (view : ℕ) → link_at links view ≡ None → walk links view ≡ []
+walk_none links view e = none_there view links view e
+
+pub walk_some : (links : List Proposal) → GoDown links → (view : ℕ) (p : Proposal) → link_at links view ≡ Some p → walk links view ≡ p ∷ walk links p.parent
+walk_some links down view p e =
+    let low = lower links down view p e in
+    enough links down view (suc view) view (omega arith) (omega arith) ∙ some_there view links view p e
+    ∙ ap (λ (ys : List Proposal). p ∷ ys) (enough links down view p.parent p.parent (omega (arith, low)) (omega arith))
 
 -- what holds of a view where it holds of the parent of its link holds of all
 down_to : (links : List Proposal) → GoDown links → (P : ℕ → Type 0) → ((view : ℕ) → link_at links view ≡ None → P view) → ((view : ℕ) (p : Proposal) → link_at links view ≡ Some p → P p.parent → P view)
@@ -66,13 +74,13 @@ down_to links down P none some (suc n) view le = at (link_at links view) refl (�
     at None e rest = none view e
     at (Some p) e rest = some view p e (rest p (lower links down view p e))
 
-end_low : (links : List Proposal) → GoDown links → (view : ℕ) → end_in links view ≤ view
+pub end_low : (links : List Proposal) → GoDown links → (view : ℕ) → end_in links view ≤ view
 end_low links down view =
     down_to links down (λ v. end_in links v ≤ v) (λ v e. omega (arith, end_none links v e)) (λ v p e le. omega (arith, le, end_some links down v p e, lower links down v p e)) view view (omega arith)
 
 -- ---- one more link
 
-find_more : (links : List Proposal) (p : Proposal) (view : ℕ) → link_at (links ++ p ∷ []) view ≡ option_or (link_at links view) (if p.round.view == view then Some p else None)
+pub find_more : (links : List Proposal) (p : Proposal) (view : ℕ) → link_at (links ++ p ∷ []) view ≡ option_or (link_at links view) (if p.round.view == view then Some p else None)
 find_more [] p view = refl
 find_more (q ∷ links) p view = at (q.round.view == view) (find_more links p view)
   where

@@ -28,7 +28,7 @@ stays_step links more down n view None h rest e =
 stays_step links more down n view (Some p) h rest e =
     ap (with_walk (walk_within n (links ++ more))) (found_first links more view p h) ∙ ap (λ (ys : List Proposal). p ∷ ys) (rest p.parent e)
 
-walk_stays : (links more : List Proposal) → GoDown (links ++ more) → (n view : ℕ) → end_of view (walk_within n links view) ≡ 0
+pub walk_stays : (links more : List Proposal) → GoDown (links ++ more) → (n view : ℕ) → end_of view (walk_within n links view) ≡ 0
     → walk_within n (links ++ more) view ≡ walk_within n links view
 unfolding walk_within
 walk_stays links more down zero view e = refl
