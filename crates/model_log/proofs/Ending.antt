@@ -78,6 +78,12 @@ pub end_low : (links : List Proposal) → GoDown links → (view : ℕ) → end_
 end_low links down view =
     down_to links down (λ v. end_in links v ≤ v) (λ v e. omega (arith, end_none links v e)) (λ v p e le. omega (arith, le, end_some links down v p e, lower links down v p e)) view view (omega arith)
 
+-- the walk of where a walk ends ends there
+pub end_ends : (links : List Proposal) → GoDown links → (view : ℕ) → end_in links (end_in links view) ≡ end_in links view
+end_ends links down view =
+    down_to links down (λ v. end_in links (end_in links v) ≡ end_in links v) (λ v e. ap (end_in links) (end_none links v e))
+    (λ v p e rest. ap (end_in links) (end_some links down v p e) ∙ rest ∙ sym (end_some links down v p e)) view view (omega arith)
+
 -- ---- one more link
 
 pub find_more : (links : List Proposal) (p : Proposal) (view : ℕ) → link_at (links ++ p ∷ []) view ≡ option_or (link_at links view) (if p.round.view == view then Some p else None)

@@ -118,7 +118,7 @@ module _ (links others : List Proposal) (same : (view : ℕ) → link_at links v
       ∙ ap (λ (n : ℕ). max (if end_in others f == view then f else 0) n) (same_tops finals view)
       ∙ sym (top_more others f finals view)
 
-none_left : (o : Option Proposal) → option_or o None ≡ o
+pub none_left : (o : Option Proposal) → option_or o None ≡ o
 none_left None = refl
 none_left (Some q) = refl
 
