@@ -11,7 +11,7 @@ use std::process::Abort;
 use std::test::Fail;
 
 /// The test ends here where the two differ, and says in which case.
-fn same<T: PartialEq + Debug>(rt: &impl Abort, case: &str, got: &T, wanted: &T) {
+pub fn same<T: PartialEq + Debug>(rt: &impl Abort, case: &str, got: &T, wanted: &T) {
     assert_eq!(rt; got, wanted, "{case}");
 }
 

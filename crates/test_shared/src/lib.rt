@@ -10,4 +10,6 @@ mod letter;
 #[cfg(test)]
 mod replay;
 #[cfg(test)]
+mod sharing;
+#[cfg(test)]
 mod threads;

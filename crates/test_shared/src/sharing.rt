@@ -1,11 +1,12 @@
-//! That threads may share a mailbox.
+//! That threads may share a mailbox, whatever its messages, if these may go to another thread.
 ghost use Rattle.std.specs.Prelude.{◌≡◌};
 
-use crate::log::Log;
-use crate::mailbox::RecordedMailbox;
-use crate::pass::Pass;
+use crate::calls::{pair, same};
+use crate::letter::Letter;
 use simplex_mailbox::Policy;
+use simplex_shared::{Log, Pass, RecordedMailbox};
 use simplex_values::Keep;
+use std::test::Fail;
 
 /// What threads may share.
 fn lend<T: Sync>(_shared: &T) {}
@@ -18,10 +19,7 @@ fn send<T: Send>(value: T) -> T
 }
 
 /// Threads may share a mailbox, and take its passes with them, where its messages may go to another thread.
-pub fn lend_to_threads<M: Policy + Keep + Send>(
-    mailbox: &RecordedMailbox<M>,
-    pass: Pass<M>,
-) -> Pass<M>
+fn lend_to_threads<M: Policy + Keep + Send>(mailbox: &RecordedMailbox<M>, pass: Pass<M>) -> Pass<M>
 where
     M::Overflow: Send,
     ensures { result ≡ pass }
@@ -31,8 +29,18 @@ where
 }
 
 /// A whole history may go to another thread where its messages may.
-pub fn send_history<M: Send>(log: Log<M>) -> Log<M>
+fn send_history<M: Send>(log: Log<M>) -> Log<M>
     ensures { result ≡ log }
 {
     send(log)
+}
+
+#[test]
+fn a_mailbox_and_its_history_may_go_to_threads(rt: HostRuntime) -> Result<(), Fail> {
+    let alloc = rt.alloc();
+    let (mailbox, first, second) = pair::<Letter>(&rt, alloc, 1);
+    let first = lend_to_threads(&mailbox, first);
+    let log = send_history(mailbox.finish(&rt, vec![in alloc; first, second]?));
+    same(&rt, "no call was made", &log.calls().len(), &0);
+    Ok(())
 }
