@@ -5,6 +5,8 @@
 //!   judges it, `serve` hears a request and serves it, `expire` lets a millisecond pass, `sweep` retires what reaches all views.
 //! - `round`: rounds of SIZE members. `take` gives them all votes, `make` lets them make their certificates too.
 //! - `state`: a member's state, with SIZE views to a term. `final` takes a view to its finalization, `given_up` then gives one up.
+//! - `log`: a finalized log that is told of SIZE certificates of a chain. `rise` tells it finalizations from the first view up, `fall`
+//!   the last view's and then the links below it, `wait` finalizations above a link that never comes.
 //! - `repair`: a repair state with SIZE terms. `jump` gives it a nullification that many terms ahead, `fill` one of those before.
 //!
 //! It may assume nothing of its words, and owes nothing but that it is safe and ends.
@@ -13,6 +15,7 @@
 ghost use Rattle.std.specs.Prelude.{◌<◌};
 
 mod fetch;
+mod log;
 mod repair;
 mod round;
 mod state;
@@ -25,6 +28,7 @@ use std::{env, io};
 #[derive(Clone, Copy)]
 enum Work {
     Fetch(fetch::Work),
+    Log(log::Work),
     Round { makes: bool },
     State { gives_up: bool },
     Jump,
@@ -32,12 +36,15 @@ enum Work {
 }
 
 /// Each part's works.
-const WORKS: [(&str, &str, Work); 11] = [
+const WORKS: [(&str, &str, Work); 14] = [
     ("fetch", "ask", Work::Fetch(fetch::Work::Ask)),
     ("fetch", "answer", Work::Fetch(fetch::Work::Answer)),
     ("fetch", "serve", Work::Fetch(fetch::Work::Serve)),
     ("fetch", "expire", Work::Fetch(fetch::Work::Expire)),
     ("fetch", "sweep", Work::Fetch(fetch::Work::Sweep)),
+    ("log", "rise", Work::Log(log::Work::Rise)),
+    ("log", "fall", Work::Log(log::Work::Fall)),
+    ("log", "wait", Work::Log(log::Work::Wait)),
     ("round", "take", Work::Round { makes: false }),
     ("round", "make", Work::Round { makes: true }),
     ("state", "final", Work::State { gives_up: false }),
@@ -52,6 +59,7 @@ fn done(alloc: Global, work: Work, size: u32, times: u32) -> Result<u64, AllocEr
 {
     match work {
         Work::Fetch(work) => fetch::turns(alloc, work, size, times),
+        Work::Log(work) => log::turns(alloc, work, size, times),
         Work::Round { makes } => round::turns(alloc, makes, size, times),
         Work::State { gives_up } => state::turns(alloc, gives_up, size, times),
         Work::Jump => repair::jumps(alloc, size, times),
