@@ -292,6 +292,10 @@ pub use Rattle.model_log.specs.Log
 pub use Rattle.model_log.specs.Observing
 pub use Rattle.model_log.specs.Samples as LogSamples
 pub use Rattle.model_log.specs.Walks
+pub use Rattle.simplex_log.specs.Stands as LogStands
+pub use Rattle.simplex_logs.specs.NodeLogs
+pub use Rattle.simplex_logs.specs.Says as LogsSays
+pub use Rattle.simplex_logs.specs.Taken as LogsTaken
 pub use Rattle.law_log.specs.Founded as LogFounded
 pub use Rattle.law_log.specs.Lines as LogLines
 pub use Rattle.law_log.specs.Logs
@@ -313,3 +317,8 @@ pub use Rattle.model_epochs.specs.Epochs
 pub use Rattle.model_epochs.specs.Lines as EpochLines
 pub use Rattle.law_epochs.specs.Alike
 pub use Rattle.law_epochs.specs.Whole as WholeEpochs
+-- Of what all programs share.
+pub use Rattle.simplex_front.specs.Answer as FrontAnswer
+pub use Rattle.simplex_front.specs.Cause as FrontCause
+pub use Rattle.simplex_front.specs.Exit as FrontExit
+pub use Rattle.simplex_front.specs.Words as FrontWords

@@ -13,6 +13,7 @@
 //! | be told what a member reports | [`types::Reporter`], [`hand_reports`], [`mocks::reporter`] | `crates/test_recording` |
 //! | try members that break the rules | [`mocks`], [`twins`], [`MemberKind`] | `crates/test_mocks` |
 //! | read an input, and print its run | [`form::read_run`], [`text::printed_run`], or both by [`program`] | `crates/simplex_net` |
+//! | keep the finalized log, or get those of a run | [`log::FinalizedLog`], [`log::logs`], [`log::log_program`] | `crates/simplex_log_cli` |
 //! | make an input from a number | [`gen_run`] | `crates/test_program` |
 //! | cite why no two members disagree | [`laws::runs`], `runs_are_safe` and `transcripts_report_one_chain` | docs/AGREEMENT.md |
 //!
@@ -30,6 +31,7 @@
 //! - [`gen_run`] and [`generated`]: the events that a number makes, and what they are drawn from;
 //! - [`form`] (`read_run`, `read_setup`, `read_event`, `read_value`, ..), [`text`] and [`program`]: such a run as JSON, its
 //!   lines, and both behind one call;
+//! - [`log`]: the finalized log, and the logs of a run; [`front`]: what programs share, from words to exit;
 //! - [`mocks`], [`twins`]: members that break the rules, an application and a relay to try engines with, a reporter that
 //!   records, and scripts for twins;
 //! - [`report`]: two reporters in one, and reports of schemes whose signatures prove nothing; [`hand_reports`] gives them what
@@ -45,6 +47,7 @@
 pub mod actors;
 pub mod journal;
 pub mod laws;
+pub mod log;
 pub mod mailbox;
 pub mod mocks;
 pub mod repair;
@@ -54,6 +57,7 @@ pub use simplex_engine::{
 };
 pub use simplex_fetch as fetch;
 pub use simplex_form as form;
+pub use simplex_front as front;
 pub use simplex_generator as generated;
 pub use simplex_generator::gen_run;
 pub use simplex_io as io;

@@ -1,0 +1,5 @@
+pub mod Logged
+pub mod NodeLogs
+pub mod Told
+pub mod Transcripts
+pub mod Written

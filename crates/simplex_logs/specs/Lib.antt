@@ -1,0 +1,3 @@
+pub mod NodeLogs
+pub mod Says
+pub mod Taken
