@@ -1,3 +1,3 @@
-pub mod Cause
-pub mod Exit
+pub mod Drawing
+pub mod Unmade
 pub mod Words

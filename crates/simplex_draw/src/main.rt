@@ -3,64 +3,20 @@
 //! It reads what `simplex_net run` reads. The words `draw FROM TO` draw these events alone, and `draw FROM TO NODE..` those
 //! of these nodes, as `1.0`; with neither at most 400 events are drawn.
 //!
-//! `main` hands the process to [`program`] and decides nothing. Of an exit by a fault or want of memory, for which standard
+//! `main` hands the process to [`draw_program`] and decides nothing. Of an exit by a fault or want of memory, for which standard
 //! output stays as it is, it says on standard error which it was.
 #![tactic(auto)]
 
-ghost use Rattle.std.specs.Prelude.{◌↔◌, IsSome};
-ghost use Rattle.simplex_draw.specs.Cause.{IsFault};
-
 mod exit;
-mod front;
 mod words;
+mod work;
 
-use crate::exit::Exit;
-use crate::front::program;
+use crate::work::draw_program;
+use simplex_front::{Exit, say_fault, words_of};
 use simplex_io::{ReaderSource, WriterSink};
 use std::alloc::AllocError;
-use std::env::Env;
-use std::io::ErrorKind;
+use std::io;
 use std::process::ExitCode;
-use std::{env, io};
-
-/// The words behind the program's own name. Where one of them is no text there are none, and the program takes
-/// neither.
-fn words_of(rt: &(impl Env + AllocGlobal)) -> Result<Vec<String>, AllocError> {
-    let mut words = Vec::new(rt.alloc());
-    let all = match env::args(rt) {
-        Ok(all) => all,
-        Err(error) if error.kind() == ErrorKind::InvalidData => return Ok(words),
-        Err(_) => return Err(AllocError),
-    };
-    for word in all.skip(1) {
-        words.push(word)?;
-    }
-    Ok(words)
-}
-
-/// What is said of an exit that tells nothing on standard output.
-fn fault(exit: &Exit) -> Option<&'static str>
-    ensures { IsSome result ↔ IsFault exit.now }
-{
-    match exit {
-        Exit::ReadFault => Some("standard input could not be read"),
-        Exit::WriteFault => Some("standard output could not be written"),
-        Exit::Memory => Some("memory ran out"),
-        Exit::Done(_)
-        | Exit::Refused { .. }
-        | Exit::BadWords
-        | Exit::NoNode(_)
-        | Exit::BadInput { .. }
-        | Exit::TooLong => None,
-    }
-}
-
-/// Says the fault, if there was one. Where standard error fails too, the status alone tells it.
-fn tell(rt: &impl Eprint, exit: &Exit) {
-    if let Some(fault) = fault(exit) {
-        let _told = eprintln!(rt; "simplex_draw: {fault}");
-    }
-}
 
 fn main(rt: HostRuntime) -> ExitCode {
     let exit = match words_of(&rt) {
@@ -68,9 +24,9 @@ fn main(rt: HostRuntime) -> ExitCode {
         Ok(words) => {
             let mut source = ReaderSource::new(rt.alloc(), rt.reader());
             let mut sink = WriterSink::new(io::writer(&rt));
-            program(rt.alloc(), &words, &mut source, &mut sink)
+            draw_program(rt.alloc(), &words, &mut source, &mut sink)
         }
     };
-    tell(&rt, &exit);
+    say_fault(&rt, "simplex_draw", &exit);
     ExitCode::from(exit.status())
 }
