@@ -10,28 +10,12 @@ ghost use Rattle.std.specs.Prelude.{◌↔◌, IsSome};
 ghost use Rattle.simplex_program.specs.Exit.{told};
 ghost use Rattle.simplex_program.specs.Cause.{IsFault};
 
+use simplex_front::words_of;
 use simplex_io::{ReaderSource, WriterSink};
 use simplex_program::{Exit, program};
 use std::alloc::AllocError;
-use std::env::Env;
-use std::io::ErrorKind;
 use std::process::ExitCode;
-use std::{env, io, mem};
-
-/// The words behind the program's own name. Where one of them is no text there are none, and the program takes
-/// neither.
-fn words_of(rt: &(impl Env + AllocGlobal)) -> Result<Vec<String>, AllocError> {
-    let mut words = Vec::new(rt.alloc());
-    let all = match env::args(rt) {
-        Ok(all) => all,
-        Err(error) if error.kind() == ErrorKind::InvalidData => return Ok(words),
-        Err(_) => return Err(AllocError),
-    };
-    for word in all.skip(1) {
-        words.push(word)?;
-    }
-    Ok(words)
-}
+use std::{io, mem};
 
 /// What is said of an exit that tells nothing on standard output.
 fn fault(exit: &Exit) -> Option<&'static str>
@@ -40,7 +24,7 @@ fn fault(exit: &Exit) -> Option<&'static str>
     match exit {
         Exit::ReadFault => Some("standard input could not be read"),
         Exit::WriteFault => Some("standard output could not be written"),
-        Exit::Memory => Some("memory ran out"),
+        Exit::Memory => Some("out of memory"),
         Exit::Done(_)
         | Exit::Refused { .. }
         | Exit::BadWords
