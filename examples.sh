@@ -3,14 +3,21 @@
 # what it says of a standard input that cannot be read, and of a standard output that cannot be written; then runs it on all
 # that stands in further folders.
 # Usage: examples.sh [FOLDER..]. A folder has NAME.json, NAME.out and NAME.status of each example. Where the words are not the
-# one word run they stand in NAME.words, and NAME.json may be missing. The program is the one that rt ci or make build built;
-# where there is none, rt run builds it.
+# one word run they stand in NAME.words, and NAME.json may be missing. Where the program is not simplex_net its name stands in
+# NAME.program. A program is the one that rt ci or make build built; where there is none, rt run builds it.
 set -uo pipefail
 here=$(cd "$(dirname "$0")" && pwd)
-program=$here/crates/simplex_net/out/simplex_net
-if [[ ! -x $program ]]; then
-    (cd "$here/crates/simplex_net" && rt run) >/dev/null || true
-fi
+
+# The built program of this name.
+built() {
+    local name=$1 program=$here/crates/$1/out/$1
+    if [[ ! -x $program ]]; then
+        (cd "$here/crates/$name" && rt run) >/dev/null 2>&1 || true
+    fi
+    echo "$program"
+}
+
+program=$(built simplex_net)
 if [[ ! -x $program ]]; then
     echo "examples: there is no program $program"
     exit 1
@@ -33,16 +40,17 @@ count() {
 
 # Why the program does not do what the example says, or nothing.
 fault() {
-    local example=$1 status=0 wanted words=(run) input=$1.json
+    local example=$1 status=0 wanted words=(run) input=$1.json runs=$program
     if [[ -f $example.words ]]; then
         read -ra words <"$example.words"
         [[ -f $input ]] || input=/dev/null
     fi
-    for file in "$example.out" "$example.status" "$input"; do
+    [[ ! -f $example.program ]] || runs=$(built "$(<"$example.program")")
+    for file in "$example.out" "$example.status" "$input" "$runs"; do
         [[ -e $file ]] || { echo "there is no $file"; return; }
     done
     wanted=$(<"$example.status")
-    timeout 120 "$program" "${words[@]}" <"$input" >"$written" || status=$?
+    timeout 120 "$runs" "${words[@]}" <"$input" >"$written" || status=$?
     if [[ $status != "$wanted" ]]; then
         echo "status $status, not $wanted"
     elif ! cmp -s "$written" "$example.out"; then
@@ -69,7 +77,7 @@ done <"$here/examples.txt"
 count unread "$(stream 5 'simplex_net: standard input could not be read' / "$written")"
 count unwritten "$(stream 6 'simplex_net: standard output could not be written' "$here/examples/one-member-finalizes.json" /dev/full)"
 for folder in "$@"; do
-    mapfile -t names < <(ls "$folder" | sed -nE 's/\.(json|out|status|words)$//p' | sort -u)
+    mapfile -t names < <(ls "$folder" | sed -nE 's/\.(json|out|status|words|program)$//p' | sort -u)
     ((${#names[@]} > 0)) || count "$folder" "no example is there"
     for name in "${names[@]}"; do
         count "$(basename "$folder")/$name" "$(fault "$folder/$name")"

@@ -218,7 +218,7 @@ from_entry entry x c = let k = picked report_in entry.calls x c in subst (Contai
     is_report (calls.Prune n) x e = cc
     is_report (calls.Send channel to bytes) x e = cc
     is_report (calls.Relay payload plan) x e = cc
-    is_report (calls.Block who) x e = cc
+    is_report (calls.Block who cause) x e = cc
 
 in_run : (noted : List Noted) (entry : Entry) (x : Activity) → Contains (map (λ (n : Noted). n.entry) noted) entry → Contains entry.calls (calls.Report x) → WasReported noted x
 unfolding WasReported

@@ -58,7 +58,7 @@ module _ (to : Recipients) (bytes : List ℕ) where
   spelled_in (calls.Prune least ∷ rest) subjects sent h = spelled_in rest subjects sent (behind (calls.Prune least) rest (λ e. cc) h)
   spelled_in (calls.Report activity ∷ rest) subjects sent h = spelled_in rest subjects sent (behind (calls.Report activity) rest (λ e. cc) h)
   spelled_in (calls.Relay payload plan ∷ rest) subjects sent h = spelled_in rest subjects sent (behind (calls.Relay payload plan) rest (λ e. cc) h)
-  spelled_in (calls.Block who ∷ rest) subjects sent h = spelled_in rest subjects sent (behind (calls.Block who) rest (λ e. cc) h)
+  spelled_in (calls.Block who why ∷ rest) subjects sent h = spelled_in rest subjects sent (behind (calls.Block who why) rest (λ e. cc) h)
 
 handed_on : (sent : List Sent) (given : List Handed) (vote : Vote) → AreVotesSent sent given → Contains given (handed.Batcher (batcher.Constructed vote))
     → Contains (subjects_of sent) (vote_subject vote)

@@ -26,6 +26,7 @@ use Rattle.model_resolver.specs.Views.{entry_at, with_entry, without_entry, view
 use Rattle.model_resolver.specs.Fetcher as fetch
 use Rattle.model_resolver.specs.Fetcher.{Machine, After, Fetching, visited, in_state, peer_of, asking, attempted, attempted_at, attempting, retrying, entry_with, adding, noting, fetched_beside, without, is_empty, kept_or_left, retired_at, retiring, retained, requested, delivered, answered, retried, refused, heard_body, heard_message, heard, delivered_of, blocked_by, is_done, asked_on, judged_as, judged_entry, judged_at, judged, expired_as, expired_at, expiring, expired}
 use Rattle.simplex_fetch.proofs.Entries.{Rising, above_head, tail_rises, entry_at-above, entry_at-put, entry_at-taken, rising_put, rising_taken}
+use Rattle.simplex_fetch.proofs.Taken.{blocked_views}
 use Rattle.law_member.proofs.RepairEnding.{spares}
 
 -- each ask of the view, if there is one, is so
@@ -94,14 +95,22 @@ module _ (P : ℕ → Ask → Type 0) where
   same-take : (view : ℕ) (views : List (ℕ × Entry)) → AllAre P views → AllAre P (without_entry view views)
   same-take view views all = take-are P P view views (λ q ask apart p. p) all
 
+  retrying-are : (now view : ℕ) (entry : Entry) (m : Machine) → Here view entry → Are m → Are (retrying now view entry m)
+  unfolding retrying
+  retrying-are now view entry m here all = same-put view _ m.views here all
+
   asking-are : (now view : ℕ) (entry : Entry) (m : Machine) (peer : Option ℕ) → Here view entry → Are m → Are (asking now view entry m peer).fetcher
   unfolding asking
-  asking-are now view entry m None here all = same-put view _ m.views here all
+  asking-are now view entry m None here all =
+      elim (m.config.n == 1) as (λ b. Are (if b then fetch.keeping view (in_state (Waiting None) entry) m else retrying now view (fetch.once_more entry) m)) [
+        | true ↦ same-put view _ m.views here all
+        | false ↦ retrying-are now view (fetch.once_more entry) m here all
+      ]
   asking-are now view entry m (Some peer) here all = same-put view _ m.views here all
 
   attempted-are : (now view : ℕ) (entry : Entry) (m : Machine) → Here view entry → Are m → Are (attempted now view entry m).fetcher
   unfolding attempted
-  attempted-are now view entry m here all = asking-are now view entry m (peer_of m.config view entry) here all
+  attempted-are now view entry m here all = asking-are now view entry m (peer_of m.config m.blocked view entry) here all
 
   attempted_at-are : (now view : ℕ) (m : Machine) (o : Option Entry) → AsksAt P view o → Are m → Are (attempted_at now view m o).fetcher
   unfolding attempted_at
@@ -116,10 +125,6 @@ module _ (P : ℕ → Ask → Type 0) where
   unfolding visited
   visited-are change each [] m all = all
   visited-are change each (view ∷ views) m all = visited-are change each views (change view m).fetcher (each view m all)
-
-  retrying-are : (now view : ℕ) (entry : Entry) (m : Machine) → Here view entry → Are m → Are (retrying now view entry m)
-  unfolding retrying
-  retrying-are now view entry m here all = same-put view _ m.views here all
 
   -- ---- the clock
 
@@ -155,9 +160,9 @@ module _ (P : ℕ → Ask → Type 0) where
   judged_as-are : (verdict : Option Outcome) (now view : ℕ) (entry : Entry) (m : Machine) → Here view entry → Are m → Are (judged_as verdict now view entry m).fetcher
   unfolding judged_as
   judged_as-are verdict now view entry m here all =
-      elim (is_done verdict) as (λ b. Are (if b then asked_on now view (without (holds_ask (delivered_of entry.state)) entry) m else record { fetcher = retrying now view entry m; outs = blocked_by verdict entry.state }).fetcher) [
+      elim (is_done verdict) as (λ b. Are (if b then asked_on now view (without (holds_ask (delivered_of entry.state)) entry) m else blocked_by verdict entry.state (retrying now view entry m)).fetcher) [
         | true ↦ asked_on-are now view _ m (without-here view (holds_ask (delivered_of entry.state)) entry here) all
-        | false ↦ retrying-are now view entry m here all
+        | false ↦ subst (AllAre P) (sym (blocked_views verdict entry.state (retrying now view entry m))) (retrying-are now view entry m here all)
       ]
 
   judged_entry-are : (verdict : Option Outcome) (now view : ℕ) (m : Machine) (o : Option Entry) → AsksAt P view o → Are m → Are (judged_entry verdict now view m o).fetcher
@@ -203,7 +208,7 @@ module _ (P : ℕ → Ask → Type 0) where
   body-are sender id now m body.Error all = refused-are now m (asked_view id sender m.views) all
 
   message-are : (sender now : ℕ) (m : Machine) (read : Result ResolverMessage DecodeError) → Are m → Are (heard_message sender now m read).fetcher
-  unfolding heard_message
+  unfolding heard_message fetch.blocking
   message-are sender now m (Err fault) all = all
   message-are sender now m (Ok message) all = body-are sender message.id now m message.body all
 

@@ -54,7 +54,7 @@ module _ (accepted : Vote → Type 0) (given : List Timed) (member length : ℕ)
   blamed (calls.Prune least) h = refl
   blamed (calls.Send channel to bytes) h = refl
   blamed (calls.Relay payload plan) h = refl
-  blamed (calls.Block who) h = refl
+  blamed (calls.Block who why) h = refl
 
 pub not_blamed : (made : Made) (past : List Timed) (given : Timed) (member length : ℕ) (sent : List Sent) → AreInOrder length sent → IsAuthentic member (given ∷ past) sent
     → BlameNot member (step_out made past given).calls

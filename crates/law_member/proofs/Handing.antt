@@ -89,9 +89,9 @@ module _ (made : Made) (standing : Standing) (certificate : Certificate) where
   took_handed sender doing retained new verifies =
       let retains = retains_view made doing.standing (certificate_view certificate) in
       let certified = is_certified (made.scheme.verifies (certificate_subject certificate)) made.members (certificate_signatures certificate) in
-      if_case Is (not retains || holds_kind doing.standing certificate) doing (if certified then kept_certificate made certificate doing else and_blocked sender doing)
+      if_case Is (not retains || holds_kind doing.standing certificate) doing (if certified then kept_certificate made certificate doing else and_blocked sender _ doing)
       (λ h. absurd (or_none retains (holds_kind doing.standing certificate) retained new h))
-      (λ h. if_case Is certified (kept_certificate made certificate doing) (and_blocked sender doing) (λ v. kept_handed doing) (λ v. absurd (cc (v, verifies))))
+      (λ h. if_case Is certified (kept_certificate made certificate doing) (and_blocked sender _ doing) (λ v. kept_handed doing) (λ v. absurd (cc (v, verifies))))
 
   heard_handed : (sender now : ℕ) (decoded : Result Certificate DecodeError) → decoded ≡ Ok certificate → certificate_epoch certificate ≡ made.epoch
       → retains_view made standing (certificate_view certificate) ≡ true → holds_kind standing certificate ≡ false
@@ -102,7 +102,7 @@ module _ (made : Made) (standing : Standing) (certificate : Certificate) where
       let same = certificate_epoch certificate == made.epoch in
       let seen = begun (seen_now sender now standing) in
       subst (λ (r : Result Certificate DecodeError). Is (heard_certificate made sender r now (begun standing))) (sym is)
-      (if_case Is same (took_certificate made sender certificate seen) (and_blocked sender (begun standing))
+      (if_case Is same (took_certificate made sender certificate seen) (and_blocked sender _ (begun standing))
       (λ h. took_handed sender seen retained new verifies)
       (λ h. absurd (cc (h, (Decides-eqb (certificate_epoch certificate) made.epoch).1 epoch))))
 

@@ -1,4 +1,5 @@
 -- What a step does with what it takes, before its end.
+use Rattle.simplex_types.specs.declared.cause.BlockCause.TheVariants.{LeaderConflict}
 use Rattle.std.proofs.Common.{◌≡◌, ℕ, ◌<◌, not, Bool, true, false, List, [], ◌∷◌, ◌++◌, Contains, Option, Some, None, refl, sym, ap, ◌∙◌, subst, inl, inr, arith, append_assoc, eqb-true, if◌then◌else◌}
 use Rattle.std.specs.Option.{is_some, option_map_or}
 use Rattle.std.proofs.lemmas.Grind.{common_steps}
@@ -273,7 +274,7 @@ writes_certificate made m view cs wrote facts later (certificates.Finalization n
 
 blocked : (made : Made) (m : Member) (view : ℕ) (d : Doing) (o : Option ℕ) (queue : List Vote) → Writing made m view d queue → Writing made m view (block_for o d) queue
 blocked made m view d None queue w = w
-blocked made m view d (Some leader) queue w = writes_plain made m view d.calls d.wrote d.desk.known queue (calls.Block leader) tt w
+blocked made m view d (Some leader) queue w = writes_plain made m view d.calls d.wrote d.desk.known queue (calls.Block leader LeaderConflict) tt w
 
 block_keeps : (o : Option ℕ) (d : Doing) → (block_for o d).nullify ≡ d.nullify
 block_keeps None d = refl

@@ -42,7 +42,7 @@ pub plain_voteless : (xs : List Call) → AllPlain xs → Voteless xs
 plain_voteless [] p = tt
 plain_voteless (calls.Report activity ∷ xs) p = (tt, plain_voteless xs p.1)
 plain_voteless (calls.Relay payload plan ∷ xs) p = (tt, plain_voteless xs p.1)
-plain_voteless (calls.Block who ∷ xs) p = (tt, plain_voteless xs p.1)
+plain_voteless (calls.Block who why ∷ xs) p = (tt, plain_voteless xs p.1)
 plain_voteless (calls.Send channels.Certificate to bytes ∷ xs) p = (tt, plain_voteless xs p.1)
 plain_voteless (calls.Send channels.Vote to bytes ∷ xs) p = absurd p.0
 plain_voteless (calls.Send channels.Resolver to bytes ∷ xs) p = absurd p.0
@@ -55,7 +55,7 @@ unfolding AreSent
 none_sent [] p = refl
 none_sent (calls.Report activity ∷ xs) p = none_sent xs p.1
 none_sent (calls.Relay payload plan ∷ xs) p = none_sent xs p.1
-none_sent (calls.Block who ∷ xs) p = none_sent xs p.1
+none_sent (calls.Block who why ∷ xs) p = none_sent xs p.1
 none_sent (calls.Send channels.Certificate to bytes ∷ xs) p = none_sent xs p.1
 none_sent (calls.Send channels.Vote to bytes ∷ xs) p = absurd p.0
 none_sent (calls.Send channels.Resolver to bytes ∷ xs) p = none_sent xs p.1
@@ -68,7 +68,7 @@ unfolding AreSent
 only_none [] subjects p e = e
 only_none (calls.Report activity ∷ xs) subjects p e = only_none xs subjects p.1 e
 only_none (calls.Relay payload plan ∷ xs) subjects p e = only_none xs subjects p.1 e
-only_none (calls.Block who ∷ xs) subjects p e = only_none xs subjects p.1 e
+only_none (calls.Block who why ∷ xs) subjects p e = only_none xs subjects p.1 e
 only_none (calls.Send channels.Certificate to bytes ∷ xs) subjects p e = only_none xs subjects p.1 e
 only_none (calls.Send channels.Vote to bytes ∷ xs) subjects p e = absurd p.0
 only_none (calls.Send channels.Resolver to bytes ∷ xs) subjects p e = only_none xs subjects p.1 e
@@ -105,7 +105,7 @@ pub plain_takeless : (xs : List Call) → AllPlain xs → Takeless xs
 plain_takeless [] p = tt
 plain_takeless (calls.Report activity ∷ xs) p = (tt, plain_takeless xs p.1)
 plain_takeless (calls.Relay payload plan ∷ xs) p = (tt, plain_takeless xs p.1)
-plain_takeless (calls.Block who ∷ xs) p = (tt, plain_takeless xs p.1)
+plain_takeless (calls.Block who why ∷ xs) p = (tt, plain_takeless xs p.1)
 plain_takeless (calls.Send channel to bytes ∷ xs) p = (tt, plain_takeless xs p.1)
 plain_takeless (calls.Append n a ∷ xs) p = absurd p.0
 plain_takeless (calls.Sync n ∷ xs) p = absurd p.0
@@ -116,7 +116,7 @@ unfolding taken
 none_taken [] p = refl
 none_taken (calls.Report activity ∷ xs) p = none_taken xs p.1
 none_taken (calls.Relay payload plan ∷ xs) p = none_taken xs p.1
-none_taken (calls.Block who ∷ xs) p = none_taken xs p.1
+none_taken (calls.Block who why ∷ xs) p = none_taken xs p.1
 none_taken (calls.Send channel to bytes ∷ xs) p = none_taken xs p.1
 none_taken (calls.Append n a ∷ xs) p = absurd p.0
 none_taken (calls.Sync n ∷ xs) p = none_taken xs p.1
@@ -135,7 +135,7 @@ unfolding after_calls
 plain_after [] js p = refl
 plain_after (calls.Report activity ∷ xs) js p = plain_after xs js p.1
 plain_after (calls.Relay payload plan ∷ xs) js p = plain_after xs js p.1
-plain_after (calls.Block who ∷ xs) js p = plain_after xs js p.1
+plain_after (calls.Block who why ∷ xs) js p = plain_after xs js p.1
 plain_after (calls.Send channel to bytes ∷ xs) js p = plain_after xs js p.1
 plain_after (calls.Append n a ∷ xs) js p = absurd p.0
 plain_after (calls.Sync n ∷ xs) js p = absurd p.0
@@ -151,7 +151,7 @@ plain_unfailing stops.None c js p = refl
 plain_unfailing (stops.Cut call keep) c js p = refl
 plain_unfailing (stops.Fail call keep) (calls.Report activity) js p = refl
 plain_unfailing (stops.Fail call keep) (calls.Relay payload plan) js p = refl
-plain_unfailing (stops.Fail call keep) (calls.Block who) js p = refl
+plain_unfailing (stops.Fail call keep) (calls.Block who why) js p = refl
 plain_unfailing (stops.Fail call keep) (calls.Send channel to bytes) js p = refl
 plain_unfailing (stops.Fail call keep) (calls.Append n a) js p = absurd p
 plain_unfailing (stops.Fail call keep) (calls.Sync n) js p = absurd p

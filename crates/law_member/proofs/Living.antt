@@ -134,7 +134,7 @@ journal_after made (calls.Send channels.Certificate to bytes) js m fit rising sa
 journal_after made (calls.Send channels.Resolver to bytes) js m fit rising same = same
 journal_after made (calls.Report activity) js m fit rising same = same
 journal_after made (calls.Relay payload plan) js m fit rising same = same
-journal_after made (calls.Block who) js m fit rising same = same
+journal_after made (calls.Block who why) js m fit rising same = same
 
 rising_after : (c : Call) (js : List Section) → IsRising js → IsRising (after_call c js)
 rising_after (calls.Append n a) js h = IsRising-appended n a js h
@@ -199,7 +199,7 @@ brought_is (calls.Send channels.Certificate to bytes ∷ rest) = brought_is rest
 brought_is (calls.Send channels.Resolver to bytes ∷ rest) = brought_is rest
 brought_is (calls.Report activity ∷ rest) = brought_is rest
 brought_is (calls.Relay payload plan ∷ rest) = brought_is rest
-brought_is (calls.Block who ∷ rest) = brought_is rest
+brought_is (calls.Block who why ∷ rest) = brought_is rest
 
 -- ---- what is sent
 
@@ -302,4 +302,4 @@ out_of m (calls.Send channels.Certificate to bytes ∷ rest) h = let o = out_of 
 out_of m (calls.Send channels.Resolver to bytes ∷ rest) h = let o = out_of m rest h.1 in record { sent = o.sent; sends = o.sends; votes = o.votes; from = o.from }
 out_of m (calls.Report activity ∷ rest) h = let o = out_of m rest h.1 in record { sent = o.sent; sends = o.sends; votes = o.votes; from = o.from }
 out_of m (calls.Relay payload plan ∷ rest) h = let o = out_of m rest h.1 in record { sent = o.sent; sends = o.sends; votes = o.votes; from = o.from }
-out_of m (calls.Block who ∷ rest) h = let o = out_of m rest h.1 in record { sent = o.sent; sends = o.sends; votes = o.votes; from = o.from }
+out_of m (calls.Block who why ∷ rest) h = let o = out_of m rest h.1 in record { sent = o.sent; sends = o.sends; votes = o.votes; from = o.from }

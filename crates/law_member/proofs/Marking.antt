@@ -1,4 +1,5 @@
 -- Which views a step works: that of a vote that is accepted, and the current one of an update.
+use Rattle.simplex_types.specs.declared.cause.BlockCause.TheVariants.{WrongSender}
 use Rattle.std.proofs.Common.{◌≡◌, ℕ, ◌+◌, ◌<◌, ◌≤◌, Bool, true, false, if◌then◌else◌, List, [], ◌∷◌, ◌++◌, refl, sym, subst, arith, nat_le}
 use Rattle.std.specs.Prelude.{◌==◌, ◌&&◌, ◌||◌, not, min, Option, Some, None, Result, Ok, Contains}
 use Rattle.std.proofs.lemmas.Bool.{le-leb}
@@ -32,7 +33,7 @@ heard_from_signer : (known : Known) (sender : ℕ) (vote : Vote) → sender ≡ 
 unfolding heard_from
 heard_from_signer known sender vote from accepts =
     if_case (λ (h : Heard). h.accepted ≡ true) (vote_signer vote == sender) (heard known vote)
-    (record { accepted = false; reports = []; blocks = sender ∷ []; known = known })
+    (record { accepted = false; reports = []; blocks = (sender, WrongSender) ∷ []; known = known })
     (λ h. accepts) (λ h. absurd (cc (h, (Decides-eqb (vote_signer vote) sender).1 (sym from))))
 
 module _ (made : Made) (vote : Vote) where
@@ -82,7 +83,7 @@ module _ (made : Made) (vote : Vote) where
     heard_vote_worked sender now decoded is from epoch taken =
         let seen = begun (seen_now sender now standing) in
         subst (λ (r : Result Vote DecodeError). W (heard_vote made sender r now (begun standing))) (sym is)
-        (if_case W (vote_epoch vote == made.epoch) (took_vote made sender vote seen) (and_blocked sender (begun standing))
+        (if_case W (vote_epoch vote == made.epoch) (took_vote made sender vote seen) (and_blocked sender _ (begun standing))
         (λ h. took_vote_worked seen above admitted accepts sender from taken)
         (λ h. absurd (cc (h, epoch))))
 

@@ -1,4 +1,5 @@
 -- What a start makes of the records of its journal.
+use Rattle.simplex_types.specs.declared.cause.BlockCause.TheVariants.{LeaderConflict}
 use Rattle.std.proofs.Common.{◌≡◌, ℕ, ◌<◌, ◌||◌, Bool, true, false, max, nat_lt, nat_le, List, [], ◌∷◌, ◌++◌, map, filter, Contains, Option, Some, None, refl, sym, ap, ◌∙◌, subst, arith, append-nil, append_assoc, if◌then◌else◌}
 use Rattle.std.specs.List.{list_any}
 use Rattle.std.proofs.lemmas.Bool.Decides.{nat_tests}
@@ -136,7 +137,7 @@ AllPlain-append (x ∷ xs) ys p q = (p.0, AllPlain-append xs ys p.1 q)
 
 block_plain : (o : Option ℕ) (d : Doing) → AllPlain d.calls → AllPlain (block_for o d).calls
 block_plain None d p = p
-block_plain (Some leader) d p = AllPlain-append d.calls (calls.Block leader ∷ []) p (tt, tt)
+block_plain (Some leader) d p = AllPlain-append d.calls (calls.Block leader LeaderConflict ∷ []) p (tt, tt)
 
 report_plain : (o : Option Activity) (d : Doing) → AllPlain d.calls → AllPlain (report_if o d).calls
 report_plain None d p = p

@@ -1,4 +1,5 @@
 -- What a voter reports is no evidence.
+use Rattle.simplex_types.specs.declared.cause.BlockCause.TheVariants.{LeaderConflict}
 use Rattle.std.proofs.Common.{◌≡◌, ℕ, nat_lt, Bool, true, false, List, [], ◌∷◌, ◌++◌, All, Option, Some, None, refl, if◌then◌else◌}
 use Rattle.std.specs.List.{list_any}
 use Rattle.std.proofs.lemmas.List.Elements.{All-nil, All-push, All-weaker}
@@ -43,7 +44,7 @@ goes_out member known (calls.Sync section) h = refl
 goes_out member known (calls.Prune least) h = refl
 goes_out member known (calls.Send channel to bytes) h = refl
 goes_out member known (calls.Relay payload plan) h = refl
-goes_out member known (calls.Block who) h = refl
+goes_out member known (calls.Block who why) h = refl
 
 pub added_blame_not : (member : ℕ) (known : List Fact) (made : List Call) → All (MayGoOut known) made → BlameNot member made
 added_blame_not member known made h = All-weaker (MayGoOut known) (λ (call : Call). blames call member ≡ false) (goes_out member known) made h
@@ -69,7 +70,7 @@ module _ (member : ℕ) where
 
   blocked : (o : Option ℕ) (d : Doing) → Spares d → Spares (block_for o d)
   blocked None d h = h
-  blocked (Some leader) d h = push d.calls (calls.Block leader) refl h
+  blocked (Some leader) d h = push d.calls (calls.Block leader LeaderConflict) refl h
 
   updated : (o : Option Certificate) (d : Doing) → Spares d → Spares (updated_if o d)
   updated None d h = h

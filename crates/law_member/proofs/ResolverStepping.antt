@@ -26,7 +26,7 @@ use Rattle.model_resolver.specs.declared.out.Out.TheVariants as outs
 use Rattle.model_resolver.specs.declared.retire.Retire.{Retire}
 use Rattle.model_resolver.specs.Views.{entry_at}
 use Rattle.model_resolver.specs.Fetcher as fetch
-use Rattle.model_resolver.specs.Resolver.{Made, Given, Stepped, HandlerTaken, Standing, Doing, at_first, begun, recorded, putting, leaving, serving, requested, minded, minded_all, called, called_all, after_fetcher, judging, hearing, expiring, retiring, retiring_all, fetching, ancestry, backfill, fetch_of, retire_of, with_effects, repairing, validated, is_excepted, passed_over, accepted, answered, delivered, produced, resolving, took_mail, took_handled, acted, step, after_taking, standing_after}
+use Rattle.model_resolver.specs.Resolver.{Made, Given, Stepped, HandlerTaken, Blocked, Standing, Doing, at_first, begun, recorded, putting, leaving, serving, requested, minded, minded_all, called, called_all, after_fetcher, judging, hearing, expiring, retiring, retiring_all, fetching, ancestry, backfill, fetch_of, retire_of, with_effects, repairing, validated, is_excepted, passed_over, accepted, answered, delivered, produced, resolving, took_mail, took_handled, acted, step, after_taking, after_blocking, standing_after}
 use Rattle.law_member.specs.Resolver.{IsUnsettled, IsForGap, AllAsks}
 use Rattle.law_member.proofs.Settling.{gap_unsettled, FetchesGap, effects_fetch_gaps}
 use Rattle.law_member.proofs.RepairEnding.{spares, Spared, unsettled-kept, gap-kept}
@@ -50,7 +50,7 @@ module _ (held : List RepairCall) (P : ℕ → Ask → Type 0) where
   called-stands : (out : Out) (doing : Doing) → S doing → S (called out doing)
   unfolding called
   called-stands (outs.Send to bytes) doing s = record { held_is = s.held_is; are = s.are }
-  called-stands (outs.Block member) doing s = record { held_is = s.held_is; are = s.are }
+  called-stands (outs.Block member why) doing s = record { held_is = s.held_is; are = s.are }
   called-stands (outs.Deliver id view bytes asks) doing s = s
   called-stands (outs.Produce id view) doing s = s
   called-stands (outs.Left id) doing s = s
@@ -75,7 +75,7 @@ module _ (held : List RepairCall) (P : ℕ → Ask → Type 0) where
       let put = putting-stands (handler.Produce id view) doing s in either _ _ _ (serving-stands id None _ put) put
   minded-stands (outs.Left id) doing s = record { held_is = s.held_is; are = s.are }
   minded-stands (outs.Send to bytes) doing s = called-stands (outs.Send to bytes) doing s
-  minded-stands (outs.Block member) doing s = called-stands (outs.Block member) doing s
+  minded-stands (outs.Block member why) doing s = called-stands (outs.Block member why) doing s
 
   minded-all-stands : (all : List Out) (doing : Doing) → S doing → S (minded_all all doing)
   unfolding minded_all
@@ -250,9 +250,10 @@ module _ (made : Made) (some : 0 < made.term) where
   -- ---- a history
 
   pub history-open : (past : List Given) → AreOpen (standing_after made past)
-  unfolding standing_after at_first after_taking step entry_at IsStrictlySortedBy
+  unfolding standing_after at_first after_taking after_blocking fetch.blocking step entry_at IsStrictlySortedBy
   history-open [] = record { rising = tt; asks = λ view. tt }
   history-open (HandlerTaken ∷ past) = let all = history-open past in record { rising = all.rising; asks = all.asks }
+  history-open (Blocked member ∷ past) = let all = history-open past in record { rising = all.rising; asks = all.asks }
   history-open (Stepped input now ∷ past) = acted-open input now (begun (standing_after made past)) (history-open past)
 
   pub asks-unsettled : (past : List Given) (view : ℕ) → view ≤ greatest_view → AllAsks made (standing_after made past) view IsUnsettled

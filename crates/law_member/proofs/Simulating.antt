@@ -226,14 +226,14 @@ sim_known made m cs facts later queue same sim =
 abbrev pub IsPlain : Call → Type 0
 IsPlain (calls.Report activity) = Unit {0}
 IsPlain (calls.Relay payload plan) = Unit {0}
-IsPlain (calls.Block who) = Unit {0}
+IsPlain (calls.Block who why) = Unit {0}
 IsPlain (calls.Send channels.Certificate to bytes) = Unit {0}
 IsPlain _ = ⊥
 
 pub plain_behind : (m : Member) (cs : List Call) (c : Call) → IsPlain c → behind m (cs ++ c ∷ []) ≡ behind m cs
 plain_behind m cs (calls.Report activity) p = behind-push m cs (calls.Report activity)
 plain_behind m cs (calls.Relay payload plan) p = behind-push m cs (calls.Relay payload plan)
-plain_behind m cs (calls.Block who) p = behind-push m cs (calls.Block who)
+plain_behind m cs (calls.Block who why) p = behind-push m cs (calls.Block who why)
 plain_behind m cs (calls.Send channels.Certificate to bytes) p = behind-push m cs (calls.Send channels.Certificate to bytes)
 plain_behind m cs (calls.Send channels.Vote to bytes) p = absurd p
 plain_behind m cs (calls.Send channels.Resolver to bytes) p = absurd p
@@ -247,8 +247,8 @@ sim_plain made m cs facts queue (calls.Report activity) p sim =
     sim_more made m cs facts facts queue queue sim (calls.Report activity) tt sim.up sim.memory sim.order sim.box tt tt tt
 sim_plain made m cs facts queue (calls.Relay payload plan) p sim =
     sim_more made m cs facts facts queue queue sim (calls.Relay payload plan) tt sim.up sim.memory sim.order sim.box tt tt tt
-sim_plain made m cs facts queue (calls.Block who) p sim =
-    sim_more made m cs facts facts queue queue sim (calls.Block who) tt sim.up sim.memory sim.order sim.box tt tt tt
+sim_plain made m cs facts queue (calls.Block who why) p sim =
+    sim_more made m cs facts facts queue queue sim (calls.Block who why) tt sim.up sim.memory sim.order sim.box tt tt tt
 sim_plain made m cs facts queue (calls.Send channels.Certificate to bytes) p sim =
     sim_more made m cs facts facts queue queue sim (calls.Send channels.Certificate to bytes) tt sim.up sim.memory sim.order sim.box tt tt tt
 sim_plain made m cs facts queue (calls.Send channels.Vote to bytes) p sim = absurd p

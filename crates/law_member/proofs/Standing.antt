@@ -72,7 +72,7 @@ module _ (made : Made) (current : ℕ) (leader : Option ℕ) (finalized : ℕ) w
   unfolding took_certificate kept_certificate
   took_certificate_in sender certificate doing p =
       either In _ doing _ p
-      (either In _ (kept_certificate made certificate doing) (and_blocked sender doing) (record { current_is = p.current_is; leader_is = p.leader_is; finalized_is = p.finalized_is }) p)
+      (either In _ (kept_certificate made certificate doing) (and_blocked sender _ doing) (record { current_is = p.current_is; leader_is = p.leader_is; finalized_is = p.finalized_is }) p)
 
   seen_in : (sender now : ℕ) (doing : Doing) → In doing → In (record doing { standing = seen_now sender now doing.standing })
   unfolding seen_now
@@ -81,12 +81,12 @@ module _ (made : Made) (current : ℕ) (leader : Option ℕ) (finalized : ℕ) w
   heard_vote_in : (sender : ℕ) (decoded : Result Vote DecodeError) (now : ℕ) (doing : Doing) → In doing → In (heard_vote made sender decoded now doing)
   unfolding heard_vote
   heard_vote_in sender (Err fault) now doing p = p
-  heard_vote_in sender (Ok vote) now doing p = either In _ _ (and_blocked sender doing) (took_vote_in sender vote _ (seen_in sender now doing p)) p
+  heard_vote_in sender (Ok vote) now doing p = either In _ _ (and_blocked sender _ doing) (took_vote_in sender vote _ (seen_in sender now doing p)) p
 
   heard_certificate_in : (sender : ℕ) (decoded : Result Certificate DecodeError) (now : ℕ) (doing : Doing) → In doing → In (heard_certificate made sender decoded now doing)
   unfolding heard_certificate
   heard_certificate_in sender (Err fault) now doing p = p
-  heard_certificate_in sender (Ok certificate) now doing p = either In _ _ (and_blocked sender doing) (took_certificate_in sender certificate _ (seen_in sender now doing p)) p
+  heard_certificate_in sender (Ok certificate) now doing p = either In _ _ (and_blocked sender _ doing) (took_certificate_in sender certificate _ (seen_in sender now doing p)) p
 
   -- ---- the work
 

@@ -106,7 +106,7 @@ failing_here (stops.Fail call keep) (calls.Sync n) rest js = inl refl
 failing_here (stops.Fail call keep) (calls.Send channel to bytes) rest js = inl refl
 failing_here (stops.Fail call keep) (calls.Report activity) rest js = inl refl
 failing_here (stops.Fail call keep) (calls.Relay payload plan) rest js = inl refl
-failing_here (stops.Fail call keep) (calls.Block who) rest js = inl refl
+failing_here (stops.Fail call keep) (calls.Block who why) rest js = inl refl
 failing_here (stops.Cut call keep) c rest js = inl refl
 failing_here stops.None c rest js = inl refl
 

@@ -49,7 +49,7 @@ stays_synced now (calls.Prune least) e = refl
 stays_synced now (calls.Send channel to bytes) e = refl
 stays_synced now (calls.Report activity) e = refl
 stays_synced now (calls.Relay payload plan) e = refl
-stays_synced now (calls.Block member) e = refl
+stays_synced now (calls.Block member why) e = refl
 
 pub synced_push : (now : ℕ) (cs : List Call) (c : Call) → appended_fact now c ≡ None → unsynced cs ≡ [] → unsynced (cs ++ c ∷ []) ≡ []
 synced_push now cs c none e = unsynced_last cs c ∙ ap (λ loose. unsynced_after loose c) e ∙ stays_synced now c none
@@ -81,7 +81,7 @@ only_after view loose (calls.Prune least) h o = o
 only_after view loose (calls.Send channel to bytes) h o = o
 only_after view loose (calls.Report activity) h o = o
 only_after view loose (calls.Relay payload plan) h o = o
-only_after view loose (calls.Block member) h o = o
+only_after view loose (calls.Block member why) h o = o
 
 only_all : (view : ℕ) (loose : List ℕ) (cs : List Call) → All (IsOfSection (Some view)) cs → Only view loose → Only view (fold unsynced_after loose cs)
 only_all view loose [] all o = o
@@ -100,7 +100,7 @@ same_after loose (calls.Prune least) h = refl
 same_after loose (calls.Send channel to bytes) h = refl
 same_after loose (calls.Report activity) h = refl
 same_after loose (calls.Relay payload plan) h = refl
-same_after loose (calls.Block member) h = refl
+same_after loose (calls.Block member why) h = refl
 
 same_all : (loose : List ℕ) (cs : List Call) → All (IsOfSection None) cs → fold unsynced_after loose cs ≡ loose
 same_all loose [] all = refl

@@ -1,4 +1,5 @@
 -- What a step does with what it takes, before its end.
+use Rattle.simplex_types.specs.declared.cause.BlockCause.TheVariants.{LeaderConflict}
 use Rattle.std.proofs.Common.{◌≡◌, ℕ, not, Bool, true, false, nat_le, List, [], ◌∷◌, ◌++◌, Option, Some, None, refl, sym, ap, ◌∙◌, subst, inl, inr, ◌⊎◌, cond, option_to_list, arith, append_assoc, if◌then◌else◌}
 use Rattle.std.specs.Option.{option_map, option_map_or, option_and_then}
 use Rattle.std.proofs.lemmas.Grind.{common_steps}
@@ -299,7 +300,7 @@ certificate_written now known later c same =
 
 blocked : (now : ℕ) (before : List Fact) (touched : Option ℕ) (d : Doing) (o : Option ℕ) → Tallied now before touched nothing [] d → Tallied now before touched nothing [] (block_for o d)
 blocked now before touched d None t = t
-blocked now before touched d (Some leader) t = tally_plain now before touched nothing [] d.calls d.handed d.added d.desk.known (calls.Block leader) (tt, refl, refl, λ out. cc, tt) t
+blocked now before touched d (Some leader) t = tally_plain now before touched nothing [] d.calls d.handed d.added d.desk.known (calls.Block leader LeaderConflict) (tt, refl, refl, λ out. cc, tt) t
 
 -- what was appended before a leader is blocked is still to be synced
 block_flags : (o : Option ℕ) (d : Doing) → d.wrote ≡ true → Flagged (block_for o d)

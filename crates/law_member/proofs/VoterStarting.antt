@@ -1,4 +1,5 @@
 -- What a start calls.
+use Rattle.simplex_types.specs.declared.cause.BlockCause.TheVariants.{LeaderConflict}
 use Rattle.std.proofs.Common.{◌≡◌, ℕ, nat_lt, cond, Bool, true, false, List, [], ◌∷◌, ◌++◌, Option, Some, None, refl, ap, ◌∙◌, if◌then◌else◌}
 use Rattle.std.specs.List.{list_any}
 use Rattle.std.proofs.lemmas.List.Elements.{filter-append}
@@ -57,7 +58,7 @@ sound_keep cs view artifact h =
 
 block_sound : (o : Option ℕ) (d : Doing) → Sound d.calls → Sound (block_for o d).calls
 block_sound None d h = h
-block_sound (Some leader) d h = sound_push d.calls (calls.Block leader) refl refl h
+block_sound (Some leader) d h = sound_push d.calls (calls.Block leader LeaderConflict) refl refl h
 
 report_sound : (o : Option Activity) (d : Doing) → Sound d.calls → Sound (report_if o d).calls
 report_sound None d h = h

@@ -10,6 +10,7 @@ pub mod Syncs
 pub mod Outgoing
 pub mod BatcherVotes
 pub mod Reports
+pub mod Blocks
 pub mod Certificates
 pub mod Quorums
 pub mod Evidence

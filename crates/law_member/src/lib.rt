@@ -34,7 +34,8 @@ mod voters;
 
 pub use batcher::{batchers_stand_where_they_were_told, leaders_are_known};
 pub use batcher_votes::{
-    accepted_votes_came_from_their_signers, held_votes_were_accepted, reports_are_founded,
+    accepted_votes_came_from_their_signers, blocks_are_founded, held_votes_were_accepted,
+    reports_are_founded,
 };
 pub use certificates::{
     accepted_votes_are_worked, current_views_are_worked, handed_certificates_are_founded,

@@ -84,7 +84,7 @@ taken_from (calls.Prune n ∷ rest) c k = taken_from rest c k
 taken_from (calls.Send channel to bytes ∷ rest) c k = taken_from rest c k
 taken_from (calls.Report activity ∷ rest) c k = (let f = taken_from rest c k in (f.0, Contains-append_right (of_call (calls.Report activity)) (flat_map of_call rest) f.0 f.1, f.2))
 taken_from (calls.Relay payload plan ∷ rest) c k = taken_from rest c k
-taken_from (calls.Block who ∷ rest) c k = taken_from rest c k
+taken_from (calls.Block who why ∷ rest) c k = taken_from rest c k
 
 pub into_flat_map : {A B : Type 0} (f : A → List B) (xs : List A) (x : A) (y : B) → Contains xs x → Contains (f x) y → Contains (flat_map f xs) y
 into_flat_map f [] x y k h = absurd (not_in_empty x k)

@@ -1,7 +1,8 @@
 -- What is read of a message to a resolver that was spelled with a backed certificate, or with none.
 use Rattle.std.proofs.Common.{◌≡◌, ℕ, zero, suc, ◌+◌, ◌*◌, ◌/◌, ◌%◌, ◌^◌, ◌<◌, ◌≤◌, nat_lt, Bool, true, false, List, [], ◌∷◌, ◌++◌, length, drop, Contains, Result, Ok, Err, refl, sym, ap, ◌∙◌, subst, inl, inr, arith, length-append, if◌then◌else◌}
 use Rattle.std.specs.List.{flat_map, AllByRecursion}
-use Rattle.std.specs.Int.{w64, to_be_bytes}
+use Rattle.std.specs.Int.{w64, to_be_bytes, from_be_bytes}
+use Rattle.std.proofs.lemmas.Nat.{be_bytes_8, mod_below}
 use Rattle.std.proofs.lemmas.List.{append-nil, drop_at}
 use Rattle.simplex_values.specs.declared.plan.Channel.TheVariants as channels
 use Rattle.simplex_wire.specs.declared.attestation.Attestation.{Attestation}
@@ -27,7 +28,7 @@ use Rattle.law_agreement.proofs.ListFacts.{not_in_empty, Contains-cons_cases}
 use Rattle.law_run.specs.Sayings.{InBody, IsAnswer}
 use Rattle.law_run.specs.Backed.{read_certificate, in_body, in_response, certificate_on}
 use Rattle.law_run.proofs.Backers.{Backers}
-use Rattle.law_run.proofs.Good.{IsGood, IsSized, signatures_few}
+use Rattle.law_run.proofs.Good.{IsGood, IsSized, AllBytes, to_bytes, signatures_few}
 
 -- ---- how long a certificate's bytes are
 
@@ -150,3 +151,40 @@ module _ (backers : Backers) (sized : IsSized backers.setting.setup) (c : Certif
           let both : to_be_bytes w64 mine.id ++ body_spelling mine.body ≡ to_be_bytes w64 m.id ++ body_spelling m.body = sym answer.1 ∙ t.0 in
           let own : IsBytes (to_be_bytes w64 mine.id ++ body_spelling mine.body) = subst IsBytes answer.1 b in
           same_body mine.body m.body (rest_bytes (to_be_bytes w64 mine.id) (body_spelling mine.body) own) t.1.1 (after_id mine.id m.id (body_spelling mine.body) (body_spelling m.body) both) answer.2 h
+
+-- ---- an answer is read
+
+wide_low : (bs : List ℕ) → length bs ≡ 8 → IsBytes bs → from_be_bytes w64 bs < 2 ^ 64
+wide_low bs len f = omega (arith, f 0, f 1, f 2, f 3, f 4, f 5, f 6, f 7)
+
+wide_all : (n : ℕ) → AllBytes (to_be_bytes w64 n)
+wide_all n =
+    (mod_below (n / 256 ^ 7) 256 (omega arith), (mod_below (n / 256 ^ 6) 256 (omega arith), (mod_below (n / 256 ^ 5) 256 (omega arith), (mod_below (n / 256 ^ 4) 256 (omega arith), (mod_below (n / 256 ^ 3) 256 (omega arith), (mod_below (n / 256 ^ 2) 256 (omega arith), (mod_below (n / 256 ^ 1) 256 (omega arith), (mod_below n 256 (omega arith), tt))))))))
+
+-- what is read of a number's eight bytes has the same bytes
+wide_again : (n : ℕ) → (to_be_bytes w64 (from_be_bytes w64 (to_be_bytes w64 n)) ≡ to_be_bytes w64 n) × (from_be_bytes w64 (to_be_bytes w64 n) < 2 ^ 64)
+wide_again n =
+    let bs = to_be_bytes w64 n in
+    let f : IsBytes bs = to_bytes bs (wide_all n) in
+    (be_bytes_8 bs (from_be_bytes w64 bs) refl f refl, wide_low bs refl f)
+
+module _ (backers : Backers) (sized : IsSized backers.setting.setup) where
+  body_reads : (mine : ResolverBody) → IsBytes (body_spelling mine) → InBody (IsGood backers) mine → (read : ResolverBody) × (body_spelling read ≡ body_spelling mine) × FitsBody read
+  body_reads (bodies.Request view) b g = (let w = wide_again view in (bodies.Request (from_be_bytes w64 (to_be_bytes w64 view)), ap (λ xs. 0 ∷ xs) w.0, (w.1, omega arith)))
+  body_reads (bodies.Response xs) b g =
+      let bytes : IsBytes xs = rest_bytes (varint (length xs)) xs (IsBytes-drop 1 (1 ∷ counted.spelling xs) b) in
+      let few : length xs < 2 ^ 32 = subst (λ zs. length zs < 2 ^ 32) (sym g.1) (good_few backers g.0 sized g.2) in
+      (bodies.Response xs, refl, (bytes, few))
+  body_reads bodies.Error b g = (bodies.Error, refl, (tt, omega arith))
+
+  pub answer_reads : (bytes : List ℕ) → IsBytes bytes → IsAnswer (IsGood backers) bytes → (m : ResolverMessage) × (whole resolver_message bytes ≡ Ok m)
+  unfolding resolver_message wire.body
+  answer_reads bytes b answer =
+      let mine = answer.0 in
+      let own : IsBytes (to_be_bytes w64 mine.id ++ body_spelling mine.body) = subst IsBytes answer.1 b in
+      let r = body_reads mine.body (rest_bytes (to_be_bytes w64 mine.id) (body_spelling mine.body) own) answer.2 in
+      let w = wide_again mine.id in
+      let m : ResolverMessage = record { id = from_be_bytes w64 (to_be_bytes w64 mine.id); body = r.0 } in
+      let same : to_be_bytes w64 m.id ++ body_spelling m.body ≡ to_be_bytes w64 mine.id ++ body_spelling mine.body =
+      ap (λ xs. xs ++ body_spelling r.0) w.0 ∙ ap (λ ys. to_be_bytes w64 mine.id ++ ys) r.1 in
+      (m, ap (whole resolver_message) (answer.1 ∙ sym same) ∙ whole_again resolver_message FitsResolverMessage resolver_message_is m (w.1, r.2))

@@ -64,6 +64,7 @@ use Rattle.law_member.specs.Life.{vote_in, voted}
 use Rattle.law_agreement.proofs.ListFacts.{not_in_empty, Contains-cons_cases}
 use Rattle.law_run.specs.Histories.{IsRun, IsStartAbove, AreFloors, calls_of}
 use Rattle.law_run.specs.Sayings.{Each}
+use Rattle.law_run.proofs.Letting.{heard_either, heard_no_start}
 use Rattle.law_run.proofs.Speaking.{Each-append, Each-weaker}
 use Rattle.law_run.proofs.Events.{place_in, engine_at, given_start, begun_gives, step_gives, place_same, place_then, step_place, idle_place}
 use Rattle.law_run.proofs.Further.{same_self, same_node, life_then, life_still}
@@ -218,7 +219,7 @@ module _ (P : List ℕ → Type 0) (genesis : List ℕ) where
     quiet_calls [] q = tt
     quiet_calls (calls.Report a ∷ rest) q = (tt, quiet_calls rest q.1)
     quiet_calls (calls.Relay payload plan ∷ rest) q = (tt, quiet_calls rest q.1)
-    quiet_calls (calls.Block who ∷ rest) q = (tt, quiet_calls rest q.1)
+    quiet_calls (calls.Block who cause ∷ rest) q = (tt, quiet_calls rest q.1)
     quiet_calls (calls.Append n a ∷ rest) q = absurd q.0
     quiet_calls (calls.Sync n ∷ rest) q = absurd q.0
     quiet_calls (calls.Prune n ∷ rest) q = absurd q.0
@@ -252,7 +253,7 @@ module _ (P : List ℕ → Type 0) (genesis : List ℕ) where
 
     resolver_calls : (cs : List Call) → list_all is_call_of_resolver cs ≡ true → Each (CallFrom P) cs
     resolver_calls [] e = tt
-    resolver_calls (calls.Block who ∷ cs) e = (tt, resolver_calls cs e)
+    resolver_calls (calls.Block who cause ∷ cs) e = (tt, resolver_calls cs e)
     resolver_calls (calls.Send channels.Resolver to bytes ∷ cs) e = (tt, resolver_calls cs e)
     resolver_calls (calls.Send channels.Vote to bytes ∷ cs) e = cc
     resolver_calls (calls.Send channels.Certificate to bytes ∷ cs) e = cc
@@ -294,12 +295,23 @@ module _ (P : List ℕ → Type 0) (genesis : List ℕ) where
     any_step sources.Handler now stop = resolver_turn (engine.stepped made past sources.Handler now stop) (stepped_handler made past now stop) (stepped_handler_apart made past now stop) (handler_no_start made past now stop)
     any_step sources.Fetch now stop = resolver_turn (engine.stepped made past sources.Fetch now stop) (stepped_fetcher made past now stop) (stepped_fetcher_apart made past now stop) (fetcher_no_start made past now stop)
 
+    refused_step : (sender : ℕ) (channel : Channel) (bytes : List ℕ) (now : ℕ) → IsTurned earlier made past (engine.refused sender channel bytes now)
+    refused_step sender channel bytes now =
+        record { calls = tt; asked = tt; ready = λ r. unseen_ready earlier made (engine.refused sender channel bytes now) past refl refl refl h.ready }
+
+    refused_or : (sender : ℕ) (channel : Channel) (bytes : List ℕ) (now : ℕ) → IsTurned earlier made past (engine.let_in made past sender channel bytes now)
+        → IsTurned earlier made past (engine.heard made past sender channel bytes now)
+    refused_or sender channel bytes now l = heard_either (IsTurned earlier made past) made past sender channel bytes now (refused_step sender channel bytes now) l
+
     heard_step : (sender : ℕ) (channel : Channel) (bytes : List ℕ) (now : ℕ) → IsTurned earlier made past (engine.heard made past sender channel bytes now)
-    unfolding engine.heard engine.by_resolver
-    heard_step sender channels.Vote bytes now = batcher_turn (engine.Heard sender channels.Vote bytes) (batcher_inputs.Vote sender bytes) now stops.None (λ n s o out. (refl, refl))
-    heard_step sender channels.Certificate bytes now = batcher_turn (engine.Heard sender channels.Certificate bytes) (batcher_inputs.Certificate sender bytes) now stops.None (λ n s o out. (refl, refl))
+    unfolding engine.let_in
+    heard_step sender channels.Vote bytes now =
+        refused_or sender channels.Vote bytes now (batcher_turn (engine.Heard sender channels.Vote bytes) (batcher_inputs.Vote sender bytes) now stops.None (λ n s o out. (refl, refl)))
+    heard_step sender channels.Certificate bytes now =
+        refused_or sender channels.Certificate bytes now (batcher_turn (engine.Heard sender channels.Certificate bytes) (batcher_inputs.Certificate sender bytes) now stops.None (λ n s o out. (refl, refl)))
     heard_step sender channels.Resolver bytes now =
-        resolver_turn (engine.heard made past sender channels.Resolver bytes now) (heard_by_resolver made past sender bytes now) (heard_apart made past sender bytes now) refl
+        resolver_turn (engine.heard made past sender channels.Resolver bytes now) (heard_by_resolver made past sender bytes now) (heard_apart made past sender bytes now)
+        (heard_no_start made past sender channels.Resolver bytes now)
 
     -- an answer that stands for such a payload waits for its step
     replied_turn : (number : ℕ) (answer : Answer) (now : ℕ) → stepping.IsGood P genesis earlier (number, answer) → IsTurned earlier made past (engine.replied number answer now)
@@ -638,7 +650,7 @@ voted_from P (calls.Prune least ∷ rest) p n k = voted_from P rest p n.1 k
 voted_from P (calls.Send channel to bytes ∷ rest) p n k = voted_from P rest p n.1 k
 voted_from P (calls.Report activity ∷ rest) p n k = voted_from P rest p n.1 k
 voted_from P (calls.Relay payload plan ∷ rest) p n k = voted_from P rest p n.1 k
-voted_from P (calls.Block who ∷ rest) p n k = voted_from P rest p n.1 k
+voted_from P (calls.Block who cause ∷ rest) p n k = voted_from P rest p n.1 k
 
 pub notarized_from : (P : List ℕ → Type 0) (setting : Setting) (noted : List Noted) (node : Node) (p : Proposal) → IsRun setting noted → AreFloors noted → runs_engine setting.setup node.member ≡ true
     → AllAnswersAre P node noted → Contains (voted (calls_of node noted)) (subjects.Notarize p) → P p.payload

@@ -44,6 +44,7 @@ use Rattle.model_rules.specs.Votes.{notarize_at, nullify_at, finalize_at}
 use Rattle.model_rules.specs.Calls as state
 use Rattle.model_rules.specs.Calls.{facts_of, replay_answer, certified_answer, unsent_notarization, unsent_nullification, unsent_finalization, prune_answer}
 use Rattle.model_rules.specs.Pending.{Desk, Pending, Opened, is_open, pending_view, pending_parent, told, reconciled, iterated}
+use Rattle.simplex_types.specs.declared.cause.BlockCause.TheVariants.{LeaderConflict}
 use Rattle.simplex_messages.specs.declared.call.Call.{Call}
 use Rattle.simplex_messages.specs.declared.call.Call.TheVariants as calls
 use Rattle.simplex_messages.specs.declared.handed.Handed.TheVariants as handed
@@ -364,7 +365,7 @@ module _ (P : List ℕ → Type 0) (genesis : List ℕ) (earlier : List Asked) w
 
   fine_blocked : (o : Option ℕ) (d : Doing) → AllFine d → AllFine (block_for o d)
   fine_blocked None d a = a
-  fine_blocked (Some leader) d a = fine_call (calls.Block leader) d tt a
+  fine_blocked (Some leader) d a = fine_call (calls.Block leader LeaderConflict) d tt a
 
   fine_certificate : (made : Made) (now : ℕ) (c : Certificate) (d : Doing) → AllFine d → AllFine (act_on_certificate made now c d).0
   unfolding act_on_certificate

@@ -1,8 +1,7 @@
 -- Own votes name the setup's epoch.
-use Rattle.std.proofs.Common.{◌≡◌, ℕ, ◌-◌, ◌++◌, ◌==◌, ◌&&◌, nat_lt, nat_le, Bool, true, false, List, [], ◌∷◌, length, take, Contains, Option, Some, None, refl, sym, ap, ◌∙◌, subst, inl, inr, arith, if◌then◌else◌}
-use Rattle.std.specs.List.{filter_map, list_all}
+use Rattle.std.proofs.Common.{◌≡◌, ℕ, ◌-◌, ◌++◌, ◌==◌, ◌&&◌, nat_lt, nat_le, Bool, true, false, List, [], ◌∷◌, length, take, Contains, Option, Some, None, refl, sym, ap, ◌∙◌, subst, inl, inr, if◌then◌else◌}
+use Rattle.std.specs.List.{list_all}
 use Rattle.std.specs.Option.{option_map, option_map_or}
-use Rattle.std.proofs.lemmas.Grind.{common_steps}
 use Rattle.simplex_values.specs.declared.answer.Answer.{Answer}
 use Rattle.simplex_values.specs.declared.plan.Channel.{Channel}
 use Rattle.simplex_values.specs.declared.plan.Channel.TheVariants as channels
@@ -61,6 +60,7 @@ use Rattle.law_run.proofs.Events.{place_in, engine_at, given_start, begun_gives,
 use Rattle.law_run.proofs.Further.{same_self, same_node, life_then, life_still}
 use Rattle.law_run.proofs.NodeKeeping.{InJournal, InAppend, crash_keeps, step_keeps, start_keeps}
 use Rattle.law_run.proofs.Mails.{holds_received}
+use Rattle.law_run.proofs.Letting.{heard_either, heard_no_start, each_given, given_input}
 use Rattle.law_run.proofs.NodeQuiet.{AllHush, AllForVoter, batcher_hush}
 use Rattle.law_run.proofs.Telling.{some_is, Each-take}
 use Rattle.law_run.specs.MostlyHonest.{IsMostlyHonest}
@@ -99,7 +99,7 @@ HandedNames e = InHanded (BatcherNames e) (VoterNames e) (λ c. Unit {0})
 
 record IsNamedDid (e : ℕ) (did : Did) : Type 0 where
   pub handed : Each (HandedNames e) did.out.handed
-  pub taken : (input : BatcherInput) → input_of_batcher did.taken ≡ Some input → InputNames e input
+  pub taken : (given : batcher.Timed) → given_to_batcher did ≡ Some given → InputNames e given.input
 
 record IsPlaceNamed (e : ℕ) (place : Place) : Type 0 where
   pub desk : NamesDesk e place.standing.desk
@@ -131,18 +131,7 @@ all_handed e (did ∷ past) h = (let first = h.0 in first.handed, all_handed e p
 inputs_named : (e : ℕ) (past : List Did) → Each (IsNamedDid e) past → Each (IsMailOf e) (batcher_past past)
 unfolding batcher_past
 inputs_named e [] h = tt
-inputs_named e (did ∷ past) h = at (input_of_batcher did.taken) refl (inputs_named e past h.1)
-  where
-    none : input_of_batcher did.taken ≡ None → filter_map given_to_batcher (did ∷ past) ≡ filter_map given_to_batcher past
-    none e = grind (arith, common_steps, e)
-
-    some : (input : BatcherInput) → input_of_batcher did.taken ≡ Some input
-        → filter_map given_to_batcher (did ∷ past) ≡ record { input = input; now = did.now } ∷ filter_map given_to_batcher past
-    some input e = grind (arith, common_steps, e)
-
-    at : (o : Option BatcherInput) → input_of_batcher did.taken ≡ o → Each (IsMailOf e) (filter_map given_to_batcher past) → Each (IsMailOf e) (filter_map given_to_batcher (did ∷ past))
-    at None q rest = subst (Each (IsMailOf e)) (sym (none q)) rest
-    at (Some input) q rest = subst (Each (IsMailOf e)) (sym (some input q)) (h.0.taken input q, rest)
+inputs_named e (did ∷ past) h = each_given (IsMailOf e) did past h.0.taken (inputs_named e past h.1)
 
 -- a record that names it is an own one that does
 own_record : (e : ℕ) (a : Artifact) → NamesRecord e a → RecordNames e a
@@ -162,7 +151,7 @@ own_calls e (calls.Prune k ∷ rest) n = (tt, own_calls e rest n.1)
 own_calls e (calls.Send channel to bytes ∷ rest) n = (tt, own_calls e rest n.1)
 own_calls e (calls.Report activity ∷ rest) n = (tt, own_calls e rest n.1)
 own_calls e (calls.Relay payload plan ∷ rest) n = (tt, own_calls e rest n.1)
-own_calls e (calls.Block who ∷ rest) n = (tt, own_calls e rest n.1)
+own_calls e (calls.Block who why ∷ rest) n = (tt, own_calls e rest n.1)
 
 in_appends : (e : ℕ) (cs : List Call) → Each (NamesCall e) cs → Each (InAppend (NamesRecord e)) cs
 in_appends e [] n = tt
@@ -172,7 +161,7 @@ in_appends e (calls.Prune k ∷ rest) n = (tt, in_appends e rest n.1)
 in_appends e (calls.Send channel to bytes ∷ rest) n = (tt, in_appends e rest n.1)
 in_appends e (calls.Report activity ∷ rest) n = (tt, in_appends e rest n.1)
 in_appends e (calls.Relay payload plan ∷ rest) n = (tt, in_appends e rest n.1)
-in_appends e (calls.Block who ∷ rest) n = (tt, in_appends e rest n.1)
+in_appends e (calls.Block who why ∷ rest) n = (tt, in_appends e rest n.1)
 
 untold : (message : MailboxMessage) → InResolverMail (λ c. Unit {0}) message
 untold (resolver_messages.Updated c) = tt
@@ -193,7 +182,7 @@ hush_names : (e : ℕ) (cs : List Call) → AllHush cs → Each (CallNames e) cs
 hush_names e [] h = tt
 hush_names e (calls.Report a ∷ rest) h = (tt, hush_names e rest h.1)
 hush_names e (calls.Relay payload plan ∷ rest) h = (tt, hush_names e rest h.1)
-hush_names e (calls.Block who ∷ rest) h = (tt, hush_names e rest h.1)
+hush_names e (calls.Block who why ∷ rest) h = (tt, hush_names e rest h.1)
 hush_names e (calls.Append n a ∷ rest) h = absurd h.0
 hush_names e (calls.Sync n ∷ rest) h = absurd h.0
 hush_names e (calls.Prune n ∷ rest) h = absurd h.0
@@ -252,7 +241,7 @@ start_calls e (stops.Fail call keep) floor d js n = at (call == 1)
 record IsStepNamed (e : ℕ) (Good : Certificate → Type 0) (made : EngineMade) (past : List Did) (did : Did) : Type 0 where
   pub calls : Each (CallNames e) did.out.calls
   pub handed : ((c : Certificate) → Good c → Names e (certificate_subject c)) → Each (InMessage Good did.out.calls) did.out.handed → Each (HandedNames e) did.out.handed
-  pub taken : (input : BatcherInput) → input_of_batcher did.taken ≡ Some input → InputNames e input
+  pub taken : (given : batcher.Timed) → given_to_batcher did ≡ Some given → InputNames e given.input
   pub place : IsPlaceNamed e (place_in made (did ∷ past))
 
 unseen_place : (e : ℕ) (made : EngineMade) (did : Did) (past : List Did) → given_to_voter did ≡ None → is_start did.taken ≡ false → IsPlaceNamed e (place_in made past) → IsPlaceNamed e (place_in made (did ∷ past))
@@ -286,7 +275,7 @@ voter_turn e Good made past did input now stop n f out taken names h =
         record {
           calls = subst (λ (x : StepOut). Each (CallNames e) x.calls) (sym gives) tt;
           handed = λ a b. subst (λ (x : StepOut). Each (HandedNames e) x.handed) (sym gives) tt;
-          taken = taken;
+          taken = λ t q. taken t.input (given_input did t q);
           place = there (place_in made past) (idle_place (voter_in made past) (voter_past past) input now stop g) h.place;
         }
     at (Some d) g =
@@ -297,16 +286,23 @@ voter_turn e Good made past did input now stop n f out taken names h =
         record {
           calls = subst (λ (x : StepOut). Each (CallNames e) x.calls) (sym gives) (own_calls e (performed stop d js).out.calls (performed_calls e stop d js named.in_calls));
           handed = λ a b. subst (λ (x : StepOut). Each (HandedNames e) x.handed) (sym gives) (voter_handed e (performed stop d js).out.handed (performed_handed e stop d js named.in_handed));
-          taken = taken;
+          taken = λ t q. taken t.input (given_input did t q);
           place = there later (step_place (voter_in made past) (voter_past past) input now stop d g)
               (record { desk = record { known = named.in_known; pending = named.in_pending }; records = step_keeps (NamesRecord e) stop d js (in_appends e d.calls named.in_calls) h.place.records });
         }
+
+-- nothing was held, or a packet was refused
+nothing_done : (e : ℕ) (Good : Certificate → Type 0) (made : EngineMade) (past : List Did) (taken : engine.Taken) (now : ℕ) (stop : Stop) (o : Outcome)
+    → given_to_voter (engine.did_of taken now stop o no_out) ≡ None → is_start taken ≡ false → ((t : batcher.Timed) → given_to_batcher (engine.did_of taken now stop o no_out) ≡ Some t → InputNames e t.input)
+    → IsNamedEngine e made past → IsStepNamed e Good made past (engine.did_of taken now stop o no_out)
+nothing_done e Good made past taken now stop o n f none h =
+    record { calls = tt; handed = λ a b. tt; taken = none; place = unseen_place e made (engine.did_of taken now stop o no_out) past n f h.place }
 
 held_nothing : (e : ℕ) (Good : Certificate → Type 0) (made : EngineMade) (past : List Did) (source : StepSource) (now : ℕ) (stop : Stop)
     → given_to_voter (engine.nothing_held source now stop) ≡ None → ((i : BatcherInput) → input_of_batcher (engine.Took source None) ≡ Some i → InputNames e i) → IsNamedEngine e made past
     → IsStepNamed e Good made past (engine.nothing_held source now stop)
 held_nothing e Good made past source now stop n none h =
-    record { calls = tt; handed = λ a b. tt; taken = none; place = unseen_place e made (engine.nothing_held source now stop) past n refl h.place }
+    nothing_done e Good made past (engine.Took source None) now stop outcomes.Idle n refl (λ t q. none t.input (given_input (engine.nothing_held source now stop) t q)) h
 
 batcher_turn : (e : ℕ) (Good : Certificate → Type 0) (made : EngineMade) (past : List Did) (taken : engine.Taken) (input : BatcherInput) (now : ℕ) (stop : Stop)
     → ((i : BatcherInput) → input_of_batcher taken ≡ Some i → i ≡ input) → ((n : ℕ) (s : Stop) (o : Outcome) (out : StepOut) → (given_to_voter (engine.did_of taken n s o out) ≡ None) × (is_start taken ≡ false))
@@ -321,7 +317,7 @@ batcher_turn e Good made past taken input now stop only unseen f h =
     record {
       calls = cut_calls stop out (hush_names e out.calls hush.0);
       handed = λ names g. cut_handed names stop out hush.1 offers g;
-      taken = λ i t. subst (InputNames e) (sym (only i t)) f;
+      taken = λ t q. subst (InputNames e) (sym (only t.input (given_input did t q))) f;
       place = unseen_place e made did past (unseen did.now did.stop did.outcome did.out).0 (unseen did.now did.stop did.outcome did.out).1 h.place;
     }
   where
@@ -350,7 +346,7 @@ batcher_turn e Good made past taken input now stop only unseen f h =
 -- a step of the resolver
 resolver_calls_name : (e : ℕ) (cs : List Call) → list_all is_call_of_resolver cs ≡ true → Each (CallNames e) cs
 resolver_calls_name e [] h = tt
-resolver_calls_name e (calls.Block who ∷ cs) h = (tt, resolver_calls_name e cs h)
+resolver_calls_name e (calls.Block who why ∷ cs) h = (tt, resolver_calls_name e cs h)
 resolver_calls_name e (calls.Send channels.Resolver to bytes ∷ cs) h = (tt, resolver_calls_name e cs h)
 resolver_calls_name e (calls.Send channels.Vote to bytes ∷ cs) h = cc
 resolver_calls_name e (calls.Send channels.Certificate to bytes ∷ cs) h = cc
@@ -370,21 +366,17 @@ resolver_hands e Good cs (handed.Voter (voter_messages.Timeout round reason) ∷
 resolver_hands e Good cs (handed.Batcher message ∷ hs) h names g = cc
 resolver_hands e Good cs (handed.Resolver message ∷ hs) h names g = cc
 
-mapped_none : {A B : Type 0} (f : A → B) (o : Option A) (a : A) → option_map f o ≡ None → o ≡ Some a → ⊥
-mapped_none f None a e h = cc
-mapped_none f (Some b) a e h = cc
-
 resolver_turn : (e : ℕ) (Good : Certificate → Type 0) (made : EngineMade) (past : List Did) (did : Did) → IsOfResolver did.out → IsApart did → is_start did.taken ≡ false → IsNamedEngine e made past → IsStepNamed e Good made past did
 resolver_turn e Good made past did r apart no_start h =
     record {
       calls = resolver_calls_name e did.out.calls r.calls;
       handed = λ names g. resolver_hands e Good did.out.calls did.out.handed r.handed names g;
-      taken = λ input t. absurd (never input t);
+      taken = λ t q. absurd (never t q);
       place = unseen_place e made did past apart.voter no_start h.place;
     }
   where
-    never : (input : BatcherInput) → input_of_batcher did.taken ≡ Some input → ⊥
-    never input t = mapped_none _ (input_of_batcher did.taken) input apart.batcher t
+    never : (t : batcher.Timed) → given_to_batcher did ≡ Some t → ⊥
+    never t q = (let none : given_to_batcher did ≡ None = apart.batcher in cc)
 
 held_or : (e : ℕ) (message : batcher_message.Message) → BatcherNames e message → InputNames e (batcher_inputs.Mail message)
 held_or e (batcher_messages.Constructed (votes.Notarize v)) n = n
@@ -432,16 +424,25 @@ module _ (e : ℕ) (Good : Certificate → Type 0) (made : EngineMade) (past : L
   any_step sources.Handler now stop h = resolver_turn e Good made past (engine.stepped made past sources.Handler now stop) (stepped_handler made past now stop) (stepped_handler_apart made past now stop) (handler_no_start made past now stop) h
   any_step sources.Fetch now stop h = resolver_turn e Good made past (engine.stepped made past sources.Fetch now stop) (stepped_fetcher made past now stop) (stepped_fetcher_apart made past now stop) (fetcher_no_start made past now stop) h
 
+  either : (sender : ℕ) (channel : Channel) (bytes : List ℕ) (now : ℕ) → IsNamedEngine e made past → IsStepNamed e Good made past (engine.let_in made past sender channel bytes now)
+      → IsStepNamed e Good made past (engine.heard made past sender channel bytes now)
+  either sender channel bytes now h l =
+      heard_either (IsStepNamed e Good made past) made past sender channel bytes now
+      (nothing_done e Good made past (engine.Heard sender channel bytes) now stops.None outcomes.Refused refl refl (λ t q. cc) h) l
+
   heard_step : (sender : ℕ) (channel : Channel) (bytes : List ℕ) (now : ℕ) → IsNamedEngine e made past → IsStepNamed e Good made past (engine.heard made past sender channel bytes now)
-  unfolding engine.heard engine.by_resolver
+  unfolding engine.let_in
   heard_step sender channels.Vote bytes now h =
-      batcher_turn e Good made past (engine.Heard sender channels.Vote bytes) (batcher_inputs.Vote sender bytes) now stops.None
-      (λ i t. sym (some_is (batcher_inputs.Vote sender bytes) i t)) (λ n s o out. (refl, refl)) tt h
+      either sender channels.Vote bytes now h
+      (batcher_turn e Good made past (engine.Heard sender channels.Vote bytes) (batcher_inputs.Vote sender bytes) now stops.None
+      (λ i t. sym (some_is (batcher_inputs.Vote sender bytes) i t)) (λ n s o out. (refl, refl)) tt h)
   heard_step sender channels.Certificate bytes now h =
-      batcher_turn e Good made past (engine.Heard sender channels.Certificate bytes) (batcher_inputs.Certificate sender bytes) now stops.None
-      (λ i t. sym (some_is (batcher_inputs.Certificate sender bytes) i t)) (λ n s o out. (refl, refl)) tt h
+      either sender channels.Certificate bytes now h
+      (batcher_turn e Good made past (engine.Heard sender channels.Certificate bytes) (batcher_inputs.Certificate sender bytes) now stops.None
+      (λ i t. sym (some_is (batcher_inputs.Certificate sender bytes) i t)) (λ n s o out. (refl, refl)) tt h)
   heard_step sender channels.Resolver bytes now h =
-      resolver_turn e Good made past (engine.heard made past sender channels.Resolver bytes now) (heard_by_resolver made past sender bytes now) (heard_apart made past sender bytes now) refl h
+      resolver_turn e Good made past (engine.heard made past sender channels.Resolver bytes now) (heard_by_resolver made past sender bytes now) (heard_apart made past sender bytes now)
+      (heard_no_start made past sender channels.Resolver bytes now) h
 
 desk_answered : (e number : ℕ) (answer : Answer) (s : voter.Standing) → NamesDesk e s.desk → NamesDesk e (voter.answered number answer s).desk
 unfolding voter.answered
@@ -481,7 +482,7 @@ taken_step setup before e Good at made past did t h = elim t [
     | inr r ↦ subst (IsStepNamed e Good made past) (sym r.is) (record {
       calls = tt;
       handed = λ a b. tt;
-      taken = λ input t. cc;
+      taken = λ t q. cc;
       place = replied_place e made past (engine.replied r.number r.answer (clock_of before)) r.number r.answer refl refl h.place;
     })
   ]
@@ -555,7 +556,7 @@ unmoved setting noted before apart old node runs_one = subst (IsLifeNamed settin
 
 -- ---- the run
 
-good_names : (setting : Setting) (noted : List Noted) → IsMostlyHonest setting noted → OwnName setting.setup noted → (c : Certificate) → IsGood (backers_of setting noted) c
+pub good_names : (setting : Setting) (noted : List Noted) → IsMostlyHonest setting noted → OwnName setting.setup noted → (c : Certificate) → IsGood (backers_of setting noted) c
     → Names setting.setup.epoch (certificate_subject c)
 good_names setting noted o own c good =
     let p = people_of setting noted o (floors_hold setting noted o) in
@@ -593,7 +594,7 @@ begin_at setting before at floor stop js stopped runs_one f old =
             history = (
               record {
                 handed = subst (λ (x : Did). Each (HandedNames e) x.out.handed) (sym same) (voter_handed e by.out.handed (start_handed e stop (floor_of setting.genesis floor) d js named.in_handed));
-                taken = λ input t. (let k : input_of_batcher Began ≡ Some input = subst (λ (x : Did). input_of_batcher x.taken ≡ Some input) same t in cc);
+                taken = λ g t. (let k : input_of_batcher Began ≡ Some g.input = subst (λ (x : Did). input_of_batcher x.taken ≡ Some g.input) same (given_input did g t) in cc);
               },
               tt,
             );
@@ -659,6 +660,17 @@ unfolding IsRun life_in replayed
 run_named setting [] o = record { own = tt; lives = λ node runs_one a c. absurd (not_in_empty a c) }
 run_named setting (noted ∷ before) o =
     turn_named setting before o.ran.0 noted (entry_turn setting before o.ran.0 noted o.ran.1) o (run_named setting before (earlier setting noted before o))
+
+-- each own vote of the run names the setup's epoch, and so does the batcher of an engine that runs
+pub run_own : (setting : Setting) (noted : List Noted) → IsMostlyHonest setting noted → OwnName setting.setup noted
+run_own setting noted o = (let r = run_named setting noted o in r.own)
+
+pub engine_epoch : (setting : Setting) (noted : List Noted) (node : Node) (made : EngineMade) (past : List Did) → IsMostlyHonest setting noted → runs_engine setting.setup node.member ≡ true
+    → life_in setting noted node ≡ Running made past → made.batcher.epoch ≡ setting.setup.epoch
+engine_epoch setting noted node made past o runs_one running =
+    let r = run_named setting noted o in
+    let h : IsNamedEngine setting.setup.epoch made past = subst (IsLifeNamed setting.setup.epoch) running (r.lives node runs_one) in
+    h.batcher
 
 -- each certificate of the run names the setup's epoch
 pub run_names : (setting : Setting) (noted : List Noted) → IsMostlyHonest setting noted → AllName setting.setup noted

@@ -42,7 +42,7 @@ record_names epoch (artifacts.Nullification c) s f k = absurd (not_in_empty s k)
 record_names epoch (artifacts.Finalization c) s f k = absurd (not_in_empty s k)
 record_names epoch (artifacts.Certification r good) s f k = absurd (not_in_empty s k)
 
-calls_name : (epoch : ℕ) (cs : List Call) (s : Subject) → Each (CallNames epoch) cs → Contains (voted cs) s → Names epoch s
+pub calls_name : (epoch : ℕ) (cs : List Call) (s : Subject) → Each (CallNames epoch) cs → Contains (voted cs) s → Names epoch s
 unfolding voted
 calls_name epoch [] s f k = absurd (not_in_empty s k)
 calls_name epoch (calls.Append n a ∷ rest) s f k = elim (Contains-append_cases (vote_in a) (voted rest) s k) [ inl here ↦ record_names epoch a s f.0 here | inr r ↦ calls_name epoch rest s f.1 r ]
@@ -51,9 +51,9 @@ calls_name epoch (calls.Prune n ∷ rest) s f k = calls_name epoch rest s f.1 k
 calls_name epoch (calls.Send channel to bytes ∷ rest) s f k = calls_name epoch rest s f.1 k
 calls_name epoch (calls.Report activity ∷ rest) s f k = calls_name epoch rest s f.1 k
 calls_name epoch (calls.Relay payload plan ∷ rest) s f k = calls_name epoch rest s f.1 k
-calls_name epoch (calls.Block who ∷ rest) s f k = calls_name epoch rest s f.1 k
+calls_name epoch (calls.Block who why ∷ rest) s f k = calls_name epoch rest s f.1 k
 
-node_names : (setup : Setup) (node : Node) (noted : List Noted) → OwnName setup noted → Each (CallNames setup.epoch) (calls_of node noted)
+pub node_names : (setup : Setup) (node : Node) (noted : List Noted) → OwnName setup noted → Each (CallNames setup.epoch) (calls_of node noted)
 unfolding calls_of
 node_names setup node [] t = tt
 node_names setup node (noted ∷ before) t = at (is_of node noted.event) (node_names setup node before t.1)

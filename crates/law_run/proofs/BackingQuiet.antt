@@ -36,7 +36,7 @@ call_quiet (calls.Prune n) e = tt
 call_quiet (calls.Send channel to bytes) e = tt
 call_quiet (calls.Report activity) e = tt
 call_quiet (calls.Relay payload plan) e = tt
-call_quiet (calls.Block who) e = tt
+call_quiet (calls.Block who why) e = tt
 
 message_quiet : (h : Handed) → is_quiet_message h ≡ true → HandedFits h
 message_quiet (handed.Batcher (batcher.Constructed v)) e = cc

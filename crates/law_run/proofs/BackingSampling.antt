@@ -26,6 +26,8 @@ use Rattle.simplex_wire.proofs.Messages.{vote_is}
 use Rattle.simplex_types.specs.Keyed.{signature_of, keyed_verifies, keyed_attests}
 use Rattle.simplex_messages.specs.declared.call.Call.{Call}
 use Rattle.simplex_messages.specs.declared.call.Call.TheVariants as calls
+use Rattle.simplex_messages.specs.Step.{blocked_by_calls}
+use Rattle.simplex_types.specs.declared.cause.BlockCause.TheVariants.{ConflictingVotes}
 use Rattle.simplex_messages.specs.declared.step.Outcome.{Outcome}
 use Rattle.simplex_messages.specs.declared.step.Outcome.TheVariants as outcomes
 use Rattle.simplex_transcript.specs.declared.node.Node.{Node}
@@ -51,7 +53,7 @@ use Rattle.simplex_wire.specs.declared.vote.Nullify.{Nullify}
 use Rattle.simplex_values.specs.declared.plan.Recipients.TheVariants as recipients
 use Rattle.simplex_types.specs.declared.activity.Activity.TheVariants as activities
 use Rattle.law_run.specs.Backed.{of_call, of_packet, IsVerifying, IsBackedIn, AreBacked, StandsIn}
-use Rattle.law_run.specs.Blame.{AreBlameless}
+use Rattle.law_run.specs.Blame.{AreBlameless, bars, BarNot, NoneBarred}
 use Rattle.law_run.specs.Founded.{IsOn}
 use Rattle.law_run.specs.Genuine.{floor_in, said_in, AreGenuine}
 use Rattle.law_run.specs.Late.{own_finalize, its_notarization, hasty_votes, hasty, late}
@@ -60,7 +62,7 @@ use Rattle.law_run.specs.Safe.{Stands, AgreeAll, AllName, AreFounded}
 use Rattle.law_run.specs.BackingSamples.{signed, near, far, bytes_of, block_at, block, notarize_of, own_notarize, own_nullify, notarized, nullified, bare_nullification, packet_of, send, apart, its, sample, with_silent, noise, after_tick, after_noise}
 use Rattle.law_run.specs.Voting.{read_vote, vote_in, sent_votes, HasSigned}
 use Rattle.law_run.specs.WellSent.{Came, AreWellSent, EachWellSent, AllWellSent}
-use Rattle.law_run.specs.Words.{Word, Backed, Genuine, Named, Founded, Stored, Ruled, Ordered, Blameless, Says, AllBut}
+use Rattle.law_run.specs.Words.{Word, Backed, Genuine, Named, Founded, Stored, Ruled, Ordered, Blameless, Unbarred, Says, AllBut}
 use Rattle.law_run.proofs.Good.{AllBytes, to_bytes, signature_raw}
 use Rattle.model_run.specs.Members.{rules_of}
 use Rattle.law_run.proofs.Further.{same_node}
@@ -251,6 +253,21 @@ silent member = All-nil (λ (call : Call). blames call member ≡ false)
 and_call : (member : ℕ) (c : Call) (cs : List Call) → blames c member ≡ false → BlameNot member cs → BlameNot member (c ∷ cs)
 and_call member c cs e h = All-cons (λ (call : Call). blames call member ≡ false) c cs e h
 
+-- no block, no bar
+unbarred : (member : ℕ) (cs : List Call) → blocked_by_calls cs ≡ [] → BarNot member cs
+unbarred member [] e = All-nil (λ (call : Call). bars call member ≡ false)
+unbarred member (calls.Block who why ∷ cs) e = cc
+unbarred member (calls.Append n a ∷ cs) e = All-cons (λ (call : Call). bars call member ≡ false) (calls.Append n a) cs refl (unbarred member cs e)
+unbarred member (calls.Sync n ∷ cs) e = All-cons (λ (call : Call). bars call member ≡ false) (calls.Sync n) cs refl (unbarred member cs e)
+unbarred member (calls.Prune n ∷ cs) e = All-cons (λ (call : Call). bars call member ≡ false) (calls.Prune n) cs refl (unbarred member cs e)
+unbarred member (calls.Send channel to bytes ∷ cs) e = All-cons (λ (call : Call). bars call member ≡ false) (calls.Send channel to bytes) cs refl (unbarred member cs e)
+unbarred member (calls.Report activity ∷ cs) e = All-cons (λ (call : Call). bars call member ≡ false) (calls.Report activity) cs refl (unbarred member cs e)
+unbarred member (calls.Relay payload plan ∷ cs) e = All-cons (λ (call : Call). bars call member ≡ false) (calls.Relay payload plan) cs refl (unbarred member cs e)
+
+none_barred : (n : Noted) → blocked_by_calls n.entry.calls ≡ [] → NoneBarred alone (n ∷ [])
+unfolding NoneBarred
+none_barred n e = ((λ member honest. unbarred member n.entry.calls e), tt)
+
 -- ---- where no certificate stands
 
 record IsBare (noted : List Noted) : Type 0 where
@@ -334,6 +351,7 @@ unbacked = record { others = others; agrees = λ a b sa sb. apart_agree a b (lon
     others Ruled n = λ node h. ruled_apart (nullified near ∷ []) [] [] [] node (nothing_ruled node)
     others Ordered n = no_vote (apart (nullified near ∷ []) [] []) refl
     others Blameless n = no_blame (apart (nullified near ∷ []) [] []) [] silent nobody_blamed
+    others Unbarred n = none_barred (apart (nullified near ∷ []) [] []) refl
 
 -- a vote that went out, and its nullification, are backed
 lone_out : (r : Round) → FitsVote (votes.Nullify (own_nullify r)) → sent_votes (lone r (votes.Nullify (own_nullify r) ∷ [])) 0 ≡ votes.Nullify (own_nullify r) ∷ []
@@ -373,6 +391,7 @@ unnamed = record { others = others; agrees = λ a b sa sb. apart_agree a b (lone
     others Ruled n = λ node h. ruled_apart (nullified far ∷ []) (votes.Nullify (own_nullify far) ∷ []) [] [] node (nothing_ruled node)
     others Ordered n = one_vote (apart (nullified far ∷ []) (votes.Nullify (own_nullify far) ∷ []) []) (votes.Nullify (own_nullify far)) (lone_out far (nullify_fits 7 1 (omega arith) (omega arith))) tt
     others Blameless n = no_blame (apart (nullified far ∷ []) (votes.Nullify (own_nullify far) ∷ []) []) [] silent nobody_blamed
+    others Unbarred n = none_barred (apart (nullified far ∷ []) (votes.Nullify (own_nullify far) ∷ []) []) refl
 
 unfounded : AllBut (at_epoch_genesis alone) (sample Founded) Founded
 unfolding AreBacked StandsIn sent_votes AreStored AreByRule AreBlameless voted calls_of life_in journal.kept
@@ -410,6 +429,7 @@ unfounded = record { others = others; agrees = λ a b sa sb. which (λ x. ¬ (Co
     others Ruled n = λ node h. ruled_apart (notarized 1 ∷ []) (votes.Notarize (own_notarize 1) ∷ []) [] [] node (nothing_ruled node)
     others Ordered n = one_vote (apart (notarized 1 ∷ []) (votes.Notarize (own_notarize 1) ∷ []) []) (votes.Notarize (own_notarize 1)) out (λ x low high. absurd (none_between x low high))
     others Blameless n = no_blame (apart (notarized 1 ∷ []) (votes.Notarize (own_notarize 1) ∷ []) []) [] silent nobody_blamed
+    others Unbarred n = none_barred (apart (notarized 1 ∷ []) (votes.Notarize (own_notarize 1) ∷ []) []) refl
 
 -- ---- a record of a nullification that nobody signed
 
@@ -458,6 +478,7 @@ untrue =
     others Ruled n = λ node h. ruled_broken unsigned_record node
     others Ordered n = no_vote (its outcomes.Cut unsigned_record) refl
     others Blameless n = no_blame (its outcomes.Cut unsigned_record) [] (λ member. and_call member (calls.Append 1 (artifacts.Nullification bare_nullification)) [] refl (silent member)) nobody_blamed
+    others Unbarred n = none_barred (its outcomes.Cut unsigned_record) refl
 
 -- ---- two notarizes of one view
 
@@ -499,6 +520,7 @@ disordered =
     others Stored n = λ node h. stored_apart [] rivals [] [] node (nothing_stored node)
     others Ruled n = λ node h. ruled_apart [] rivals [] [] node (nothing_ruled node)
     others Blameless n = no_blame (apart [] rivals []) [] silent nobody_blamed
+    others Unbarred n = none_barred (apart [] rivals []) refl
 
 abbrev own : Vote
 own = votes.Nullify (own_nullify near)
@@ -534,6 +556,7 @@ unstored = record { others = others; agrees = bare_agrees (sample Stored) bare; 
     others Ruled n = λ node h. ruled_broken (send own ∷ []) node
     others Ordered n = no_vote (its outcomes.Cut (send own ∷ [])) refl
     others Blameless n = no_blame (its outcomes.Cut (send own ∷ [])) [] (λ member. and_call member (send own) [] refl (silent member)) nobody_blamed
+    others Unbarred n = none_barred (its outcomes.Cut (send own ∷ [])) refl
 
 signed_own : IsOwn (rules_of (at_epoch_genesis alone) 0 0) own
 unfolding rules_of keyed_attests
@@ -582,6 +605,7 @@ undue = record { others = others; agrees = bare_agrees (sample Ruled) bare; fail
     others Ordered n = no_vote (its outcomes.Done storing) refl
     others Blameless n =
         no_blame (its outcomes.Done storing) [] (λ member. and_call member (calls.Append 1 (artifacts.Nullify (own_nullify near))) (calls.Sync 1 ∷ send own ∷ []) refl (and_call member (calls.Sync 1) (send own ∷ []) refl (and_call member (send own) [] refl (silent member)))) nobody_blamed
+    others Unbarred n = none_barred (its outcomes.Done storing) refl
 
 abbrev report : Call
 report = calls.Report (activities.ConflictingNotarize (record { first = own_notarize 1; second = own_notarize 2 }))
@@ -605,6 +629,31 @@ blamed = record { others = others; agrees = bare_agrees (sample Blameless) bare;
     others Stored n = λ node h. stored_apart [] [] (report ∷ []) [] node (nothing_stored node)
     others Ruled n = λ node h. ruled_apart [] [] (report ∷ []) [] node (nothing_ruled node)
     others Ordered n = no_vote (apart [] [] (report ∷ [])) refl
+    others Unbarred n = none_barred (apart [] [] (report ∷ [])) refl
+
+abbrev bar : Call
+bar = calls.Block 0 ConflictingVotes
+
+barred : AllBut (at_epoch_genesis alone) (sample Unbarred) Unbarred
+unfolding AreBacked StandsIn sent_votes AreStored AreByRule NoneBarred voted calls_of life_in journal.kept
+barred = record { others = others; agrees = bare_agrees (sample Unbarred) bare; fails = fails }
+  where
+    bare : IsBare (sample Unbarred)
+    bare = bare_apart [] (bar ∷ []) refl
+
+    fails : ¬ (NoneBarred alone (sample Unbarred))
+    fails h = (let e = All-head (λ (call : Call). bars call 0 ≡ false) bar [] (h.0 0 honest) in cc)
+
+    others : (other : Word) → ¬ (other ≡ Unbarred) → Says (at_epoch_genesis alone) (sample Unbarred) other
+    others Unbarred n = absurd (n refl)
+    others Backed n = bare.backed
+    others Genuine n = nothing_said (apart [] [] (bar ∷ [])) refl refl
+    others Named n = bare_named (sample Unbarred) bare
+    others Founded n = bare_founded (sample Unbarred) bare
+    others Stored n = λ node h. stored_apart [] [] (bar ∷ []) [] node (nothing_stored node)
+    others Ruled n = λ node h. ruled_apart [] [] (bar ∷ []) [] node (nothing_ruled node)
+    others Ordered n = no_vote (apart [] [] (bar ∷ [])) refl
+    others Blameless n = no_blame (apart [] [] (bar ∷ [])) [] (λ member. and_call member bar [] refl (silent member)) nobody_blamed
 
 pub each_word : (word : Word) → AllBut (at_epoch_genesis alone) (sample word) word
 each_word Backed = unbacked
@@ -615,6 +664,7 @@ each_word Stored = unstored
 each_word Ruled = undue
 each_word Ordered = disordered
 each_word Blameless = blamed
+each_word Unbarred = barred
 
 -- ---- a notarization that comes late
 

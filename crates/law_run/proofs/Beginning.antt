@@ -35,7 +35,7 @@ use Rattle.law_run.specs.Sayings.{Each, InCall, InMessage, InRecord, InFloor, In
 use Rattle.law_run.specs.Saying.{InStart}
 use Rattle.law_run.proofs.Events.{place_in, engine_at, given_start, begun_gives}
 use Rattle.law_run.proofs.NodeKeeping.{InJournal, InAppend, start_keeps}
-use Rattle.law_run.proofs.Speaking.{SaysGood}
+use Rattle.law_run.proofs.Speaking.{SaysGood, voter_calls}
 use Rattle.law_run.proofs.Telling.{nothing_known, started_says, said_at_start}
 use Rattle.law_run.proofs.Backers.{Backers}
 use Rattle.law_run.proofs.Good.{IsGood, IsSized}
@@ -46,6 +46,7 @@ use Rattle.law_run.proofs.Signing.{engine_own}
 use Rattle.law_run.proofs.BackingEngines.{IsFineRun, IsLifeFine, IsPlaceFine, IsTold, advance, engine_batcher, engine_resolver, first_half, lives_on}
 use Rattle.law_run.proofs.Reporting.{floor_good}
 use Rattle.law_run.proofs.Handing.{silent_fine, start_given}
+use Rattle.law_run.proofs.Letting.{given_input}
 
 -- the calls of a step leave good records
 pub appended_good : (backers : Backers) (cs : List Call) → Each (InCall (IsGood backers)) cs → Each (InAppend (InRecord (IsGood backers))) cs
@@ -56,7 +57,7 @@ appended_good backers (calls.Prune k ∷ rest) g = (tt, appended_good backers re
 appended_good backers (calls.Send channel to bytes ∷ rest) g = (tt, appended_good backers rest g.1)
 appended_good backers (calls.Report activity ∷ rest) g = (tt, appended_good backers rest g.1)
 appended_good backers (calls.Relay payload plan ∷ rest) g = (tt, appended_good backers rest g.1)
-appended_good backers (calls.Block who ∷ rest) g = (tt, appended_good backers rest g.1)
+appended_good backers (calls.Block who why ∷ rest) g = (tt, appended_good backers rest g.1)
 
 -- a start constructs nothing
 no_own : (Good : Certificate → Type 0) (cs : List Call) (hs : List Handed) → sends cs ≡ [] → Each (InMessage Good cs) hs → AreSilent hs
@@ -103,7 +104,7 @@ unfolding place_of
 start_place_fine backers made now stop says records =
     record {
       known = at (unreadable stop);
-      records = start_keeps (InRecord (IsGood backers)) stop made.floor (start_at made now made.sections) made.sections (appended_good backers (start_at made now made.sections).calls says.in_calls) records;
+      records = start_keeps (InRecord (IsGood backers)) stop made.floor (start_at made now made.sections) made.sections (appended_good backers (start_at made now made.sections).calls (voter_calls (IsGood backers) (start_at made now made.sections).calls says.in_calls)) records;
     }
   where
     at : (b : Bool) → InKnown (IsGood backers) (if b then (place_of made []).standing else rest (start_at made now made.sections) []).desk.known
@@ -162,11 +163,11 @@ begin_fine backers before event noted sized b told fine =
       batcher = engine_batcher backers at floor js;
       resolver = engine_resolver backers at floor js;
       signs = engine_own setting at floor js half.0 sized;
-      given = subst (λ (d : Did). Each (InGiven made.resolver (IsGood backers)) (engine.resolver_past (d ∷ []))) (sym same) (start_given (InGiven made.resolver (IsGood backers)) now stop (given_start setting at floor js now stop).outcome (given_start setting at floor js now stop).out);
+      given = subst (λ (d : Did). Each (InGiven made.resolver (IsGood backers)) (engine.resolver_past (d ∷ []))) (sym same) (start_given (InGiven made.resolver (IsGood backers)) (λ member. tt) now stop (given_start setting at floor js now stop).outcome (given_start setting at floor js now stop).out);
       history = (
         record {
           handed = subst (λ (d : Did). Each (IsFine backers) d.out.handed) (sym same) (start_handed backers at floor stop js now g records);
-          taken = λ input t. (let k : input_of_batcher Began ≡ Some input = subst (λ (d : Did). input_of_batcher d.taken ≡ Some input) same t in cc);
+          taken = λ g t. (let k : input_of_batcher Began ≡ Some g.input = subst (λ (d : Did). input_of_batcher d.taken ≡ Some g.input) same (given_input did g t) in cc);
         },
         tt,
       );

@@ -49,6 +49,7 @@ use Rattle.std.proofs.lemmas.List.Elements.{All-cons}
 use Rattle.simplex_messages.specs.declared.call.Call.{Call}
 use Rattle.simplex_messages.specs.declared.call.Call.TheVariants as calls
 use Rattle.model_steps.specs.ResolverSteps.{is_call_of_resolver}
+use Rattle.law_run.proofs.Letting.{heard_either}
 use Rattle.model_steps.proofs.ResolverSteps.{heard_by_resolver, stepped_resolver, stepped_handler, stepped_fetcher}
 use Rattle.law_run.specs.Faulty.{faulty_of}
 use Rattle.law_run.specs.Histories.{IsRun}
@@ -59,7 +60,7 @@ module _ (backers : Backers) (member term : ℕ) (sent : List Sent) (honest : ¬
   came_authentic : (given : List batcher.Timed) → Each (IsFineTimed backers) given → IsAuthentic member given sent
   came_authentic given fine vote came is = elim (came_counted backers given vote fine came).0 [
     | inl f ↦ absurd (honest (subst (Contains (faulty_of backers.setting.setup)) is f))
-    | inr h ↦ voted (vote_subject vote) (subst (λ n. HasVoted backers.noted n (vote_subject vote)) is h)
+    | inr h ↦ voted (vote_subject vote) (subst (λ n. HasVoted backers.noted n (vote_subject vote)) is (vote, h, refl))
   ]
 
   batcher_spares : (made : EngineMade) (past : List Did) (taken : Taken) (input : BatcherInput) (now : ℕ) (stop : Stop) → Each (IsFineDid backers) past → IsFineInput backers input
@@ -85,7 +86,7 @@ module _ (backers : Backers) (member term : ℕ) (sent : List Sent) (honest : ¬
   -- a resolver reports nothing
   resolver_spares : (cs : List Call) → list_all is_call_of_resolver cs ≡ true → Spares member cs
   resolver_spares [] e = none member
-  resolver_spares (calls.Block who ∷ cs) e = All-cons (λ (call : Call). blames call member ≡ false) (calls.Block who) cs refl (resolver_spares cs e)
+  resolver_spares (calls.Block who why ∷ cs) e = All-cons (λ (call : Call). blames call member ≡ false) (calls.Block who why) cs refl (resolver_spares cs e)
   resolver_spares (calls.Send channels.Resolver to bytes ∷ cs) e = All-cons (λ (call : Call). blames call member ≡ false) (calls.Send channels.Resolver to bytes) cs refl (resolver_spares cs e)
   resolver_spares (calls.Send channels.Vote to bytes ∷ cs) e = cc
   resolver_spares (calls.Send channels.Certificate to bytes ∷ cs) e = cc
@@ -107,11 +108,17 @@ module _ (backers : Backers) (member term : ℕ) (sent : List Sent) (honest : ¬
   step_spares made past sources.Handler now stop fine = (let r = stepped_handler made past now stop in resolver_spares (engine.stepped made past sources.Handler now stop).out.calls r.calls)
   step_spares made past sources.Fetch now stop fine = (let r = stepped_fetcher made past now stop in resolver_spares (engine.stepped made past sources.Fetch now stop).out.calls r.calls)
 
+  refused_or : (made : EngineMade) (past : List Did) (sender : ℕ) (channel : Channel) (bytes : List ℕ) (now : ℕ) → Spares member (engine.let_in made past sender channel bytes now).out.calls
+      → Spares member (engine.heard made past sender channel bytes now).out.calls
+  refused_or made past sender channel bytes now l = heard_either (λ (did : Did). Spares member did.out.calls) made past sender channel bytes now (none member) l
+
   heard_spares : (made : EngineMade) (past : List Did) (sender : ℕ) (channel : Channel) (bytes : List ℕ) (now : ℕ) → FineOn backers sender channel bytes → Each (IsFineDid backers) past
       → Spares member (engine.heard made past sender channel bytes now).out.calls
-  unfolding engine.heard
-  heard_spares made past sender channels.Vote bytes now f fine = batcher_spares made past (engine.Heard sender channels.Vote bytes) (batcher_inputs.Vote sender bytes) now stops.None fine f
-  heard_spares made past sender channels.Certificate bytes now f fine = batcher_spares made past (engine.Heard sender channels.Certificate bytes) (batcher_inputs.Certificate sender bytes) now stops.None fine f
+  unfolding engine.let_in
+  heard_spares made past sender channels.Vote bytes now f fine =
+      refused_or made past sender channels.Vote bytes now (batcher_spares made past (engine.Heard sender channels.Vote bytes) (batcher_inputs.Vote sender bytes) now stops.None fine f)
+  heard_spares made past sender channels.Certificate bytes now f fine =
+      refused_or made past sender channels.Certificate bytes now (batcher_spares made past (engine.Heard sender channels.Certificate bytes) (batcher_inputs.Certificate sender bytes) now stops.None fine f)
   heard_spares made past sender channels.Resolver bytes now f fine = (let r = heard_by_resolver made past sender bytes now in resolver_spares (engine.heard made past sender channels.Resolver bytes now).out.calls r.calls)
 
   taken_spares : (before : List Noted) (at : Node) (made : EngineMade) (past : List Did) (did : Did) → IsTaken backers.setting.setup before at made past did → IsFineRun backers before → Each (IsFineDid backers) past

@@ -74,28 +74,53 @@ place_in made past = place_of (voter_in made past) (voter_past past)
 
 -- ---- what an outcome is
 
-pub never_idle : (stop : Stop) (d : Doing) (js : List Section) → (performed stop d js).outcome ≡ outcomes.Idle → ⊥
-unfolding performed
-never_idle stop d js e = at (stop_place stop d.calls) e
-  where
-    ended : (s : Stop) → stop_outcome s ≡ outcomes.Idle → ⊥
-    ended stops.None h = cc
-    ended (stops.Cut call keep) h = cc
-    ended (stops.Fail call keep) h = cc
+-- a voter's step is neither idle nor refused
+is_acted : Outcome → Bool
+is_acted outcomes.Idle = false
+is_acted outcomes.Refused = false
+is_acted _ = true
 
-    at : (o : Option ℕ) → (option_map_or (broken stop d js) o (whole d js)).outcome ≡ outcomes.Idle → ⊥
-    at None h = cc
-    at (Some place) h = ended stop h
+performed_acted : (stop : Stop) (d : Doing) (js : List Section) → is_acted (performed stop d js).outcome ≡ true
+unfolding performed is_acted
+performed_acted stop d js = at (stop_place stop d.calls)
+  where
+    ended : (s : Stop) → is_acted (stop_outcome s) ≡ true
+    ended stops.None = refl
+    ended (stops.Cut call keep) = refl
+    ended (stops.Fail call keep) = refl
+
+    at : (o : Option ℕ) → is_acted (option_map_or (broken stop d js) o (whole d js)).outcome ≡ true
+    at None = refl
+    at (Some place) = ended stop
+
+start_acted : (stop : Stop) (floor : Floor) (d : Doing) (js : List Section) → is_acted (start_performed stop floor d js).outcome ≡ true
+unfolding start_performed is_acted
+start_acted stops.None floor d js = performed_acted stops.None d js
+start_acted (stops.Cut call keep) floor d js = performed_acted (stops.Cut call keep) d js
+start_acted (stops.Fail call keep) floor d js = at (call == 1)
+  where
+    at : (b : Bool) → is_acted (if b then unread floor d keep js else performed (stops.Fail (call - 1) keep) d js).outcome ≡ true
+    at true = refl
+    at false = performed_acted (stops.Fail (call - 1) keep) d js
+
+never : (o given : Outcome) → is_acted o ≡ true → o ≡ given → is_acted given ≡ false → ⊥
+never o given t e f = cc
+
+pub never_idle : (stop : Stop) (d : Doing) (js : List Section) → (performed stop d js).outcome ≡ outcomes.Idle → ⊥
+unfolding is_acted
+never_idle stop d js e = never _ outcomes.Idle (performed_acted stop d js) e refl
+
+pub never_refused : (stop : Stop) (d : Doing) (js : List Section) → (performed stop d js).outcome ≡ outcomes.Refused → ⊥
+unfolding is_acted
+never_refused stop d js e = never _ outcomes.Refused (performed_acted stop d js) e refl
 
 start_never_idle : (stop : Stop) (floor : Floor) (d : Doing) (js : List Section) → (start_performed stop floor d js).outcome ≡ outcomes.Idle → ⊥
-unfolding start_performed
-start_never_idle stops.None floor d js e = never_idle stops.None d js e
-start_never_idle (stops.Cut call keep) floor d js e = never_idle (stops.Cut call keep) d js e
-start_never_idle (stops.Fail call keep) floor d js e = at (call == 1) e
-  where
-    at : (b : Bool) → (if b then unread floor d keep js else performed (stops.Fail (call - 1) keep) d js).outcome ≡ outcomes.Idle → ⊥
-    at true h = cc
-    at false h = never_idle (stops.Fail (call - 1) keep) d js h
+unfolding is_acted
+start_never_idle stop floor d js e = never _ outcomes.Idle (start_acted stop floor d js) e refl
+
+pub start_never_refused : (stop : Stop) (floor : Floor) (d : Doing) (js : List Section) → (start_performed stop floor d js).outcome ≡ outcomes.Refused → ⊥
+unfolding is_acted
+start_never_refused stop floor d js e = never _ outcomes.Refused (start_acted stop floor d js) e refl
 
 start_reads : (stop : Stop) (floor : Floor) (d : Doing) (js : List Section) → (start_performed stop floor d js).outcome ≡ outcomes.Done → unreadable stop ≡ false
 unfolding start_performed
@@ -123,7 +148,7 @@ no_vote Earlier cs before behind to bytes h e = at before (subst (λ xs. AreSent
     at (calls.Prune n ∷ xs) k = at xs k
     at (calls.Report activity ∷ xs) k = at xs k
     at (calls.Relay payload plan ∷ xs) k = at xs k
-    at (calls.Block who ∷ xs) k = at xs k
+    at (calls.Block who why ∷ xs) k = at xs k
 
 voteless_first : (Earlier : Nullify → Type 0) (Own : Vote → Type 0) (cs : List Call) → AreSent cs [] → AreStoredFirst Earlier Own cs
 voteless_first Earlier Own cs h before behind to bytes e = absurd (no_vote Earlier cs before behind to bytes h e)
@@ -178,6 +203,8 @@ start_leaves setting node floor js now stop m outcomes.Done e l =
     )
 start_leaves setting node floor js now stop m outcomes.Idle e l =
     absurd (start_never_idle stop (floor_of setting.genesis floor) (voter.started (rules_of setting node.member now) now (floor_of setting.genesis floor) (replayed js)) js e)
+start_leaves setting node floor js now stop m outcomes.Refused e l =
+    absurd (start_never_refused stop (floor_of setting.genesis floor) (voter.started (rules_of setting node.member now) now (floor_of setting.genesis floor) (replayed js)) js e)
 start_leaves setting node floor js now stop m outcomes.Cut e l =
     let made = (engine_at setting node floor js).voter now in
     stopped_any setting node.member now 0 _ m (subst (λ sections. IsStopped (rules_of setting node.member now) sections m) (sym (start_sections made now stop)) l)
@@ -193,7 +220,7 @@ in_floor setting node (Some f) stop c k =
     subst (λ b. Contains (if b then statement_of (certificates.Finalization f) ∷ [] else []) c) (sym (same_self node)) k
 
 -- a start hands on no constructed vote: it sends none
-abbrev nothing_bad : Certificate → Type 0
+abbrev pub nothing_bad : Certificate → Type 0
 nothing_bad c = Unit {0}
 
 no_send : (cs : List Call) (to : Recipients) (bytes : List ℕ) → AreSent cs [] → ¬ (Contains cs (calls.Send channels.Vote to bytes))
@@ -207,7 +234,7 @@ no_send (calls.Sync n ∷ xs) to bytes h k = elim (Contains-cons_cases _ xs _ k)
 no_send (calls.Prune n ∷ xs) to bytes h k = elim (Contains-cons_cases _ xs _ k) [ inl e ↦ cc e | inr r ↦ no_send xs to bytes h r ]
 no_send (calls.Report activity ∷ xs) to bytes h k = elim (Contains-cons_cases _ xs _ k) [ inl e ↦ cc e | inr r ↦ no_send xs to bytes h r ]
 no_send (calls.Relay payload plan ∷ xs) to bytes h k = elim (Contains-cons_cases _ xs _ k) [ inl e ↦ cc e | inr r ↦ no_send xs to bytes h r ]
-no_send (calls.Block who ∷ xs) to bytes h k = elim (Contains-cons_cases _ xs _ k) [ inl e ↦ cc e | inr r ↦ no_send xs to bytes h r ]
+no_send (calls.Block who why ∷ xs) to bytes h k = elim (Contains-cons_cases _ xs _ k) [ inl e ↦ cc e | inr r ↦ no_send xs to bytes h r ]
 
 unsent_silent : (cs : List Call) (hs : List Handed) → AreSent cs [] → Each (InMessage nothing_bad cs) hs → AreSilent hs
 unsent_silent cs [] h k = tt
@@ -217,13 +244,13 @@ unsent_silent cs (handed.Voter message ∷ rest) h k = (tt, unsent_silent cs res
 unsent_silent cs (handed.Resolver message ∷ rest) h k = (tt, unsent_silent cs rest h k.1)
 unsent_silent cs (handed.Handler message ∷ rest) h k = (tt, unsent_silent cs rest h k.1)
 
-any_record : (a : Artifact) → InRecord nothing_bad a
+pub any_record : (a : Artifact) → InRecord nothing_bad a
 any_record (artifacts.Notarization c) = tt
 any_record (artifacts.Nullification c) = tt
 any_record (artifacts.Finalization c) = tt
 any_record _ = tt
 
-any_floor : (f : Floor) → InFloor nothing_bad f
+pub any_floor : (f : Floor) → InFloor nothing_bad f
 any_floor (floors.Genesis payload) = tt
 any_floor (floors.Finalized f) = tt
 
@@ -351,6 +378,8 @@ unseen_further setting node made past m noted taken now stop outcomes.Done out u
     quiet_on setting node noted _ m (subst Voteless (sym same.0) voteless) (subst AreSilent (sym same.1) silent) (quiet_at setting node made (did_of taken now stop outcomes.Done out) past m (u.0 now stop outcomes.Done out) u.1 a)
 unseen_further setting node made past m noted taken now stop outcomes.Idle out u voteless silent same a =
     quiet_on setting node noted _ m (subst Voteless (sym same.0) voteless) (subst AreSilent (sym same.1) silent) (quiet_at setting node made (did_of taken now stop outcomes.Idle out) past m (u.0 now stop outcomes.Idle out) u.1 a)
+unseen_further setting node made past m noted taken now stop outcomes.Refused out u voteless silent same a =
+    quiet_on setting node noted _ m (subst Voteless (sym same.0) voteless) (subst AreSilent (sym same.1) silent) (quiet_at setting node made (did_of taken now stop outcomes.Refused out) past m (u.0 now stop outcomes.Refused out) u.1 a)
 unseen_further setting node made past m noted taken now stop outcomes.Journal out u voteless silent same a =
     quiet_off setting node noted _ m (subst Voteless (sym same.0) voteless) (subst AreSilent (sym same.1) silent) (quiet_stopped setting node made (did_of taken now stop outcomes.Journal out) past m (u.0 now stop outcomes.Journal out) u.1 a)
 unseen_further setting node made past m noted taken now stop outcomes.Cut out u voteless silent same a =
@@ -399,7 +428,7 @@ nothing_further setting node made past m noted taken now stop o u same a = unsee
 -- what a resolver did
 resolver_voteless : (cs : List Call) → list_all is_call_of_resolver cs ≡ true → Voteless cs
 resolver_voteless [] e = tt
-resolver_voteless (calls.Block who ∷ cs) e = (tt, resolver_voteless cs e)
+resolver_voteless (calls.Block who why ∷ cs) e = (tt, resolver_voteless cs e)
 resolver_voteless (calls.Send channels.Resolver to bytes ∷ cs) e = (tt, resolver_voteless cs e)
 resolver_voteless (calls.Send channels.Vote to bytes ∷ cs) e = cc
 resolver_voteless (calls.Send channels.Certificate to bytes ∷ cs) e = cc
@@ -433,6 +462,7 @@ resolver_further setting node made past m noted did r apart start same a = at di
     at : (o : Outcome) → Further setting noted node (if is_whole o then Running made (did ∷ past) else Stopped (sections_of made (did ∷ past))) m
     at outcomes.Done = quiet_on setting node noted _ m voteless silent (quiet_at setting node made did past m apart.voter start a)
     at outcomes.Idle = quiet_on setting node noted _ m voteless silent (quiet_at setting node made did past m apart.voter start a)
+    at outcomes.Refused = quiet_on setting node noted _ m voteless silent (quiet_at setting node made did past m apart.voter start a)
     at outcomes.Journal = quiet_off setting node noted _ m voteless silent (quiet_stopped setting node made did past m apart.voter start a)
     at outcomes.Cut = quiet_off setting node noted _ m voteless silent (quiet_stopped setting node made did past m apart.voter start a)
 
@@ -455,6 +485,7 @@ step_leaves setting node made past did place input now stop d m outcomes.Done ru
       (subst (λ x. IsRunning (voter_in made past).rules d.desk.known x m) (sym sections) l))),
 )
 step_leaves setting node made past did place input now stop d m outcomes.Idle rules at same e known sections l = absurd (never_idle stop d (place_of (voter_in made past) (voter_past past)).sections e)
+step_leaves setting node made past did place input now stop d m outcomes.Refused rules at same e known sections l = absurd (never_refused stop d (place_of (voter_in made past) (voter_past past)).sections e)
 step_leaves setting node made past did place input now stop d m outcomes.Journal rules at same e known sections l =
     let js = (performed stop d (place_of (voter_in made past) (voter_past past)).sections).sections in
     subst (λ (p : Place). IsStopped (rules_of setting node.member 0) p.sections m) (sym at)

@@ -20,7 +20,7 @@ use Rattle.model_resolver.specs.declared.entry.State.TheVariants.{Waiting, Asked
 use Rattle.model_resolver.specs.declared.out.Out.{Out}
 use Rattle.model_resolver.specs.declared.out.Out.TheVariants as outs
 use Rattle.model_resolver.specs.declared.retire.Retire.{Retire}
-use Rattle.model_resolver.specs.Fetcher.{Machine, After, Fetching, message_bytes, visited, peer_of, asking, attempted, attempted_at, attempting, fetched, fetched_beside, noting, adding, left_of, kept_or_left, without, is_empty, retired_at, retiring, retained, requested, delivered, answered, heard_body, heard_message, heard, blocked_by, is_done, delivered_of, asked_on, judged_as, judged_entry, judged_at, judged, served_as, served, expired_as, expired_at, expiring, expired}
+use Rattle.model_resolver.specs.Fetcher.{Machine, After, Fetching, message_bytes, visited, peer_of, asking, attempted, attempted_at, attempting, fetched, fetched_beside, noting, adding, left_of, kept_or_left, without, is_empty, retired_at, retiring, retained, requested, delivered, answered, heard_body, heard_message, heard, blocked_by, retrying, is_done, delivered_of, asked_on, judged_as, judged_entry, judged_at, judged, served_as, served, expired_as, expired_at, expiring, expired}
 use Rattle.model_resolver.specs.Asks.{holds_ask}
 use Rattle.model_resolver.specs.Retirement.{reaches, retires}
 use Rattle.model_resolver.specs.Views.{entry_at, views_where, asked_view, judged_view, is_due}
@@ -61,7 +61,7 @@ module _ (Good : Certificate → Type 0) (Brings : List ℕ → Type 0) where
 
   attempted_out : (now view : ℕ) (entry : Entry) (m : Machine) → AllOut (attempted now view entry m)
   unfolding attempted
-  attempted_out now view entry m = asking_out now view entry m (peer_of m.config view entry)
+  attempted_out now view entry m = asking_out now view entry m (peer_of m.config m.blocked view entry)
 
   attempted_at_out : (now view : ℕ) (m : Machine) (o : Option Entry) → AllOut (attempted_at now view m o)
   unfolding attempted_at
@@ -106,14 +106,14 @@ module _ (Good : Certificate → Type 0) (Brings : List ℕ → Type 0) where
 
   -- ---- verdicts
 
-  blocked_out : (verdict : Option Outcome) (state : State) → Each InOut (blocked_by verdict state)
-  blocked_out None state = tt
-  blocked_out (Some outcomes.Invalid) (Judged id peer asks) = (tt, tt)
-  blocked_out (Some outcomes.Invalid) (Asked id peer deadline) = tt
-  blocked_out (Some outcomes.Invalid) (Waiting until) = tt
-  blocked_out (Some outcomes.Ignored) state = tt
-  blocked_out (Some outcomes.Unresolved) state = tt
-  blocked_out (Some (outcomes.Resolved resolution)) state = tt
+  blocked_out : (verdict : Option Outcome) (state : State) (m : Machine) → AllOut (blocked_by verdict state m)
+  blocked_out None state m = tt
+  blocked_out (Some outcomes.Invalid) (Judged id peer asks) m = (tt, tt)
+  blocked_out (Some outcomes.Invalid) (Asked id peer deadline) m = tt
+  blocked_out (Some outcomes.Invalid) (Waiting until) m = tt
+  blocked_out (Some outcomes.Ignored) state m = tt
+  blocked_out (Some outcomes.Unresolved) state m = tt
+  blocked_out (Some (outcomes.Resolved resolution)) state m = tt
 
   asked_on_out : (now view : ℕ) (others : Entry) (m : Machine) → AllOut (asked_on now view others m)
   unfolding asked_on
@@ -122,7 +122,7 @@ module _ (Good : Certificate → Type 0) (Brings : List ℕ → Type 0) where
   judged_as_out : (verdict : Option Outcome) (now view : ℕ) (entry : Entry) (m : Machine) → AllOut (judged_as verdict now view entry m)
   unfolding judged_as
   judged_as_out verdict now view entry m =
-      either_after (is_done verdict) _ _ (asked_on_out now view (without (holds_ask (delivered_of entry.state)) entry) m) (blocked_out verdict entry.state)
+      either_after (is_done verdict) _ _ (asked_on_out now view (without (holds_ask (delivered_of entry.state)) entry) m) (blocked_out verdict entry.state (retrying now view entry m))
 
   judged_entry_out : (verdict : Option Outcome) (now view : ℕ) (m : Machine) (o : Option Entry) → AllOut (judged_entry verdict now view m o)
   unfolding judged_entry

@@ -26,8 +26,6 @@ use Rattle.model_steps.specs.Engine.{EngineMade, Did, Began, by_voter, given_to_
 use Rattle.simplex_mailbox.specs.Mail.{received}
 use Rattle.simplex_messages.specs.declared.batcher.Message.{Message}
 use Rattle.simplex_messages.specs.declared.voter.Message as voter_message
-use Rattle.simplex_values.specs.declared.plan.Channel.{Channel}
-use Rattle.simplex_values.specs.declared.plan.Channel.TheVariants as channels
 use Rattle.simplex_wire.specs.declared.certificate.Finalization.{Finalization}
 use Rattle.simplex_transcript.specs.declared.event.Event.{Event}
 use Rattle.simplex_transcript.specs.declared.event.Event.TheVariants as events
@@ -43,6 +41,7 @@ use Rattle.law_run.specs.Faulty.{faulty_of}
 use Rattle.law_run.specs.Histories.{IsRun}
 use Rattle.law_run.proofs.Events.{answered_known, begun_gives, engine_at, given_start, idle_place, place_same, place_then, step_place}
 use Rattle.law_run.proofs.Further.{life_still, life_then, same_node}
+use Rattle.law_run.proofs.Letting.{heard_no_start}
 use Rattle.law_run.proofs.Nodes.{fetcher_no_start, handler_no_start, resolver_no_start}
 use Rattle.law_run.proofs.Turns.{IsTaken, entry_turn}
 use Rattle.law_run.specs.Keeping.{IsAboveFloor}
@@ -180,12 +179,6 @@ goes_above made did past f h = at (given_to_voter did) refl
     at : (o : Option Given) → given_to_voter did ≡ o → IsAbove (voter_in made (did ∷ past)) (voter_past (did ∷ past))
     at None e = let p = place_same made did past e f in moved (voter_past past) p.0 p.1 h
     at (Some given) e = let p = place_then made did past given e f in moved (given ∷ voter_past past) p.0 p.1 (one_more (voter_in made past) (voter_past past) given h)
-
-heard_no_start : (made : EngineMade) (past : List Did) (sender : ℕ) (channel : Channel) (bytes : List ℕ) (now : ℕ) → is_start (engine.heard made past sender channel bytes now).taken ≡ false
-unfolding engine.heard engine.by_resolver engine.by_batcher
-heard_no_start made past sender channels.Vote bytes now = refl
-heard_no_start made past sender channels.Certificate bytes now = refl
-heard_no_start made past sender channels.Resolver bytes now = refl
 
 stepped_no_start : (made : EngineMade) (past : List Did) (source : StepSource) (now : ℕ) (stop : Stop) → is_start (engine.stepped made past source now stop).taken ≡ false
 unfolding engine.stepped engine.by_batcher

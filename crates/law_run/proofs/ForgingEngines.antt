@@ -75,7 +75,7 @@ module _ (setting : Setting) (before : List Noted) (at : Node) (sized : IsSized 
   calls_pass (calls.Prune n ∷ rest) g b own = calls_pass rest g.1 b (sends_less at.member (calls.Prune n) rest own)
   calls_pass (calls.Report activity ∷ rest) g b own = calls_pass rest g.1 b (sends_less at.member (calls.Report activity) rest own)
   calls_pass (calls.Relay payload plan ∷ rest) g b own = calls_pass rest g.1 b (sends_less at.member (calls.Relay payload plan) rest own)
-  calls_pass (calls.Block who ∷ rest) g b own = calls_pass rest g.1 b (sends_less at.member (calls.Block who) rest own)
+  calls_pass (calls.Block who why ∷ rest) g b own = calls_pass rest g.1 b (sends_less at.member (calls.Block who why) rest own)
 
 -- ---- the votes of an engine
 

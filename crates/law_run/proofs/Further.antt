@@ -94,7 +94,7 @@ taken-append (calls.Prune n ∷ xs) ys = taken-append xs ys
 taken-append (calls.Send channel to bytes ∷ xs) ys = taken-append xs ys
 taken-append (calls.Report activity ∷ xs) ys = taken-append xs ys
 taken-append (calls.Relay payload plan ∷ xs) ys = taken-append xs ys
-taken-append (calls.Block who ∷ xs) ys = taken-append xs ys
+taken-append (calls.Block who why ∷ xs) ys = taken-append xs ys
 
 voted-append : (xs ys : List Call) → voted (xs ++ ys) ≡ voted xs ++ voted ys
 unfolding voted
@@ -105,7 +105,7 @@ voted-append (calls.Prune n ∷ xs) ys = voted-append xs ys
 voted-append (calls.Send channel to bytes ∷ xs) ys = voted-append xs ys
 voted-append (calls.Report activity ∷ xs) ys = voted-append xs ys
 voted-append (calls.Relay payload plan ∷ xs) ys = voted-append xs ys
-voted-append (calls.Block who ∷ xs) ys = voted-append xs ys
+voted-append (calls.Block who why ∷ xs) ys = voted-append xs ys
 
 AreSent-append : (xs ys : List Call) (s t : List Subject) → AreSent xs s → AreSent ys t → AreSent (xs ++ ys) (s ++ t)
 unfolding AreSent
@@ -119,7 +119,7 @@ AreSent-append (calls.Sync n ∷ xs) ys s t h k = AreSent-append xs ys s t h k
 AreSent-append (calls.Prune n ∷ xs) ys s t h k = AreSent-append xs ys s t h k
 AreSent-append (calls.Report activity ∷ xs) ys s t h k = AreSent-append xs ys s t h k
 AreSent-append (calls.Relay payload plan ∷ xs) ys s t h k = AreSent-append xs ys s t h k
-AreSent-append (calls.Block who ∷ xs) ys s t h k = AreSent-append xs ys s t h k
+AreSent-append (calls.Block who why ∷ xs) ys s t h k = AreSent-append xs ys s t h k
 
 abbrev pub subjects_of : List Sent → List Subject
 subjects_of sent = map (λ (s : Sent). s.subject) sent

@@ -46,7 +46,7 @@ call_stands f (calls.Sync n) e = cc
 call_stands f (calls.Prune n) e = cc
 call_stands f (calls.Send channel to bytes) e = cc
 call_stands f (calls.Relay payload plan) e = cc
-call_stands f (calls.Block who) e = cc
+call_stands f (calls.Block who why) e = cc
 
 calls_stand : (f : Finalization) (cs : List Call) → list_any (reports f) cs ≡ true → Contains (flat_map of_call cs) (certificates.Finalization f)
 calls_stand f [] e = cc

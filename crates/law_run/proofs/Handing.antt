@@ -1,10 +1,9 @@
 -- What the actors of an engine hand on is fine, and what its resolver is given.
-use Rattle.std.proofs.Common.{ℕ, ◌++◌, List, [], ◌∷◌, Contains, sym, subst}
+use Rattle.std.proofs.Common.{ℕ, List, [], ◌∷◌, Contains, sym, subst, refl}
 use Rattle.simplex_values.specs.declared.plan.Channel.TheVariants as channels
 use Rattle.simplex_values.specs.declared.plan.Recipients.TheVariants as recipients
 use Rattle.simplex_wire.specs.declared.certificate.Certificate.{Certificate}
 use Rattle.simplex_wire.specs.declared.vote.Vote.{Vote}
-use Rattle.simplex_wire.specs.Fields.{vote_subject}
 use Rattle.simplex_wire.specs.Fits.{FitsVote}
 use Rattle.simplex_wire.specs.Message as format
 use Rattle.simplex_wire.proofs.Formats.{whole_again}
@@ -17,7 +16,6 @@ use Rattle.simplex_messages.specs.declared.voter.Message.TheVariants as voter_me
 use Rattle.simplex_messages.specs.declared.handed.Handed.{Handed}
 use Rattle.simplex_messages.specs.declared.handed.Handed.TheVariants as handed
 use Rattle.simplex_messages.specs.declared.step.Outcome.{Outcome}
-use Rattle.simplex_messages.specs.declared.step.Outcome.TheVariants as outcomes
 use Rattle.simplex_messages.specs.declared.step.StepOut.{StepOut}
 use Rattle.simplex_messages.specs.declared.step.Stop.{Stop}
 use Rattle.model_steps.specs.VoterLife.{rest}
@@ -26,7 +24,7 @@ use Rattle.model_steps.specs.Engine.{Did, Began}
 use Rattle.law_member.proofs.Constructing.{AreSilent}
 use Rattle.law_run.specs.Sayings.{Each, InMessage}
 use Rattle.law_run.proofs.Speaking.{Each-append}
-use Rattle.law_run.proofs.Backers.{Backers, Counts}
+use Rattle.law_run.proofs.Backers.{Backers, Spoke}
 use Rattle.law_run.specs.Fitting.{HandedFits}
 use Rattle.law_run.proofs.Good.{IsGood}
 use Rattle.law_run.proofs.Hearing.{IsFine}
@@ -38,6 +36,7 @@ use Rattle.simplex_messages.specs.declared.resolver.MailboxMessage.{MailboxMessa
 use Rattle.simplex_messages.specs.declared.resolver.MailboxMessage.TheVariants as resolver_messages
 use Rattle.model_resolver.specs.Resolver as resolver
 use Rattle.law_run.proofs.Signing.{SignsOwn}
+use Rattle.law_run.proofs.Letting.{told_alone}
 
 -- ---- own votes
 
@@ -54,8 +53,8 @@ pub own_fine : (backers : Backers) (member : ℕ) (rules : Made) (cs : List Call
 own_fine backers member rules cs [] own spoken s g f = tt
 own_fine backers member rules cs (handed.Batcher (batcher_messages.Constructed v) ∷ rest) own spoken s g f =
     let mine = own v g.0 in
-    let counts : Counts backers member (vote_subject v) = spoken v s.0 v (whole_again format.vote FitsVote vote_is v (fits_vote v f.0 mine.1)) in
-    ((subst (λ n. Counts backers n (vote_subject v)) (sym mine.0) counts, f.0), own_fine backers member rules cs rest own spoken s.1 g.1 f.1)
+    let spoke : Spoke backers member v = spoken v s.0 v (whole_again format.vote FitsVote vote_is v (fits_vote v f.0 mine.1)) in
+    ((subst (λ n. Spoke backers n v) (sym mine.0) spoke, f.0), own_fine backers member rules cs rest own spoken s.1 g.1 f.1)
 own_fine backers member rules cs (handed.Batcher (batcher_messages.Update current leader finalized proposal) ∷ rest) own spoken s g f = (tt, own_fine backers member rules cs rest own spoken s.1 g.1 f.1)
 own_fine backers member rules cs (handed.Voter (voter_messages.Verified c) ∷ rest) own spoken s g f = (s.0, own_fine backers member rules cs rest own spoken s.1 g.1 f.1)
 own_fine backers member rules cs (handed.Voter (voter_messages.Proposal p) ∷ rest) own spoken s g f = (tt, own_fine backers member rules cs rest own spoken s.1 g.1 f.1)
@@ -76,17 +75,11 @@ silent_fine backers cs (handed.Handler message ∷ rest) s g = (tt, silent_fine 
 
 -- ---- what a resolver was given
 
--- whatever came of it
-pub by_outcome : (P : Outcome → Type 0) → P outcomes.Done → P outcomes.Idle → P outcomes.Cut → P outcomes.Journal → (o : Outcome) → P o
-by_outcome P done idle cut journal outcomes.Done = done
-by_outcome P done idle cut journal outcomes.Idle = idle
-by_outcome P done idle cut journal outcomes.Cut = cut
-by_outcome P done idle cut journal outcomes.Journal = journal
-
 pub given_on : (P : resolver.Given → Type 0) (did : Did) (past : List Did) → Each P (engine.given_to_resolver did) → Each P (engine.resolver_past past) → Each P (engine.resolver_past (did ∷ past))
 unfolding engine.resolver_past
 given_on P did past new old = Each-append P (engine.given_to_resolver did) (engine.resolver_past past) new old
 
-pub start_given : (P : resolver.Given → Type 0) (now : ℕ) (stop : Stop) (o : Outcome) (out : StepOut) → Each P (engine.resolver_past (engine.did_of Began now stop o out ∷ []))
+pub start_given : (P : resolver.Given → Type 0) → ((member : ℕ) → P (resolver.Blocked member)) → (now : ℕ) (stop : Stop) (o : Outcome) (out : StepOut)
+    → Each P (engine.resolver_past (engine.did_of Began now stop o out ∷ []))
 unfolding engine.resolver_past
-start_given P now stop o out = by_outcome (λ x. Each P (engine.given_to_resolver (engine.did_of Began now stop x out) ++ [])) tt tt tt tt o
+start_given P each now stop o out = (let did = engine.did_of Began now stop o out in Each-append P (engine.given_to_resolver did) [] (told_alone P each did refl) tt)

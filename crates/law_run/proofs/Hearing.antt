@@ -1,7 +1,5 @@
 -- A batcher that hears backed certificates, and votes of those who sent them, hands on backed certificates.
-use Rattle.std.proofs.Common.{◌≡◌, ℕ, ◌-◌, ◌<◌, ◌≤◌, ◌&&◌, nat_lt, nat_le, Bool, true, false, List, [], ◌∷◌, length, take, All, Option, Some, None, Ok, refl, sym, subst, inl, inr, arith, if◌then◌else◌}
-use Rattle.std.specs.List.{filter_map}
-use Rattle.std.proofs.lemmas.Grind.{common_steps}
+use Rattle.std.proofs.Common.{◌≡◌, ℕ, ◌-◌, ◌<◌, ◌≤◌, ◌&&◌, nat_lt, nat_le, Bool, true, false, List, [], ◌∷◌, length, take, All, Some, None, Ok, sym, subst, inl, inr, arith, if◌then◌else◌}
 use Rattle.std.proofs.lemmas.List.Elements.{All-head, All-tail, All-weaker}
 use Rattle.simplex_values.specs.Quorum.{quorum_of}
 use Rattle.simplex_values.specs.declared.proposal.Subject.{Subject}
@@ -33,7 +31,7 @@ use Rattle.simplex_messages.specs.declared.voter.Message as voter_message
 use Rattle.simplex_messages.specs.declared.voter.Message.TheVariants as voter_messages
 use Rattle.simplex_messages.specs.Step.{no_out}
 use Rattle.model_steps.specs.Batcher as batcher
-use Rattle.model_steps.specs.Engine.{EngineMade, Did, Taken, input_of_batcher, given_to_batcher, batcher_past, cut_short, by_batcher}
+use Rattle.model_steps.specs.Engine.{EngineMade, Did, Taken, given_to_batcher, batcher_past, cut_short, by_batcher}
 use Rattle.law_member.specs.BatcherVotes.{Accepted, Came, Brings}
 use Rattle.law_member.specs.Reports.{IsFounded, IsFoundedCall}
 use Rattle.law_member.specs.Certificates.{IsSchemeOfMembers, BringsNew, IsVoteOn, IsFoundedCertificate, IsFoundedMessage}
@@ -43,14 +41,15 @@ use Rattle.law_member.specs.Wire.{Fits}
 use Rattle.law_run.specs.Sayings.{Each, InCall, InReport, InMessage, AllSaid}
 use Rattle.law_run.proofs.NodeQuiet.{AllHush, AllForVoter, batcher_hush}
 use Rattle.law_run.proofs.Telling.{Each-take}
-use Rattle.law_run.proofs.Backers.{Backers, Counts}
+use Rattle.law_run.proofs.Backers.{Backers, Counts, Spoke, spoke_counts}
 use Rattle.law_run.specs.Backed.{IsVerifying}
 use Rattle.law_run.proofs.Good.{IsGood, IsSized, verified_fits}
 use Rattle.law_run.proofs.Mailing.{InHanded}
+use Rattle.law_run.proofs.Letting.{each_given}
 
 -- the vote counts, and its numbers keep to their types
 abbrev pub IsCounted : Backers → Vote → Type 0
-IsCounted backers v = Counts backers (vote_signer v) (vote_subject v) × Fits (vote_subject v)
+IsCounted backers v = Spoke backers (vote_signer v) v × Fits (vote_subject v)
 
 abbrev pub InOwnMail : Backers → batcher_message.Message → Type 0
 InOwnMail backers (batcher_messages.Constructed v) = IsCounted backers v
@@ -72,7 +71,7 @@ IsFineInput backers (inputs.Mail message) = InOwnMail backers message
 
 pub record IsFineDid (backers : Backers) (did : Did) : Type 0 where
   pub handed : Each (IsFine backers) did.out.handed
-  pub taken : (input : BatcherInput) → input_of_batcher did.taken ≡ Some input → IsFineInput backers input
+  pub taken : (given : batcher.Timed) → given_to_batcher did ≡ Some given → IsFineInput backers given.input
 
 pub handed_all : (backers : Backers) (past : List Did) → Each (IsFineDid backers) past → Each (λ (did : Did). Each (IsFine backers) did.out.handed) past
 handed_all backers [] h = tt
@@ -86,18 +85,8 @@ IsFineTimed backers given = IsFineInput backers given.input
 pub inputs_fine : (backers : Backers) (past : List Did) → Each (IsFineDid backers) past → Each (IsFineTimed backers) (batcher_past past)
 unfolding batcher_past
 inputs_fine backers [] h = tt
-inputs_fine backers (did ∷ past) h = at (input_of_batcher did.taken) refl (inputs_fine backers past h.1)
-  where
-    none : input_of_batcher did.taken ≡ None → filter_map given_to_batcher (did ∷ past) ≡ filter_map given_to_batcher past
-    none e = grind (arith, common_steps, e)
-
-    some : (input : BatcherInput) → input_of_batcher did.taken ≡ Some input
-        → filter_map given_to_batcher (did ∷ past) ≡ record { input = input; now = did.now } ∷ filter_map given_to_batcher past
-    some input e = grind (arith, common_steps, e)
-
-    at : (o : Option BatcherInput) → input_of_batcher did.taken ≡ o → Each (IsFineTimed backers) (filter_map given_to_batcher past) → Each (IsFineTimed backers) (filter_map given_to_batcher (did ∷ past))
-    at None e rest = subst (Each (IsFineTimed backers)) (sym (none e)) rest
-    at (Some input) e rest = subst (Each (IsFineTimed backers)) (sym (some input e)) (h.0.taken input e, rest)
+inputs_fine backers (did ∷ past) h =
+    each_given (IsFineTimed backers) did past h.0.taken (inputs_fine backers past h.1)
 
 brings_counted : (backers : Backers) (input : BatcherInput) (v : Vote) → IsFineInput backers input → Brings input v → IsCounted backers v
 brings_counted backers (inputs.Mail (batcher_messages.Constructed own)) v f b = subst (IsCounted backers) b f
@@ -145,7 +134,7 @@ made_good backers made past c sized m f v quorum each =
       fits = verified_fits backers.setting.setup c sized v (subst Fits some.2 first.1);
       backed = All-weaker (IsVoteOn made (Accepted made past) subject) (λ (a : Attestation). Counts backers a.signer subject) (λ a on.
           subst (λ (x : Attestation). Counts backers x.signer subject) on.signature
-          (subst (Counts backers (vote_signer on.vote)) on.on (came_counted backers past on.vote f (accepted_came made past on.vote on.was_accepted)).0)) list each;
+          (subst (Counts backers (vote_signer on.vote)) on.on (spoke_counts backers (vote_signer on.vote) on.vote (came_counted backers past on.vote f (accepted_came made past on.vote on.was_accepted)).0))) list each;
     }
 
 founded_good : (backers : Backers) (made : batcher.Made) (past : List batcher.Timed) (given : batcher.Timed) (c : Certificate) → IsSized backers.setting.setup → IsMade backers made → Each (IsFineTimed backers) (given ∷ past)
@@ -193,7 +182,7 @@ calls_good Good accepted came (calls.Report a ∷ rest) hush founded =
     let P = IsFoundedCall accepted came in
     (report_good Good accepted came a (All-head P (calls.Report a) rest founded), calls_good Good accepted came rest hush.1 (All-tail P (calls.Report a) rest founded))
 calls_good Good accepted came (calls.Relay payload plan ∷ rest) hush founded = (tt, calls_good Good accepted came rest hush.1 (All-tail (IsFoundedCall accepted came) (calls.Relay payload plan) rest founded))
-calls_good Good accepted came (calls.Block who ∷ rest) hush founded = (tt, calls_good Good accepted came rest hush.1 (All-tail (IsFoundedCall accepted came) (calls.Block who) rest founded))
+calls_good Good accepted came (calls.Block who why ∷ rest) hush founded = (tt, calls_good Good accepted came rest hush.1 (All-tail (IsFoundedCall accepted came) (calls.Block who why) rest founded))
 calls_good Good accepted came (calls.Append n a ∷ rest) hush founded = absurd hush.0
 calls_good Good accepted came (calls.Sync n ∷ rest) hush founded = absurd hush.0
 calls_good Good accepted came (calls.Prune n ∷ rest) hush founded = absurd hush.0

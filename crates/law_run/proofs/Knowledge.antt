@@ -48,7 +48,7 @@ module _ (Good : agreement.Certificate → Type 0) where
   taken_good (calls.Send channel to bytes ∷ rest) c g k = taken_good rest c g.1 k
   taken_good (calls.Report activity ∷ rest) c g k = taken_good rest c g.1 k
   taken_good (calls.Relay payload plan ∷ rest) c g k = taken_good rest c g.1 k
-  taken_good (calls.Block who ∷ rest) c g k = taken_good rest c g.1 k
+  taken_good (calls.Block who why ∷ rest) c g k = taken_good rest c g.1 k
 
   calls_said : (node : Node) (noted : List Noted) → Each (InNoted States) noted → Each (InCall States) (calls_of node noted)
   unfolding calls_of

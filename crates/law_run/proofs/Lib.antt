@@ -13,6 +13,14 @@ pub mod StartFloors
 pub mod Further
 pub mod NodeKeeping
 pub mod Knowledge
+pub mod Letting
+pub mod Inserting
+pub mod FetchBlocks
+pub mod ResolverBlocks
+pub mod OneSet
+pub mod Proper
+pub mod Barring
+pub mod Refusals
 pub mod Mails
 pub mod Members
 pub mod NodeNaming

@@ -53,7 +53,7 @@ reads (calls.Sync n ∷ rest) = reads rest
 reads (calls.Prune n ∷ rest) = reads rest
 reads (calls.Report activity ∷ rest) = reads rest
 reads (calls.Relay payload plan ∷ rest) = reads rest
-reads (calls.Block who ∷ rest) = reads rest
+reads (calls.Block who why ∷ rest) = reads rest
 
 reads_both : (xs ys : List Call) → reads (xs ++ ys) ≡ reads xs ++ reads ys
 unfolding reads
@@ -64,7 +64,7 @@ reads_both (calls.Sync n ∷ rest) ys = reads_both rest ys
 reads_both (calls.Prune n ∷ rest) ys = reads_both rest ys
 reads_both (calls.Report activity ∷ rest) ys = reads_both rest ys
 reads_both (calls.Relay payload plan ∷ rest) ys = reads_both rest ys
-reads_both (calls.Block who ∷ rest) ys = reads_both rest ys
+reads_both (calls.Block who why ∷ rest) ys = reads_both rest ys
 
 -- ---- of a node's packets its calls' votes are read, and of another's none
 
@@ -82,7 +82,7 @@ votes_of_calls setup member at cs = by (is_same_node (node_of member) at) refl c
     by true e (calls.Prune n ∷ rest) = by true e rest
     by true e (calls.Report activity ∷ rest) = by true e rest
     by true e (calls.Relay payload plan ∷ rest) = by true e rest
-    by true e (calls.Block who ∷ rest) = by true e rest
+    by true e (calls.Block who why ∷ rest) = by true e rest
     by false e [] = refl
     by false e (calls.Send channel to bytes ∷ rest) =
         subst (λ (b : Bool). (if b then vote_on channel bytes else []) ++ flat_map (vote_in member) (packets_of setup at rest) ≡ []) (sym e) (by false e rest)
@@ -91,7 +91,7 @@ votes_of_calls setup member at cs = by (is_same_node (node_of member) at) refl c
     by false e (calls.Prune n ∷ rest) = by false e rest
     by false e (calls.Report activity ∷ rest) = by false e rest
     by false e (calls.Relay payload plan ∷ rest) = by false e rest
-    by false e (calls.Block who ∷ rest) = by false e rest
+    by false e (calls.Block who why ∷ rest) = by false e rest
 
 none_of_faulty : (setup : Setup) (member : ℕ) (ps : List Packet) → ¬ (Contains (faulty_of setup) member) → Each (λ (p : Packet). is_faulty_member setup p.from.member ≡ true) ps
     → flat_map (vote_in member) ps ≡ []
@@ -124,9 +124,9 @@ nothing_reads member noted p c =
 
 entry_reads : (setting : Setting) (before : List Noted) (event : Event) (noted : Noted) (member : ℕ) → ¬ (Contains (faulty_of setting.setup) member) → entry_of setting before event ≡ Ok noted → IsReadOf member noted
 entry_reads setting before event noted member honest e = elim (entry_turn setting before event noted e) [
-  | inl b ↦ sent_reads setting.setup member noted (subst (IsSentBy setting.setup) b.is (record { at = b.at; of = λ node. refl; packets = refl }))
+  | inl b ↦ sent_reads setting.setup member noted (subst (IsSentBy setting.setup) b.is (record { at = b.at; node = b.node; of = λ node. refl; packets = refl }))
   | inr other ↦ elim other [
-    | inl g ↦ sent_reads setting.setup member noted (subst (IsSentBy setting.setup) g.is (record { at = g.at; of = g.of; packets = refl }))
+    | inl g ↦ sent_reads setting.setup member noted (subst (IsSentBy setting.setup) g.is (record { at = g.at; node = g.node; of = g.of; packets = refl }))
     | inr rest ↦ elim rest [
       | inl c ↦ nothing_reads member noted (subst (λ (n : Noted). n.entry.packets ≡ []) c.is refl) (subst (λ (n : Noted). n.entry.calls ≡ []) c.is refl)
       | inr last ↦ elim last [
@@ -182,7 +182,7 @@ read_on (calls.Sync n ∷ rest) list sent fits h = read_on rest list sent fits (
 read_on (calls.Prune n ∷ rest) list sent fits h = read_on rest list sent fits (behind (calls.Prune n) rest h)
 read_on (calls.Report activity ∷ rest) list sent fits h = read_on rest list sent fits (behind (calls.Report activity) rest h)
 read_on (calls.Relay payload plan ∷ rest) list sent fits h = read_on rest list sent fits (behind (calls.Relay payload plan) rest h)
-read_on (calls.Block who ∷ rest) list sent fits h = read_on rest list sent fits (behind (calls.Block who) rest h)
+read_on (calls.Block who why ∷ rest) list sent fits h = read_on rest list sent fits (behind (calls.Block who why) rest h)
 
 -- ---- the law
 

@@ -1,4 +1,5 @@
 -- What a voter of the one member does in a step and in a start names its epoch.
+use Rattle.simplex_types.specs.declared.cause.BlockCause.TheVariants.{LeaderConflict}
 use Rattle.std.proofs.Common.{◌≡◌, ℕ, ◌-◌, not, Bool, true, false, nat_lt, nat_le, List, [], ◌∷◌, ◌++◌, map, Contains, Option, Some, None, refl, sym, subst, if◌then◌else◌}
 use Rattle.std.specs.List.{list_any}
 use Rattle.std.specs.Option.{IfSome, option_map, option_map_or, option_and_then}
@@ -350,7 +351,7 @@ named_adding epoch (certificates.Finalization n) now e = e
 
 named_blocked : (epoch : ℕ) (o : Option ℕ) (d : Doing) → AllNamed epoch d → AllNamed epoch (block_for o d)
 named_blocked epoch None d a = a
-named_blocked epoch (Some leader) d a = named_call epoch (calls.Block leader) d tt a
+named_blocked epoch (Some leader) d a = named_call epoch (calls.Block leader LeaderConflict) d tt a
 
 named_certificate : (made : Made) (now : ℕ) (c : Certificate) (d : Doing) → (subject_round (certificate_subject c)).epoch ≡ made.epoch → AllNamed made.epoch d → AllNamed made.epoch (act_on_certificate made now c d).0
 unfolding act_on_certificate

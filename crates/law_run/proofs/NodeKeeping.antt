@@ -47,7 +47,7 @@ module _ (P : Artifact → Type 0) where
   one_call (calls.Send channel to bytes) js g h = h
   one_call (calls.Report activity) js g h = h
   one_call (calls.Relay payload plan) js g h = h
-  one_call (calls.Block who) js g h = h
+  one_call (calls.Block who why) js g h = h
 
   all_calls : (cs : List Call) (js : List Section) → Each (InAppend) cs → InJournal js → InJournal (after_calls cs js)
   unfolding after_calls
@@ -64,7 +64,7 @@ module _ (P : Artifact → Type 0) where
   one_fails (stops.Fail call keep) (calls.Send channel to bytes) js h = h
   one_fails (stops.Fail call keep) (calls.Report activity) js h = h
   one_fails (stops.Fail call keep) (calls.Relay payload plan) js h = h
-  one_fails (stops.Fail call keep) (calls.Block who) js h = h
+  one_fails (stops.Fail call keep) (calls.Block who why) js h = h
   one_fails stops.None c js h = h
   one_fails (stops.Cut call keep) c js h = h
 

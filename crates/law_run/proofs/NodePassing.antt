@@ -68,7 +68,7 @@ module _ (P Q : Certificate → Type 0) (f : (c : Certificate) → P c → Q c) 
   call_more (calls.Sync n) h = tt
   call_more (calls.Prune n) h = tt
   call_more (calls.Relay payload plan) h = tt
-  call_more (calls.Block who) h = tt
+  call_more (calls.Block who why) h = tt
 
   message_more : (cs : List Call) (m : Handed) → InMessage P cs m → InMessage Q cs m
   message_more cs (handed.Voter (voter.Verified c)) h = f _ h

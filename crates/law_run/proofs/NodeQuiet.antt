@@ -1,4 +1,7 @@
 -- What a batcher calls and hands on: it reports, blocks and relays, it hands messages to the voter, and that is all.
+use Rattle.simplex_types.specs.declared.cause.BlockCause.{BlockCause}
+use Rattle.simplex_types.specs.declared.cause.BlockCause.TheVariants.{InvalidSignature}
+use Rattle.simplex_messages.specs.Step.{block_call}
 use Rattle.std.proofs.Common.{ℕ, zero, suc, ◌==◌, ◌&&◌, ◌||◌, not, nat_le, Bool, true, false, List, [], ◌∷◌, ◌++◌, map, option_to_list, Option, Some, None, Result, Ok, Err, if◌then◌else◌}
 use Rattle.std.specs.Option.{option_map_or}
 use Rattle.simplex_values.specs.declared.proposal.Proposal.{Proposal}
@@ -35,7 +38,7 @@ use Rattle.law_member.proofs.Constructing.{AreSilent}
 abbrev pub IsHush : Call → Type 0
 IsHush (call.Report activity) = Unit {0}
 IsHush (call.Relay payload plan) = Unit {0}
-IsHush (call.Block who) = Unit {0}
+IsHush (call.Block who why) = Unit {0}
 IsHush _ = ⊥
 
 abbrev pub AllHush : List Call → Type 0
@@ -73,8 +76,8 @@ Plain d = AllHush d.calls × AllForVoter d.handed
 handing_one : (d : Doing) (message : voter_message.Message) → Plain d → Plain (and_handed message d)
 handing_one d message p = (p.0, for_voter-append d.handed (handed.Voter message ∷ []) p.1 (tt, tt))
 
-blocked : (member : ℕ) (d : Doing) → Plain d → Plain (and_blocked member d)
-blocked member d p = (AllHush-append d.calls (call.Block member ∷ []) p.0 (tt, tt), p.1)
+blocked : (member : ℕ) (why : BlockCause) (d : Doing) → Plain d → Plain (and_blocked member why d)
+blocked member why d p = (AllHush-append d.calls (call.Block member why ∷ []) p.0 (tt, tt), p.1)
 
 either : (b : Bool) (x y : Doing) → Plain x → Plain y → Plain (if b then x else y)
 either true x y p q = p
@@ -111,8 +114,8 @@ forwards made leader (Some proposal) d p = (AllHush-append d.calls _ p.0 (at (d.
 heard_plain : (view : ℕ) (round : RoundHistory) (heard : votes.Heard) (d : Doing) → Plain d → Plain (with_heard view round heard d)
 unfolding with_heard
 heard_plain view round heard d p = (
-  AllHush-append (d.calls ++ map call.Report heard.reports) (map call.Block heard.blocks)
-      (AllHush-append d.calls (map call.Report heard.reports) p.0 (plain_map call.Report heard.reports (λ a. tt))) (plain_map call.Block heard.blocks (λ a. tt)),
+  AllHush-append (d.calls ++ map call.Report heard.reports) (map block_call heard.blocks)
+      (AllHush-append d.calls (map call.Report heard.reports) p.0 (plain_map call.Report heard.reports (λ a. tt))) (plain_map block_call heard.blocks (λ a. tt)),
   p.1,
 )
 
@@ -140,8 +143,8 @@ certificate_plain : (made : Made) (sender : ℕ) (c : Certificate) (d : Doing) �
 unfolding took_certificate kept_certificate
 certificate_plain made sender c d p =
     either (not (retains_view made d.standing (certificate_view c)) || holds_kind d.standing c) d _ p
-    (either (is_certified (made.scheme.verifies (certificate_subject c)) made.members (certificate_signatures c)) (kept_certificate made c d) (and_blocked sender d)
-    (handing_one d (voter.Verified c) p) (blocked sender d p))
+    (either (is_certified (made.scheme.verifies (certificate_subject c)) made.members (certificate_signatures c)) (kept_certificate made c d) (and_blocked sender _ d)
+    (handing_one d (voter.Verified c) p) (blocked sender _ d p))
 
 update_plain : (made : Made) (current leader finalized : ℕ) (o : Option Proposal) (now : ℕ) (d : Doing) → Plain d → Plain (took_update made current leader finalized o now d)
 unfolding took_update
@@ -157,7 +160,7 @@ forwarded_plain made view round d p = (p.0, for_voter-append d.handed _ p.1 (for
 batch_plain : (o : Option Batch) (d : Doing) → Plain d → Plain (with_batch o d)
 batch_plain None d p = p
 batch_plain (Some batch) d p = (
-  AllHush-append d.calls (map call.Block batch.invalid) p.0 (plain_map call.Block batch.invalid (λ a. tt)),
+  AllHush-append d.calls (map (λ signer. call.Block signer InvalidSignature) batch.invalid) p.0 (plain_map (λ signer. call.Block signer InvalidSignature) batch.invalid (λ a. tt)),
   for_voter-append d.handed _ p.1 (for_voter-map (λ c. handed.Voter (voter.Verified c)) (option_to_list batch.certificate) (λ c. tt)),
 )
 
@@ -194,17 +197,17 @@ all_plain made (view ∷ views) d p = all_plain made views (worked made view d) 
 
 heard_vote_plain : (made : Made) (sender : ℕ) (r : Result Vote DecodeError) (now : ℕ) (d : Doing) → Plain d → Plain (heard_vote made sender r now d)
 unfolding heard_vote
-heard_vote_plain made sender (Err fault) now d p = blocked sender d p
+heard_vote_plain made sender (Err fault) now d p = blocked sender _ d p
 heard_vote_plain made sender (Ok vote) now d p =
-    either (vote_epoch vote == made.epoch) (took_vote made sender vote (record d { standing = seen_now sender now d.standing })) (and_blocked sender d)
-    (vote_plain made sender vote (record d { standing = seen_now sender now d.standing }) p) (blocked sender d p)
+    either (vote_epoch vote == made.epoch) (took_vote made sender vote (record d { standing = seen_now sender now d.standing })) (and_blocked sender _ d)
+    (vote_plain made sender vote (record d { standing = seen_now sender now d.standing }) p) (blocked sender _ d p)
 
 heard_certificate_plain : (made : Made) (sender : ℕ) (r : Result Certificate DecodeError) (now : ℕ) (d : Doing) → Plain d → Plain (heard_certificate made sender r now d)
 unfolding heard_certificate
-heard_certificate_plain made sender (Err fault) now d p = blocked sender d p
+heard_certificate_plain made sender (Err fault) now d p = blocked sender _ d p
 heard_certificate_plain made sender (Ok c) now d p =
-    either (certificate_epoch c == made.epoch) (took_certificate made sender c (record d { standing = seen_now sender now d.standing })) (and_blocked sender d)
-    (certificate_plain made sender c (record d { standing = seen_now sender now d.standing }) p) (blocked sender d p)
+    either (certificate_epoch c == made.epoch) (took_certificate made sender c (record d { standing = seen_now sender now d.standing })) (and_blocked sender _ d)
+    (certificate_plain made sender c (record d { standing = seen_now sender now d.standing }) p) (blocked sender _ d p)
 
 acted_plain : (made : Made) (i : BatcherInput) (now : ℕ) (d : Doing) → Plain d → Plain (acted made i now d)
 unfolding acted
@@ -223,7 +226,7 @@ hush_plain : (xs : List Call) → AllHush xs → AllPlain xs
 hush_plain [] h = tt
 hush_plain (call.Report activity ∷ xs) h = (tt, hush_plain xs h.1)
 hush_plain (call.Relay payload plan ∷ xs) h = (tt, hush_plain xs h.1)
-hush_plain (call.Block who ∷ xs) h = (tt, hush_plain xs h.1)
+hush_plain (call.Block who why ∷ xs) h = (tt, hush_plain xs h.1)
 hush_plain (call.Append section artifact ∷ xs) h = absurd h.0
 hush_plain (call.Sync section ∷ xs) h = absurd h.0
 hush_plain (call.Prune least ∷ xs) h = absurd h.0

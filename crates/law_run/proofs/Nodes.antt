@@ -44,6 +44,7 @@ use Rattle.simplex_messages.specs.declared.resolver.HandlerMessage.{HandlerMessa
 use Rattle.simplex_messages.specs.declared.resolver.ResolverInput.TheVariants as resolver_inputs
 use Rattle.model_resolver.specs.Views.{is_reached}
 use Rattle.model_resolver.specs.Resolver as resolver
+use Rattle.law_run.proofs.Letting.{heard_either, heard_no_start}
 use Rattle.model_steps.proofs.ResolverSteps.{heard_by_resolver, heard_apart, stepped_resolver, stepped_resolver_apart, stepped_handler, stepped_handler_apart, stepped_fetcher, stepped_fetcher_apart}
 use Rattle.law_run.specs.Faulty.{faulty_of}
 
@@ -95,16 +96,28 @@ goes_on setting pos before at noted made past did e of gone f b =
     (subst (λ l. Further setting noted at (after setting noted.event noted.did l) m) (sym e)
     (subst (λ l. Further setting noted at l m) (sym gone) (f m (subst (λ l. IsAt setting at l m) e b.at))))
 
+abbrev IsFurther : Setting → Node → EngineMade → List Did → Member → Noted → Did → Type 0
+IsFurther setting at made past m noted did =
+    (noted.entry.calls ≡ did.out.calls) × (noted.entry.handed ≡ did.out.handed) → IsAt setting at (Running made past) m → Further setting noted at (going_on made (did ∷ past)) m
+
+refused_or : (setting : Setting) (at : Node) (made : EngineMade) (past : List Did) (m : Member) (noted : Noted) (sender : ℕ) (channel : Channel) (bytes : List ℕ) (now : ℕ)
+    → IsFurther setting at made past m noted (engine.let_in made past sender channel bytes now) → IsFurther setting at made past m noted (engine.heard made past sender channel bytes now)
+refused_or setting at made past m noted sender channel bytes now l =
+    heard_either (IsFurther setting at made past m noted) made past sender channel bytes now
+    (λ same a. nothing_further setting at made past m noted (engine.Heard sender channel bytes) now stops.None outcomes.Refused (λ n s o out. refl, refl) same a) l
+
 heard_further : (setting : Setting) (at : Node) (made : EngineMade) (past : List Did) (m : Member) (noted : Noted) (sender : ℕ) (channel : Channel) (bytes : List ℕ) (now : ℕ)
-    → (noted.entry.calls ≡ (engine.heard made past sender channel bytes now).out.calls) × (noted.entry.handed ≡ (engine.heard made past sender channel bytes now).out.handed) → IsAt setting at (Running made past) m
-    → Further setting noted at (going_on made (engine.heard made past sender channel bytes now ∷ past)) m
-unfolding engine.heard engine.by_resolver
-heard_further setting at made past m noted sender channels.Vote bytes now same a =
-    batcher_further setting at made past m noted (engine.Heard sender channels.Vote bytes) (batcher_inputs.Vote sender bytes) now stops.None (λ n s o out. refl, refl) same a
-heard_further setting at made past m noted sender channels.Certificate bytes now same a =
-    batcher_further setting at made past m noted (engine.Heard sender channels.Certificate bytes) (batcher_inputs.Certificate sender bytes) now stops.None (λ n s o out. refl, refl) same a
-heard_further setting at made past m noted sender channels.Resolver bytes now same a =
-    resolver_further setting at made past m noted (engine.heard made past sender channels.Resolver bytes now) (heard_by_resolver made past sender bytes now) (heard_apart made past sender bytes now) refl same a
+    → IsFurther setting at made past m noted (engine.heard made past sender channel bytes now)
+unfolding engine.let_in
+heard_further setting at made past m noted sender channels.Vote bytes now =
+    refused_or setting at made past m noted sender channels.Vote bytes now
+    (λ same a. batcher_further setting at made past m noted (engine.Heard sender channels.Vote bytes) (batcher_inputs.Vote sender bytes) now stops.None (λ n s o out. refl, refl) same a)
+heard_further setting at made past m noted sender channels.Certificate bytes now =
+    refused_or setting at made past m noted sender channels.Certificate bytes now
+    (λ same a. batcher_further setting at made past m noted (engine.Heard sender channels.Certificate bytes) (batcher_inputs.Certificate sender bytes) now stops.None (λ n s o out. refl, refl) same a)
+heard_further setting at made past m noted sender channels.Resolver bytes now =
+    λ same a. resolver_further setting at made past m noted (engine.heard made past sender channels.Resolver bytes now) (heard_by_resolver made past sender bytes now) (heard_apart made past sender bytes now)
+    (heard_no_start made past sender channels.Resolver bytes now) same a
 
 -- ---- a step
 

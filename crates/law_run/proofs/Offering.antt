@@ -1,4 +1,6 @@
 -- Where own votes name the batcher's epoch, so does each proposal that it hands to its voter.
+use Rattle.simplex_types.specs.declared.cause.BlockCause.TheVariants.{WrongSender}
+use Rattle.simplex_types.specs.declared.cause.BlockCause.{BlockCause}
 use Rattle.std.proofs.Common.{◌≡◌, ℕ, zero, suc, ◌==◌, ◌||◌, ◌&&◌, nat_le, nat_lt, Bool, true, false, List, [], ◌∷◌, ◌++◌, length, map, filter, All, option_to_list, Option, Some, None, Result, Ok, Err, ◌∙◌, eqb-true, if◌then◌else◌}
 use Rattle.std.proofs.lemmas.List.Elements.{All-nil, All-map, All-weaker}
 use Rattle.simplex_values.specs.declared.proposal.Subject.{Subject}
@@ -93,7 +95,7 @@ accused_held e k signer None h = h
 accused_held e k signer (Some proof) h = at (was_given proof k.given)
   where
     at : (b : Bool) → HeldOf e (if b then votes.unheard k
-        else record { accepted = false; reports = votes.evidence_activity proof ∷ []; blocks = signer ∷ []; known = record k { given = votes.with_given proof k.given } }).known
+        else record { accepted = false; reports = votes.evidence_activity proof ∷ []; blocks = (signer, votes.evidence_cause proof) ∷ []; known = record k { given = votes.with_given proof k.given } }).known
     at true = h
     at false = record { notarizes = h.notarizes; others = h.others; notarization = h.notarization; finalization = h.finalization }
 
@@ -116,7 +118,7 @@ from_held : (e : ℕ) (k : Known) (sender : ℕ) (vote : Vote) → vote_epoch vo
 unfolding heard_from
 from_held e k sender vote v h = at _
   where
-    at : (b : Bool) → HeldOf e (if b then heard k vote else record { accepted = false; reports = []; blocks = sender ∷ []; known = k }).known
+    at : (b : Bool) → HeldOf e (if b then heard k vote else record { accepted = false; reports = []; blocks = (sender, WrongSender) ∷ []; known = k }).known
     at true = heard_held e k vote v h
     at false = h
 
@@ -386,8 +388,8 @@ dropped_led e made d h = record { standing = record { rounds = λ view. at view 
 
 -- ---- steps
 
-blocked_led : (e member : ℕ) (d : Doing) → Led e d → Led e (and_blocked member d)
-blocked_led e member d h = record { standing = h.standing; handed = h.handed }
+blocked_led : (e member : ℕ) (why : BlockCause) (d : Doing) → Led e d → Led e (and_blocked member why d)
+blocked_led e member why d h = record { standing = h.standing; handed = h.handed }
 
 at_vote_led : (e : ℕ) (made : Made) (accepted : Bool) (d : Doing) → Led e d → Led e (hinted_at_vote made accepted d)
 unfolding hinted_at_vote
@@ -409,11 +411,11 @@ seen_led e sender now d h = (let old = h.standing in record { standing = record 
 
 vote_led : (e : ℕ) (made : Made) (sender : ℕ) (r : Result Vote DecodeError) (now : ℕ) (d : Doing) → made.epoch ≡ e → Led e d → Led e (heard_vote made sender r now d)
 unfolding heard_vote
-vote_led e made sender (Err fault) now d same h = blocked_led e sender d h
+vote_led e made sender (Err fault) now d same h = blocked_led e sender _ d h
 vote_led e made sender (Ok vote) now d same h =
     let seen = record d { standing = seen_now sender now d.standing } in
-    if_case (Led e) (vote_epoch vote == made.epoch) (took_vote made sender vote seen) (and_blocked sender d)
-    (λ t. took_led e made sender vote seen (eqb-true (vote_epoch vote) made.epoch t ∙ same) (seen_led e sender now d h)) (λ t. blocked_led e sender d h)
+    if_case (Led e) (vote_epoch vote == made.epoch) (took_vote made sender vote seen) (and_blocked sender _ d)
+    (λ t. took_led e made sender vote seen (eqb-true (vote_epoch vote) made.epoch t ∙ same) (seen_led e sender now d h)) (λ t. blocked_led e sender _ d h)
 
 kept_led : (e : ℕ) (made : Made) (c : Certificate) (d : Doing) → certificate_epoch c ≡ e → Led e d → Led e (kept_certificate made c d)
 unfolding kept_certificate
@@ -426,15 +428,15 @@ kept_led e made c d v h =
 certificate_led : (e : ℕ) (made : Made) (sender : ℕ) (c : Certificate) (d : Doing) → certificate_epoch c ≡ e → Led e d → Led e (took_certificate made sender c d)
 unfolding took_certificate
 certificate_led e made sender c d v h =
-    either e _ d _ h (either e _ (kept_certificate made c d) (and_blocked sender d) (kept_led e made c d v h) (blocked_led e sender d h))
+    either e _ d _ h (either e _ (kept_certificate made c d) (and_blocked sender _ d) (kept_led e made c d v h) (blocked_led e sender _ d h))
 
 read_led : (e : ℕ) (made : Made) (sender : ℕ) (r : Result Certificate DecodeError) (now : ℕ) (d : Doing) → made.epoch ≡ e → Led e d → Led e (heard_certificate made sender r now d)
 unfolding heard_certificate
-read_led e made sender (Err fault) now d same h = blocked_led e sender d h
+read_led e made sender (Err fault) now d same h = blocked_led e sender _ d h
 read_led e made sender (Ok c) now d same h =
     let seen = record d { standing = seen_now sender now d.standing } in
-    if_case (Led e) (certificate_epoch c == made.epoch) (took_certificate made sender c seen) (and_blocked sender d)
-    (λ t. certificate_led e made sender c seen (eqb-true (certificate_epoch c) made.epoch t ∙ same) (seen_led e sender now d h)) (λ t. blocked_led e sender d h)
+    if_case (Led e) (certificate_epoch c == made.epoch) (took_certificate made sender c seen) (and_blocked sender _ d)
+    (λ t. certificate_led e made sender c seen (eqb-true (certificate_epoch c) made.epoch t ∙ same) (seen_led e sender now d h)) (λ t. blocked_led e sender _ d h)
 
 acted_led : (e : ℕ) (made : Made) (i : BatcherInput) (now : ℕ) (d : Doing) → made.epoch ≡ e → IsMailOf e (record { input = i; now = now }) → Led e d → Led e (acted made i now d)
 unfolding acted

@@ -37,7 +37,7 @@ use Rattle.law_agreement.proofs.ListFacts.{not_in_empty, Contains-here, Contains
 use Rattle.law_member.specs.Wire.{Fits}
 use Rattle.law_run.specs.Sayings.{Each, InCall}
 use Rattle.law_run.specs.Voting.{vote_in, sent_votes, HasVoted}
-use Rattle.law_run.proofs.Backers.{Backers, Counts}
+use Rattle.law_run.proofs.Backers.{Backers, Counts, Spoke}
 use Rattle.law_run.specs.Backed.{read_certificate, in_body, in_response, certificate_on, IsVerifying}
 use Rattle.law_run.proofs.Testing.{in_flat, vote_here, IsGenuine, PassesOn, IsTested}
 use Rattle.law_run.proofs.Answering.{answer_good}
@@ -56,9 +56,9 @@ FineOn backers sender channels.Resolver bytes = (c : Certificate) → Contains (
 abbrev pub IsFinePacket : Backers → Packet → Type 0
 IsFinePacket backers p = FineOn backers p.from.member p.channel p.bytes
 
--- each vote that it brings counts as one of its sender
+-- each vote that it brings was sent by its sender, where that is not faulty
 abbrev pub SpokenOn : Backers → ℕ → Channel → List ℕ → Type 0
-SpokenOn backers sender channels.Vote bytes = (v : Vote) → whole format.vote bytes ≡ Ok v → Counts backers sender (vote_subject v)
+SpokenOn backers sender channels.Vote bytes = (v : Vote) → whole format.vote bytes ≡ Ok v → Spoke backers sender v
 SpokenOn backers sender _ bytes = Unit {0}
 
 abbrev pub IsSpoken : Backers → Packet → Type 0
@@ -79,7 +79,7 @@ read_fits bytes v b e = vote_fits v (whole_takes format.vote FitsVote vote_is by
 
 -- a vote that was spoken, from its signer
 spoken_counts : (backers : Backers) (sender : ℕ) (bytes : List ℕ) → IsBytes bytes → SpokenOn backers sender channels.Vote bytes → IsFineInput backers (inputs.Vote sender bytes)
-spoken_counts backers sender bytes b s v e is = (subst (λ n. Counts backers n (vote_subject v)) is (s v e), read_fits bytes v b e)
+spoken_counts backers sender bytes b s v e is = (subst (λ n. Spoke backers n v) is (s v e), read_fits bytes v b e)
 
 -- ---- the packets of an honest node
 
@@ -94,7 +94,7 @@ from_at setup at (calls.Sync n ∷ rest) = from_at setup at rest
 from_at setup at (calls.Prune n ∷ rest) = from_at setup at rest
 from_at setup at (calls.Report activity ∷ rest) = from_at setup at rest
 from_at setup at (calls.Relay payload plan ∷ rest) = from_at setup at rest
-from_at setup at (calls.Block who ∷ rest) = from_at setup at rest
+from_at setup at (calls.Block who why ∷ rest) = from_at setup at rest
 
 certificate_good : (backers : Backers) (bytes : List ℕ) (c : Certificate) → bytes ≡ format.certificate.spelling c → IsGood backers c → (x : Certificate) → whole format.certificate bytes ≡ Ok x → IsGood backers x
 certificate_good backers bytes c s g x e = good_again backers c x g (ap (whole format.certificate) (sym s) ∙ e)
@@ -112,7 +112,7 @@ packets_fine backers at (calls.Sync n ∷ rest) sized g b s = packets_fine backe
 packets_fine backers at (calls.Prune n ∷ rest) sized g b s = packets_fine backers at rest sized g.1 b s
 packets_fine backers at (calls.Report activity ∷ rest) sized g b s = packets_fine backers at rest sized g.1 b s
 packets_fine backers at (calls.Relay payload plan ∷ rest) sized g b s = packets_fine backers at rest sized g.1 b s
-packets_fine backers at (calls.Block who ∷ rest) sized g b s = packets_fine backers at rest sized g.1 b s
+packets_fine backers at (calls.Block who why ∷ rest) sized g b s = packets_fine backers at rest sized g.1 b s
 
 -- a vote that went out counts as one of the node's member
 module _ (backers : Backers) (at : Node) (to : Recipients) (bytes : List ℕ) where
@@ -136,7 +136,7 @@ module _ (backers : Backers) (at : Node) (to : Recipients) (bytes : List ℕ) wh
   sent_spoken (calls.Prune n ∷ rest) s k = sent_spoken rest s (behind (calls.Prune n) rest (λ e. cc) k)
   sent_spoken (calls.Report activity ∷ rest) s k = sent_spoken rest s (behind (calls.Report activity) rest (λ e. cc) k)
   sent_spoken (calls.Relay payload plan ∷ rest) s k = sent_spoken rest s (behind (calls.Relay payload plan) rest (λ e. cc) k)
-  sent_spoken (calls.Block who ∷ rest) s k = sent_spoken rest s (behind (calls.Block who) rest (λ e. cc) k)
+  sent_spoken (calls.Block who why ∷ rest) s k = sent_spoken rest s (behind (calls.Block who why) rest (λ e. cc) k)
 
 -- ---- what was sent stays sent
 
@@ -162,12 +162,8 @@ pub is_spoken : (backers : Backers) (later before : List Noted) (noted : Noted) 
 is_spoken backers later before noted p whole_is k n = at p.channel refl
   where
     at : (c : Channel) → p.channel ≡ c → SpokenOn backers p.from.member c p.bytes
-    at channels.Vote c = λ v e. inr (
-      v,
-      subst (λ xs. Contains (sent_votes xs p.from.member) v) (sym whole_is)
-          (sent_later later (noted ∷ before) p.from.member v (sent_now noted before p.from.member p v k n c e)),
-      refl,
-    )
+    at channels.Vote c = λ v e. inr (subst (λ xs. Contains (sent_votes xs p.from.member) v) (sym whole_is)
+        (sent_later later (noted ∷ before) p.from.member v (sent_now noted before p.from.member p v k n c e)))
     at channels.Certificate c = tt
     at channels.Resolver c = tt
 

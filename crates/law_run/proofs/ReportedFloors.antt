@@ -100,7 +100,7 @@ reports_it f (calls.Sync n) e = cc
 reports_it f (calls.Prune n) e = cc
 reports_it f (calls.Send channel to bytes) e = cc
 reports_it f (calls.Relay payload plan) e = cc
-reports_it f (calls.Block who) e = cc
+reports_it f (calls.Block who why) e = cc
 
 reports_self : (f : Finalization) → reports f (calls.Report (activities.Finalization f)) ≡ true
 reports_self f =

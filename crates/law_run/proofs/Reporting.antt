@@ -34,7 +34,7 @@ call_reports backers f (calls.Sync n) e good = cc
 call_reports backers f (calls.Prune n) e good = cc
 call_reports backers f (calls.Send channel to bytes) e good = cc
 call_reports backers f (calls.Relay payload plan) e good = cc
-call_reports backers f (calls.Block who) e good = cc
+call_reports backers f (calls.Block who why) e good = cc
 
 calls_report : (backers : Backers) (f : Finalization) (cs : List Call) → list_any (reports f) cs ≡ true → Each (InCall (IsGood backers)) cs → IsGood backers (certificates.Finalization f)
 calls_report backers f [] e good = cc

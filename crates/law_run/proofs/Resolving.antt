@@ -46,7 +46,7 @@ use Rattle.model_resolver.specs.declared.sending.Sending.{Sending}
 use Rattle.model_resolver.specs.Fetcher as fetch
 use Rattle.model_resolver.specs.Sends.{sending, placed, send_call, send_calls}
 use Rattle.model_resolver.specs.Resolver as resolver
-use Rattle.model_resolver.specs.Resolver.{Made, Given, Stepped, HandlerTaken, Standing, at_first, Doing, begun, with_fetcher, called, called_all, putting, leaving, serving, is_backoff, requested, minded, minded_all, after_fetcher, judging, hearing, expiring, retiring, retiring_all, fetching, retire_of, fetch_of, with_effects, recorded, repairing, is_valid, if_valid, validated, is_excepted, handing, passed_over, accepted, answered, delivered, ancestry, resolving, took_mail, took_handled, acted, step, after_taking, standing_after, step_out, handler_message}
+use Rattle.model_resolver.specs.Resolver.{Made, Given, Stepped, HandlerTaken, Blocked, Standing, at_first, Doing, begun, with_fetcher, called, called_all, putting, leaving, serving, is_backoff, requested, minded, minded_all, after_fetcher, judging, hearing, expiring, retiring, retiring_all, fetching, retire_of, fetch_of, with_effects, recorded, repairing, is_valid, if_valid, validated, is_excepted, handing, passed_over, accepted, answered, delivered, ancestry, resolving, took_mail, took_handled, acted, step, after_taking, after_blocking, standing_after, step_out, handler_message}
 use Rattle.law_run.specs.Sayings.{Each, InCall, IsAnswer}
 use Rattle.law_run.proofs.Speaking.{Each-append}
 use Rattle.law_run.proofs.Mails.{Holds, Waits, InPlace, holds_nothing, holds_one, holds_after, holds_received}
@@ -154,7 +154,7 @@ module _ (made : Made) (Good : Certificate → Type 0) where
   InHandedOn _ = ⊥
 
   abbrev pub IsBlock : Call → Type 0
-  IsBlock (calls.Block who) = Unit {0}
+  IsBlock (calls.Block who why) = Unit {0}
   IsBlock _ = ⊥
 
   abbrev InSend : Sending → Type 0
@@ -209,7 +209,7 @@ module _ (made : Made) (Good : Certificate → Type 0) where
   called_sound : (out : Out) (d : Doing) → InOut Good Brings out → IsSoundDoing d → IsSoundDoing (called out d)
   unfolding called
   called_sound (outs.Send to bytes) d g s = record { standing = s.standing; handed = s.handed; blocks = s.blocks; sends = placed_sound (sending to bytes) d.sends g s.sends }
-  called_sound (outs.Block who) d g s = record { standing = s.standing; handed = s.handed; blocks = Each-append IsBlock d.blocks (calls.Block who ∷ []) s.blocks (tt, tt); sends = s.sends }
+  called_sound (outs.Block who why) d g s = record { standing = s.standing; handed = s.handed; blocks = Each-append IsBlock d.blocks (calls.Block who why ∷ []) s.blocks (tt, tt); sends = s.sends }
   called_sound (outs.Deliver id view bytes asks) d g s = s
   called_sound (outs.Produce id view) d g s = s
   called_sound (outs.Left id) d g s = s
@@ -257,7 +257,7 @@ module _ (made : Made) (Good : Certificate → Type 0) where
   minded_sound (outs.Produce id view) d g s = requested_sound id view d s
   minded_sound (outs.Left id) d g s = leaving_sound id d s
   minded_sound (outs.Send to bytes) d g s = called_sound (outs.Send to bytes) d g s
-  minded_sound (outs.Block who) d g s = called_sound (outs.Block who) d g s
+  minded_sound (outs.Block who why) d g s = called_sound (outs.Block who why) d g s
 
   minded_all_sound : (list : List Out) (d : Doing) → Each (InOut Good Brings) list → IsSoundDoing d → IsSoundDoing (minded_all list d)
   unfolding minded_all
@@ -390,14 +390,16 @@ module _ (made : Made) (Good : Certificate → Type 0) where
   abbrev pub InGiven : Given → Type 0
   InGiven (Stepped input now) = InResolverInput input
   InGiven HandlerTaken = Unit {0}
+  InGiven (Blocked member) = Unit {0}
 
   pub standing_sound : (past : List Given) → Each InGiven past → IsSound (standing_after made past)
-  unfolding standing_after at_first after_taking
+  unfolding standing_after at_first after_taking after_blocking
   standing_sound [] h = record { held = tt; handler = holds_nothing InHandler made.handler_size }
   standing_sound (Stepped input now ∷ past) h = (let done = step_sound (standing_after made past) input now (standing_sound past h.1) h.0 in done.standing)
   standing_sound (HandlerTaken ∷ past) h =
       let old = standing_sound past h.1 in
       record { held = old.held; handler = holds_after InHandler has_left (standing_after made past).handler old.handler }
+  standing_sound (Blocked member ∷ past) h = (let old = standing_sound past h.1 in record { held = old.held; handler = old.handler })
 
   pub handler_sound : (past : List Given) (message : HandlerMessage) → Each InGiven past → handler_message made past ≡ Some message → InHandler message
   unfolding handler_message
@@ -415,7 +417,7 @@ module _ (made : Made) (Good : Certificate → Type 0) where
 
   blocks_in : (list : List Call) → Each IsBlock list → Each (InCall Good) list
   blocks_in [] h = tt
-  blocks_in (calls.Block who ∷ list) h = (tt, blocks_in list h.1)
+  blocks_in (calls.Block who why ∷ list) h = (tt, blocks_in list h.1)
   blocks_in (calls.Send channel to bytes ∷ list) h = absurd h.0
   blocks_in (calls.Append n a ∷ list) h = absurd h.0
   blocks_in (calls.Sync n ∷ list) h = absurd h.0

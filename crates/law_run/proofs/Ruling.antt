@@ -50,7 +50,8 @@ use Rattle.law_member.proofs.Wholly.{done_wholly}
 use Rattle.law_run.specs.Sayings.{Each}
 use Rattle.law_run.specs.Histories.{IsRun}
 use Rattle.law_run.specs.Ruled.{votes_for, votes_due, AreByRule}
-use Rattle.law_run.proofs.Events.{never_idle, engine_at, given_start, begun_gives, step_gives}
+use Rattle.law_run.proofs.Letting.{heard_either}
+use Rattle.law_run.proofs.Events.{never_idle, never_refused, engine_at, given_start, begun_gives, step_gives}
 use Rattle.law_run.proofs.Further.{same_node}
 use Rattle.law_run.proofs.Turns.{IsBeginning, IsTaken, IsGoing, IsCrash, entry_turn}
 use Rattle.law_run.proofs.NodeQuiet.{AllHush, batcher_hush}
@@ -76,7 +77,7 @@ no_packets (calls.Sync n ∷ cs) h = no_packets cs h.1
 no_packets (calls.Prune n ∷ cs) h = no_packets cs h.1
 no_packets (calls.Report activity ∷ cs) h = no_packets cs h.1
 no_packets (calls.Relay payload plan ∷ cs) h = no_packets cs h.1
-no_packets (calls.Block who ∷ cs) h = no_packets cs h.1
+no_packets (calls.Block who why ∷ cs) h = no_packets cs h.1
 
 unsent : (cs : List Call) → sends cs ≡ [] → Each NoVote cs
 unsent [] e = tt
@@ -86,13 +87,13 @@ unsent (calls.Sync n ∷ cs) e = (tt, unsent cs e)
 unsent (calls.Prune n ∷ cs) e = (tt, unsent cs e)
 unsent (calls.Report activity ∷ cs) e = (tt, unsent cs e)
 unsent (calls.Relay payload plan ∷ cs) e = (tt, unsent cs e)
-unsent (calls.Block who ∷ cs) e = (tt, unsent cs e)
+unsent (calls.Block who why ∷ cs) e = (tt, unsent cs e)
 
 hushed : (cs : List Call) → AllHush cs → Each NoVote cs
 hushed [] h = tt
 hushed (calls.Report activity ∷ cs) h = (tt, hushed cs h.1)
 hushed (calls.Relay payload plan ∷ cs) h = (tt, hushed cs h.1)
-hushed (calls.Block who ∷ cs) h = (tt, hushed cs h.1)
+hushed (calls.Block who why ∷ cs) h = (tt, hushed cs h.1)
 hushed (calls.Append n a ∷ cs) h = absurd h.0
 hushed (calls.Sync n ∷ cs) h = absurd h.0
 hushed (calls.Prune n ∷ cs) h = absurd h.0
@@ -118,6 +119,7 @@ nothing_acted made now s input e = at (voter.acted made now s input) e
 done_is : (stop : Stop) (d : Doing) (js : List Section) (o : Outcome) → (performed stop d js).outcome ≡ o → is_whole o ≡ true → o ≡ outcomes.Done
 done_is stop d js outcomes.Done e t = refl
 done_is stop d js outcomes.Idle e t = absurd (never_idle stop d js e)
+done_is stop d js outcomes.Refused e t = absurd (never_refused stop d js e)
 done_is stop d js outcomes.Cut e t = cc
 done_is stop d js outcomes.Journal e t = cc
 
@@ -167,7 +169,7 @@ batcher_unsent made past taken input now stop =
 -- a resolver sends no vote
 unvoted : (cs : List Call) → list_all is_call_of_resolver cs ≡ true → Each NoVote cs
 unvoted [] e = tt
-unvoted (calls.Block who ∷ cs) e = (tt, unvoted cs e)
+unvoted (calls.Block who why ∷ cs) e = (tt, unvoted cs e)
 unvoted (calls.Send channels.Resolver to bytes ∷ cs) e = (tt, unvoted cs e)
 unvoted (calls.Send channels.Vote to bytes ∷ cs) e = cc
 unvoted (calls.Send channels.Certificate to bytes ∷ cs) e = cc
@@ -180,15 +182,22 @@ unvoted (calls.Relay payload plan ∷ cs) e = cc
 resolver_ruled : (made : EngineMade) (past : List Did) (did : Did) → IsOfResolver did.out → IsApart did → IsRuled made past did
 resolver_ruled made past did r apart = quietly_ruled made past did (unvoted did.out.calls r.calls) apart.voter
 
+refused_or : (made : EngineMade) (past : List Did) (sender : ℕ) (channel : Channel) (bytes : List ℕ) (now : ℕ) → IsRuled made past (engine.let_in made past sender channel bytes now)
+    → IsRuled made past (engine.heard made past sender channel bytes now)
+refused_or made past sender channel bytes now l = heard_either (IsRuled made past) made past sender channel bytes now (λ t. refl) l
+
 heard_ruled : (made : EngineMade) (past : List Did) (sender : ℕ) (channel : Channel) (bytes : List ℕ) (now : ℕ) → IsRuled made past (engine.heard made past sender channel bytes now)
-unfolding engine.heard by_batcher
+unfolding engine.let_in by_batcher
 heard_ruled made past sender channels.Vote bytes now =
-    quietly_ruled made past (by_batcher made past (engine.Heard sender channels.Vote bytes) (batcher_inputs.Vote sender bytes) now stops.None)
-    (batcher_unsent made past (engine.Heard sender channels.Vote bytes) (batcher_inputs.Vote sender bytes) now stops.None) refl
+    refused_or made past sender channels.Vote bytes now
+    (quietly_ruled made past (by_batcher made past (engine.Heard sender channels.Vote bytes) (batcher_inputs.Vote sender bytes) now stops.None)
+    (batcher_unsent made past (engine.Heard sender channels.Vote bytes) (batcher_inputs.Vote sender bytes) now stops.None) refl)
 heard_ruled made past sender channels.Certificate bytes now =
-    quietly_ruled made past (by_batcher made past (engine.Heard sender channels.Certificate bytes) (batcher_inputs.Certificate sender bytes) now stops.None)
-    (batcher_unsent made past (engine.Heard sender channels.Certificate bytes) (batcher_inputs.Certificate sender bytes) now stops.None) refl
-heard_ruled made past sender channels.Resolver bytes now = resolver_ruled made past (engine.heard made past sender channels.Resolver bytes now) (heard_by_resolver made past sender bytes now) (heard_apart made past sender bytes now)
+    refused_or made past sender channels.Certificate bytes now
+    (quietly_ruled made past (by_batcher made past (engine.Heard sender channels.Certificate bytes) (batcher_inputs.Certificate sender bytes) now stops.None)
+    (batcher_unsent made past (engine.Heard sender channels.Certificate bytes) (batcher_inputs.Certificate sender bytes) now stops.None) refl)
+heard_ruled made past sender channels.Resolver bytes now =
+    resolver_ruled made past (engine.heard made past sender channels.Resolver bytes now) (heard_by_resolver made past sender bytes now) (heard_apart made past sender bytes now)
 
 batcher_mail_ruled : (made : EngineMade) (past : List Did) (now : ℕ) (stop : Stop) (o : Option batcher_message.Message) → IsRuled made past (engine.on_batcher_mail made past now stop o)
 unfolding by_batcher

@@ -11,6 +11,7 @@ use Rattle.law_run.proofs.Blameless.{run_blameless}
 use Rattle.law_run.proofs.BackingEpochs.{run_names}
 use Rattle.law_run.proofs.Owning.{run_backed}
 use Rattle.law_run.proofs.Founding.{run_founded}
+use Rattle.law_run.proofs.Barring.{run_unbarred}
 use Rattle.law_run.proofs.Genuine.{run_genuine}
 use Rattle.law_run.proofs.Listing.{all_well_sent}
 use Rattle.law_run.proofs.Worlds.{run_agrees, floors_hold}
@@ -31,6 +32,7 @@ mostly_honest_is_safe setting noted o =
       ordered = all_well_sent setting noted o;
       blameless = run_blameless setting noted o;
       above = floors_hold setting noted o;
+      unbarred = run_unbarred setting noted o;
     }
 
 -- as many as the setup's limit counts

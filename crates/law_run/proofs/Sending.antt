@@ -48,7 +48,7 @@ packets_short setup at most (calls.Sync n ∷ rest) h = packets_short setup at m
 packets_short setup at most (calls.Prune n ∷ rest) h = packets_short setup at most rest h.1
 packets_short setup at most (calls.Report activity ∷ rest) h = packets_short setup at most rest h.1
 packets_short setup at most (calls.Relay payload plan ∷ rest) h = packets_short setup at most rest h.1
-packets_short setup at most (calls.Block who ∷ rest) h = packets_short setup at most rest h.1
+packets_short setup at most (calls.Block who why ∷ rest) h = packets_short setup at most rest h.1
 
 -- ---- certificates, and answers with one
 
@@ -77,7 +77,7 @@ module _ (backers : Backers) (few : members_of backers.setting.setup ≤ 1024) w
   call_short (calls.Prune n) h vote = tt
   call_short (calls.Report activity) h vote = tt
   call_short (calls.Relay payload plan) h vote = tt
-  call_short (calls.Block who) h vote = tt
+  call_short (calls.Block who why) h vote = tt
 
 -- ---- votes
 

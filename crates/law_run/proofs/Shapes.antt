@@ -5,7 +5,7 @@ use Rattle.simplex_transcript.specs.declared.event.Event.{Event}
 use Rattle.simplex_transcript.specs.declared.node.Node.{Node}
 use Rattle.simplex_transcript.specs.declared.setup.Setup.{Setup}
 use Rattle.model_run.specs.Setting.{Setting}
-use Rattle.model_run.specs.Kinds.{is_faulty_member}
+use Rattle.model_run.specs.Kinds.{is_node, is_faulty_member}
 use Rattle.model_run.specs.Life.{Noted, is_of}
 use Rattle.model_run.specs.Members.{is_same_node}
 use Rattle.model_run.specs.Entries.{packets_of, entry_of}
@@ -15,6 +15,7 @@ use Rattle.law_run.proofs.Turns.{entry_turn}
 -- an entry of a node, whose calls sent its packets
 pub record IsSentBy (setup : Setup) (noted : Noted) : Type 0 where
   pub at : Node
+  pub node : is_node setup at ≡ true
   pub of : (node : Node) → is_of node noted.event ≡ is_same_node at node
   pub packets : noted.entry.packets ≡ packets_of setup at noted.entry.calls
 
@@ -24,9 +25,9 @@ IsShaped setup noted = (noted.entry.packets ≡ []) ⊎ (IsSentBy setup noted �
 
 pub entry_shape : (setting : Setting) (before : List Noted) (event : Event) (noted : Noted) → entry_of setting before event ≡ Ok noted → IsShaped setting.setup noted
 entry_shape setting before event noted e = elim (entry_turn setting before event noted e) [
-  | inl b ↦ subst (IsShaped setting.setup) b.is (inr (inl (record { at = b.at; of = λ node. refl; packets = refl })))
+  | inl b ↦ subst (IsShaped setting.setup) b.is (inr (inl (record { at = b.at; node = b.node; of = λ node. refl; packets = refl })))
   | inr other ↦ elim other [
-    | inl g ↦ subst (IsShaped setting.setup) g.is (inr (inl (record { at = g.at; of = g.of; packets = refl })))
+    | inl g ↦ subst (IsShaped setting.setup) g.is (inr (inl (record { at = g.at; node = g.node; of = g.of; packets = refl })))
     | inr rest ↦ elim rest [
       | inl c ↦ subst (IsShaped setting.setup) c.is (inl refl)
       | inr last ↦ elim last [

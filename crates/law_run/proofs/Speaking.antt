@@ -19,6 +19,7 @@ use Rattle.simplex_wire.specs.Message as format
 use Rattle.simplex_types.specs.declared.activity.Activity.TheVariants as activities
 use Rattle.simplex_messages.specs.declared.call.Call.{Call}
 use Rattle.simplex_messages.specs.declared.call.Call.TheVariants as calls
+use Rattle.simplex_types.specs.declared.cause.BlockCause.TheVariants.{LeaderConflict}
 use Rattle.simplex_messages.specs.declared.handed.Handed.{Handed}
 use Rattle.simplex_messages.specs.declared.handed.Handed.TheVariants as handed
 use Rattle.simplex_messages.specs.declared.batcher.Message.TheVariants as batcher
@@ -128,8 +129,23 @@ abbrev pub OfNullify : (Certificate → Type 0) → Option (Nullify × Option Ce
 OfNullify Good None = Unit {0}
 OfNullify Good (Some n) = OfOption Good n.1
 
+-- a voter blocks nobody but a leader that was contradicted
+abbrev pub InVoterCall : (Certificate → Type 0) → Call → Type 0
+InVoterCall Good (calls.Block who why) = why ≡ LeaderConflict
+InVoterCall Good call = InCall Good call
+
+pub voter_calls : (Good : Certificate → Type 0) (cs : List Call) → Each (InVoterCall Good) cs → Each (InCall Good) cs
+voter_calls Good [] h = tt
+voter_calls Good (calls.Block who why ∷ cs) h = (tt, voter_calls Good cs h.1)
+voter_calls Good (calls.Append n a ∷ cs) h = (h.0, voter_calls Good cs h.1)
+voter_calls Good (calls.Sync n ∷ cs) h = (h.0, voter_calls Good cs h.1)
+voter_calls Good (calls.Prune n ∷ cs) h = (h.0, voter_calls Good cs h.1)
+voter_calls Good (calls.Send channel to bytes ∷ cs) h = (h.0, voter_calls Good cs h.1)
+voter_calls Good (calls.Report activity ∷ cs) h = (h.0, voter_calls Good cs h.1)
+voter_calls Good (calls.Relay payload plan ∷ cs) h = (h.0, voter_calls Good cs h.1)
+
 pub record Says (Good : Certificate → Type 0) (cs : List Call) (hs : List Handed) (news : List Certificate) (facts : List Fact) (v : Option (Notarization × Bool)) (n : Option (Nullify × Option Certificate)) : Type 0 where
-  pub in_calls : Each (InCall Good) cs
+  pub in_calls : Each (InVoterCall Good) cs
   pub in_messages : Each (InMessage Good cs) hs
   pub in_added : Each Good news
   pub in_known : KnowsGood Good facts
@@ -147,10 +163,10 @@ later_message Good cs ds (handed.Resolver message) m = m
 later_message Good cs ds (handed.Handler message) m = tt
 
 pub say : (Good : Certificate → Type 0) (cs : List Call) (hs : List Handed) (news : List Certificate) (facts : List Fact) (v : Option (Notarization × Bool)) (n : Option (Nullify × Option Certificate)) (c : Call)
-    → InCall Good c → Says Good cs hs news facts v n → Says Good (cs ++ c ∷ []) hs news facts v n
+    → InVoterCall Good c → Says Good cs hs news facts v n → Says Good (cs ++ c ∷ []) hs news facts v n
 say Good cs hs news facts v n c good s =
     record {
-      in_calls = Each-append (InCall Good) cs (c ∷ []) s.in_calls (good, tt);
+      in_calls = Each-append (InVoterCall Good) cs (c ∷ []) s.in_calls (good, tt);
       in_messages = Each-weaker (InMessage Good cs) (InMessage Good (cs ++ c ∷ [])) (later_message Good cs (c ∷ [])) hs s.in_messages;
       in_added = s.in_added;
       in_known = s.in_known;
@@ -180,7 +196,7 @@ says_told Good made call d q s =
     learn Good d.calls d.handed d.added d.desk.known (facts_of made d.desk.known call ++ d.desk.known) d.verdict d.nullify
     (same_good Good made d.desk.known (facts_of made d.desk.known call ++ d.desk.known) (told_quiet made d.desk.known call q) s.in_known) s
 
-pub says_made : (Good : Certificate → Type 0) (c : Call) (d : Doing) → InCall Good c → SaysGood Good d → SaysGood Good (make c d)
+pub says_made : (Good : Certificate → Type 0) (c : Call) (d : Doing) → InVoterCall Good c → SaysGood Good d → SaysGood Good (make c d)
 says_made Good c d good s = say Good d.calls d.handed d.added d.desk.known d.verdict d.nullify c good s
 
 pub says_handed : (Good : Certificate → Type 0) (h : Handed) (d : Doing) → InMessage Good d.calls h → SaysGood Good d → SaysGood Good (hand h d)

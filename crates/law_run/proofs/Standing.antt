@@ -63,7 +63,7 @@ module _ (P : Certificate → Type 0) where
   in_call (calls.Sync n) c p k = absurd (not_in_empty c k)
   in_call (calls.Prune n) c p k = absurd (not_in_empty c k)
   in_call (calls.Relay payload plan) c p k = absurd (not_in_empty c k)
-  in_call (calls.Block who) c p k = absurd (not_in_empty c k)
+  in_call (calls.Block who why) c p k = absurd (not_in_empty c k)
 
   in_message : (cs : List Call) (x : Handed) (c : Certificate) → InMessage P cs x → Contains (of_message x) c → P c
   in_message cs (handed.Voter (voter.Verified n)) c p k = only_one _ c p k

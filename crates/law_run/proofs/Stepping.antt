@@ -22,6 +22,8 @@ use Rattle.simplex_messages.specs.declared.voter.VoterInput.TheVariants as voter
 use Rattle.simplex_messages.specs.declared.handed.Handed.{Handed}
 use Rattle.simplex_messages.specs.declared.handed.Handed.TheVariants as handed
 use Rattle.simplex_messages.specs.declared.step.Outcome.{Outcome}
+use Rattle.simplex_messages.specs.declared.step.Outcome.TheVariants as outcomes
+use Rattle.model_steps.specs.Batcher as batcher
 use Rattle.simplex_messages.specs.declared.step.StepOut.{StepOut}
 use Rattle.simplex_messages.specs.declared.step.Stop.{Stop}
 use Rattle.simplex_messages.specs.declared.step.Stop.TheVariants as stops
@@ -34,7 +36,7 @@ use Rattle.model_steps.specs.Performed.{Performed}
 use Rattle.model_steps.specs.Voter as voter
 use Rattle.model_steps.specs.VoterLife.{Stepped, Answered, place_of, step_given}
 use Rattle.model_steps.specs.Engine as engine
-use Rattle.model_steps.specs.Engine.{EngineMade, Did, started_at, is_start, given_to_voter, voter_in, voter_past, input_of_batcher}
+use Rattle.model_steps.specs.Engine.{EngineMade, Did, started_at, is_start, given_to_voter, voter_in, voter_past, given_to_batcher, input_of_batcher}
 use Rattle.model_run.specs.Life.{Noted, clock_of}
 use Rattle.model_run.specs.Members.{members_of}
 use Rattle.law_agreement.proofs.ListFacts.{Contains-here}
@@ -67,7 +69,9 @@ use Rattle.law_run.specs.Backed.{read_certificate, in_body, in_response, certifi
 use Rattle.law_run.proofs.Fetching.{BodyBrings}
 use Rattle.law_run.proofs.Resolving.{Brings, InGiven, InHandedOn, InResolverInput, PacketBrings, handler_sound, resolver_calls, resolver_handed}
 use Rattle.law_run.proofs.BackingEngines.{IsFineEngine, IsFineRun, IsPlaceFine, IsResolverOf}
-use Rattle.law_run.proofs.Handing.{by_outcome, own_fine}
+use Rattle.law_run.proofs.Handing.{own_fine}
+use Rattle.law_run.proofs.Speaking.{voter_calls}
+use Rattle.law_run.proofs.Letting.{heard_either, given_input, held_given, told_alone, nothing_given}
 use Rattle.law_run.proofs.Beginning.{appended_good}
 
 -- ---- a step
@@ -75,7 +79,7 @@ use Rattle.law_run.proofs.Beginning.{appended_good}
 -- what one event of an engine gives, where its votes were spoken
 pub record IsStepFine (backers : Backers) (member : ℕ) (made : EngineMade) (past : List Did) (did : Did) : Type 0 where
   pub said : AllSaid (IsGood backers) did.out
-  pub taken : (input : BatcherInput) → input_of_batcher did.taken ≡ Some input → IsFineInput backers input
+  pub taken : (given : batcher.Timed) → given_to_batcher did ≡ Some given → IsFineInput backers given.input
   pub given : Each (InGiven made.resolver (IsGood backers)) (engine.given_to_resolver did)
   pub place : IsPlaceFine backers (place_in made (did ∷ past))
   pub fine : ((v : Vote) → Contains did.out.calls (calls.Send channels.Vote recipients.All (format.vote.spelling v)) → SpokenOn backers member channels.Vote (format.vote.spelling v))
@@ -104,7 +108,7 @@ voter_place backers made past did input now stop e f given h =
         subst (IsPlaceFine backers) (sym (step_place (voter_in made past) (voter_past past) input now stop d g))
         (record {
           known = says.in_known;
-          records = step_keeps (InRecord (IsGood backers)) stop d (place_in made past).sections (appended_good backers d.calls says.in_calls) h.records;
+          records = step_keeps (InRecord (IsGood backers)) stop d (place_in made past).sections (appended_good backers d.calls (voter_calls (IsGood backers) d.calls says.in_calls)) h.records;
         })
 
 answered_place : (backers : Backers) (made : EngineMade) (past : List Did) (did : Did) (number : ℕ) (answer : Answer) → given_to_voter did ≡ Some (Answered number answer) → is_start did.taken ≡ false
@@ -145,36 +149,51 @@ voter_signed made past input now stop = at (voter.stepped (voter_in made past).r
 
 -- a step of the voter on an input that brings a good certificate or none
 by_voter_fine : (backers : Backers) (member : ℕ) (made : EngineMade) (past : List Did) (did : Did) (input : VoterInput) (now : ℕ) (stop : Stop) → given_to_voter did ≡ Some (Stepped input now stop) → is_start did.taken ≡ false
-    → did.out ≡ (step_given (voter_in made past) (voter_past past) input now stop).out → ((i : BatcherInput) → input_of_batcher did.taken ≡ Some i → IsFineInput backers i) → engine.given_to_resolver did ≡ []
+    → did.out ≡ (step_given (voter_in made past) (voter_past past) input now stop).out → ((i : BatcherInput) → input_of_batcher did.taken ≡ Some i → IsFineInput backers i) → engine.is_of_resolver did.taken ≡ false
     → InInput (IsGood backers) input → IsFineEngine backers member made past → IsStepFine backers member made past did
 by_voter_fine backers member made past did input now stop e f out taken none given h =
     let said : AllSaid (IsGood backers) did.out = subst (AllSaid (IsGood backers)) (sym out) (voter_said backers made past input now stop given h.place.known) in
     record {
       said = said;
-      taken = taken;
-      given = subst (Each (InGiven made.resolver (IsGood backers))) (sym none) tt;
+      taken = λ t q. taken t.input (given_input did t q);
+      given = told_alone (InGiven made.resolver (IsGood backers)) (λ m. tt) did none;
       place = voter_place backers made past did input now stop e f given h.place;
       fine = λ spoken fits. own_fine backers member (voter_in made past).rules did.out.calls did.out.handed (h.signs (started_at past)) spoken said.handed
           (subst (λ (x : StepOut). Each (InOwn (IsSigned (voter_in made past).rules)) x.handed) (sym out) (voter_signed made past input now stop)) fits;
+    }
+
+-- nothing was held, or a packet was refused
+nothing_fine : (backers : Backers) (member : ℕ) (made : EngineMade) (past : List Did) (taken : engine.Taken) (now : ℕ) (stop : Stop) (o : Outcome)
+    → given_to_voter (engine.did_of taken now stop o no_out) ≡ None → is_start taken ≡ false
+    → ((t : batcher.Timed) → given_to_batcher (engine.did_of taken now stop o no_out) ≡ Some t → IsFineInput backers t.input) → engine.given_to_resolver (engine.did_of taken now stop o no_out) ≡ []
+    → IsFineEngine backers member made past → IsStepFine backers member made past (engine.did_of taken now stop o no_out)
+nothing_fine backers member made past taken now stop o e f none apart h =
+    record {
+      said = nothing_said backers;
+      taken = none;
+      given = subst (Each (InGiven made.resolver (IsGood backers))) (sym apart) tt;
+      place = unseen_place backers made (engine.did_of taken now stop o no_out) past e f h.place;
+      fine = λ s g. tt;
     }
 
 held_nothing : (backers : Backers) (member : ℕ) (made : EngineMade) (past : List Did) (source : StepSource) (now : ℕ) (stop : Stop)
     → given_to_voter (engine.nothing_held source now stop) ≡ None → ((i : BatcherInput) → input_of_batcher (engine.Took source None) ≡ Some i → IsFineInput backers i)
     → IsFineEngine backers member made past → IsStepFine backers member made past (engine.nothing_held source now stop)
 held_nothing backers member made past source now stop e none h =
-    record { said = nothing_said backers; taken = none; given = tt; place = unseen_place backers made (engine.nothing_held source now stop) past e refl h.place; fine = λ s f. tt }
+    nothing_fine backers member made past (engine.Took source None) now stop outcomes.Idle e refl (λ t q. none t.input (given_input (engine.nothing_held source now stop) t q))
+    (nothing_given (engine.Took source None) now stop).0 h
 
 -- a step of the batcher on an input that is fine
 by_batcher_fine : (backers : Backers) (member : ℕ) (made : EngineMade) (past : List Did) (taken : engine.Taken) (input : BatcherInput) (now : ℕ) (stop : Stop) → IsSized backers.setting.setup
-    → ((i : BatcherInput) → input_of_batcher taken ≡ Some i → i ≡ input) → ((n : ℕ) (s : Stop) (o : Outcome) (out : StepOut) → (given_to_voter (engine.did_of taken n s o out) ≡ None) × (is_start taken ≡ false) × (engine.given_to_resolver (engine.did_of taken n s o out) ≡ []))
+    → ((i : BatcherInput) → input_of_batcher taken ≡ Some i → i ≡ input) → ((n : ℕ) (s : Stop) (o : Outcome) (out : StepOut) → (given_to_voter (engine.did_of taken n s o out) ≡ None) × (is_start taken ≡ false) × (engine.is_of_resolver taken ≡ false))
     → IsFineInput backers input → IsFineEngine backers member made past → IsStepFine backers member made past (engine.by_batcher made past taken input now stop)
 unfolding engine.by_batcher
 by_batcher_fine backers member made past taken input now stop sized only unseen f h =
     let did = engine.by_batcher made past taken input now stop in
     record {
       said = batcher_said backers made past taken input now stop sized h.batcher h.history f;
-      taken = λ i t. subst (IsFineInput backers) (sym (only i t)) f;
-      given = subst (Each (InGiven made.resolver (IsGood backers))) (sym (unseen did.now did.stop did.outcome did.out).2) tt;
+      taken = λ t q. subst (IsFineInput backers) (sym (only t.input (given_input did t q))) f;
+      given = told_alone (InGiven made.resolver (IsGood backers)) (λ m. tt) did (unseen did.now did.stop did.outcome did.out).2;
       place = unseen_place backers made did past (unseen did.now did.stop did.outcome did.out).0 (unseen did.now did.stop did.outcome did.out).1 h.place;
       fine = λ s g. batcher_fine backers made past taken input now stop sized h.batcher h.history f;
     }
@@ -186,7 +205,7 @@ batcher_step backers member made past now stop (Some message) sized e h =
     let mail = batcher_holds (InOwnMail backers) (InVoterMail backers) (IsGood backers) made past (handed_all backers past h.history) in
     let came = holds_received (InOwnMail backers) (engine.batcher_mail made past) message mail e in
     by_batcher_fine backers member made past (engine.Took sources.Batcher (Some (handed.Batcher message))) (batcher_inputs.Mail message) now stop sized
-    (λ i t. sym (some_is (batcher_inputs.Mail message) i t)) (λ n s o out. (refl, refl, by_outcome (λ x. engine.given_to_resolver (engine.did_of (engine.Took sources.Batcher (Some (handed.Batcher message))) n s x out) ≡ []) refl refl refl refl o)) came h
+    (λ i t. sym (some_is (batcher_inputs.Mail message) i t)) (λ n s o out. (refl, refl, refl)) came h
 
 in_mail : (backers : Backers) (message : voter_message.Message) → InVoterMail backers message → InInput (IsGood backers) (voter_inputs.Mail message)
 in_mail backers (voter_messages.Verified c) g = g
@@ -200,14 +219,13 @@ voter_step backers member made past now stop (Some message) e h =
     let mail = voter_holds (InOwnMail backers) (InVoterMail backers) (IsGood backers) made past (handed_all backers past h.history) in
     let came = holds_received (InVoterMail backers) (engine.voter_mail made past) message mail e in
     by_voter_fine backers member made past (engine.on_voter_mail made past now stop (Some message)) (voter_inputs.Mail message) now stop refl refl refl (λ input t. cc)
-    (by_outcome (λ x. engine.given_to_resolver (engine.did_of (engine.Took sources.Voter (Some (handed.Voter message))) now stop x (step_given (voter_in made past) (voter_past past) (voter_inputs.Mail message) now stop).out) ≡ []) refl refl refl refl (step_given (voter_in made past) (voter_past past) (voter_inputs.Mail message) now stop).outcome) (in_mail backers message came) h
+    refl (in_mail backers message came) h
 
 own_step : (backers : Backers) (member : ℕ) (made : EngineMade) (past : List Did) (source : StepSource) (input : VoterInput) (now : ℕ) (stop : Stop)
-    → given_to_voter (engine.on_voter made past source input now stop) ≡ Some (Stepped input now stop) → ((i : BatcherInput) → input_of_batcher (engine.Took source None) ≡ Some i → IsFineInput backers i) → ((o : Outcome) (out : StepOut) → engine.given_to_resolver (engine.did_of (engine.Took source None) now stop o out) ≡ [])
+    → given_to_voter (engine.on_voter made past source input now stop) ≡ Some (Stepped input now stop) → ((i : BatcherInput) → input_of_batcher (engine.Took source None) ≡ Some i → IsFineInput backers i) → engine.is_of_resolver (engine.Took source None) ≡ false
     → InInput (IsGood backers) input → IsFineEngine backers member made past → IsStepFine backers member made past (engine.on_voter made past source input now stop)
 own_step backers member made past source input now stop e none apart given h =
-    let x = step_given (voter_in made past) (voter_past past) input now stop in
-    by_voter_fine backers member made past (engine.on_voter made past source input now stop) input now stop e refl refl none (apart x.outcome x.out) given h
+    by_voter_fine backers member made past (engine.on_voter made past source input now stop) input now stop e refl refl none apart given h
 
 -- ---- a step of the resolver
 
@@ -245,7 +263,7 @@ by_resolver_fine backers member made past given taken input now stop none unseen
     let passes = resolver_handed made.resolver (IsGood backers) given input now old g in
     record {
       said = cut_said (IsGood backers) stop out (record { calls = resolver_calls made.resolver (IsGood backers) given input now old g; handed = in_handed (IsGood backers) made.resolver out.calls out.handed passes; added = nothing_added backers made.resolver given input now });
-      taken = none;
+      taken = λ t q. none t.input (given_input did t q);
       given = more did.outcome did.out;
       place = unseen_place backers made did past (unseen did.outcome did.out) no_start h.place;
       fine = λ s f. cut_fine backers stop out (is_handed backers made.resolver out.handed passes);
@@ -259,7 +277,7 @@ resolver_step backers member made past now stop (Some message) e h =
     let came = holds_received (InResolverMail (IsGood backers)) (engine.resolver_mail made past) message mail e in
     let taken : engine.Taken = engine.Took sources.Resolver (Some (handed.Resolver message)) in
     by_resolver_fine backers member made past (engine.resolver_past past) taken (resolver_inputs.Mail message) now stop (λ input t. cc) (λ x out. refl) refl
-    (λ x out. by_outcome (λ y. Each (InGiven made.resolver (IsGood backers)) (engine.given_to_resolver (engine.did_of taken now stop y out))) (came, tt) tt (came, tt) (came, tt) x) h.given came h
+    (λ x out. held_given (InGiven made.resolver (IsGood backers)) x (resolver.Stepped (resolver_inputs.Mail message) now ∷ []) (came, tt)) h.given came h
 
 handler_step : (backers : Backers) (member : ℕ) (made : EngineMade) (past : List Did) (now : ℕ) (stop : Stop) (o : Option HandlerMessage) → resolver.handler_message made.resolver (engine.resolver_past past) ≡ o
     → IsFineEngine backers member made past → IsStepFine backers member made past (engine.on_handler_mail made past now stop o)
@@ -268,7 +286,7 @@ handler_step backers member made past now stop (Some message) e h =
     let came = handler_sound made.resolver (IsGood backers) (engine.resolver_past past) message h.given e in
     let taken : engine.Taken = engine.Took sources.Handler (Some (handed.Handler message)) in
     by_resolver_fine backers member made past (resolver.HandlerTaken ∷ engine.resolver_past past) taken (resolver_inputs.Handler message) now stop (λ input t. cc) (λ x out. refl) refl
-    (λ x out. by_outcome (λ y. Each (InGiven made.resolver (IsGood backers)) (engine.given_to_resolver (engine.did_of taken now stop y out))) (came, (tt, tt)) tt (came, (tt, tt)) (came, (tt, tt)) x)
+    (λ x out. held_given (InGiven made.resolver (IsGood backers)) x (resolver.Stepped (resolver_inputs.Handler message) now ∷ resolver.HandlerTaken ∷ []) (came, (tt, tt)))
     (tt, h.given) came h
 
 fetch_step : (backers : Backers) (member : ℕ) (made : EngineMade) (past : List Did) (now : ℕ) (stop : Stop)
@@ -281,7 +299,7 @@ fetch_step backers member made past now stop h = at (is_reached now (resolver.de
     step : IsStepFine backers member made past (engine.by_resolver made (engine.resolver_past past) (engine.Took sources.Fetch None) resolver_inputs.Timer now stop)
     step =
         by_resolver_fine backers member made past (engine.resolver_past past) (engine.Took sources.Fetch None) resolver_inputs.Timer now stop (λ input t. cc) (λ x out. refl) refl
-        (λ x out. by_outcome (λ y. Each (InGiven made.resolver (IsGood backers)) (engine.given_to_resolver (engine.did_of (engine.Took sources.Fetch None) now stop y out))) (tt, tt) tt (tt, tt) (tt, tt) x) h.given tt h
+        (λ x out. held_given (InGiven made.resolver (IsGood backers)) x (resolver.Stepped resolver_inputs.Timer now ∷ []) (tt, tt)) h.given tt h
 
     at : (b : Bool) → IsStepFine backers member made past (if b then engine.by_resolver made (engine.resolver_past past) (engine.Took sources.Fetch None) resolver_inputs.Timer now stop else engine.nothing_held sources.Fetch now stop)
     at true = step
@@ -306,33 +324,37 @@ any_step : (backers : Backers) (member : ℕ) (made : EngineMade) (past : List D
 unfolding engine.stepped
 any_step backers member made past sources.Batcher now stop sized h = batcher_step backers member made past now stop (received (engine.batcher_mail made past)) sized refl h
 any_step backers member made past sources.Voter now stop sized h = voter_step backers member made past now stop (received (engine.voter_mail made past)) refl h
-any_step backers member made past sources.Timer now stop sized h = own_step backers member made past sources.Timer voter_inputs.Timer now stop refl (λ input t. cc)
-    (λ o out. by_outcome (λ x. engine.given_to_resolver (engine.did_of (engine.Took sources.Timer None) now stop x out) ≡ []) refl refl refl refl o) tt h
-any_step backers member made past sources.Propose now stop sized h = own_step backers member made past sources.Propose voter_inputs.Propose now stop refl (λ input t. cc)
-    (λ o out. by_outcome (λ x. engine.given_to_resolver (engine.did_of (engine.Took sources.Propose None) now stop x out) ≡ []) refl refl refl refl o) tt h
-any_step backers member made past sources.Verify now stop sized h = own_step backers member made past sources.Verify voter_inputs.Verify now stop refl (λ input t. cc)
-    (λ o out. by_outcome (λ x. engine.given_to_resolver (engine.did_of (engine.Took sources.Verify None) now stop x out) ≡ []) refl refl refl refl o) tt h
-any_step backers member made past sources.Certify now stop sized h = own_step backers member made past sources.Certify voter_inputs.Certify now stop refl (λ input t. cc)
-    (λ o out. by_outcome (λ x. engine.given_to_resolver (engine.did_of (engine.Took sources.Certify None) now stop x out) ≡ []) refl refl refl refl o) tt h
+any_step backers member made past sources.Timer now stop sized h = own_step backers member made past sources.Timer voter_inputs.Timer now stop refl (λ input t. cc) refl tt h
+any_step backers member made past sources.Propose now stop sized h = own_step backers member made past sources.Propose voter_inputs.Propose now stop refl (λ input t. cc) refl tt h
+any_step backers member made past sources.Verify now stop sized h = own_step backers member made past sources.Verify voter_inputs.Verify now stop refl (λ input t. cc) refl tt h
+any_step backers member made past sources.Certify now stop sized h = own_step backers member made past sources.Certify voter_inputs.Certify now stop refl (λ input t. cc) refl tt h
 any_step backers member made past sources.Resolver now stop sized h = resolver_step backers member made past now stop (received (engine.resolver_mail made past)) refl h
 any_step backers member made past sources.Handler now stop sized h = handler_step backers member made past now stop (resolver.handler_message made.resolver (engine.resolver_past past)) refl h
 any_step backers member made past sources.Fetch now stop sized h = fetch_step backers member made past now stop h
 
--- a packet that is heard
-heard_fine : (backers : Backers) (member : ℕ) (made : EngineMade) (past : List Did) (sender : ℕ) (channel : Channel) (bytes : List ℕ) (now : ℕ) → IsSized backers.setting.setup → FineOn backers sender channel bytes
-    → IsFineEngine backers member made past → IsStepFine backers member made past (engine.heard made past sender channel bytes now)
-unfolding engine.heard
-heard_fine backers member made past sender channels.Vote bytes now sized f h =
+-- a packet that is let in
+let_in_fine : (backers : Backers) (member : ℕ) (made : EngineMade) (past : List Did) (sender : ℕ) (channel : Channel) (bytes : List ℕ) (now : ℕ) → IsSized backers.setting.setup → FineOn backers sender channel bytes
+    → IsFineEngine backers member made past → IsStepFine backers member made past (engine.let_in made past sender channel bytes now)
+unfolding engine.let_in
+let_in_fine backers member made past sender channels.Vote bytes now sized f h =
     by_batcher_fine backers member made past (engine.Heard sender channels.Vote bytes) (batcher_inputs.Vote sender bytes) now stops.None sized
-    (λ i t. sym (some_is (batcher_inputs.Vote sender bytes) i t)) (λ n s o out. (refl, refl, by_outcome (λ x. engine.given_to_resolver (engine.did_of (engine.Heard sender channels.Vote bytes) n s x out) ≡ []) refl refl refl refl o)) f h
-heard_fine backers member made past sender channels.Certificate bytes now sized f h =
+    (λ i t. sym (some_is (batcher_inputs.Vote sender bytes) i t)) (λ n s o out. (refl, refl, refl)) f h
+let_in_fine backers member made past sender channels.Certificate bytes now sized f h =
     by_batcher_fine backers member made past (engine.Heard sender channels.Certificate bytes) (batcher_inputs.Certificate sender bytes) now stops.None sized
-    (λ i t. sym (some_is (batcher_inputs.Certificate sender bytes) i t)) (λ n s o out. (refl, refl, by_outcome (λ x. engine.given_to_resolver (engine.did_of (engine.Heard sender channels.Certificate bytes) n s x out) ≡ []) refl refl refl refl o)) f h
-heard_fine backers member made past sender channels.Resolver bytes now sized f h =
+    (λ i t. sym (some_is (batcher_inputs.Certificate sender bytes) i t)) (λ n s o out. (refl, refl, refl)) f h
+let_in_fine backers member made past sender channels.Resolver bytes now sized f h =
     let came = brings backers made.resolver sender bytes h.resolver f in
     let taken : engine.Taken = engine.Heard sender channels.Resolver bytes in
     by_resolver_fine backers member made past (engine.resolver_past past) taken (resolver_inputs.Packet sender bytes) now stops.None (λ input t. cc) (λ x out. refl) refl
-    (λ x out. by_outcome (λ y. Each (InGiven made.resolver (IsGood backers)) (engine.given_to_resolver (engine.did_of taken now stops.None y out))) (came, tt) tt (came, tt) (came, tt) x) h.given came h
+    (λ x out. held_given (InGiven made.resolver (IsGood backers)) x (resolver.Stepped (resolver_inputs.Packet sender bytes) now ∷ []) (came, tt)) h.given came h
+
+-- a packet that is heard
+heard_fine : (backers : Backers) (member : ℕ) (made : EngineMade) (past : List Did) (sender : ℕ) (channel : Channel) (bytes : List ℕ) (now : ℕ) → IsSized backers.setting.setup → FineOn backers sender channel bytes
+    → IsFineEngine backers member made past → IsStepFine backers member made past (engine.heard made past sender channel bytes now)
+heard_fine backers member made past sender channel bytes now sized f h =
+    heard_either (IsStepFine backers member made past) made past sender channel bytes now
+    (nothing_fine backers member made past (engine.Heard sender channel bytes) now stops.None outcomes.Refused refl refl (λ t q. cc) (nothing_given (engine.Heard sender channel bytes) now stops.None).1 h)
+    (let_in_fine backers member made past sender channel bytes now sized f h)
 
 -- whatever an engine takes
 pub taken_fine : (backers : Backers) (before : List Noted) (at : Node) (made : EngineMade) (past : List Did) (did : Did) → IsSized backers.setting.setup → IsTaken backers.setting.setup before at made past did → IsFineRun backers before
@@ -344,7 +366,7 @@ taken_fine backers before at made past did sized t fine h = elim t [
     | inl s ↦ subst (IsStepFine backers at.member made past) (sym s.is) (any_step backers at.member made past s.source (clock_of before) s.stop sized h)
     | inr r ↦ subst (IsStepFine backers at.member made past) (sym r.is) (record {
       said = nothing_said backers;
-      taken = λ input e. cc;
+      taken = λ t q. cc;
       given = tt;
       place = answered_place backers made past (engine.replied r.number r.answer (clock_of before)) r.number r.answer refl refl h.place;
       fine = λ s g. tt;

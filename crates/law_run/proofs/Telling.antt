@@ -1,4 +1,5 @@
 -- What a voter says in a step, and in a start.
+use Rattle.simplex_types.specs.declared.cause.BlockCause.TheVariants.{LeaderConflict}
 use Rattle.std.proofs.Common.{◌≡◌, ℕ, zero, suc, ◌-◌, ◌==◌, not, Bool, true, false, nat_lt, nat_le, List, [], ◌∷◌, ◌++◌, take, Option, Some, None, refl, sym, ap, subst, append_assoc, if◌then◌else◌}
 use Rattle.std.specs.List.{list_any}
 use Rattle.std.specs.Option.{option_or, option_map, option_map_or, option_and_then}
@@ -53,7 +54,7 @@ use Rattle.law_member.specs.Life.{noted}
 use Rattle.law_member.proofs.Facts.{quiet_same, Quiet-triggered}
 use Rattle.law_member.proofs.LifeActing.{adding_facts, nullifying_facts}
 use Rattle.law_run.specs.Sayings.{Each, InRecord, InReport, InCall, AllSaid, InInput, InFloor, InRecords}
-use Rattle.law_run.proofs.Speaking.{KnowsGood, same_good, push_good, good_notarization, good_finalization, OfOption, SaysGood, say, learn, says_told, says_made, says_handed, says_at_end, says_iteration}
+use Rattle.law_run.proofs.Speaking.{voter_calls, KnowsGood, same_good, push_good, good_notarization, good_finalization, OfOption, SaysGood, say, learn, says_told, says_made, says_handed, says_at_end, says_iteration}
 
 -- ---- the best certificate
 
@@ -210,7 +211,7 @@ in_record Good (certificates.Finalization n) g = g
 
 says_blocked : (Good : Certificate → Type 0) (o : Option ℕ) (d : Doing) → SaysGood Good d → SaysGood Good (block_for o d)
 says_blocked Good None d s = s
-says_blocked Good (Some leader) d s = says_made Good (calls.Block leader) d tt s
+says_blocked Good (Some leader) d s = says_made Good (calls.Block leader LeaderConflict) d refl s
 
 block_same : (o : Option ℕ) (d : Doing) → ((block_for o d).desk ≡ d.desk)
 block_same None d = refl
@@ -515,8 +516,8 @@ unfolding performed
 said Good stop d js s = at (stop_place stop d.calls)
   where
     at : (o : Option ℕ) → AllSaid Good (option_map_or (broken stop d js) o (whole d js)).out
-    at None = record { calls = s.in_calls; handed = s.in_messages; added = s.in_added }
-    at (Some place) = record { calls = Each-take (InCall Good) place d.calls s.in_calls; handed = tt; added = tt }
+    at None = record { calls = voter_calls Good d.calls s.in_calls; handed = s.in_messages; added = s.in_added }
+    at (Some place) = record { calls = Each-take (InCall Good) place d.calls (voter_calls Good d.calls s.in_calls); handed = tt; added = tt }
 
 pub said_at_start : (Good : Certificate → Type 0) (stop : Stop) (floor : Floor) (d : Doing) (js : List Section) → SaysGood Good d → AllSaid Good (start_performed stop floor d js).out
 unfolding start_performed
@@ -525,5 +526,5 @@ said_at_start Good (stops.Cut call keep) floor d js s = said Good (stops.Cut cal
 said_at_start Good (stops.Fail call keep) floor d js s = at (call == 1)
   where
     at : (b : Bool) → AllSaid Good (if b then unread floor d keep js else performed (stops.Fail (call - 1) keep) d js).out
-    at true = record { calls = Each-take (InCall Good) (before_reading floor) d.calls s.in_calls; handed = tt; added = tt }
+    at true = record { calls = Each-take (InCall Good) (before_reading floor) d.calls (voter_calls Good d.calls s.in_calls); handed = tt; added = tt }
     at false = said Good (stops.Fail (call - 1) keep) d js s

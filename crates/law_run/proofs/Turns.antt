@@ -19,7 +19,7 @@ use Rattle.model_steps.specs.Engine.{EngineMade, Did}
 use Rattle.model_run.specs.Setting.{Setting}
 use Rattle.model_run.specs.Life.{Noted, Life, Stopped, Running, clock_of, is_of, going_on, after, life_in}
 use Rattle.model_run.specs.Members.{is_node, members_of, is_same_node, floor_of, engine_of}
-use Rattle.model_run.specs.Requests.{request_number, packet_for}
+use Rattle.model_run.specs.Requests.{is_start, request_number, packet_for}
 use Rattle.model_run.specs.Entries.{noted_with, noted_blank, took_of, is_at_end, is_own_floor, on_start, on_packet, on_deliver, on_step, on_request, on_answer, on_crash, entry_of, noted_idle, sent_by, on_hearing, on_inject, by_engine, made_of}
 use Rattle.law_run.specs.Saying.{InStart}
 use Rattle.std.proofs.lemmas.Bool.Decides.{nat_tests}
@@ -40,7 +40,7 @@ pub if_ok : {E A : Type 0} (b : Bool) (x : Result A E) (error : E) (a : A) → (
 if_ok true x error a e = (refl, e)
 if_ok false x error a e = cc
 
-if_err : {E A : Type 0} (b : Bool) (x : Result A E) (error : E) (a : A) → (if b then Err error else x) ≡ Ok a → (b ≡ false) × (x ≡ Ok a)
+pub if_err : {E A : Type 0} (b : Bool) (x : Result A E) (error : E) (a : A) → (if b then Err error else x) ≡ Ok a → (b ≡ false) × (x ≡ Ok a)
 if_err true x error a e = cc
 if_err false x error a e = (refl, e)
 
@@ -94,6 +94,7 @@ pub record IsGoing (setting : Setting) (before : List Noted) (event : Event) (no
   pub running : life_in setting before at ≡ Running made past
   pub of : (other : Node) → is_of other event ≡ is_same_node at other
   pub start : InStart (λ c. ⊥) event
+  pub later : is_start event ≡ false
   pub goes : after setting event (Some did) (Running made past) ≡ going_on made (did ∷ past)
   pub taken : IsTaken setting.setup before at made past did
   pub is : noted_with setting.setup before event at took did ≡ noted
@@ -119,6 +120,7 @@ pub record IsEngineless (setup : Setup) (noted : Noted) : Type 0 where
   pub engines : (node : Node) → runs_engine setup node.member ≡ true → is_of node noted.event ≡ false
   pub honest : (node : Node) → ¬ (Contains (faulty_of setup) node.member) → is_of node noted.event ≡ false
   pub start : InStart (λ c. ⊥) noted.event
+  pub did : noted.did ≡ None
   pub added : noted.entry.added ≡ []
   pub handed : noted.entry.handed ≡ []
   pub calls : noted.entry.calls ≡ []
@@ -153,6 +155,7 @@ packet_turn setting before at ref noted made past is runs f (Some packet) p e =
       running = f;
       of = λ other. refl;
       start = tt;
+      later = refl;
       goes = refl;
       taken = taken;
       is = ok_is _ noted (if_err (is_at_end setting.setup made past) _ _ noted e).1;
@@ -182,6 +185,7 @@ step_turn setting before at source stop noted is runs (Running made past) f e =
       running = f;
       of = λ other. refl;
       start = tt;
+      later = refl;
       goes = refl;
       taken = taken;
       is = ok_is _ noted parts.1;
@@ -205,6 +209,7 @@ request_turn setting before at ref answer noted made past is runs f (Some number
       running = f;
       of = λ other. refl;
       start = tt;
+      later = refl;
       goes = refl;
       taken = taken;
       is = ok_is _ noted (if_ok (engine.takes_reply made past number answer) _ _ noted e).1;
@@ -244,6 +249,7 @@ idle_turn setting before event at noted is none of start e =
       engines = λ node runs_one. of node ∙ other_engine setting.setup at node none runs_one;
       honest = λ node good. of node ∙ unfaulty setting.setup at node is none good;
       start = start;
+      did = refl;
       added = refl;
       handed = refl;
       calls = refl;
@@ -258,6 +264,7 @@ hearing_turn setting before at ref noted is none (Some packet) e =
       engines = λ node runs_one. other_engine setting.setup at node none runs_one;
       honest = λ node good. unfaulty setting.setup at node is none good;
       start = tt;
+      did = refl;
       added = refl;
       handed = refl;
       calls = refl;
@@ -272,6 +279,7 @@ inject_turn setting before member channel to bytes noted there e =
       engines = λ node runs_one. refl;
       honest = λ node good. refl;
       start = tt;
+      did = refl;
       added = refl;
       handed = refl;
       calls = refl;

@@ -108,7 +108,7 @@ pub record IsVoteIn (member : ℕ) (p : Packet) (v : Vote) : Type 0 where
   pub channel : p.channel ≡ channels.Vote
   pub read : whole format.vote p.bytes ≡ Ok v
 
-vote_of : (member : ℕ) (p : Packet) (v : Vote) → Contains (vote_in member p) v → IsVoteIn member p v
+pub vote_of : (member : ℕ) (p : Packet) (v : Vote) → Contains (vote_in member p) v → IsVoteIn member p v
 vote_of member p v k = at (is_same_node (node_of member) p.from) refl k
   where
     reading : (r : Result Vote DecodeError) → Contains (read_vote r) v → r ≡ Ok v
@@ -132,7 +132,7 @@ pub record IsCallFor (at : Node) (cs : List Call) (p : Packet) : Type 0 where
   pub to : Recipients
   pub call : Contains cs (calls.Send p.channel to p.bytes)
 
-called : (setup : Setup) (at : Node) (cs : List Call) (p : Packet) → Contains (packets_of setup at cs) p → IsCallFor at cs p
+pub called : (setup : Setup) (at : Node) (cs : List Call) (p : Packet) → Contains (packets_of setup at cs) p → IsCallFor at cs p
 called setup at [] p k = absurd (not_in_empty p k)
 called setup at (calls.Send channel to bytes ∷ rest) p k =
     elim (Contains-cons_cases _ (packets_of setup at rest) p k) [
@@ -148,7 +148,7 @@ called setup at (calls.Sync n ∷ rest) p k = let x = called setup at rest p k i
 called setup at (calls.Prune n ∷ rest) p k = let x = called setup at rest p k in record { from = x.from; to = x.to; call = Contains-there (calls.Prune n) rest _ x.call }
 called setup at (calls.Report activity ∷ rest) p k = let x = called setup at rest p k in record { from = x.from; to = x.to; call = Contains-there (calls.Report activity) rest _ x.call }
 called setup at (calls.Relay payload plan ∷ rest) p k = let x = called setup at rest p k in record { from = x.from; to = x.to; call = Contains-there (calls.Relay payload plan) rest _ x.call }
-called setup at (calls.Block who ∷ rest) p k = let x = called setup at rest p k in record { from = x.from; to = x.to; call = Contains-there (calls.Block who) rest _ x.call }
+called setup at (calls.Block who why ∷ rest) p k = let x = called setup at rest p k in record { from = x.from; to = x.to; call = Contains-there (calls.Block who why) rest _ x.call }
 
 -- the bytes went out of the node
 pub record WentOut (node : Node) (noted : List Noted) (v : Vote) : Type 0 where
@@ -179,7 +179,7 @@ went_now setup member noted before p v s k i =
       read = i.read;
     }
 
-from_faulty : (setup : Setup) (ps : List Packet) (p : Packet) → Each (λ (x : Packet). is_faulty_member setup x.from.member ≡ true) ps → Contains ps p → Contains (faulty_of setup) p.from.member
+pub from_faulty : (setup : Setup) (ps : List Packet) (p : Packet) → Each (λ (x : Packet). is_faulty_member setup x.from.member ≡ true) ps → Contains ps p → Contains (faulty_of setup) p.from.member
 from_faulty setup [] p t k = absurd (not_in_empty p k)
 from_faulty setup (x ∷ ps) p t k =
     elim (Contains-cons_cases x ps p k) [
@@ -236,9 +236,9 @@ module _ (to : Recipients) (bytes : List ℕ) where
   spelled_in (calls.Prune least ∷ rest) list sent h = spelled_in rest list sent (behind (calls.Prune least) rest (λ e. cc) h)
   spelled_in (calls.Report activity ∷ rest) list sent h = spelled_in rest list sent (behind (calls.Report activity) rest (λ e. cc) h)
   spelled_in (calls.Relay payload plan ∷ rest) list sent h = spelled_in rest list sent (behind (calls.Relay payload plan) rest (λ e. cc) h)
-  spelled_in (calls.Block who ∷ rest) list sent h = spelled_in rest list sent (behind (calls.Block who) rest (λ e. cc) h)
+  spelled_in (calls.Block who why ∷ rest) list sent h = spelled_in rest list sent (behind (calls.Block who why) rest (λ e. cc) h)
 
-subject_lived : (node : Node) (noted : List Noted) (sent : List Sent) (v : Vote) → AreSent (calls_of node noted) (subjects_of sent) → All Fits (subjects_of sent) → WentOut node noted v
+pub subject_lived : (node : Node) (noted : List Noted) (sent : List Sent) (v : Vote) → AreSent (calls_of node noted) (subjects_of sent) → All Fits (subjects_of sent) → WentOut node noted v
     → Contains (subjects_of sent) (vote_subject v)
 subject_lived node noted sent v votes fits w =
     let s = spelled_in w.to w.bytes (calls_of node noted) (subjects_of sent) votes w.call in
@@ -267,7 +267,7 @@ calls_fit (calls.Prune n ∷ rest) s f k = calls_fit rest s f.1 k
 calls_fit (calls.Send channel to bytes ∷ rest) s f k = calls_fit rest s f.1 k
 calls_fit (calls.Report activity ∷ rest) s f k = calls_fit rest s f.1 k
 calls_fit (calls.Relay payload plan ∷ rest) s f k = calls_fit rest s f.1 k
-calls_fit (calls.Block who ∷ rest) s f k = calls_fit rest s f.1 k
+calls_fit (calls.Block who why ∷ rest) s f k = calls_fit rest s f.1 k
 
 node_fits : (node : Node) (noted : List Noted) → AreTyped noted → Each CallFits (calls_of node noted)
 unfolding calls_of

@@ -18,6 +18,7 @@ use Rattle.simplex_wire.specs.declared.vote.Vote.TheVariants as votes
 use Rattle.simplex_wire.specs.Message as format
 use Rattle.simplex_types.specs.Keyed.{signature_of}
 use Rattle.simplex_types.specs.declared.activity.Activity.TheVariants as activities
+use Rattle.simplex_types.specs.declared.cause.BlockCause.TheVariants.{ConflictingVotes}
 use Rattle.simplex_messages.specs.declared.call.Call.{Call}
 use Rattle.simplex_messages.specs.declared.call.Call.TheVariants as calls
 use Rattle.simplex_messages.specs.declared.step.Outcome.{Outcome}
@@ -29,7 +30,7 @@ use Rattle.simplex_transcript.specs.declared.event.Event.TheVariants as events
 use Rattle.simplex_transcript.specs.declared.event.StepSource.TheVariants as sources
 use Rattle.model_run.specs.Entries.{node_of, noted_blank, noted_packets}
 use Rattle.model_run.specs.Life.{Noted}
-use Rattle.law_run.specs.Words.{Word, Backed, Genuine, Named, Founded, Stored, Ruled, Ordered, Blameless}
+use Rattle.law_run.specs.Words.{Word, Backed, Genuine, Named, Founded, Stored, Ruled, Ordered, Blameless, Unbarred}
 use Rattle.model_run.specs.Samples.{with_last, injects, at}
 use Rattle.simplex_transcript.specs.declared.setup.MemberKind.TheVariants as kinds
 use Rattle.simplex_transcript.specs.declared.setup.Setup.{Setup}
@@ -114,7 +115,7 @@ its outcome made = entry_of (events.Step (node_of 0) sources.Batcher stops.None)
 
 -- The word forbids: a nullification that nobody voted for; a record of a nullification that nobody signed; a certificate of
 -- another epoch; a notarization whose vote nobody stored; a vote that goes out and is not stored; one that is stored and not
--- due; two notarizes of one view; and a report that the member contradicts itself
+-- due; two notarizes of one view; a report that the member contradicts itself; and a block of the member for that
 abbrev pub sample : Word → List Noted
 sample Backed = apart (nullified near ∷ []) [] [] ∷ []
 sample Genuine = its outcomes.Cut (calls.Append 1 (artifacts.Nullification bare_nullification) ∷ []) ∷ []
@@ -125,6 +126,7 @@ sample Ruled =
     its outcomes.Done (calls.Append 1 (artifacts.Nullify (own_nullify near)) ∷ calls.Sync 1 ∷ send (votes.Nullify (own_nullify near)) ∷ []) ∷ []
 sample Ordered = apart [] (votes.Notarize (own_notarize 1) ∷ votes.Notarize (own_notarize 2) ∷ []) [] ∷ []
 sample Blameless = apart [] [] (calls.Report (activities.ConflictingNotarize (record { first = own_notarize 1; second = own_notarize 2 })) ∷ []) ∷ []
+sample Unbarred = apart [] [] (calls.Block 0 ConflictingVotes ∷ []) ∷ []
 
 -- of four members the last is silent: the clock goes on, and bytes that are nothing go out under that member's name
 abbrev pub with_silent : Setup

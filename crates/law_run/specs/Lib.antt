@@ -2,6 +2,7 @@ pub mod Earlier
 pub mod PacketForging
 pub mod Conditions
 pub mod Complete
+pub mod Refusing
 pub mod Evidence
 pub mod Faulty
 pub mod Histories

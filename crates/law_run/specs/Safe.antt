@@ -14,7 +14,7 @@ use Rattle.law_run.specs.Faulty.{faulty_of}
 use Rattle.law_run.specs.Histories.{AreStored, AreFloors}
 use Rattle.law_run.specs.Ruled.{AreByRule}
 use Rattle.law_run.specs.Backed.{IsVerifying, AreBacked, StandsIn}
-use Rattle.law_run.specs.Blame.{AreBlameless}
+use Rattle.law_run.specs.Blame.{AreBlameless, NoneBarred}
 use Rattle.law_run.specs.Founded.{IsOn, IsNotarized}
 use Rattle.law_run.specs.Genuine.{AreGenuine}
 use Rattle.law_run.specs.WellSent.{AllWellSent}
@@ -44,7 +44,8 @@ EachHonest setup P = (node : Node) → ¬ (Contains (faulty_of setup) node.membe
 -- verifies; no two certificates that verify conflict, and each names the setup's epoch; an honest member notarized each
 -- proposal that they name; it signs a vote and stores it before it sends it, and sends in each whole step exactly the votes
 -- that the rules give; over all its lives each of its votes may stand by itself and may follow all that it sent before, by
--- what had come to it; no evidence names it; and no start is at a finalization of view 0
+-- what had come to it; no evidence names it; no start is at a finalization of view 0; and no node blocks it for what no honest
+-- member does
 pub record IsSafe (setting : Setting) (noted : List Noted) : Type 0 where
   pub backed : AreBacked setting.setup noted
   pub genuine : AreGenuine setting.setup noted
@@ -56,6 +57,7 @@ pub record IsSafe (setting : Setting) (noted : List Noted) : Type 0 where
   pub ordered : AllWellSent setting.setup noted
   pub blameless : AreBlameless setting.setup noted
   pub above : AreFloors noted
+  pub unbarred : NoneBarred setting.setup noted
 
 -- so it is with the entries that these events make
 abbrev pub RunsSafely : Setting → List Event → Type 0

@@ -6,7 +6,7 @@ use Rattle.model_run.specs.Life.{Noted}
 use Rattle.law_run.specs.Histories.{AreStored}
 use Rattle.law_run.specs.Ruled.{AreByRule}
 use Rattle.law_run.specs.Backed.{AreBacked}
-use Rattle.law_run.specs.Blame.{AreBlameless}
+use Rattle.law_run.specs.Blame.{AreBlameless, NoneBarred}
 use Rattle.law_run.specs.Genuine.{AreGenuine}
 use Rattle.law_run.specs.Safe.{AgreeAll, AllName, AreFounded, EachHonest}
 use Rattle.law_run.specs.WellSent.{AllWellSent}
@@ -20,6 +20,7 @@ pub data Word : Type 0 where
   Ruled : Word
   Ordered : Word
   Blameless : Word
+  Unbarred : Word
 
 -- what it says of a run
 abbrev pub Says : Setting → List Noted → Word → Type 0
@@ -31,6 +32,7 @@ Says setting noted Stored = EachHonest setting.setup (λ node. AreStored setting
 Says setting noted Ruled = EachHonest setting.setup (λ node. AreByRule setting node noted)
 Says setting noted Ordered = AllWellSent setting.setup noted
 Says setting noted Blameless = AreBlameless setting.setup noted
+Says setting noted Unbarred = NoneBarred setting.setup noted
 
 -- all others hold, no two certificates conflict, and it does not hold
 pub record AllBut (setting : Setting) (noted : List Noted) (word : Word) : Type 0 where

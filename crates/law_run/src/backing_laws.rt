@@ -10,7 +10,7 @@ ghost use Rattle.model_run.specs.SentVotes as tested;
 ghost use Rattle.model_run.specs.Setups.{faulty_in};
 ghost use Rattle.law_agreement.specs.Conflict.{Conflict};
 ghost use Rattle.law_run.specs.Backed.{IsVerifying, AreBacked, StandsIn};
-ghost use Rattle.law_run.specs.Blame.{AreBlameless};
+ghost use Rattle.law_run.specs.Blame.{AreBlameless, NoneBarred};
 ghost use Rattle.law_run.specs.Genuine.{AreGenuine};
 ghost use Rattle.law_run.specs.MostlyHonest.{IsMostlyHonest, HasFewFaulty};
 ghost use Rattle.law_run.specs.Naming.{IsMailOf, IsProposalOf};
@@ -48,6 +48,12 @@ pub fn agreement_follows()
 /// No entry of a run reports evidence that names an honest member.
 pub fn no_honest_member_is_blamed()
     ensures { (setting : Setting) (noted : List Noted) → IsMostlyHonest setting noted → AreBlameless setting.setup noted }
+{}
+
+/// No entry of a run blocks a member that is not faulty, but for a leader that was contradicted and an answer that is no
+/// valid one.
+pub fn no_honest_member_is_barred()
+    ensures { (setting : Setting) (noted : List Noted) → IsMostlyHonest setting noted → NoneBarred setting.setup noted }
 {}
 
 /// A run of members of whom few are faulty is safe.

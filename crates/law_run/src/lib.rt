@@ -5,7 +5,9 @@
 //! - Of each node of a member that is not faulty: it lives the life of an honest member, over all its starts, steps, stops and
 //!   crashes; a voter says no certificate that it was not given; and what a node sent and handed on gives no batcher evidence
 //!   that names its member.
-//! - Where few members are faulty: certificates are backed, no two of them conflict, and no honest member is blamed.
+//! - Whose packets a node refuses, and whom its resolver asks nothing: those whom it blocked since its last start.
+//! - Where few members are faulty: certificates are backed, no two of them conflict, and no honest member is blamed, nor
+//!   blocked for what only a faulty one does.
 //! - Which events may make a forgery: bytes that are injected, and what an impersonator hears.
 //! - How long the payloads of a run are.
 //! - What stands behind the requests and the notarizes of a run: answers of the application, and the genesis digest.
@@ -25,6 +27,7 @@ mod kept;
 mod limit_laws;
 mod limit_samples;
 mod lives;
+mod refusing;
 mod reports;
 mod safe;
 mod sayings;
@@ -34,7 +37,8 @@ mod vouching;
 pub use backing_laws::{
     agreement_follows, certificates_agree, certificates_are_backed, certificates_are_genuine,
     certificates_name_the_epoch, honest_votes_keep_order, members_are_safe,
-    no_honest_member_is_blamed, proposals_name_the_epoch, sent_votes_are_the_same,
+    no_honest_member_is_barred, no_honest_member_is_blamed, proposals_name_the_epoch,
+    sent_votes_are_the_same,
 };
 pub use backing_samples::{
     each_word_is_needed, late_certificates_do_not_count, premises_can_be_met,
@@ -51,6 +55,7 @@ pub use kept::{held_certificates_are_sound, nodes_keep_the_invariant};
 pub use limit_laws::payloads_keep_the_limit;
 pub use limit_samples::faulty_members_may_send_more;
 pub use lives::nodes_live;
+pub use refusing::{blocked_members_are_one_set, packets_of_blocked_members_are_refused};
 pub use reports::{reported_finalizations_agree, transcripts_report_one_chain};
 pub use safe::runs_are_safe;
 pub use sayings::{starts_say_what_was_given, steps_say_what_was_given};

@@ -27,7 +27,7 @@ use Rattle.simplex_transcript.specs.declared.setup.MemberKind.TheVariants as kin
 use Rattle.model_run.specs.Entries.{blank_entry}
 use Rattle.model_run.specs.Forged.{Signed, signed_in}
 use Rattle.model_run.specs.Life.{Noted}
-use Rattle.law_samples.specs.Lists.{setup_of, node, second, at, starts, steps, hears, proposes, approves, first_block, signed_by}
+use Rattle.law_samples.specs.Lists.{setup_of, node, second, at, starts, steps, hears, proposes, approves, first_block, signed_by, overheard_both}
 
 -- ---- setups and events
 
@@ -112,6 +112,12 @@ told_to member =
 -- the first member starts there
 abbrev pub and_starts_there : List Event
 and_starts_there = crashes 0 ∷ events.Start (node 0) (Some (finalization_by (0 ∷ 1 ∷ 3 ∷ []))) stops.None ∷ []
+
+-- ---- a member that was blocked
+
+-- the first member is told a second payload once more; then it stops and starts again, and hears it again
+abbrev pub heard_again : List Event
+heard_again = overheard_both ++ crashes 0 ∷ starts 0 ∷ steps 0 sources.Batcher ∷ hears 0 (at 4 1) ∷ []
 
 -- ---- an engine near the greatest view: an entry in which it reported a finalization of this view
 

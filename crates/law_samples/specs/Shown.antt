@@ -9,6 +9,7 @@ use Rattle.simplex_wire.specs.declared.certificate.Certificate.TheVariants as ce
 use Rattle.simplex_wire.specs.Fields.{certificate_signatures}
 use Rattle.simplex_types.specs.declared.activity.Activity.{Activity}
 use Rattle.simplex_types.specs.declared.activity.Activity.TheVariants as activities
+use Rattle.simplex_types.specs.declared.cause.BlockCause.{BlockCause}
 use Rattle.model_rules.specs.declared.request.Asked.{Asked}
 use Rattle.model_rules.specs.declared.request.Asked.TheVariants as requests
 use Rattle.simplex_messages.specs.declared.call.Call.{Call}
@@ -42,7 +43,7 @@ pub data Shown : Type 0 where
   Send : (channel : Channel) → Shown
   Report : (thing : Thing) → Shown
   Relay : Shown
-  Block : (member : ℕ) → Shown
+  Block : (member : ℕ) → (cause : BlockCause) → Shown
 
 -- a message that is handed to the voter: a proposal with its view, or a certificate with its signers
 pub data Told : Type 0 where
@@ -94,7 +95,7 @@ shown (calls.Prune least) = Prune least
 shown (calls.Send channel to bytes) = Send channel
 shown (calls.Report activity) = Report (thing_in activity)
 shown (calls.Relay payload plan) = Relay
-shown (calls.Block member) = Block member
+shown (calls.Block member cause) = Block member cause
 
 abbrev pub wanted : Asked → Wanted
 wanted (requests.Prepare context) = Propose context.round.view

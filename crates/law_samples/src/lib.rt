@@ -22,8 +22,8 @@ pub use conditions::{
     limits_come_out,
 };
 pub use faulty::{
-    conflicting_votes_come_out, corrupt_votes_come_out, false_names_come_out,
-    faulty_reports_come_out,
+    blocked_members_come_out, conflicting_votes_come_out, corrupt_votes_come_out,
+    false_names_come_out, faulty_reports_come_out,
 };
 pub use four::four_members_notarize;
 pub use gaps::{gaps_can_open, gaps_can_stand};

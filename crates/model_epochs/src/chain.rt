@@ -1,7 +1,11 @@
 //! What chains hold, and why epochs do not run.
+ghost use Rattle.std.specs.Prelude.{◌≡◌};
+ghost use Rattle.model_epochs.specs.declared.chain.EpochError.TheVariants.{Memory};
+
 use model_log::LogEntry;
 use simplex_transcript::Refusal;
 use simplex_values::Epoch;
+use std::alloc::AllocError;
 
 /// A place of a chain: an entry of an epoch's log.
 #[derive(Clone, Copy, Debug, PartialEq, Eq)]
@@ -23,4 +27,12 @@ pub enum EpochError {
     Open { place: u64, found: u64 },
     /// Out of memory.
     Memory,
+}
+
+impl From<AllocError> for EpochError {
+    ghost from_gives = { λ _ e. e ≡ Memory };
+
+    fn from(_e: AllocError) -> EpochError {
+        EpochError::Memory
+    }
 }

@@ -8,7 +8,7 @@ use Rattle.model_ledger.specs.declared.transfer.Transfer.{Transfer}
 use Rattle.model_ledger.specs.Balances.{balance_at, may_move, taken, given, moved, after_all}
 use Rattle.model_ledger.specs.Ledger.{transfers_along, balances_at}
 
-set_sum : (xs : List ℕ) (i y : ℕ) → i < length xs → sum (set xs i y) + get_or xs i 0 ≡ sum xs + y
+pub set_sum : (xs : List ℕ) (i y : ℕ) → i < length xs → sum (set xs i y) + get_or xs i 0 ≡ sum xs + y
 set_sum xs i y lt = sum_by-set (λ n. n) xs i y 0 lt
 
 module _ (balances : List ℕ) (t : Transfer) where
@@ -30,19 +30,19 @@ module _ (balances : List ℕ) (t : Transfer) where
   as_long false = refl
   as_long true = length-set (taken balances t.from t.amount) t.to _ ∙ length-set balances t.from _
 
-  moved_sum : sum (moved balances t) ≡ sum balances
+  pub moved_sum : sum (moved balances t) ≡ sum balances
   unfolding moved
   moved_sum = kept (may_move balances t) refl
 
-  moved_length : length (moved balances t) ≡ length balances
+  pub moved_length : length (moved balances t) ≡ length balances
   unfolding moved
   moved_length = as_long (may_move balances t)
 
-all_sum : (transfers : List Transfer) (balances : List ℕ) → sum (after_all balances transfers) ≡ sum balances
+pub all_sum : (transfers : List Transfer) (balances : List ℕ) → sum (after_all balances transfers) ≡ sum balances
 all_sum [] balances = refl
 all_sum (t ∷ rest) balances = all_sum rest (moved balances t) ∙ moved_sum balances t
 
-all_length : (transfers : List Transfer) (balances : List ℕ) → length (after_all balances transfers) ≡ length balances
+pub all_length : (transfers : List Transfer) (balances : List ℕ) → length (after_all balances transfers) ≡ length balances
 all_length [] balances = refl
 all_length (t ∷ rest) balances = all_length rest (moved balances t) ∙ moved_length balances t
 

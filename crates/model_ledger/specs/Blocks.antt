@@ -38,13 +38,14 @@ has_digest digest bytes = bytes_eq (sha256 bytes) digest
 unfoldable pub is_sound : List (List ℕ) → List ℕ → Bool
 is_sound blocks digest = list_any (λ bytes. has_digest digest bytes && is_ok (decoded bytes)) blocks
 
+-- those that were decoded, if any
+abbrev pub decoded_or_none : Result (List Transfer) DecodeError → List Transfer
+decoded_or_none (Ok transfers) = transfers
+decoded_or_none (Err error) = []
+
 abbrev pub transfers_in : Option (List ℕ) → List Transfer
 transfers_in None = []
-transfers_in (Some bytes) = of_result (decoded bytes)
-  where
-    of_result : Result (List Transfer) DecodeError → List Transfer
-    of_result (Ok transfers) = transfers
-    of_result (Err error) = []
+transfers_in (Some bytes) = decoded_or_none (decoded bytes)
 
 -- the transfers of the block with this digest
 unfoldable pub transfers_of : List (List ℕ) → List ℕ → List Transfer

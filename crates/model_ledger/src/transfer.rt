@@ -1,4 +1,8 @@
 //! What a block holds, and what is wrong with a ledger's values.
+ghost use Rattle.std.specs.Prelude.{◌≡◌};
+ghost use Rattle.model_ledger.specs.declared.transfer.LedgerError.TheVariants.{Memory};
+
+use std::alloc::AllocError;
 
 /// An amount that goes from one account to another.
 #[derive(Clone, Copy, Debug, PartialEq, Eq)]
@@ -22,4 +26,12 @@ pub enum LedgerError {
     BadAnswer { event: u64 },
     /// Out of memory.
     Memory,
+}
+
+impl From<AllocError> for LedgerError {
+    ghost from_gives = { λ _ e. e ≡ Memory };
+
+    fn from(_e: AllocError) -> LedgerError {
+        LedgerError::Memory
+    }
 }

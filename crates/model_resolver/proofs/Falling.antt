@@ -28,7 +28,7 @@ pub falling-kept : Keeps Falls
 unfolding putting leaving
 falling-kept = record {
   sent = λ to bytes doing p. placed-falls _ doing.sends p;
-  blocked = λ member doing p. p;
+  blocked = λ member why doing p. p;
   put = λ message doing p. p;
   left = λ id doing p. p;
   fetched = λ fetcher doing p. p;

@@ -1,4 +1,5 @@
 -- What every part of a step keeps is kept by the step.
+use Rattle.simplex_types.specs.declared.cause.BlockCause.{BlockCause}
 use Rattle.std.proofs.Common.{◌≡◌, ◌++◌, ◌∷◌, ℕ, Bool, true, false, List, [], Option, Some, None, if◌then◌else◌, refl}
 use Rattle.simplex_values.specs.declared.ask.Ask.{Ask}
 use Rattle.simplex_values.specs.declared.ask.Kind.{Kind}
@@ -23,7 +24,7 @@ use Rattle.model_resolver.specs.Resolver.{Made, Doing, with_fetcher, recorded, h
 -- the smallest parts of a step keep it
 pub record Keeps (P : Doing → Type 0) : Type 0 where
   pub sent : (to : ℕ) (bytes : List ℕ) (doing : Doing) → P doing → P (record doing { sends = placed (sending to bytes) doing.sends })
-  pub blocked : (member : ℕ) (doing : Doing) → P doing → P (record doing { blocks = doing.blocks ++ calls.Block member ∷ [] })
+  pub blocked : (member : ℕ) (why : BlockCause) (doing : Doing) → P doing → P (record doing { blocks = doing.blocks ++ calls.Block member why ∷ [] })
   pub put : (message : HandlerMessage) (doing : Doing) → P doing → P (putting message doing)
   pub left : (id : ℕ) (doing : Doing) → P doing → P (leaving id doing)
   pub fetched : (fetcher : fetch.Machine) (doing : Doing) → P doing → P (with_fetcher fetcher doing)
@@ -42,7 +43,7 @@ module _ (P : Doing → Type 0) (k : Keeps P) where
   called-keeps : (out : Out) (doing : Doing) → P doing → P (called out doing)
   unfolding called
   called-keeps (outs.Send to bytes) doing p = k.sent to bytes doing p
-  called-keeps (outs.Block member) doing p = k.blocked member doing p
+  called-keeps (outs.Block member why) doing p = k.blocked member why doing p
   called-keeps (outs.Deliver id view bytes asks) doing p = p
   called-keeps (outs.Produce id view) doing p = p
   called-keeps (outs.Left id) doing p = p
@@ -67,7 +68,7 @@ module _ (P : Doing → Type 0) (k : Keeps P) where
   minded-keeps (outs.Produce id view) doing p = requested-keeps id view doing p
   minded-keeps (outs.Left id) doing p = k.left id doing p
   minded-keeps (outs.Send to bytes) doing p = called-keeps (outs.Send to bytes) doing p
-  minded-keeps (outs.Block member) doing p = called-keeps (outs.Block member) doing p
+  minded-keeps (outs.Block member why) doing p = called-keeps (outs.Block member why) doing p
 
   minded-all-keeps : (all : List Out) (doing : Doing) → P doing → P (minded_all all doing)
   unfolding minded_all

@@ -47,7 +47,7 @@ pub verifying-kept : (made : Made) → Keeps (AllVerify made)
 unfolding putting leaving
 verifying-kept made = record {
   sent = λ to bytes doing p. p;
-  blocked = λ member doing p. p;
+  blocked = λ member why doing p. p;
   put = λ message doing p. All-append (Verifies made) doing.handed (handed.Handler message ∷ []) p
       (All-cons (Verifies made) (handed.Handler message) [] (record {}) (All-nil (Verifies made)));
   left = λ id doing p. p;

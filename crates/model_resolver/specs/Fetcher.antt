@@ -1,5 +1,6 @@
 -- The fetcher: a small machine, and what each call does to it.
-use Rattle.std.specs.Prelude.{◌≡◌, ℕ, ◌+◌, ◌-◌, ◌%◌, ◌==◌, ◌<◌, ◌≤◌, ◌^◌, nat_lt, Bool, true, false, if◌then◌else◌, List, [], ◌∷◌, ◌++◌, length, slice_get, Option, Some, None, Result, Ok, Err}
+use Rattle.std.specs.Prelude.{◌≡◌, ℕ, ◌+◌, ◌%◌, ◌==◌, ◌&&◌, ◌<◌, ◌≤◌, ◌^◌, not, Bool, true, false, if◌then◌else◌, List, [], ◌∷◌, ◌++◌, length, filter, slice_get, Option, Some, None, Result, Ok, Err}
+use Rattle.std.specs.List.{range_with_len}
 use Rattle.std.specs.Option.{is_some}
 use Rattle.std.specs.Ordering.{nat_cmp}
 use Rattle.std.specs.Map.{lookup, remove_entry, keys_of}
@@ -16,6 +17,7 @@ use Rattle.simplex_wire.specs.declared.resolver.ResolverBody.{ResolverBody}
 use Rattle.simplex_wire.specs.declared.resolver.ResolverBody.TheVariants as body
 use Rattle.simplex_wire.specs.Format.{whole}
 use Rattle.simplex_wire.specs.ResolverMessage.{resolver_message}
+use Rattle.simplex_types.specs.declared.cause.BlockCause.TheVariants.{Undecodable, InvalidResponse}
 use Rattle.model_resolver.specs.declared.arrivals.Arrival.{Arrival}
 use Rattle.model_resolver.specs.declared.config.FetchConfig.{FetchConfig}
 use Rattle.model_resolver.specs.declared.config.Fetch.{Fetch}
@@ -26,7 +28,7 @@ use Rattle.model_resolver.specs.declared.entry.Serving.{Serving}
 use Rattle.model_resolver.specs.declared.out.Out.{Out}
 use Rattle.model_resolver.specs.declared.out.Out.TheVariants as out
 use Rattle.model_resolver.specs.declared.retire.Retire.{Retire}
-use Rattle.model_resolver.specs.Asks.{holds_ask, asks_of, targets_of, is_targeted, with_arrival, without_asks}
+use Rattle.model_resolver.specs.Asks.{holds_ask, holds_member, asks_of, targets_of, is_targeted, with_arrival, without_asks}
 use Rattle.model_resolver.specs.Retirement.{reaches, retires}
 use Rattle.model_resolver.specs.Views.{entry_at, with_entry, without_entry, views_where, asked_view, judged_view, id_of, is_due}
 
@@ -41,10 +43,12 @@ pub record Machine : Type 0 where
   pub serving : List (ℕ × Serving)
   -- the number of the next of these
   pub next_serve : ℕ
+  -- the members that are blocked, in rising order
+  pub blocked : List ℕ
 
 -- A fetcher that nothing was asked of.
 abbrev pub no_fetches : FetchConfig → Machine
-no_fetches config = record { config = config; views = []; next_id = 0; serving = []; next_serve = 0 }
+no_fetches config = record { config = config; views = []; next_id = 0; serving = []; next_serve = 0; blocked = [] }
 
 -- The fetcher after a call or a part of it, and what that wants, in its order.
 pub record After : Type 0 where
@@ -73,20 +77,24 @@ visited change (view ∷ views) fetcher =
 
 -- ---- attempts
 
--- the member at this place among the members other than `me`, in rising order
-abbrev pub other_at : ℕ → ℕ → ℕ
-other_at me place = if nat_lt place me then place else place + 1
-
--- an item of the list, which goes round
+-- an item of the list, which goes round; an empty one has none
 abbrev pub cyclic : List ℕ → ℕ → Option ℕ
 cyclic list place = slice_get list (place % length list)
 
--- whom the next attempt of the view asks; with one member nobody
-unfoldable pub peer_of : FetchConfig → ℕ → Entry → Option ℕ
-peer_of config view entry =
+-- those that are not among the blocked
+abbrev pub unblocked : (blocked members : List ℕ) → List ℕ
+unblocked blocked members = filter (λ member. not (holds_member blocked member)) members
+
+-- the members other than this one, in rising order
+unfoldable pub others_of : FetchConfig → List ℕ
+others_of config = filter (λ member. not (member == config.me)) (range_with_len 0 config.n)
+
+-- whom the next attempt of the view asks: of the targets that are not blocked, or of the other members that are not
+unfoldable pub peer_of : FetchConfig → List ℕ → ℕ → Entry → Option ℕ
+peer_of config blocked view entry =
     if config.n == 1 then None
-    else if is_targeted entry.arrivals then cyclic (targets_of entry.arrivals) entry.attempts
-    else Some (other_at config.me ((view + entry.attempts) % (config.n - 1)))
+    else if is_targeted entry.arrivals then cyclic (unblocked blocked (targets_of entry.arrivals)) entry.attempts
+    else cyclic (unblocked blocked (others_of config)) (view + entry.attempts)
 
 -- the bytes of a request or an answer
 unfoldable pub message_bytes : ℕ → ResolverBody → List ℕ
@@ -96,11 +104,22 @@ message_bytes id about = resolver_message.spelling (record { id = id; body = abo
 abbrev pub in_state : State → Entry → Entry
 in_state state entry = record entry { state = state }
 
--- the view asks this peer
+-- the view, with this entry, waits the retry delay
+unfoldable pub retrying : ℕ → ℕ → Entry → Machine → Machine
+retrying now view entry fetcher =
+    keeping view (in_state (Waiting (Some (now + fetcher.config.fetch_retry_delay))) entry) fetcher
+
+-- the entry after one more attempt
+abbrev pub once_more : Entry → Entry
+once_more entry = record entry { attempts = entry.attempts + 1 }
+
+-- The view asks this peer. Where none may be asked the attempt is made all the same, and the view waits; a member alone
+-- waits for good
 unfoldable pub asking : ℕ → ℕ → Entry → Machine → Option ℕ → After
-asking now view entry fetcher None = quiet (keeping view (in_state (Waiting None) entry) fetcher)
+asking now view entry fetcher None =
+    quiet (if fetcher.config.n == 1 then keeping view (in_state (Waiting None) entry) fetcher else retrying now view (once_more entry) fetcher)
 asking now view entry fetcher (Some peer) =
-    let asked = record entry { attempts = entry.attempts + 1; state = Asked fetcher.next_id peer (now + fetcher.config.fetch_timeout) } in
+    let asked = in_state (Asked fetcher.next_id peer (now + fetcher.config.fetch_timeout)) (once_more entry) in
     record {
       fetcher = record (keeping view asked fetcher) { next_id = fetcher.next_id + 1 };
       outs = out.Send peer (message_bytes fetcher.next_id (body.Request view)) ∷ [];
@@ -108,12 +127,7 @@ asking now view entry fetcher (Some peer) =
 
 -- the next attempt of the view, with this entry
 unfoldable pub attempted : ℕ → ℕ → Entry → Machine → After
-attempted now view entry fetcher = asking now view entry fetcher (peer_of fetcher.config view entry)
-
--- the view, with this entry, waits the retry delay
-unfoldable pub retrying : ℕ → ℕ → Entry → Machine → Machine
-retrying now view entry fetcher =
-    keeping view (in_state (Waiting (Some (now + fetcher.config.fetch_retry_delay))) entry) fetcher
+attempted now view entry fetcher = asking now view entry fetcher (peer_of fetcher.config fetcher.blocked view entry)
 
 -- the next attempt of the view as it stands
 unfoldable pub attempted_at : ℕ → ℕ → Machine → Option Entry → After
@@ -194,6 +208,12 @@ unfoldable pub retained : Retire → Machine → After
 retained retire fetcher =
     visited (retiring retire) (views_where (λ view entry. reaches retire view) fetcher.views) fetcher
 
+-- ---- blocking
+
+-- the member is blocked from now on
+unfoldable pub blocking : ℕ → Machine → Machine
+blocking member fetcher = record fetcher { blocked = insert_key nat_cmp fetcher.blocked member }
+
 -- ---- hearing
 
 -- a peer's request is to be answered, under a number of the second count
@@ -234,7 +254,7 @@ heard_body sender id now fetcher body.Error = quiet (refused now fetcher (asked_
 
 -- what was read of the sender's bytes. Bytes that are no message block the sender
 unfoldable pub heard_message : ℕ → ℕ → Machine → Result ResolverMessage DecodeError → After
-heard_message sender now fetcher (Err fault) = record { fetcher = fetcher; outs = out.Block sender ∷ [] }
+heard_message sender now fetcher (Err fault) = record { fetcher = blocking sender fetcher; outs = out.Block sender Undecodable ∷ [] }
 heard_message sender now fetcher (Ok message) = heard_body sender message.id now fetcher message.body
 
 -- bytes of the sender
@@ -244,9 +264,10 @@ heard sender bytes now fetcher = heard_message sender now fetcher (whole resolve
 -- ---- verdicts
 
 -- an answer that is no valid one blocks the peer
-abbrev pub blocked_by : Option Outcome → State → List Out
-blocked_by (Some outcome.Invalid) (Judged id peer delivered) = out.Block peer ∷ []
-blocked_by _ _ = []
+abbrev pub blocked_by : Option Outcome → State → Machine → After
+blocked_by (Some outcome.Invalid) (Judged id peer delivered) fetcher =
+    record { fetcher = blocking peer fetcher; outs = out.Block peer InvalidResponse ∷ [] }
+blocked_by _ _ fetcher = quiet fetcher
 
 -- the asks that the answer was delivered for
 abbrev pub delivered_of : State → List Ask
@@ -271,7 +292,7 @@ asked_on now view others fetcher =
 unfoldable pub judged_as : Option Outcome → ℕ → ℕ → Entry → Machine → After
 judged_as verdict now view entry fetcher =
     if is_done verdict then asked_on now view (without (holds_ask (delivered_of entry.state)) entry) fetcher
-    else record { fetcher = retrying now view entry fetcher; outs = blocked_by verdict entry.state }
+    else blocked_by verdict entry.state (retrying now view entry fetcher)
 
 -- the view as it stands after the verdict
 unfoldable pub judged_entry : Option Outcome → ℕ → ℕ → Machine → Option Entry → After
@@ -341,10 +362,9 @@ abbrev pub IsDrawn : ℕ → Option ℕ → Type 0
 IsDrawn next_id None = Unit {0}
 IsDrawn next_id (Some id) = id < next_id
 
--- something is asked for, and each attempt drew a number
+-- something is asked for
 pub record IsSoundEntry (next_id : ℕ) (entry : Entry) : Type 0 where
   pub wanted : is_empty entry ≡ false
-  pub attempts : entry.attempts ≤ next_id
   pub drawn : IsDrawn next_id (id_of entry.state)
 
 -- the same, where the view is asked for

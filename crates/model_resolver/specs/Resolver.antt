@@ -58,11 +58,12 @@ pub record Made : Type 0 where
   pub handler_size : ℕ
   pub fetching : FetchConfig
 
--- what a resolver is given: a step's input and clock, or that a message is taken from its handler's mailbox. A history
--- is a list of these, the newest first
+-- what a resolver is given: a step's input and clock, that a message is taken from its handler's mailbox, or that a
+-- member was blocked by others. A history is a list of these, the newest first
 pub data Given : Type 0 where
   Stepped : (input : ResolverInput) → (now : ℕ) → Given
   HandlerTaken : Given
+  Blocked : (member : ℕ) → Given
 
 -- where a resolver is between two steps: the calls of its repair state, its fetcher, and its handler's mailbox
 pub record Standing : Type 0 where
@@ -77,7 +78,7 @@ at_first made = record { held = []; fetcher = fetch.no_fetches made.fetching; ha
 pub record Doing : Type 0 where
   pub standing : Standing
   pub handed : List Handed
-  -- the members that are blocked
+  -- the blocks
   pub blocks : List Call
   -- the sends, in falling order of view
   pub sends : List Sending
@@ -93,7 +94,7 @@ with_fetcher fetcher doing = record doing { standing = record doing.standing { f
 -- what goes outside: a block, or a send
 unfoldable pub called : Out → Doing → Doing
 called (outs.Send to bytes) doing = record doing { sends = placed (sending to bytes) doing.sends }
-called (outs.Block member) doing = record doing { blocks = doing.blocks ++ calls.Block member ∷ [] }
+called (outs.Block member cause) doing = record doing { blocks = doing.blocks ++ calls.Block member cause ∷ [] }
 called _ doing = doing
 
 unfoldable pub called_all : List Out → Doing → Doing
@@ -133,7 +134,7 @@ minded (outs.Deliver id view bytes asks) doing = putting (handler.Deliver id vie
 minded (outs.Produce id view) doing = requested id view doing
 minded (outs.Left id) doing = leaving id doing
 minded (outs.Send to bytes) doing = called (outs.Send to bytes) doing
-minded (outs.Block member) doing = called (outs.Block member) doing
+minded (outs.Block member cause) doing = called (outs.Block member cause) doing
 
 unfoldable pub minded_all : List Out → Doing → Doing
 minded_all [] doing = doing
@@ -305,11 +306,16 @@ step made standing input now = acted made input now (begun standing)
 unfoldable pub after_taking : Standing → Standing
 after_taking standing = record standing { handler = after_recv has_left standing.handler }
 
+-- its fetcher asks the member no more
+unfoldable pub after_blocking : ℕ → Standing → Standing
+after_blocking member standing = record standing { fetcher = fetch.blocking member standing.fetcher }
+
 -- where a resolver is, after what it was given since it was made
 unfoldable pub standing_after : Made → List Given → Standing
 standing_after made [] = at_first made
 standing_after made (Stepped input now ∷ past) = (step made (standing_after made past) input now).standing
 standing_after made (HandlerTaken ∷ past) = after_taking (standing_after made past)
+standing_after made (Blocked member ∷ past) = after_blocking member (standing_after made past)
 
 -- the blocks, and then the sends in rising order of view
 abbrev pub calls_of : Doing → List Call
@@ -321,7 +327,8 @@ step_out made past input now =
     let doing = step made (standing_after made past) input now in
     record { added = []; asked = []; dropped = []; handed = doing.handed; calls = calls_of doing }
 
--- the message that is taken from the handler's mailbox behind them, whether there is one, and when the timer is due
+-- the message that is taken from the handler's mailbox behind them, whether there is one, when the timer is due, and whom
+-- its fetcher asks no more
 unfoldable pub handler_message : Made → List Given → Option HandlerMessage
 handler_message made past = received (standing_after made past).handler
 
@@ -330,3 +337,6 @@ holds_handled made past = not (holds_nothing (standing_after made past).handler)
 
 unfoldable pub deadline_after : Made → List Given → Option ℕ
 deadline_after made past = next_deadline (standing_after made past).fetcher.views
+
+unfoldable pub blocked_after : Made → List Given → List ℕ
+blocked_after made past = (standing_after made past).fetcher.blocked

@@ -76,7 +76,7 @@ impl State {
 pub struct Entry {
     /// Its asks, as they came.
     pub arrivals: Arrivals,
-    /// How many attempts were made.
+    /// How many attempts were made, with or without a member to ask.
     pub attempts: u64,
     /// Where it stands.
     pub state: State,

@@ -1,5 +1,5 @@
 //! What a call of a fetcher wants.
-use simplex_types::{Ask, Bytes, Participant, Sequence, View};
+use simplex_types::{Ask, BlockCause, Bytes, Participant, Sequence, View};
 
 /// Something that is to be done after a call.
 #[derive(Debug, PartialEq, Eq, Drop)]
@@ -22,8 +22,8 @@ pub enum Out {
         id: u64,
         view: View,
     },
-    /// The member broke the rules.
-    Block(Participant),
+    /// The member is to be blocked, for this cause.
+    Block(Participant, BlockCause),
     /// Nobody waits any more for the answer that was delivered under this number.
     Left {
         id: u64,

@@ -73,7 +73,7 @@ sends_quiet setup node (calls.Sync n ∷ made) h = sends_quiet setup node made h
 sends_quiet setup node (calls.Prune n ∷ made) h = sends_quiet setup node made h
 sends_quiet setup node (calls.Report activity ∷ made) h = sends_quiet setup node made h
 sends_quiet setup node (calls.Relay payload plan ∷ made) h = sends_quiet setup node made h
-sends_quiet setup node (calls.Block who ∷ made) h = sends_quiet setup node made h
+sends_quiet setup node (calls.Block who why ∷ made) h = sends_quiet setup node made h
 
 if_quiet : (setup : Setup) (b : Bool) (r s : Result Noted RunError) → Quiet setup r → Quiet setup s → Quiet setup (if b then r else s)
 if_quiet setup true r s p q = p

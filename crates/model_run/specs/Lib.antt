@@ -8,6 +8,7 @@ pub mod Setups
 pub mod Routing
 pub mod Life
 pub mod Requests
+pub mod Blocked
 pub mod Hearing
 pub mod SentVotes
 pub mod Forged

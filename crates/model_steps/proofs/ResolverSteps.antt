@@ -56,7 +56,7 @@ either false x y p q = q
 called_quiet : (out : Out) (d : Doing) → IsQuiet d → IsQuiet (called out d)
 unfolding called
 called_quiet (outs.Send to bytes) d q = record { blocks = q.blocks; handed = q.handed }
-called_quiet (outs.Block member) d q = record { blocks = all_append is_call_of_resolver d.blocks (calls.Block member ∷ []) q.blocks refl; handed = q.handed }
+called_quiet (outs.Block member why) d q = record { blocks = all_append is_call_of_resolver d.blocks (calls.Block member why ∷ []) q.blocks refl; handed = q.handed }
 called_quiet (outs.Deliver id view bytes asks) d q = q
 called_quiet (outs.Produce id view) d q = q
 called_quiet (outs.Left id) d q = q
@@ -92,7 +92,7 @@ minded_quiet (outs.Deliver id view bytes asks) d q = putting_quiet (handler.Deli
 minded_quiet (outs.Produce id view) d q = requested_quiet id view d q
 minded_quiet (outs.Left id) d q = leaving_quiet id d q
 minded_quiet (outs.Send to bytes) d q = called_quiet (outs.Send to bytes) d q
-minded_quiet (outs.Block member) d q = called_quiet (outs.Block member) d q
+minded_quiet (outs.Block member why) d q = called_quiet (outs.Block member why) d q
 
 minded_all_quiet : (out : List Out) (d : Doing) → IsQuiet d → IsQuiet (minded_all out d)
 unfolding minded_all
@@ -252,11 +252,23 @@ by_resolver_quiet made given taken input now stop = cut_of_resolver stop _ (step
 none_held : (source : _) (now : ℕ) (stop : Stop) → IsOfResolver (nothing_held source now stop).out
 none_held source now stop = record { calls = refl; handed = refl; added = refl; asked = refl; dropped = refl }
 
--- a packet on the resolver channel
+either_did : (b : Bool) (x y : Did) → IsOfResolver x.out → IsOfResolver y.out → IsOfResolver (if b then x else y).out
+either_did true x y p q = p
+either_did false x y p q = q
+
+-- a packet on the resolver channel, which is refused or let in
+refused_quiet : (sender : ℕ) (bytes : List ℕ) (now : ℕ) → IsOfResolver (engine.refused sender channels.Resolver bytes now).out
+refused_quiet sender bytes now = record { calls = refl; handed = refl; added = refl; asked = refl; dropped = refl }
+
+let_in_quiet : (made : EngineMade) (past : List Did) (sender : ℕ) (bytes : List ℕ) (now : ℕ)
+    → IsOfResolver (engine.let_in made past sender channels.Resolver bytes now).out
+unfolding engine.let_in
+let_in_quiet made past sender bytes now = by_resolver_quiet made _ _ _ now stops.None
+
 pub heard_by_resolver : (made : EngineMade) (past : List Did) (sender : ℕ) (bytes : List ℕ) (now : ℕ)
     → IsOfResolver (engine.heard made past sender channels.Resolver bytes now).out
 unfolding engine.heard
-heard_by_resolver made past sender bytes now = by_resolver_quiet made _ _ _ now stops.None
+heard_by_resolver made past sender bytes now = either_did _ _ _ (refused_quiet sender bytes now) (let_in_quiet made past sender bytes now)
 
 -- a step on its mailbox, on its handler's, and at a deadline
 on_mail_quiet : (made : EngineMade) (past : List Did) (now : ℕ) (stop : Stop) (o : Option MailboxMessage) → IsOfResolver (engine.on_resolver_mail made past now stop o).out
@@ -266,10 +278,6 @@ on_mail_quiet made past now stop (Some message) = by_resolver_quiet made _ _ _ n
 on_handler_quiet : (made : EngineMade) (past : List Did) (now : ℕ) (stop : Stop) (o : Option HandlerMessage) → IsOfResolver (engine.on_handler_mail made past now stop o).out
 on_handler_quiet made past now stop None = none_held sources.Handler now stop
 on_handler_quiet made past now stop (Some message) = by_resolver_quiet made _ _ _ now stop
-
-either_did : (b : Bool) (x y : Did) → IsOfResolver x.out → IsOfResolver y.out → IsOfResolver (if b then x else y).out
-either_did true x y p q = p
-either_did false x y p q = q
 
 pub stepped_resolver : (made : EngineMade) (past : List Did) (now : ℕ) (stop : Stop) → IsOfResolver (engine.stepped made past sources.Resolver now stop).out
 unfolding engine.stepped
@@ -286,9 +294,26 @@ stepped_fetcher made past now stop =
     (by_resolver_quiet made _ _ _ now stop) (none_held sources.Fetch now stop)
 
 -- none of them is given to the voter or to the batcher
+either_apart : (b : Bool) (x y : Did) → IsApart x → IsApart y → IsApart (if b then x else y)
+either_apart true x y p q = p
+either_apart false x y p q = q
+
+none_let_in : {A : Type 0} (taken : Taken) (outcome : StepOutcome) → engine.if_let_in {A = A} taken outcome None ≡ None
+none_let_in (engine.Heard sender channel bytes) outcomes.Done = refl
+none_let_in (engine.Heard sender channel bytes) outcomes.Idle = refl
+none_let_in (engine.Heard sender channel bytes) outcomes.Journal = refl
+none_let_in (engine.Heard sender channel bytes) outcomes.Cut = refl
+none_let_in (engine.Heard sender channel bytes) outcomes.Refused = refl
+none_let_in _ outcome = refl
+
+let_in_apart : (made : EngineMade) (past : List Did) (sender : ℕ) (bytes : List ℕ) (now : ℕ) → IsApart (engine.let_in made past sender channels.Resolver bytes now)
+unfolding engine.let_in by_resolver
+let_in_apart made past sender bytes now = record { voter = refl; batcher = none_let_in (engine.Heard sender channels.Resolver bytes) (engine.let_in made past sender channels.Resolver bytes now).outcome }
+
 pub heard_apart : (made : EngineMade) (past : List Did) (sender : ℕ) (bytes : List ℕ) (now : ℕ) → IsApart (engine.heard made past sender channels.Resolver bytes now)
-unfolding engine.heard by_resolver
-heard_apart made past sender bytes now = record { voter = refl; batcher = refl }
+unfolding engine.heard
+heard_apart made past sender bytes now =
+    either_apart _ (engine.refused sender channels.Resolver bytes now) _ (record { voter = refl; batcher = refl }) (let_in_apart made past sender bytes now)
 
 mail_apart : (made : EngineMade) (past : List Did) (now : ℕ) (stop : Stop) (o : Option MailboxMessage) → IsApart (engine.on_resolver_mail made past now stop o)
 unfolding by_resolver
@@ -312,10 +337,6 @@ deadline_apart : (made : EngineMade) (past : List Did) (now : ℕ) (stop : Stop)
     → IsApart (by_resolver made (resolver_past past) (engine.Took sources.Fetch None) inputs.Timer now stop)
 unfolding by_resolver
 deadline_apart made past now stop = record { voter = refl; batcher = refl }
-
-either_apart : (b : Bool) (x y : Did) → IsApart x → IsApart y → IsApart (if b then x else y)
-either_apart true x y p q = p
-either_apart false x y p q = q
 
 pub stepped_fetcher_apart : (made : EngineMade) (past : List Did) (now : ℕ) (stop : Stop) → IsApart (engine.stepped made past sources.Fetch now stop)
 unfolding engine.stepped

@@ -21,6 +21,8 @@ use Rattle.simplex_wire.specs.Format.{whole}
 use Rattle.simplex_wire.specs.Message as format
 use Rattle.simplex_wire.specs.Certified.{is_certified}
 use Rattle.simplex_wire.specs.Fields.{vote_subject, certificate_subject, certificate_signatures, certificate_kind, subject_round}
+use Rattle.simplex_types.specs.declared.cause.BlockCause.{BlockCause}
+use Rattle.simplex_types.specs.declared.cause.BlockCause.TheVariants.{Undecodable, WrongEpoch, InvalidCertificate, InvalidSignature}
 use Rattle.simplex_round.specs.declared.batch.Batch.{Batch}
 use Rattle.simplex_round.specs.Known as known
 use Rattle.simplex_round.specs.Acceptance as votes
@@ -37,6 +39,7 @@ use Rattle.simplex_messages.specs.declared.handed.Handed.TheVariants as handed
 use Rattle.simplex_messages.specs.declared.call.Call.{Call}
 use Rattle.simplex_messages.specs.declared.call.Call.TheVariants as call
 use Rattle.simplex_messages.specs.declared.step.StepOut.{StepOut}
+use Rattle.simplex_messages.specs.Step.{block_call}
 
 -- whether there is one, and it passes
 abbrev pub some_passes : {A : Type 0} → (A → Bool) → Option A → Bool
@@ -109,8 +112,8 @@ pub record Doing : Type 0 where
 abbrev pub begun : Standing → Doing
 begun standing = record { standing = standing; dirty = []; handed = []; calls = [] }
 
-abbrev pub and_blocked : ℕ → Doing → Doing
-and_blocked member doing = record doing { calls = doing.calls ++ call.Block member ∷ [] }
+abbrev pub and_blocked : ℕ → BlockCause → Doing → Doing
+and_blocked member cause doing = record doing { calls = doing.calls ++ call.Block member cause ∷ [] }
 
 abbrev pub and_handed : Message → Doing → Doing
 and_handed message doing = record doing { handed = doing.handed ++ handed.Voter message ∷ [] }
@@ -237,7 +240,7 @@ unfoldable pub with_heard : ℕ → RoundHistory → votes.Heard → Doing → D
 with_heard view round heard doing =
     and_marked heard.accepted view
     (with_round view round
-    (record doing { calls = doing.calls ++ map call.Report heard.reports ++ map call.Block heard.blocks }))
+    (record doing { calls = doing.calls ++ map call.Report heard.reports ++ map block_call heard.blocks }))
 
 -- from the network, where the viewport admits a vote of its view
 unfoldable pub took_vote : Made → ℕ → Vote → Doing → Doing
@@ -278,7 +281,7 @@ took_certificate made sender certificate doing =
     if not (retains_view made doing.standing (certificate_view certificate)) || holds_kind doing.standing certificate then doing
     else if is_certified (made.scheme.verifies (certificate_subject certificate)) made.members (certificate_signatures certificate)
     then kept_certificate made certificate doing
-    else and_blocked sender doing
+    else and_blocked sender InvalidCertificate doing
 
 -- ---- updates
 
@@ -318,7 +321,7 @@ forwarded made view round doing =
 abbrev pub with_batch : Option Batch → Doing → Doing
 with_batch None doing = doing
 with_batch (Some batch) doing = record doing {
-  calls = doing.calls ++ map call.Block batch.invalid;
+  calls = doing.calls ++ map (λ signer. call.Block signer InvalidSignature) batch.invalid;
   handed = doing.handed ++ map (λ certificate. handed.Voter (voter.Verified certificate)) (option_to_list batch.certificate);
 }
 
@@ -357,18 +360,18 @@ dropped made doing =
 
 -- bytes that do not decode, or of another epoch, block the sender
 unfoldable pub heard_vote : Made → ℕ → Result Vote DecodeError → ℕ → Doing → Doing
-heard_vote made sender (Err fault) now doing = and_blocked sender doing
+heard_vote made sender (Err fault) now doing = and_blocked sender Undecodable doing
 heard_vote made sender (Ok vote) now doing =
     if vote_epoch vote == made.epoch
     then took_vote made sender vote (record doing { standing = seen_now sender now doing.standing })
-    else and_blocked sender doing
+    else and_blocked sender WrongEpoch doing
 
 unfoldable pub heard_certificate : Made → ℕ → Result Certificate DecodeError → ℕ → Doing → Doing
-heard_certificate made sender (Err fault) now doing = and_blocked sender doing
+heard_certificate made sender (Err fault) now doing = and_blocked sender Undecodable doing
 heard_certificate made sender (Ok certificate) now doing =
     if certificate_epoch certificate == made.epoch
     then took_certificate made sender certificate (record doing { standing = seen_now sender now doing.standing })
-    else and_blocked sender doing
+    else and_blocked sender WrongEpoch doing
 
 unfoldable pub acted : Made → BatcherInput → ℕ → Doing → Doing
 acted made (input.Mail (batcher.Update current leader finalized proposal)) now doing = took_update made current leader finalized proposal now doing

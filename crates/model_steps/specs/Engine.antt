@@ -1,6 +1,6 @@
 -- An engine's history: what it took, and what came of it, the newest first. What its mailboxes hold, what each actor
 -- was given and whether it runs are each a recursion of its own on that list.
-use Rattle.std.specs.Prelude.{ℕ, ◌-◌, ◌&&◌, nat_lt, nat_le, Bool, true, false, List, [], ◌∷◌, ◌++◌, length, take, Option, Some, None, if◌then◌else◌}
+use Rattle.std.specs.Prelude.{ℕ, ◌-◌, ◌&&◌, nat_lt, nat_le, Bool, true, false, List, [], ◌∷◌, ◌++◌, length, map, reverse, take, Option, Some, None, if◌then◌else◌}
 use Rattle.std.specs.List.{filter_map}
 use Rattle.std.specs.Option.{option_map}
 use Rattle.simplex_values.specs.declared.answer.Answer.{Answer}
@@ -18,6 +18,7 @@ use Rattle.simplex_messages.specs.declared.resolver.MailboxMessage.{MailboxMessa
 use Rattle.simplex_messages.specs.declared.resolver.HandlerMessage.{HandlerMessage}
 use Rattle.simplex_messages.specs.declared.resolver.ResolverInput.{ResolverInput}
 use Rattle.simplex_messages.specs.declared.resolver.ResolverInput.TheVariants as resolver_inputs
+use Rattle.simplex_messages.specs.declared.call.Call.{Call}
 use Rattle.simplex_messages.specs.declared.handed.Handed.{Handed}
 use Rattle.simplex_messages.specs.declared.handed.Handed.TheVariants as handed
 use Rattle.simplex_messages.specs.declared.step.Outcome.{Outcome}
@@ -25,7 +26,7 @@ use Rattle.simplex_messages.specs.declared.step.Outcome.TheVariants as outcomes
 use Rattle.simplex_messages.specs.declared.step.Stop.{Stop}
 use Rattle.simplex_messages.specs.declared.step.Stop.TheVariants as stops
 use Rattle.simplex_messages.specs.declared.step.StepOut.{StepOut}
-use Rattle.simplex_messages.specs.Step.{no_out}
+use Rattle.simplex_messages.specs.Step.{no_out, blocked_by_calls}
 pub use Rattle.simplex_messages.specs.Handing.{for_batcher, for_voter, for_resolver}
 use Rattle.simplex_messages.specs.Policies.{batcher_handled, voter_handled, resolver_handled}
 use Rattle.simplex_transcript.specs.declared.event.StepSource.{StepSource}
@@ -34,6 +35,7 @@ use Rattle.model_steps.specs.Performed.{Performed}
 use Rattle.model_steps.specs.Voter.{takes_answer}
 use Rattle.model_steps.specs.VoterLife.{VoterMade, Given, Started, Stepped, Answered, place_of, start_given, step_given}
 use Rattle.model_steps.specs.Batcher as batcher
+use Rattle.model_resolver.specs.Asks.{holds_member}
 use Rattle.model_resolver.specs.Views.{is_reached}
 use Rattle.model_resolver.specs.Resolver as resolver
 
@@ -140,21 +142,44 @@ input_of_batcher (Heard sender channels.Certificate bytes) = Some (batcher_input
 input_of_batcher (Took sources.Batcher (Some (handed.Batcher message))) = Some (batcher_inputs.Mail message)
 input_of_batcher _ = None
 
+-- nothing of a packet that was refused
+abbrev pub if_let_in : {A : Type 0} → Taken → Outcome → Option A → Option A
+if_let_in (Heard sender channel bytes) outcomes.Refused given = None
+if_let_in taken outcome given = given
+
 abbrev pub given_to_batcher : Did → Option batcher.Timed
-given_to_batcher did = option_map (λ input. record { input = input; now = did.now }) (input_of_batcher did.taken)
+given_to_batcher did =
+    if_let_in did.taken did.outcome (option_map (λ input. record { input = input; now = did.now }) (input_of_batcher did.taken))
 
 unfoldable pub batcher_past : List Did → List batcher.Timed
 batcher_past past = filter_map given_to_batcher past
 
--- nothing where the source of a step held nothing
+-- nothing where the source of a step held nothing, and where a packet was refused
 abbrev pub if_held : Outcome → List resolver.Given → List resolver.Given
 if_held outcomes.Idle given = []
+if_held outcomes.Refused given = []
 if_held _ given = given
 
+-- whether the resolver takes it itself
+abbrev pub is_of_resolver : Taken → Bool
+is_of_resolver (Heard sender channels.Resolver bytes) = true
+is_of_resolver (Took sources.Resolver message) = true
+is_of_resolver (Took sources.Handler message) = true
+is_of_resolver (Took sources.Fetch message) = true
+is_of_resolver _ = false
+
+-- the members that these calls blocked, the last first
+abbrev pub blocked_told : List Call → List resolver.Given
+blocked_told made = reverse (map (λ member. resolver.Blocked member) (blocked_by_calls made))
+
+-- those that the batcher or the voter blocked
+abbrev pub told_to_resolver : Did → List resolver.Given
+told_to_resolver did = if is_of_resolver did.taken then [] else blocked_told did.out.calls
+
 -- what the resolver was given, the newest first. A message of its handler is taken before the step on it, and a step
--- that held nothing gave it nothing.
+-- that held nothing gave it nothing. Of a step of the batcher or the voter it is told the blocks, at its end.
 abbrev pub given_to_resolver : Did → List resolver.Given
-given_to_resolver did = if_held did.outcome (taken_by_resolver did.taken did.now)
+given_to_resolver did = told_to_resolver did ++ if_held did.outcome (taken_by_resolver did.taken did.now)
   where
     taken_by_resolver : Taken → ℕ → List resolver.Given
     taken_by_resolver (Heard sender channels.Resolver bytes) now = resolver.Stepped (resolver_inputs.Packet sender bytes) now ∷ []
@@ -177,12 +202,23 @@ sections_of made past = (place_of (voter_in made past) (voter_past past)).sectio
 abbrev pub is_whole : Outcome → Bool
 is_whole outcomes.Done = true
 is_whole outcomes.Idle = true
+is_whole outcomes.Refused = true
 is_whole _ = false
 
 -- it was started, and no step was broken since
 unfoldable pub runs : List Did → Bool
 runs [] = false
 runs (did ∷ past) = is_whole did.outcome
+
+-- ---- whom it blocked
+
+-- the members that a call blocked since the start
+unfoldable pub blocked_in : List Did → List ℕ
+blocked_in [] = []
+blocked_in (did ∷ past) = blocked_by_calls did.out.calls ++ blocked_in past
+
+abbrev pub is_blocked : List Did → ℕ → Bool
+is_blocked past member = holds_member (blocked_in past) member
 
 -- ---- what comes of an input
 
@@ -217,13 +253,22 @@ nothing_held source now stop = did_of (Took source None) now stop outcomes.Idle 
 unfoldable pub begun : EngineMade → ℕ → Stop → Did
 begun made now stop = by_voter Began now stop (start_given (made.voter now) [] now stop)
 
+-- a packet that is let in
+unfoldable pub let_in : EngineMade → List Did → ℕ → Channel → List ℕ → ℕ → Did
+let_in made past sender channels.Vote bytes now = by_batcher made past (Heard sender channels.Vote bytes) (batcher_inputs.Vote sender bytes) now stops.None
+let_in made past sender channels.Certificate bytes now =
+    by_batcher made past (Heard sender channels.Certificate bytes) (batcher_inputs.Certificate sender bytes) now stops.None
+let_in made past sender channels.Resolver bytes now =
+    by_resolver made (resolver_past past) (Heard sender channels.Resolver bytes) (resolver_inputs.Packet sender bytes) now stops.None
+
+-- a packet of a blocked member is refused
+abbrev pub refused : ℕ → Channel → List ℕ → ℕ → Did
+refused sender channel bytes now = did_of (Heard sender channel bytes) now stops.None outcomes.Refused no_out
+
 -- a packet that is heard
 unfoldable pub heard : EngineMade → List Did → ℕ → Channel → List ℕ → ℕ → Did
-heard made past sender channels.Vote bytes now = by_batcher made past (Heard sender channels.Vote bytes) (batcher_inputs.Vote sender bytes) now stops.None
-heard made past sender channels.Certificate bytes now =
-    by_batcher made past (Heard sender channels.Certificate bytes) (batcher_inputs.Certificate sender bytes) now stops.None
-heard made past sender channels.Resolver bytes now =
-    by_resolver made (resolver_past past) (Heard sender channels.Resolver bytes) (resolver_inputs.Packet sender bytes) now stops.None
+heard made past sender channel bytes now =
+    if is_blocked past sender then refused sender channel bytes now else let_in made past sender channel bytes now
 
 -- a step of the batcher, and of the voter, on the front of its mailbox
 abbrev pub on_batcher_mail : EngineMade → List Did → ℕ → Stop → Option batcher_message.Message → Did

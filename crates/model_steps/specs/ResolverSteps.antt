@@ -12,7 +12,7 @@ use Rattle.model_steps.specs.Engine.{Did, given_to_voter, given_to_batcher}
 
 -- a member is blocked, or bytes are sent on the resolver channel
 abbrev pub is_call_of_resolver : Call → Bool
-is_call_of_resolver (calls.Block member) = true
+is_call_of_resolver (calls.Block member cause) = true
 is_call_of_resolver (calls.Send channels.Resolver to bytes) = true
 is_call_of_resolver _ = false
 

@@ -86,6 +86,16 @@ silent = engine.stepped engine_of_four (too_soon ∷ asked stops.None ∷ lackin
 abbrev pub asked_again : Did
 asked_again = engine.stepped engine_of_four (silent ∷ too_soon ∷ asked stops.None ∷ lacking) sources.Fetch 1100 stops.None
 
+-- bytes that are no message come from a member; then it is asked nothing, and what it asks is refused
+abbrev pub heard_noise : Did
+heard_noise = engine.heard engine_of_four [] 2 channels.Resolver (7 ∷ []) 0
+
+abbrev pub asked_another : Did
+asked_another = engine.stepped engine_of_four (heard_noise ∷ lacking) sources.Resolver 0 stops.None
+
+abbrev pub refused_request : Did
+refused_request = engine.heard engine_of_four (heard_noise ∷ []) 2 channels.Resolver (message_bytes 5 (bodies.Request 1)) 0
+
 -- a peer asks for view 1, and is answered
 abbrev pub heard_request : Did
 heard_request = engine.heard engine_of_four [] 2 channels.Resolver (message_bytes 5 (bodies.Request 1)) 0

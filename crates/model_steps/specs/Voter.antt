@@ -17,6 +17,7 @@ use Rattle.simplex_wire.specs.declared.artifact.Artifact.TheVariants as artifact
 use Rattle.simplex_wire.specs.Fields.{certificate_subject, subject_round, artifact_round}
 use Rattle.simplex_types.specs.declared.activity.Activity.{Activity}
 use Rattle.simplex_types.specs.declared.activity.Activity.TheVariants as activities
+use Rattle.simplex_types.specs.declared.cause.BlockCause.TheVariants.{LeaderConflict}
 use Rattle.simplex_types.specs.declared.floor.Floor.{Floor}
 use Rattle.simplex_types.specs.declared.floor.Floor.TheVariants as floors
 use Rattle.model_rules.specs.declared.request.ProposalState.{ProposalState}
@@ -184,9 +185,10 @@ adding (certificates.Notarization n) now = state.AddNotarization n now
 adding (certificates.Nullification n) now = state.AddNullification n now
 adding (certificates.Finalization f) now = state.AddFinalization f now
 
+-- the leader whose proposal the certificate contradicts, if there is one, is blocked
 abbrev pub block_for : Option ℕ → Doing → Doing
 block_for None doing = doing
-block_for (Some leader) doing = make (calls.Block leader) doing
+block_for (Some leader) doing = make (calls.Block leader LeaderConflict) doing
 
 abbrev pub certificate_view : Certificate → ℕ
 certificate_view certificate = (subject_round (certificate_subject certificate)).view

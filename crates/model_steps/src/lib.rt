@@ -7,5 +7,8 @@
 mod resolving;
 mod samples;
 
-pub use resolving::{nullifications_answer_for_their_term, resolver_answers, resolver_asks};
+pub use resolving::{
+    nullifications_answer_for_their_term, resolver_answers, resolver_asks,
+    resolver_passes_over_the_blocked,
+};
 pub use samples::one_member_alone;

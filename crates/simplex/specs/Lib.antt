@@ -45,6 +45,7 @@ pub use Rattle.simplex_disk.specs.Contents as DiskContents
 pub use Rattle.simplex_disk.specs.Files
 pub use Rattle.simplex_disk.specs.Goes
 pub use Rattle.simplex_disk.specs.Index
+pub use Rattle.simplex_disk.specs.Left as DiskLeft
 pub use Rattle.simplex_disk.specs.Memory as DiskMemory
 pub use Rattle.simplex_disk.specs.Moments
 pub use Rattle.simplex_disk.specs.Opening as DiskOpening
@@ -130,12 +131,14 @@ pub use Rattle.model_steps.specs.Resolving
 pub use Rattle.model_steps.specs.Voter
 pub use Rattle.model_steps.specs.VoterLife
 -- Of runs.
+pub use Rattle.model_run.specs.Blocked
 pub use Rattle.model_run.specs.Entries
 pub use Rattle.model_run.specs.Forged
 pub use Rattle.model_run.specs.Groups
 pub use Rattle.model_run.specs.Kinds
 pub use Rattle.model_run.specs.Life
 pub use Rattle.model_run.specs.Members
+pub use Rattle.model_run.specs.Requests as RunRequests
 pub use Rattle.model_run.specs.Run
 pub use Rattle.model_run.specs.Samples as RunSamples
 pub use Rattle.model_run.specs.SentVotes
@@ -185,6 +188,7 @@ pub use Rattle.law_agreement.specs.WorldExamples
 -- Of one member, laws.
 pub use Rattle.law_member.specs.Batcher as BatcherTold
 pub use Rattle.law_member.specs.BatcherVotes
+pub use Rattle.law_member.specs.Blocks as BlocksFounded
 pub use Rattle.law_member.specs.Certificates
 pub use Rattle.law_member.specs.Evidence
 pub use Rattle.law_member.specs.EvidenceSamples
@@ -229,6 +233,7 @@ pub use Rattle.law_run.specs.MostlyHonest
 pub use Rattle.law_run.specs.Naming
 pub use Rattle.law_run.specs.OneChain
 pub use Rattle.law_run.specs.Quiet
+pub use Rattle.law_run.specs.Refusing
 pub use Rattle.law_run.specs.Rooted
 pub use Rattle.law_run.specs.Ruled
 pub use Rattle.law_run.specs.Safe

@@ -1,4 +1,6 @@
 -- What shows that a vote was accepted, and what an accepted one is reported by.
+use Rattle.simplex_round.specs.Acceptance.{evidence_cause}
+use Rattle.simplex_types.specs.declared.cause.BlockCause.TheVariants.{WrongSender}
 use Rattle.std.proofs.Common.{◌≡◌, ◌∙◌, ◌==◌, ◌&&◌, not, Bool, true, false, length, refl, sym, ℕ, [], ◌∷◌, Option, Some, None, if◌then◌else◌}
 use Rattle.simplex_wire.specs.declared.vote.Vote.{Vote}
 use Rattle.simplex_round.specs.declared.evidence.Evidence.{Evidence}
@@ -20,7 +22,7 @@ accused-shows : (known : Known) (signer : ℕ) (evidence : Option Evidence) → 
 unfolding accused
 accused-shows known signer None = refl
 accused-shows known signer (Some proof) =
-    let given : Heard = record { accepted = false; reports = evidence_activity proof ∷ []; blocks = signer ∷ []; known = record known { given = with_given proof known.given } } in
+    let given : Heard = record { accepted = false; reports = evidence_activity proof ∷ []; blocks = (signer, evidence_cause proof) ∷ []; known = record known { given = with_given proof known.given } } in
     if-shows (unheard known) given (was_given proof known.given) refl refl
 
 beside-shows : (known : Known) (vote : Vote) (other : Option Ballot) → shows (heard_beside known vote other) ≡ (heard_beside known vote other).accepted
@@ -40,7 +42,7 @@ accused-not : (known : Known) (signer : ℕ) (evidence : Option Evidence) → (a
 unfolding accused
 accused-not known signer None = refl
 accused-not known signer (Some proof) =
-    let given : Heard = record { accepted = false; reports = evidence_activity proof ∷ []; blocks = signer ∷ []; known = record known { given = with_given proof known.given } } in
+    let given : Heard = record { accepted = false; reports = evidence_activity proof ∷ []; blocks = (signer, evidence_cause proof) ∷ []; known = record known { given = with_given proof known.given } } in
     if-not (unheard known) given (was_given proof known.given) refl refl
 
 beside-alone : (known : Known) (vote : Vote) (other : Option Ballot)
@@ -59,5 +61,5 @@ pub heard-alone : (known : Known) (sender : ℕ) (vote : Vote)
     → IsAlone (heard_from known sender vote).accepted vote (heard_from known sender vote).reports (heard_from known sender vote).blocks
 unfolding heard_from heard
 heard-alone known sender vote =
-    let strange : Heard = record { accepted = false; reports = []; blocks = sender ∷ []; known = known } in
+    let strange : Heard = record { accepted = false; reports = []; blocks = (sender, WrongSender) ∷ []; known = known } in
     if-alone vote (heard_beside known vote (ballot_of (side_of known (vote_kind vote)) (vote_signer vote))) strange (vote_signer vote == sender) (beside-alone known vote (ballot_of (side_of known (vote_kind vote)) (vote_signer vote))) refl

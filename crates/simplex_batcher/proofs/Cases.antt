@@ -1,4 +1,5 @@
 -- What the rules of a step come to in each case.
+use Rattle.simplex_types.specs.declared.cause.BlockCause.TheVariants.{InvalidCertificate, WrongEpoch}
 use Rattle.std.proofs.Common.{◌≡◌, ℕ, ◌==◌, nat_le, Bool, true, false, ◌&&◌, refl, ◌++◌, ◌∷◌, [], Some, arith}
 use Rattle.std.proofs.lemmas.Grind.{common_steps}
 use Rattle.simplex_values.specs.declared.policy.SkipBudget.{SkipBudget}
@@ -90,7 +91,7 @@ certificate-held made doing sender certificate inside held = rw (inside, held) r
 pub certificate-false : (made : Made) (doing : Doing) (sender : ℕ) (certificate : Certificate)
     → retains_view made doing.standing (certificate_view certificate) ≡ true → holds_kind doing.standing certificate ≡ false
     → is_certified (made.scheme.verifies (certificate_subject certificate)) made.members (certificate_signatures certificate) ≡ false
-    → took_certificate made sender certificate doing ≡ and_blocked sender doing
+    → took_certificate made sender certificate doing ≡ and_blocked sender InvalidCertificate doing
 unfolding took_certificate
 certificate-false made doing sender certificate inside new bad = rw (inside, new, bad) refl
 
@@ -119,7 +120,7 @@ work-far made view doing open_view far = rw (open_view, far) refl
 
 -- ---- packets
 
-pub vote-foreign : (made : Made) (doing : Doing) (sender : ℕ) (vote : Vote) (now : ℕ) → (vote_epoch vote == made.epoch) ≡ false → decoded_vote made sender vote now doing ≡ and_blocked sender doing
+pub vote-foreign : (made : Made) (doing : Doing) (sender : ℕ) (vote : Vote) (now : ℕ) → (vote_epoch vote == made.epoch) ≡ false → decoded_vote made sender vote now doing ≡ and_blocked sender WrongEpoch doing
 unfolding decoded_vote heard_vote
 vote-foreign made doing sender vote now other = rw other refl
 
@@ -128,7 +129,7 @@ pub vote-own : (made : Made) (doing : Doing) (sender : ℕ) (vote : Vote) (now :
 unfolding decoded_vote heard_vote
 vote-own made doing sender vote now own = rw own refl
 
-pub certificate-foreign : (made : Made) (doing : Doing) (sender : ℕ) (certificate : Certificate) (now : ℕ) → (certificate_epoch certificate == made.epoch) ≡ false → decoded_certificate made sender certificate now doing ≡ and_blocked sender doing
+pub certificate-foreign : (made : Made) (doing : Doing) (sender : ℕ) (certificate : Certificate) (now : ℕ) → (certificate_epoch certificate == made.epoch) ≡ false → decoded_certificate made sender certificate now doing ≡ and_blocked sender WrongEpoch doing
 unfolding decoded_certificate heard_certificate
 certificate-foreign made doing sender certificate now other = rw other refl
 

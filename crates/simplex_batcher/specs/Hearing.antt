@@ -2,6 +2,7 @@
 use Rattle.std.specs.Prelude.{◌≡◌, ◌∷◌, ℕ, Bool, List, Option, [], true}
 use Rattle.simplex_wire.specs.declared.vote.Vote.{Vote}
 use Rattle.simplex_types.specs.declared.activity.Activity.{Activity}
+use Rattle.simplex_types.specs.declared.cause.BlockCause.{BlockCause}
 use Rattle.simplex_round.specs.Acceptance.{heard_from, has_nullify, vote_activity}
 use Rattle.simplex_round.specs.Calls.{AddNetwork}
 use Rattle.model_steps.specs.Batcher.{RoundHistory, called, known_in, some_passes}
@@ -20,5 +21,5 @@ heard_of leader sender vote history = record {
 }
 
 -- an accepted vote is all that is reported, and nobody is blocked for it
-abbrev pub IsAlone : Bool → Vote → List Activity → List ℕ → Type 0
+abbrev pub IsAlone : Bool → Vote → List Activity → List (ℕ × BlockCause) → Type 0
 IsAlone accepted vote reports blocks = accepted ≡ true → (reports ≡ vote_activity vote ∷ []) × (blocks ≡ [])

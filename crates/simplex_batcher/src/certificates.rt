@@ -10,7 +10,7 @@ use crate::actor::Actor;
 use crate::marks::Marked;
 use crate::work::{block, hand};
 use simplex_messages::{StepOut, voter};
-use simplex_types::{Certificate, Participant, Scheme, Signatures};
+use simplex_types::{BlockCause, Certificate, Participant, Scheme, Signatures};
 use std::alloc::AllocError;
 
 /// The signatures of the certificate.
@@ -96,7 +96,7 @@ impl<S: Scheme + Drop> Actor<S> {
             return Ok(());
         }
         if !self.is_certified(&certificate) {
-            block(work, sender)?;
+            block(work, sender, BlockCause::InvalidCertificate)?;
             return Ok(());
         }
         self.keep_certificate(certificate, dirty, work)?;

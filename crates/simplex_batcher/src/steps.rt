@@ -17,7 +17,7 @@ use crate::marks::Marked;
 use crate::work::block;
 use simplex_mailbox::Post;
 use simplex_messages::{BatcherInput, Handed, StepOut, batcher, voter};
-use simplex_types::{Certificate, DecodeError, Epoch, Keep, Participant, Scheme, Vote};
+use simplex_types::{BlockCause, Certificate, DecodeError, Epoch, Keep, Participant, Scheme, Vote};
 use std::alloc::{AllocError, Global};
 
 impl<S: Scheme + Drop> Actor<S> {
@@ -42,7 +42,7 @@ impl<S: Scheme + Drop> Actor<S> {
         ensures { OnOk result (Marks S.verifies S.recovers S.members S.member self.old work.old dirty.old self.new work.new dirty.new (λ made. decoded_vote made sender vote.now now)) }
     {
         if !self.is_of_epoch(vote.epoch()) {
-            block(work, sender)?;
+            block(work, sender, BlockCause::WrongEpoch)?;
             return Ok(());
         }
         self.see(sender, now)?;
@@ -64,7 +64,7 @@ impl<S: Scheme + Drop> Actor<S> {
     {
         match Vote::decode(bytes) {
             Err(_) => {
-                block(work, sender)?;
+                block(work, sender, BlockCause::Undecodable)?;
                 Ok(())
             }
             Ok(vote) => {
@@ -87,7 +87,7 @@ impl<S: Scheme + Drop> Actor<S> {
         ensures { OnOk result (Marks S.verifies S.recovers S.members S.member self.old work.old dirty.old self.new work.new dirty.new (λ made. decoded_certificate made sender certificate now)) }
     {
         if !self.is_of_epoch(certificate.epoch()) {
-            block(work, sender)?;
+            block(work, sender, BlockCause::WrongEpoch)?;
             return Ok(());
         }
         self.see(sender, now)?;
@@ -110,7 +110,7 @@ impl<S: Scheme + Drop> Actor<S> {
         match Certificate::decode(self.alloc, bytes) {
             Err(DecodeError::Memory) => Err(AllocError),
             Err(DecodeError::Fault { .. }) => {
-                block(work, sender)?;
+                block(work, sender, BlockCause::Undecodable)?;
                 Ok(())
             }
             Ok(certificate) => {

@@ -2,12 +2,14 @@
 ghost use Rattle.std.specs.Prelude.{◌≡◌, ◌++◌, ◌∷◌, [], map, OnOk};
 ghost use Rattle.simplex_messages.specs.declared.call.Call.TheVariants.{Block, Report};
 ghost use Rattle.simplex_messages.specs.declared.handed.Handed.TheVariants.{Voter};
+ghost use Rattle.simplex_messages.specs.Step.{block_call};
+ghost use Rattle.simplex_types.specs.declared.cause.BlockCause.TheVariants.{InvalidSignature};
 ghost use Rattle.simplex_round.specs.Acceptance.{vote_activity};
 ghost use Rattle.simplex_batcher.specs.Hearing.{IsAlone};
 
 use simplex_messages::{Call, Handed, StepOut, voter};
 use simplex_round::RoundOut;
-use simplex_types::{Activity, Participant, Sequence, Vote};
+use simplex_types::{Activity, BlockCause, Participant, Sequence, Vote};
 use std::alloc::{AllocError, Global};
 use std::mem::replace;
 
@@ -27,17 +29,21 @@ pub(crate) fn make(work: &mut StepOut, call: Call) -> Result<(), AllocError>
     Ok(())
 }
 
-/// The member is blocked.
-pub(crate) fn block(work: &mut StepOut, member: Participant) -> Result<(), AllocError>
-    ensures { OnOk result (work.new ≡ record work.old { calls = work.old.calls ++ Block member ∷ [] }) }
+/// The member is blocked, for this cause.
+pub(crate) fn block(
+    work: &mut StepOut,
+    member: Participant,
+    cause: BlockCause,
+) -> Result<(), AllocError>
+    ensures { OnOk result (work.new ≡ record work.old { calls = work.old.calls ++ Block member cause ∷ [] }) }
 {
-    make(work, Call::Block(member))?;
+    make(work, Call::Block(member, cause))?;
     Ok(())
 }
 
 /// What a round reports is reported, and whom it blocks is blocked.
 pub(crate) fn publish(alloc: Global, work: &mut StepOut, out: RoundOut) -> Result<(), AllocError>
-    ensures { OnOk result (work.new ≡ record work.old { calls = work.old.calls ++ map Report out.reports ++ map Block out.blocks }) }
+    ensures { OnOk result (work.new ≡ record work.old { calls = work.old.calls ++ map Report out.reports ++ map block_call out.blocks }) }
 {
     let RoundOut { reports, blocks } = out;
     report_each(alloc, &mut work.calls, reports)?;
@@ -65,7 +71,7 @@ pub(crate) fn publish_heard(
     vote: &Vote,
     out: RoundOut,
 ) -> Result<(), AllocError>
-    ensures { OnOk result (IsAlone accepted vote.now out.reports out.blocks → work.new ≡ record work.old { calls = work.old.calls ++ map Report out.reports ++ map Block out.blocks }) }
+    ensures { OnOk result (IsAlone accepted vote.now out.reports out.blocks → work.new ≡ record work.old { calls = work.old.calls ++ map Report out.reports ++ map block_call out.blocks }) }
 {
     if accepted {
         report_vote(work, vote)?;
@@ -92,15 +98,29 @@ fn report_each(
     Ok(())
 }
 
-/// Each member is blocked.
-pub(crate) fn block_each(
+/// Each member is blocked, for its cause.
+fn block_each(
     calls: &mut Sequence<Call>,
-    members: &[Participant],
+    blocks: &[(Participant, BlockCause)],
 ) -> Result<(), AllocError>
-    ensures { OnOk result (calls.new ≡ calls.old ++ map Block members.now) }
+    ensures { OnOk result (calls.new ≡ calls.old ++ map block_call blocks.now) }
 {
-    for member in members {
-        calls.push(Call::Block(*member))?;
+    for block in blocks {
+        let (member, cause) = *block;
+        calls.push(Call::Block(member, cause))?;
+    }
+    Ok(())
+}
+
+/// Each signer of an invalid vote is blocked.
+pub(crate) fn block_signers(
+    calls: &mut Sequence<Call>,
+    signers: &[Participant],
+) -> Result<(), AllocError>
+    ensures { OnOk result (calls.new ≡ calls.old ++ map (λ signer. Block signer InvalidSignature) signers.now) }
+{
+    for signer in signers {
+        calls.push(Call::Block(*signer, BlockCause::InvalidSignature))?;
     }
     Ok(())
 }

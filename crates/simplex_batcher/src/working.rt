@@ -15,7 +15,7 @@ use crate::actor::Actor;
 use crate::marks::Marked;
 use crate::others::Others;
 use crate::rounds::Rounds;
-use crate::work::{block_each, hand};
+use crate::work::{block_signers, hand};
 use simplex_messages::{StepOut, voter};
 use simplex_round::{Batch, Round};
 use simplex_types::{Certificate, Participant, Proposal, Scheme, View};
@@ -53,7 +53,7 @@ fn publish_batch(work: &mut StepOut, batch: Option<Batch>) -> Result<(), AllocEr
         certificate,
         ..
     } = batch;
-    block_each(&mut work.calls, invalid.as_slice())?;
+    block_signers(&mut work.calls, invalid.as_slice())?;
     hand_certificate(work, certificate)?;
     Ok(())
 }

@@ -3,7 +3,7 @@ use Rattle.std.proofs.Common.{◌≡◌, ◌⊎◌, ℕ, zero, suc, ◌+◌, ◌
 use Rattle.simplex_wire.specs.declared.artifact.Artifact.{Artifact}
 use Rattle.simplex_disk.specs.Calls.{Call, Write, Cut, Sync, bytes_of, cut_to, written, Torn, TornIn, content}
 use Rattle.simplex_disk.specs.Chain.{Block, record_bytes, chain, records_of, open_blocks, total, IsFront}
-use Rattle.simplex_disk.specs.Left.{LeavesFront, LeavesChain, HasChain, Stands, IsUnmade, IsClosed, LeavesClosed, IsShut}
+use Rattle.simplex_disk.specs.Left.{LeavesFront, LeavesChain, HasChain, Stands, IsUnmade, IsClosed, LeavesClosed, IsShut, IsAbsent}
 use Rattle.simplex_disk.proofs.Bytes.{torn_written}
 use Rattle.simplex_disk.proofs.Calls.{content-write, left-write, content-sync, left-sync, content-cut, content-cut_or, left-cut}
 use Rattle.simplex_disk.proofs.Chain.{nil_records, length-chain, records-open, IsChain-behind, IsFront-behind, IsChain-gate, IsChain-opened, IsChain-appended, IsChain-weaker, IsChain-front, IsFront-more}
@@ -152,12 +152,16 @@ IsShut-cut n done H shut = record {
       closed_cut done x y.0 y.2 (shut.left y.0 y.1);
 }
 
+-- A file that is not there has no record.
+pub closed_none : (x : Option (List ℕ)) → x ≡ None → IsClosed (bytes_of x)
+closed_none x none = subst (λ (o : Option (List ℕ)). IsClosed (bytes_of o)) (sym none) (inl (omega arith))
+
+pub IsAbsent-shut : (n : ℕ) (H : List Call) → IsAbsent n H → IsShut n H
+IsAbsent-shut n H absent = record { content = closed_none (content n H) absent.content; left = λ x now. closed_none x (absent.left x now) }
+
 -- A sync leaves what a read gives.
-pub IsShut-sync : (n : ℕ) (H : List Call) → IsShut n H → IsShut n (Sync n ∷ H)
-IsShut-sync n H shut = record {
-  content = subst (λ (o : Option (List ℕ)). IsClosed (bytes_of o)) (sym (content-sync n H)) shut.content;
-  left = λ x now. subst (λ (o : Option (List ℕ)). IsClosed (bytes_of o)) (sym (left-sync n H x now)) shut.content;
-}
+pub IsAbsent-sync : (n : ℕ) (H : List Call) → IsAbsent n H → IsAbsent n (Sync n ∷ H)
+IsAbsent-sync n H absent = record { content = content-sync n H ∙ absent.content; left = λ x now. left-sync n H x now ∙ absent.content }
 
 pub IsUnmade-cut : (n : ℕ) (H : List Call) → IsUnmade n (Sync n ∷ Cut n 0 true ∷ H)
 IsUnmade-cut n H =

@@ -11,9 +11,9 @@ use Rattle.simplex_journal.specs.Journal.{crashed}
 use Rattle.simplex_journal.specs.Memory.{Lists, sections_of}
 use Rattle.simplex_journal.proofs.Entries.{crashed-entries}
 use Rattle.simplex_disk.specs.declared.segment.Segment.{Segment}
-use Rattle.simplex_disk.specs.Calls.{Call, Settle, MayLeave, content, bytes_of}
+use Rattle.simplex_disk.specs.Calls.{Call, Settle, MayLeave, content}
 use Rattle.simplex_disk.specs.Contents.{Any}
-use Rattle.simplex_disk.specs.Left.{IsClosed, LeavesChain}
+use Rattle.simplex_disk.specs.Left.{LeavesChain}
 use Rattle.simplex_disk.specs.Moments.{AlwaysOf}
 use Rattle.simplex_disk.specs.Segments.{IsSegment, lists_in}
 use Rattle.simplex_disk.specs.Index.{read_entries, sections_at, StandsAt, IsIndexed, LeavesOld}
@@ -39,8 +39,8 @@ settled-settle H = record { only = λ n x now. now }
 
 stands-settle : (n : ℕ) (H : List Call) (o : Option Segment) → StandsAt n H o → StandsAt n (Settle ∷ H) o
 stands-settle n H None shut = record {
-  content = subst (λ (x : Option (List ℕ)). IsClosed (bytes_of x)) (sym (content-settle n H)) shut.content;
-  left = λ x now. subst (λ (y : Option (List ℕ)). IsClosed (bytes_of y)) (sym ((settled-settle H).only n x now ∙ content-settle n H)) shut.content;
+  content = content-settle n H ∙ shut.content;
+  left = λ x now. (settled-settle H).only n x now ∙ content-settle n H ∙ shut.content;
 }
 stands-settle n H (Some s) h =
     let has = h.2.stands.content in

@@ -23,6 +23,7 @@ use Rattle.simplex_disk.specs.Segments.{IsSegment, lists_in}
 use Rattle.simplex_disk.specs.Index.{read_entries, sections_in, sections_at, StandsAt, IsLeaving, IsIndexed, section_numbered, IsLeft, LeavesOld, LeavesJournal}
 use Rattle.simplex_disk.proofs.Backs.{back_on}
 use Rattle.simplex_disk.proofs.Chain.{opened-front}
+use Rattle.simplex_disk.proofs.Chains.{closed_none}
 use Rattle.simplex_disk.proofs.Moments.{Untouched}
 use Rattle.simplex_disk.proofs.Segments.{lists_are}
 
@@ -120,9 +121,17 @@ unfolding read_entries sections_of section_numbered
 numbered-some F n [] v h = cc
 numbered-some F n (e ∷ es) v h = grind (arith, common_steps, nat_tests, unsigned_tied n e.0, numbered-some F n es v)
 
+-- A section that is not there is kept nowhere.
+pub numbered-none_back : (F : ℕ → Option (List ℕ)) (n : ℕ) (es : List (ℕ × Segment)) → section_numbered n (sections_in F es) ≡ None → lookup (is_at (nat_cmp n)) es ≡ None
+numbered-none_back F n es none = by (lookup (is_at (nat_cmp n)) es) refl
+  where
+    by : (o : Option Segment) → lookup (is_at (nat_cmp n)) es ≡ o → o ≡ None
+    by None is = refl
+    by (Some v) is = let some = numbered-some F n es v is in absurd cc
+
 -- ---- what a crash leaves
 
-closed_opened : (c : List ℕ) → IsClosed c → opened c ≡ []
+pub closed_opened : (c : List ℕ) → IsClosed c → opened c ≡ []
 unfolding opened_by block number_from
 closed_opened [] closed = refl
 closed_opened (b ∷ []) closed = elim (cases_eq b 1) [
@@ -156,11 +165,11 @@ at_left n es H0 H (Some segment) is h x now =
     subst (λ (s : Option Section). IsLeft s x) (sym lists) (was.0, was.1, read.0, read.1)
 
 pub left_now : (n : ℕ) (H : List Call) (o : Option Segment) → StandsAt n H o → LeavesAt n H H o
-left_now n H None h = h.left
+left_now n H None h = λ x now. closed_none x (h.left x now)
 left_now n H (Some segment) h = (h.0, h.1, h.2, h.2.stands.left)
 
 pub left_other : (n m : ℕ) (H0 H : List Call) (o : Option Segment) → Untouched n H0 H → m ≢ n → StandsAt m H0 o → LeavesAt m H0 H o
-left_other n m H0 H None u other h = λ x now. h.left x (u.left m other x now)
+left_other n m H0 H None u other h = λ x now. closed_none x (h.left x (u.left m other x now))
 left_other n m H0 H (Some segment) u other h = (h.0, h.1, h.2, (λ x now. h.2.stands.left x (u.left m other x now)))
 
 -- Where only one file was called, the others leave what they left.
@@ -187,7 +196,7 @@ LeavesJournal-now es leaving H indexed = record { each = λ m x stays now. at_le
 
 pub stands_other : (n m : ℕ) (H0 H : List Call) (o : Option Segment) → Untouched n H0 H → m ≢ n → StandsAt m H0 o → StandsAt m H o
 stands_other n m H0 H None u other h = record {
-  content = subst (λ (x : Option (List ℕ)). IsClosed (bytes_of x)) (sym (u.content m other)) h.content;
+  content = u.content m other ∙ h.content;
   left = λ x now. h.left x (u.left m other x now);
 }
 stands_other n m H0 H (Some segment) u other h = (

@@ -1,8 +1,8 @@
 -- A file that is leaving is called.
-use Rattle.std.proofs.Common.{◌≡◌, ℕ, List, ◌∷◌, Option, None, Some, true, refl, sym, ap, subst, ◌∙◌, arith, inl}
+use Rattle.std.proofs.Common.{◌≡◌, ℕ, List, ◌∷◌, Option, None, Some, true, refl, sym, ap, subst, ◌∙◌}
 use Rattle.simplex_disk.specs.declared.segment.Segment.{Segment}
-use Rattle.simplex_disk.specs.Calls.{Call, Remove, Sync, RemovesInPart, bytes_of, content}
-use Rattle.simplex_disk.specs.Left.{IsShut, IsClosed}
+use Rattle.simplex_disk.specs.Calls.{Call, Remove, Sync, RemovesInPart, content}
+use Rattle.simplex_disk.specs.Left.{IsAbsent}
 use Rattle.simplex_disk.specs.Moments.{Always, AlwaysOf, Then}
 use Rattle.simplex_disk.specs.Contents.{Any}
 use Rattle.simplex_disk.specs.Index.{sections_at, StandsAt, IsIndexed, IsLeaving, LeavesOld, LeavesJournal}
@@ -20,11 +20,11 @@ pub only_it : (leaving : Option ℕ) (n m : ℕ) → leaving ≡ Some n → IsLe
 only_it leaving n m is leaves = subst (λ (l : Option ℕ). IsLeaving l m) is leaves
 
 -- A file that was removed, on the disk.
-pub IsShut-removed : (n : ℕ) (H : List Call) → IsShut n (Sync n ∷ Remove n true ∷ H)
-IsShut-removed n H =
-    let none : content n (Sync n ∷ Remove n true ∷ H) ≡ None = content-sync n (Remove n true ∷ H) ∙ content-remove n H in
-    let closed : IsClosed (bytes_of (content n (Sync n ∷ Remove n true ∷ H))) = subst (λ (o : Option (List ℕ)). IsClosed (bytes_of o)) (sym none) (inl (omega arith)) in
-    record { content = closed; left = λ x now. subst (λ (o : Option (List ℕ)). IsClosed (bytes_of o)) (sym (left-sync n (Remove n true ∷ H) x now ∙ content-remove n H)) (inl (omega arith)) }
+pub IsAbsent-removed : (n : ℕ) (H : List Call) → IsAbsent n (Sync n ∷ Remove n true ∷ H)
+IsAbsent-removed n H = record {
+  content = content-sync n (Remove n true ∷ H) ∙ content-remove n H;
+  left = λ x now. left-sync n (Remove n true ∷ H) x now ∙ content-remove n H;
+}
 
 module _ (n : ℕ) (es : List (ℕ × Segment)) (leaving : Option ℕ) (is : leaving ≡ Some n) (H0 : List Call) (indexed : IsIndexed es leaving H0) where
   module _ (H : List Call) (h : AlwaysOf n (LeavesOld n H0) H0 H) where
@@ -39,9 +39,9 @@ module _ (n : ℕ) (es : List (ℕ × Segment)) (leaving : Option ℕ) (is : lea
     pub same_leaving : sections_at H es ≡ sections_at H0 es
     same_leaving = ap sections_of (read-none n (λ m. content m H0) (λ m. content m H) es (untouched n (LeavesOld n H0) H0 H h).content (indexed.gone n (leaves_of leaving n is)))
 
-    pub indexed_left : IsShut n H → IsIndexed es None H
-    indexed_left shut = IsIndexed-to n es es leaving None H0 H indexed (untouched n (LeavesOld n H0) H0 H h) (λ m other. refl)
-        (λ stays. subst (λ (o : Option Segment). StandsAt n H o) (sym (indexed.gone n (leaves_of leaving n is))) shut)
+    pub indexed_left : IsAbsent n H → IsIndexed es None H
+    indexed_left absent = IsIndexed-to n es es leaving None H0 H indexed (untouched n (LeavesOld n H0) H0 H h) (λ m other. refl)
+        (λ stays. subst (λ (o : Option Segment). StandsAt n H o) (sym (indexed.gone n (leaves_of leaving n is))) absent)
         (λ leaves. absurd leaves) (λ m other leaves. absurd (other (sym (only_it leaving n m is leaves)))) (λ m other leaves. absurd leaves) (λ leaves. absurd leaves)
 
   start : AlwaysOf n (LeavesOld n H0) H0 H0

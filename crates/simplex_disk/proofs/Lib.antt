@@ -18,6 +18,8 @@ pub mod Measures
 pub mod Mends
 pub mod Openings
 pub mod Prunes
+pub mod Listings
+pub mod Others
 pub mod Found
 pub mod Stops
 pub mod Each

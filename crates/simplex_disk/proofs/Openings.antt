@@ -16,9 +16,9 @@ use Rattle.simplex_wire.specs.declared.artifact.Artifact.{Artifact}
 use Rattle.simplex_journal.specs.Memory.{Lists, section_of}
 use Rattle.simplex_disk.specs.declared.segment.Segment.{Segment}
 use Rattle.simplex_disk.specs.Answers.{IsListing}
-use Rattle.simplex_disk.specs.Calls.{Call, MayLeave, content, bytes_of}
+use Rattle.simplex_disk.specs.Calls.{Call, MayLeave, content}
 use Rattle.simplex_disk.specs.Chain.{opened, total, places}
-use Rattle.simplex_disk.specs.Left.{IsMendable, LeavesSolid, IsClosed}
+use Rattle.simplex_disk.specs.Left.{IsMendable, LeavesSolid}
 use Rattle.simplex_disk.specs.Moments.{Each, Always, AlwaysOf}
 use Rattle.simplex_disk.specs.Segments.{IsKept, IsSegment}
 use Rattle.simplex_disk.specs.Index.{StandsAt, IsIndexed, sections_at, section_numbered}
@@ -236,8 +236,8 @@ module _ (H0 : List Call) (files : ℕ → Option (List ℕ)) (numbers : List �
   stands_of m None none =
       let nothing : content m H ≡ None = o.reads m none ∙ absent_of m none in
       record {
-        content = subst (λ (x : Option (List ℕ)). IsClosed (bytes_of x)) (sym nothing) (inl (omega arith));
-        left = λ x now. subst (λ (y : Option (List ℕ)). IsClosed (bytes_of y)) (sym (settled.only m x (o.leaves m none x now) ∙ absent_of m none)) (inl (omega arith));
+        content = nothing;
+        left = λ x now. settled.only m x (o.leaves m none x now) ∙ absent_of m none;
       }
   stands_of m (Some v) some =
       let d = o.done m v some in

@@ -16,7 +16,7 @@ use Rattle.simplex_disk.specs.declared.error.DiskError.{DiskError}
 use Rattle.simplex_disk.specs.declared.error.DiskError.TheVariants.{Failed, Memory}
 use Rattle.simplex_disk.specs.Answers.{Heeds}
 use Rattle.simplex_disk.specs.Index.{read_entries, sections_in}
-use Rattle.simplex_disk.specs.Pruning.{HasNoneBelow, BeginsAt, behind_first, count_below, failing_disk_call, removal_calls}
+use Rattle.simplex_disk.specs.Pruning.{HasNoneBelow, BeginsAt, behind_first, count_below}
 use Rattle.simplex_disk.proofs.Prunes.{none_below_in}
 
 -- ---- one call
@@ -117,15 +117,10 @@ enough_first (suc count) least F (e ∷ es) sorted = elim (cases_lt e.0 least) [
 -- ---- the disk call of a prune
 
 -- The listing fails where no section is to be dropped.
-pub listing_fails : (leaving : Option ℕ) (named : ℕ) → failing_disk_call leaving named ≡ 1 → 0 ≡ named
-listing_fails leaving zero is = refl
-listing_fails leaving (suc named) is = absurd (omega (arith, is))
+pub listing_fails : (named : ℕ) → 1 + 2 * named ≡ 1 → 0 ≡ named
+listing_fails named is = omega (arith, is)
 
 -- It passes where one is.
-pub listing_passes : (leaving : Option ℕ) (named : ℕ) → failing_disk_call leaving named ≢ 1 → 0 < named
-listing_passes leaving zero is = absurd (is refl)
-listing_passes leaving (suc named) is = omega arith
-
-pub behind_listing : (leaving : Option ℕ) (named : ℕ) → 0 < named → failing_disk_call leaving named - 1 ≡ removal_calls leaving + 2 * named
-behind_listing leaving zero some = absurd (omega (arith, some))
-behind_listing leaving (suc named) some = omega arith
+pub listing_passes : (named : ℕ) → 1 + 2 * named ≢ 1 → 0 < named
+listing_passes zero is = absurd (is refl)
+listing_passes (suc named) is = omega arith

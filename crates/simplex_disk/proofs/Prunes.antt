@@ -18,7 +18,7 @@ use Rattle.simplex_journal.proofs.Entries.{pruned_first-zero, pruned_first-all, 
 use Rattle.simplex_disk.specs.declared.segment.Segment.{Segment}
 use Rattle.simplex_disk.specs.Calls.{Call, Remove, Sync, content}
 use Rattle.simplex_disk.specs.Chain.{IsFront}
-use Rattle.simplex_disk.specs.Left.{IsShut, LeavesFront}
+use Rattle.simplex_disk.specs.Left.{IsAbsent, LeavesFront}
 use Rattle.simplex_disk.specs.Moments.{Each, Always, AlwaysOf}
 use Rattle.simplex_disk.specs.Segments.{IsSegment}
 use Rattle.simplex_disk.specs.Index.{read_entries, sections_in, sections_at, StandsAt, IsIndexed, IsLeaving, section_numbered, IsLeft, MayBeBack, LeavesJournal}
@@ -147,10 +147,10 @@ module _ (n least : ℕ) (es : List (ℕ × Segment)) (at : BeginsAt n es) (belo
       back = λ m leaves. (record { number = n; synced = S; pending = P }, leaves, back_here);
     }
 
-    pub indexed_dropped : IsShut n H → IsIndexed new None H
-    indexed_dropped shut = record {
+    pub indexed_dropped : IsAbsent n H → IsIndexed new None H
+    indexed_dropped gone = record {
       at = λ m stays. elim (cases_eq m n) [
-        | inl same ↦ subst (λ (k : ℕ). StandsAt k H (lookup (is_at (nat_cmp k)) new)) (sym same) (subst (λ (o : Option Segment). StandsAt n H o) (sym absent) shut)
+        | inl same ↦ subst (λ (k : ℕ). StandsAt k H (lookup (is_at (nat_cmp k)) new)) (sym same) (subst (λ (o : Option Segment). StandsAt n H o) (sym absent) gone)
         | inr other ↦ stands_other n m H0 H (lookup (is_at (nat_cmp m)) new) (untouched n (LeavesGone n S P) H0 H h) other (stands_new m other)
       ];
       gone = λ m leaves. absurd leaves;
@@ -257,9 +257,28 @@ pub all_pruned : (count least : ℕ) (H : List Call) (es : List (ℕ × Segment)
 all_pruned count least H es enough =
     pruned_first-all count least (sections_at H es) (omega (arith, enough, length-sections_of (read_entries (λ n. content n H) es), length-read (λ n. content n H) es))
 
-pub pruned_or : {T E : Type 0} (r : Result T E) (least : ℕ) (s0 s1 s2 : List Section) (leaving : Option ℕ) (count : ℕ) (Named : ℕ → Type 0) (Also : E → ℕ → Type 0) → s1 ≡ s0
-    → pruned_first count least s1 ≡ pruned least s1 → ((e : E) (d : ℕ) → Named d → Also e d)
-    → MatchResult r (λ _. (leaving ≡ None) × (s2 ≡ pruned_first count least s1)) (λ _. (d : ℕ) × (s2 ≡ pruned_first d least s1) × Named d)
+pub pruned_or : {T E : Type 0} (r : Result T E) (least : ℕ) (s0 s1 s2 : List Section) (leaving : Option ℕ) (Named : ℕ → Type 0) (Also : E → ℕ → Type 0) → s1 ≡ s0
+    → ((e : E) (d : ℕ) → Named d → Also e d)
+    → MatchResult r (λ _. (leaving ≡ None) × (s2 ≡ pruned least s1)) (λ _. (d : ℕ) × (s2 ≡ pruned_first d least s1) × Named d)
     → MatchResult r (λ _. s2 ≡ pruned least s0) (λ e. (d : ℕ) × (s2 ≡ pruned_first d least s0) × Also e d)
-pruned_or (Ok x) least s0 s1 s2 leaving count Named Also is all also h = h.1 ∙ all ∙ ap (λ (q : List Section). pruned least q) is
-pruned_or (Err e) least s0 s1 s2 leaving count Named Also is all also h = (h.0, h.1 ∙ ap (λ (q : List Section). pruned_first h.0 least q) is, also e h.0 h.2)
+pruned_or (Ok x) least s0 s1 s2 leaving Named Also is also h = h.1 ∙ ap (λ (q : List Section). pruned least q) is
+pruned_or (Err e) least s0 s1 s2 leaving Named Also is also h = (h.0, h.1 ∙ ap (λ (q : List Section). pruned_first h.0 least q) is, also e h.0 h.2)
+
+-- Where none below the least number is kept any more, all of these were dropped.
+pub all_left : (i least : ℕ) (H0 H : List Call) (es0 es : List (ℕ × Segment)) → IsStrictlySortedBy nat_cmp (keys_of es) → HasNoneBelow least es
+    → sections_at H es ≡ pruned_first i least (sections_at H0 es0) → sections_at H es ≡ pruned least (sections_at H0 es0)
+all_left i least H0 H es0 es sorted none is =
+    let j = length es0 in
+    sym (none_below j least H es sorted none)
+    ∙ ap (λ (q : List Section). pruned_first j least q) is
+    ∙ pruned_first-more j i least (sections_at H0 es0)
+    ∙ all_pruned (i + j) least H0 es0 (omega arith)
+
+-- What is pruned is there no more.
+pub numbered_pruned : (n least : ℕ) (xs : List Section) → n < least → section_numbered n (pruned least xs) ≡ None
+unfolding section_numbered pruned
+numbered_pruned n least [] below = refl
+numbered_pruned n least (x ∷ xs) below = let more = numbered_pruned n least xs below in elim (cases_lt x.number least) [
+  | inl less ↦ grind (arith, common_steps, nat_tests)
+  | inr above ↦ grind (arith, common_steps, nat_tests)
+]

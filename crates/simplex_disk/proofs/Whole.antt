@@ -12,8 +12,8 @@ use Rattle.simplex_journal.specs.Journal.{Section, appended, synced_at}
 use Rattle.simplex_journal.specs.Memory.{Lists, sections_of}
 use Rattle.simplex_journal.proofs.Entries.{appended_lists, synced_lists, appended-some, appended-none, synced_at-some, synced_at-none}
 use Rattle.simplex_disk.specs.declared.segment.Segment.{Segment}
-use Rattle.simplex_disk.specs.Calls.{Call, Sync, MayLeave, content}
-use Rattle.simplex_disk.specs.Left.{IsShut, LeavesClosed, LeavesFront}
+use Rattle.simplex_disk.specs.Calls.{Call, Sync, MayLeave, bytes_of, content}
+use Rattle.simplex_disk.specs.Left.{IsAbsent, IsShut, LeavesClosed, LeavesFront}
 use Rattle.simplex_disk.specs.Moments.{Each, Always, AlwaysOf, Then}
 use Rattle.simplex_disk.specs.Segments.{IsSegment, lists_in}
 use Rattle.simplex_disk.specs.Goes.{Changes, LeavesNoMore}
@@ -21,8 +21,8 @@ use Rattle.simplex_disk.specs.Index.{read_entries, sections_at, StandsAt, IsInde
 use Rattle.simplex_disk.proofs.Lookups.{lookup-set_same, lookup-set_other, lookup-insert_same, lookup-insert_other}
 use Rattle.simplex_disk.proofs.Moments.{Untouched, always_all, untouched, none_of, always_now, always_join, always_weaker}
 use Rattle.simplex_disk.proofs.Steps.{sync_so_far}
-use Rattle.simplex_disk.proofs.Chains.{IsShut-sync}
-use Rattle.simplex_disk.proofs.Entries.{keys-read, lookup-read, lookup-read_none, read-none, read-set, read-insert, LeavesAt, LeavesJournal-one, LeavesJournal-now, IsIndexed-to, numbered-none, segment_lists}
+use Rattle.simplex_disk.proofs.Chains.{IsAbsent-sync, IsAbsent-shut}
+use Rattle.simplex_disk.proofs.Entries.{keys-read, lookup-read, lookup-read_none, read-none, read-set, read-insert, LeavesAt, LeavesJournal-one, LeavesJournal-now, IsIndexed-to, numbered-none, segment_lists, stands_other, closed_opened}
 use Rattle.simplex_disk.proofs.Backs.{old_sync}
 
 pub not_none : {V : Type 0} (o : Option V) (v : V) → o ≡ Some v → o ≡ None → ⊥
@@ -53,9 +53,9 @@ module _ (n : ℕ) (es : List (ℕ × Segment)) (leaving : Option ℕ) (H0 : Lis
       let H = Sync n ∷ H0 in
       let h = sync_so_far n (λ l. Unit {0}) H0 H0 (none_of n (λ l. Unit {0}) H0 tt) tt in
       let u = untouched n (λ l. Unit {0}) H0 H h in
-      let shut : ¬ IsLeaving leaving n → IsShut n H = λ stays. IsShut-sync n H0 (subst (λ (o : Option Segment). StandsAt n H0 o) none (indexed.at n stays)) in
+      let absent : ¬ IsLeaving leaving n → IsAbsent n H = λ stays. IsAbsent-sync n H0 (subst (λ (o : Option Segment). StandsAt n H0 o) none (indexed.at n stays)) in
       let now : IsIndexed es leaving H =
-      IsIndexed-to n es es leaving leaving H0 H indexed u (λ m other. refl) (λ stays. subst (λ (o : Option Segment). StandsAt n H o) (sym none) (shut stays)) (λ leaves. none) (λ m other leaves. leaves) (λ m other leaves. leaves) (λ leaves. (old_sync n H0 may, leaves)) in
+      IsIndexed-to n es es leaving leaving H0 H indexed u (λ m other. refl) (λ stays. subst (λ (o : Option Segment). StandsAt n H o) (sym none) (absent stays)) (λ leaves. none) (λ m other leaves. leaves) (λ m other leaves. leaves) (λ leaves. (old_sync n H0 may, leaves)) in
       let read : sections_at H es ≡ sections_at H0 es = ap sections_of (read-none n (λ m. content m H0) (λ m. content m H) es u.content none) in
       record {
         now = H;
@@ -64,7 +64,7 @@ module _ (n : ℕ) (es : List (ℕ × Segment)) (leaving : Option ℕ) (H0 : Lis
           made = Sync n ∷ [];
           goes_on = refl;
           each = (
-            LeavesJournal-one n es leaving H0 H indexed u (λ stays. subst (λ (o : Option Segment). LeavesAt n H0 H o) (sym none) (shut stays).left) (λ leaves. old_sync n H0 may),
+            LeavesJournal-one n es leaving H0 H indexed u (λ stays. subst (λ (o : Option Segment). LeavesAt n H0 H o) (sym none) (IsAbsent-shut n H (absent stays)).left) (λ leaves. old_sync n H0 may),
             LeavesJournal-now es leaving H0 indexed,
           );
         };
@@ -84,17 +84,12 @@ module _ (n : ℕ) (es : List (ℕ × Segment)) (leaving : Option ℕ) (H0 : Lis
 
   module _ (stays : ¬ IsLeaving leaving n) (none : lookup (is_at (nat_cmp n)) es ≡ None) where
     pub shut_of : IsShut n H0
-    shut_of = subst (λ (o : Option Segment). StandsAt n H0 o) none (indexed.at n stays)
+    shut_of = IsAbsent-shut n H0 (subst (λ (o : Option Segment). StandsAt n H0 o) none (indexed.at n stays))
 
-    module _ (H : List Call) (h : AlwaysOf n (LeavesClosed n) H0 H) (now : IsShut n H) where
+    module _ (H : List Call) (h : AlwaysOf n (LeavesClosed n) H0 H) where
       pub moments_new : Always (LeavesJournal (sections_at H0 es) leaving H0) H0 H
       moments_new = always_all n (LeavesClosed n) (LeavesJournal (sections_at H0 es) leaving H0) H0 H
           (λ l closed u. LeavesJournal-one n es leaving H0 l indexed u (λ _. subst (λ (o : Option Segment). LeavesAt n H0 l o) (sym none) closed) (λ leaves. absurd (stays leaves))) h
-
-      -- nothing is kept of it now
-      pub indexed_none : IsIndexed es leaving H
-      indexed_none = IsIndexed-but n es es leaving H0 H indexed (untouched n (LeavesClosed n) H0 H h) stays (λ m other. refl)
-          (subst (λ (o : Option Segment). StandsAt n H o) (sym none) now)
 
       pub same_none : sections_at H es ≡ sections_at H0 es
       same_none = ap sections_of (read-none n (λ m. content m H0) (λ m. content m H) es (untouched n (LeavesClosed n) H0 H h).content none)
@@ -112,16 +107,6 @@ module _ (n : ℕ) (es : List (ℕ × Segment)) (leaving : Option ℕ) (H0 : Lis
             ∙ ap sections_of (read-insert n (λ m. content m H0) (λ m. content m H) es w (untouched n (LeavesClosed n) H0 H h).content none)
             ∙ ap (λ (l : Lists). sections_of (insert_entry nat_cmp (read_entries (λ m. content m H0) es) n l)) (segment_lists n w [] (a ∷ []) H seg)
             ∙ appended-none n a (read_entries (λ m. content m H0) es) (lookup-read_none (λ m. content m H0) n es none)
-
-      -- what is kept of it was put down, or not
-      pub put_or : {T E : Type 0} (was : List (ℕ × Segment)) → was ≡ es → (new : List (ℕ × Segment)) (w : Segment) (a : Artifact) → IsSegment n w [] (a ∷ []) H
-          → (r : Result T E) → OnOk r (new ≡ insert_entry nat_cmp was n w) → OnErr r (new ≡ was)
-          → IsIndexed new leaving H × Changes r (appended n a) (sections_at H0 es) (sections_at H new)
-      put_or was same new w a seg (Ok x) ok err =
-          let is : new ≡ insert_entry nat_cmp es n w = ok ∙ ap (λ (l : List (ℕ × Segment)). insert_entry nat_cmp l n w) same in
-          (indexed_new new w is [] (a ∷ []) seg, appended_new new w is a seg)
-      put_or was same new w a seg (Err e) ok err =
-          (subst (λ (l : List (ℕ × Segment)). IsIndexed l leaving H) (sym (err ∙ same)) indexed_none, ap (λ (l : List (ℕ × Segment)). sections_at H l) (err ∙ same) ∙ same_none)
 
   -- ---- where the file is one of a section
 
@@ -174,6 +159,15 @@ module _ (n : ℕ) (es : List (ℕ × Segment)) (leaving : Option ℕ) (H0 : Lis
               → IsIndexed new leaving H × Changes r (appended n a) (sections_at H0 es) (sections_at H new)
           appended_or (Ok x) a ok err = (indexed_there S (P ++ a ∷ []) ok, appended_there a ok)
           appended_or (Err e) a ok err = (indexed_there S P err, same_there err)
+
+-- The file of a section was made in part: a later call removes it.
+pub indexed_making : (n : ℕ) (es : List (ℕ × Segment)) (H0 : List Call) → IsIndexed es None H0 → lookup (is_at (nat_cmp n)) es ≡ None
+    → (H : List Call) → AlwaysOf n (LeavesClosed n) H0 H → IsShut n H → IsIndexed es (Some n) H
+indexed_making n es H0 indexed none H h now = record {
+  at = λ m stays. stands_other n m H0 H (lookup (is_at (nat_cmp m)) es) (untouched n (LeavesClosed n) H0 H h) (λ same. stays (sym same)) (indexed.at m (λ leaves. leaves));
+  gone = λ m leaves. subst (λ (k : ℕ). lookup (is_at (nat_cmp k)) es ≡ None) leaves none;
+  back = λ m leaves. (record { number = n; synced = []; pending = [] }, leaves, λ x may. inl (closed_opened (bytes_of x) (now.left x may)));
+}
 
 leaves_or : (leaving : Option ℕ) (n : ℕ) → IsLeaving leaving n ⊎ ¬ IsLeaving leaving n
 leaves_or None n = inr (λ h. h)

@@ -1,5 +1,5 @@
 -- What a call of the journal makes of its files.
-use Rattle.std.specs.Prelude.{◌≡◌, ℕ, List, Option, Result}
+use Rattle.std.specs.Prelude.{◌≡◌, ◌⊎◌, ℕ, List, Option, Result}
 use Rattle.std.specs.Result.{MatchResult}
 use Rattle.simplex_journal.specs.Journal.{Section}
 use Rattle.simplex_disk.specs.declared.segment.Segment.{Segment}
@@ -16,6 +16,10 @@ Goes Old New es new leaving leaving_now Becomes = (calls : List Call) → Old ca
 -- The second sections are these of the first where the call ended well, else the first ones.
 abbrev pub Changes : {T E : Type 0} → Result T E → (List Section → List Section) → List Section → List Section → Type 0
 Changes r change old new = MatchResult r (λ _. new ≡ change old) (λ _. new ≡ old)
+
+-- What is leaving now was leaving before, or is this file.
+abbrev pub LeavesNoneBut : ℕ → Option ℕ → Option ℕ → Type 0
+LeavesNoneBut number leaving now = (n : ℕ) → IsLeaving now n → IsLeaving leaving n ⊎ (n ≡ number)
 
 -- Nothing more is leaving now.
 abbrev pub LeavesNoMore : Option ℕ → Option ℕ → Type 0

@@ -9,7 +9,7 @@ use Rattle.simplex_journal.specs.Memory.{Lists, sections_of}
 use Rattle.simplex_disk.specs.declared.segment.Segment.{Segment}
 use Rattle.simplex_disk.specs.Calls.{Call, MayLeave, bytes_of, content}
 use Rattle.simplex_disk.specs.Chain.{opened}
-use Rattle.simplex_disk.specs.Left.{IsShut}
+use Rattle.simplex_disk.specs.Left.{IsAbsent}
 use Rattle.simplex_disk.specs.Segments.{IsSegment, lists_in}
 
 -- The entries, each with the records of its file, as these files read.
@@ -25,12 +25,13 @@ sections_in files es = sections_of (read_entries files es)
 abbrev pub sections_at : List Call → List (ℕ × Segment) → List Section
 sections_at calls es = sections_in (λ n. content n calls) es
 
--- What is kept of a file is so, and where nothing is kept of it, no record is read there.
+-- What is kept of a file is so, and where nothing is kept of it, it is not there.
 abbrev pub StandsAt : ℕ → List Call → Option Segment → Type 0
-StandsAt n calls None = IsShut n calls
+StandsAt n calls None = IsAbsent n calls
 StandsAt n calls (Some segment) = (synced pending : List Artifact) × IsSegment n segment synced pending calls
 
--- The file of this number was dropped, and may be there still.
+-- The file of this number is of no section and may be there: its section was dropped and the removal failed, or the first append
+-- to it did.
 abbrev pub IsLeaving : Option ℕ → ℕ → Type 0
 IsLeaving None n = ⊥
 IsLeaving (Some m) n = m ≡ n
@@ -40,12 +41,13 @@ abbrev pub IsLeft : Option Section → Option (List ℕ) → Type 0
 IsLeft None x = opened (bytes_of x) ≡ []
 IsLeft (Some s) x = (bytes : List ℕ) × (x ≡ Some bytes) × (k : ℕ) × (opened bytes ≡ s.synced ++ take k s.pending)
 
--- Whatever a crash leaves of the file of this section, which was dropped, it is not there, or is back: all its synced records and
--- a first part of the pending ones.
+-- Whatever a crash leaves of the file of this section, which was dropped, no record is read there, or it is back: all its synced
+-- records and a first part of the pending ones.
 abbrev pub MayBeBack : Section → List Call → Type 0
 MayBeBack s calls = (x : Option (List ℕ)) → MayLeave s.number calls x → IsLeft None x ⊎ IsLeft (Some s) x
 
--- It is so of all files but one that is leaving, of which nothing is kept. There a section that was dropped may be back.
+-- It is so of all files but one that is leaving, of which nothing is kept. There a section that was dropped may be back; the first
+-- append of one that was never there left no record.
 pub record IsIndexed (es : List (ℕ × Segment)) (leaving : Option ℕ) (calls : List Call) : Type 0 where
   pub at : (n : ℕ) → ¬ IsLeaving leaving n → StandsAt n calls (lookup (is_at (nat_cmp n)) es)
   pub gone : (n : ℕ) → IsLeaving leaving n → lookup (is_at (nat_cmp n)) es ≡ None

@@ -1,5 +1,5 @@
 -- What a crash may leave of a file, as the journal reads it.
-use Rattle.std.specs.Prelude.{◌≡◌, ◌⊎◌, ℕ, ◌≤◌, List, [], ◌∷◌, length, Option, Some}
+use Rattle.std.specs.Prelude.{◌≡◌, ◌⊎◌, ℕ, ◌≤◌, List, [], ◌∷◌, length, Option, None, Some}
 use Rattle.simplex_wire.specs.declared.artifact.Artifact.{Artifact}
 use Rattle.simplex_disk.specs.Calls.{Call, content, MayLeave, bytes_of}
 use Rattle.simplex_disk.specs.Chain.{IsChain, IsFront, opened_by, chain, open_blocks, total}
@@ -42,6 +42,11 @@ LeavesClosed n calls = (x : Option (List ℕ)) → MayLeave n calls x → IsClos
 pub record IsShut (n : ℕ) (calls : List Call) : Type 0 where
   pub content : IsClosed (bytes_of (content n calls))
   pub left : LeavesClosed n calls
+
+-- The file is not there, as a read gives it and whatever a crash leaves.
+pub record IsAbsent (n : ℕ) (calls : List Call) : Type 0 where
+  pub content : content n calls ≡ None
+  pub left : (x : Option (List ℕ)) → MayLeave n calls x → x ≡ None
 
 -- The file is open blocks of these records, and an end in which no record is read.
 abbrev pub IsSolid : List Artifact → List ℕ → Type 0

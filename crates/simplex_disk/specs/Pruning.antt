@@ -1,5 +1,5 @@
 -- What a crash leaves inside a prune.
-use Rattle.std.specs.Prelude.{◌≡◌, ◌≤◌, ◌<◌, ◌⊎◌, ℕ, zero, suc, ◌+◌, ◌*◌, nat_lt, if◌then◌else◌, List, [], ◌∷◌, Option, None, Some, Result}
+use Rattle.std.specs.Prelude.{◌≡◌, ◌≤◌, ◌<◌, ◌⊎◌, ℕ, suc, ◌+◌, ◌*◌, nat_lt, if◌then◌else◌, List, [], ◌∷◌, Option, None, Some, Result}
 use Rattle.std.specs.Result.{MatchResult}
 use Rattle.simplex_wire.specs.declared.artifact.Artifact.{Artifact}
 use Rattle.simplex_journal.specs.Journal.{Section, pruned_first}
@@ -33,6 +33,10 @@ LeavesNoneAbove least leaving now = (n : ℕ) → IsLeaving now n → IsLeaving 
 abbrev pub LeavesGone : ℕ → List Artifact → List Artifact → List Call → Type 0
 LeavesGone n synced pending calls = (x : Option (List ℕ)) → MayLeave n calls x → (x ≡ None) ⊎ ((bytes : List ℕ) × (x ≡ Some bytes) × IsFront synced pending bytes)
 
+-- no file below this number is there
+abbrev pub IsBare : ℕ → (ℕ → Option (List ℕ)) → Type 0
+IsBare least files = (n : ℕ) → n < least → files n ≡ None
+
 -- no file below this number is kept
 abbrev pub HasNoneBelow : ℕ → List (ℕ × Segment) → Type 0
 HasNoneBelow least [] = Unit {0}
@@ -55,8 +59,7 @@ removal_calls (Some n) = 2
 
 -- Which disk call of a prune fails so that it drops so many sections: the listing, or the sync of the last one's file.
 abbrev pub failing_disk_call : Option ℕ → ℕ → ℕ
-failing_disk_call leaving zero = 1
-failing_disk_call leaving (suc dropped) = 1 + (removal_calls leaving + 2 * suc dropped)
+failing_disk_call leaving dropped = removal_calls leaving + (1 + 2 * dropped)
 
 -- Of a disk that fails a call behind these two alone, none of them failed. One that fails the second failed.
 abbrev pub IsPaced : {T E : Type 0} → Option ℕ → Result T E → Option ℕ → Type 0

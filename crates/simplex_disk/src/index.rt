@@ -1,15 +1,16 @@
 //! The files of a journal.
 ghost use Rattle.std.specs.Prelude.{◌≡◌, ◌<◌, ◌+◌, ◌^◌, ◌++◌, [], ◌∷◌, ℕ, List, Option, None, OnOk, OnErr, IfOk, IfSome, IsErrOf};
 ghost use Rattle.std.specs.Ordering.{nat_cmp};
-ghost use Rattle.std.specs.BTreeMap.{insert_entry};
+ghost use Rattle.std.specs.BTreeMap.{insert_entry, is_at};
+ghost use Rattle.std.specs.Map.{lookup};
 ghost use Rattle.simplex_journal.specs.Journal.{appended, synced_at};
 ghost use Rattle.simplex_wire.specs.declared.artifact.Artifact.{Artifact};
 ghost use Rattle.simplex_disk.specs.declared.segment.Segment.{Segment};
 ghost use Rattle.simplex_disk.specs.Calls.{Call};
 ghost use Rattle.simplex_disk.specs.Chain.{record_bytes, Reads};
 ghost use Rattle.simplex_disk.specs.Ends.{Ends, IsNamed, IsAwaited};
-ghost use Rattle.simplex_disk.specs.Goes.{Goes, Changes, LeavesNoMore};
-ghost use Rattle.simplex_disk.specs.Index.{IsIndexed, IsLeaving};
+ghost use Rattle.simplex_disk.specs.Goes.{Goes, Changes, LeavesNoMore, LeavesNoneBut};
+ghost use Rattle.simplex_disk.specs.Index.{IsIndexed};
 ghost use Rattle.simplex_disk.specs.Left.{IsShut, LeavesClosed};
 ghost use Rattle.simplex_disk.specs.Stopping.{IsNext};
 ghost use Rattle.simplex_disk.specs.Pruning.{IsSpared, removal_calls};
@@ -79,42 +80,54 @@ pub(crate) fn finish_removal<D: Disk>(
     Ok(())
 }
 
-// Removes the file of this number, if it is leaving.
-fn free_file<D: Disk>(disk: &mut D, leaving: &mut Option<u64>, number: u64) -> Result<(), DiskError>
-    ensures goes { (es : List (ℕ × Segment)) → Goes (D.StandsFor disk.old) (D.StandsFor disk.new) es es leaving.old leaving.new (λ old new. new ≡ old) }
-    ensures free { OnOk result (¬ IsLeaving leaving.new number) }
-    ensures less { LeavesNoMore leaving.old leaving.new }
+// Opens the section of this number with its first record. A file that is leaving is removed first, so that there is never another
+// of no section than this one.
+fn open_section<D: Disk>(
+    disk: &mut D,
+    index: &mut Index,
+    leaving: &mut Option<u64>,
+    alloc: Global,
+    number: u64,
+    bytes: &[u8],
+) -> Result<(), DiskError>
+    requires indexed { (calls : List Call) × D.StandsFor disk.old calls × IsIndexed index.old.entries leaving.old calls }
+    requires absent { lookup (is_at (nat_cmp number)) index.old.entries ≡ None }
+    ensures goes { (artifact : Artifact) → Reads artifact → bytes.now ≡ record_bytes artifact ++ 0 ∷ []
+        → Goes (D.StandsFor disk.old) (D.StandsFor disk.new) index.old.entries index.new.entries leaving.old leaving.new (Changes result (appended number artifact)) }
+    ensures gone { OnOk result (leaving.new ≡ None) }
+    ensures less { LeavesNoneBut number leaving.old leaving.new }
     ensures ends { Ends (D.fault_count disk.old) (D.order disk.old) result (D.fault_count disk.new) (D.order disk.new) }
-    ensures awaited { IsAwaited (D.order disk.old) result (D.order disk.new) }
+    ensures named { IsNamed (D.order disk.old) result }
 {
-    let Some(file) = *leaving else {
-        return Ok(());
-    };
-    if file != number {
-        return Ok(());
-    }
-    finish_removal(disk, leaving)
+    finish_removal(disk, leaving)?;
+    *leaving = Some(number);
+    let segment = first_record(disk, alloc, number, bytes)?;
+    put(index, number, segment)?;
+    *leaving = None;
+    Ok(())
 }
 
 // Puts what is written of a record behind the last one of the section, which is opened where it is not there.
 fn append_bytes<D: Disk>(
     disk: &mut D,
     index: &mut Index,
+    leaving: &mut Option<u64>,
     alloc: Global,
     number: u64,
     bytes: &[u8],
 ) -> Result<(), DiskError>
-    requires { (calls : List Call) × D.StandsFor disk.old calls × ((leaving : Option ℕ) × (¬ IsLeaving leaving number) × IsIndexed index.old.entries leaving calls) }
-    ensures goes { (leaving : Option ℕ) → ¬ IsLeaving leaving number → (artifact : Artifact) → Reads artifact → bytes.now ≡ record_bytes artifact ++ 0 ∷ []
-        → Goes (D.StandsFor disk.old) (D.StandsFor disk.new) index.old.entries index.new.entries leaving leaving (Changes result (appended number artifact)) }
+    requires { (calls : List Call) × D.StandsFor disk.old calls × IsIndexed index.old.entries leaving.old calls }
+    ensures goes { (artifact : Artifact) → Reads artifact → bytes.now ≡ record_bytes artifact ++ 0 ∷ []
+        → Goes (D.StandsFor disk.old) (D.StandsFor disk.new) index.old.entries index.new.entries leaving.old leaving.new (Changes result (appended number artifact)) }
+    ensures made { OnOk result (LeavesNoMore leaving.old leaving.new) }
+    ensures less { LeavesNoneBut number leaving.old leaving.new }
     ensures ends { Ends (D.fault_count disk.old) (D.order disk.old) result (D.fault_count disk.new) (D.order disk.new) }
     ensures named { IsNamed (D.order disk.old) result }
 {
     if let Some(segment) = index.get_mut(&number) {
         return append_record(disk, number, segment, bytes);
     }
-    let segment = first_record(disk, alloc, number, bytes)?;
-    put(index, number, segment)
+    open_section(disk, index, leaving, alloc, number, bytes)
 }
 
 /// Appends the record to the section of this number, which is opened where it is not there.
@@ -128,13 +141,13 @@ pub(crate) fn append_to<D: Disk>(
 ) -> Result<(), DiskError>
     requires { (calls : List Call) × D.StandsFor disk.old calls × IsIndexed index.old.entries leaving.old calls }
     ensures goes { Goes (D.StandsFor disk.old) (D.StandsFor disk.new) index.old.entries index.new.entries leaving.old leaving.new (Changes result (appended number artifact.now)) }
-    ensures less { LeavesNoMore leaving.old leaving.new }
+    ensures made { OnOk result (LeavesNoMore leaving.old leaving.new) }
+    ensures less { LeavesNoneBut number leaving.old leaving.new }
     ensures ends { Ends (D.fault_count disk.old) (D.order disk.old) result (D.fault_count disk.new) (D.order disk.new) }
     ensures named { IsNamed (D.order disk.old) result }
 {
     let bytes = record_and_gate(alloc, artifact)?;
-    free_file(disk, leaving, number)?;
-    append_bytes(disk, index, alloc, number, &bytes)
+    append_bytes(disk, index, leaving, alloc, number, &bytes)
 }
 
 /// Syncs the pending records of the section. Where it is not there, the file is synced.

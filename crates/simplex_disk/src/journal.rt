@@ -1,17 +1,18 @@
 //! The journal.
-ghost use Rattle.std.specs.Prelude.{◌≡◌, ℕ, List, None, Some, OnOk, OnErr, IfOk, IfErr, IfSome, IsErrOf};
+ghost use Rattle.std.specs.Prelude.{◌≡◌, ◌<◌, ℕ, List, None, Some, OnOk, OnErr, IfOk, IfErr, IfSome, IsErrOf};
 ghost use Rattle.std.specs.Result.{MatchResult};
 ghost use Rattle.simplex_journal.specs.Contents.{IsRising};
 ghost use Rattle.simplex_journal.specs.Faults.{Counts};
 ghost use Rattle.simplex_journal.specs.Journal.{Section, appended, synced_at, all_synced, pruned, crashed, replayed};
 ghost use Rattle.simplex_journal.specs.Order.{no_order, Obeys, Stands, PrunesInPart};
 ghost use Rattle.simplex_disk.specs.Calls.{Call};
-ghost use Rattle.simplex_disk.specs.Contents.{OnDisk, sections_kept, IsOf, Any};
+ghost use Rattle.simplex_disk.specs.Contents.{OnDisk, sections_kept, IsOf, HasNoOther, Any};
 ghost use Rattle.simplex_disk.specs.Index.{LeavesJournal, IsLeaving, IsBackAsBefore, MayBeBack};
+ghost use Rattle.simplex_disk.specs.Left.{IsAbsent};
 ghost use Rattle.simplex_disk.specs.Moments.{Always, Then};
 ghost use Rattle.simplex_disk.specs.Orders.{order_told};
-ghost use Rattle.simplex_disk.specs.Goes.{LeavesNoMore};
-ghost use Rattle.simplex_disk.specs.Pruning.{LeavesPruned, LeavesNoneAbove};
+ghost use Rattle.simplex_disk.specs.Goes.{LeavesNoMore, LeavesNoneBut};
+ghost use Rattle.simplex_disk.specs.Pruning.{LeavesPruned, LeavesNoneAbove, IsBare};
 ghost use Rattle.simplex_disk.specs.Opening.{IsSettled, LeavesSame, AreRead, not_opened};
 
 use crate::disk::{Disk, StopDisk};
@@ -33,7 +34,7 @@ use std::marker::Model;
 pub struct DiskJournal<D: Disk> {
     disk: D,
     index: Index,
-    // the file of a section that was dropped and whose removal failed
+    // a file of no section that may be there: its section was dropped and the removal failed, or its first append did
     leaving: Option<u64>,
     // where a listing of the files takes its memory
     alloc: Global,
@@ -92,13 +93,15 @@ impl<D: Disk> DiskJournal<D> {
     /// done.
     pub fn outlasts_a_crash(&self)
         ensures left { (calls : List Call) → IsOf D.StandsFor self.now calls → LeavesJournal (sections_kept D.contents self.now) self.now.leaving calls calls }
-        // Of a section that was dropped and whose removal failed it leaves that section, with all that was synced, or nothing.
+        // Of a section that was dropped and whose removal failed it leaves that section, with all that was synced, or nothing. The
+        // first append of one that was never there left no record.
         ensures back { (calls : List Call) → IsOf D.StandsFor self.now calls → (n : ℕ) → IsLeaving self.now.leaving n → (s : Section) × (s.number ≡ n) × MayBeBack s calls }
     {}
 
     /// The disk, as it is.
     pub fn into_disk(self) -> D
-        ensures { result ≡ self.disk }
+        ensures disk { result ≡ self.disk }
+        ensures rest { HasNoOther D.contents self }
     {
         let DiskJournal { disk, .. } = self;
         disk
@@ -125,7 +128,8 @@ impl<D: StopDisk> Journal for DiskJournal<D> {
         ensures err { OnErr result (sections_kept D.contents self.new ≡ sections_kept D.contents self.old) }
         ensures ordered { Obeys (order_told (D.order self.old.disk) self.old.order) result (order_told (D.order self.new.disk) self.new.order) }
         ensures faults { Counts (D.fault_count self.old.disk) result (D.fault_count self.new.disk) }
-        ensures leaving { LeavesNoMore self.old.leaving self.new.leaving }
+        ensures made { OnOk result (LeavesNoMore self.old.leaving self.new.leaving) }
+        ensures leaving { LeavesNoneBut section self.old.leaving self.new.leaving }
         // A crash at any moment of the call leaves a journal with all synced records, and a first part of the pending ones.
         ensures moments { (calls : List Call) → IsOf D.StandsFor self.old calls → Then (IsOf D.StandsFor self.new) (Always (LeavesJournal (sections_kept D.contents self.old) self.old.leaving calls) calls) Any }
     {
@@ -176,6 +180,9 @@ impl<D: StopDisk> Journal for DiskJournal<D> {
         ensures ordered { Obeys (order_told (D.order self.old.disk) self.old.order) result (order_told (D.order self.new.disk) self.new.order) }
         ensures faults { Counts (D.fault_count self.old.disk) result (D.fault_count self.new.disk) }
         ensures gone { OnOk result (self.new.leaving ≡ None) }
+        // No file below the least number is there, and no crash brings one back.
+        ensures bare { OnOk result (IsBare min (D.contents self.new.disk)) }
+        ensures bare_for_good { OnOk result ((calls : List Call) → IsOf D.StandsFor self.new calls → (n : ℕ) → n < min → IsAbsent n calls) }
         ensures leaving { LeavesNoneAbove min self.old.leaving self.new.leaving }
         // A crash at any moment of the call leaves a journal from which the first sections below the least number are gone.
         ensures moments { (calls : List Call) → IsOf D.StandsFor self.old calls → Then (IsOf D.StandsFor self.new) (Always (LeavesPruned min (sections_kept D.contents self.old) self.old.leaving calls) calls) Any }
@@ -216,6 +223,7 @@ impl<D: StopDisk> Journal for DiskJournal<D> {
         ensures left { sections_kept D.contents self.new ≡ crashed keep (sections_kept D.contents self.old) }
         ensures order { Stands (order_told (D.order self.old.disk) self.old.order) (order_told (D.order self.new.disk) self.new.order) }
         ensures faults { D.fault_count self.new.disk ≡ D.fault_count self.old.disk }
+        ensures rest { HasNoOther D.contents self.new }
         // A crash right after it leaves each file as it reads, so that the disk may be opened again.
         ensures moments { (calls : List Call) → IsOf D.StandsFor self.old calls → Then (IsOf D.StandsFor self.new) Any (λ now. IsSettled now × IsBackAsBefore self.old.leaving calls now) }
         ensures leaving { self.new.leaving ≡ self.old.leaving }

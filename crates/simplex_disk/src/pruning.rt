@@ -1,5 +1,5 @@
 //! Sections that are dropped.
-ghost use Rattle.std.specs.Prelude.{◌≡◌, ◌<◌, ◌≤◌, ◌*◌, ℕ, suc, min, List, None, Some, OnOk, IfSome, MatchOption, IsErrOf};
+ghost use Rattle.std.specs.Prelude.{◌≡◌, ◌<◌, ◌≤◌, ◌*◌, ℕ, suc, min, List, None, Some, OnOk, IfSome, IsErrOf};
 ghost use Rattle.std.specs.List.Sorted.{IsStrictlySortedBy};
 ghost use Rattle.std.specs.Map.{keys_of};
 ghost use Rattle.std.specs.Ordering.{nat_cmp};
@@ -10,32 +10,19 @@ ghost use Rattle.simplex_disk.specs.Calls.{Call};
 ghost use Rattle.simplex_disk.specs.Ends.{Ends};
 ghost use Rattle.simplex_disk.specs.Goes.{LeavesNoMore};
 ghost use Rattle.simplex_disk.specs.Index.{IsIndexed, sections_at, sections_in};
-ghost use Rattle.simplex_disk.specs.Left.{IsShut, LeavesFront};
+ghost use Rattle.simplex_disk.specs.Left.{IsAbsent, LeavesFront};
 ghost use Rattle.simplex_disk.specs.Moments.{Always, AlwaysOf, Then};
-ghost use Rattle.simplex_disk.specs.Pruning.{LeavesPruned, LeavesNoneAbove, LeavesGone, HasNoneBelow, BeginsAt, IsPaced, count_below, failing_disk_call};
+ghost use Rattle.simplex_disk.specs.Pruning.{LeavesPruned, LeavesNoneAbove, LeavesGone, BeginsAt, behind_first, IsPaced, count_below, failing_disk_call};
 
 use crate::disk::Disk;
 use crate::error::DiskError;
 use crate::index::{Index, finish_removal};
 use std::alloc::Global;
 
-/// The first section, if its number is below the least one.
-fn first_below(index: &Index, least: u64) -> Option<u64>
-    ensures first { MatchOption result (HasNoneBelow least index.now.entries) (λ n. (n < least) × BeginsAt n index.now.entries) }
-    ensures ordered { IsStrictlySortedBy nat_cmp (keys_of index.now.entries) }
-{
-    // The length is asked for its clause, which says that the numbers rise.
-    let _ordered = index.len();
-    match index.first_key_value() {
-        Some((number, _)) if *number < least => Some(*number),
-        _ => None,
-    }
-}
-
 /// Removes the file.
 fn drop_file<D: Disk>(disk: &mut D, file: u64) -> Result<(), DiskError>
     ensures stands { (calls : List Call) → D.StandsFor disk.old calls → (synced pending : List Artifact) → LeavesFront file synced pending calls
-        → Then (D.StandsFor disk.new) (AlwaysOf file (LeavesGone file synced pending) calls) (λ now. OnOk result (IsShut file now)) }
+        → Then (D.StandsFor disk.new) (AlwaysOf file (LeavesGone file synced pending) calls) (λ now. OnOk result (IsAbsent file now)) }
     ensures room { ¬ IsErrOf result DiskError.Memory }
     ensures paced { IsPaced (D.order disk.old) result (D.order disk.new) }
     ensures ends { Ends (D.fault_count disk.old) (D.order disk.old) result (D.fault_count disk.new) (D.order disk.new) }
@@ -55,6 +42,7 @@ fn drop_section<D: Disk>(
     ensures stands { (calls : List Call) → D.StandsFor disk.old calls → IsIndexed index.old.entries None calls → leaving.old ≡ None → (least : ℕ) → number < least
         → Then (D.StandsFor disk.new) (Always (LeavesPruned least (sections_at calls index.old.entries) None calls) calls)
         (λ now. IsIndexed index.new.entries leaving.new now × (sections_at now index.new.entries ≡ pruned_first 1 least (sections_at calls index.old.entries))) }
+    ensures kept { index.new.entries ≡ behind_first index.old.entries }
     ensures gone { OnOk result (leaving.new ≡ None) }
     ensures leaves { LeavesNoMore (Some number) leaving.new }
     ensures fewer { (least : ℕ) → number < least → count_below least index.old.entries ≡ suc (count_below least index.new.entries) }
@@ -69,38 +57,39 @@ fn drop_section<D: Disk>(
     Ok(())
 }
 
-/// Drops the first sections below the least number, at most so many.
-pub(crate) fn drop_sections<D: Disk>(
+/// Drops the sections below the least number. These are the numbers of all files.
+fn drop_listed<D: Disk>(
     disk: &mut D,
     index: &mut Index,
     leaving: &mut Option<u64>,
-    count: u64,
+    numbers: &[u64],
     least: u64,
 ) -> Result<(), DiskError>
+    requires { numbers.now ≡ keys_of index.old.entries }
     ensures stands { (calls : List Call) → D.StandsFor disk.old calls → IsIndexed index.old.entries None calls → leaving.old ≡ None
         → Then (D.StandsFor disk.new) (Always (LeavesPruned least (sections_at calls index.old.entries) None calls) calls)
         (λ now. IsIndexed index.new.entries leaving.new now
-        × MatchResult result (λ _. (leaving.new ≡ None) × (sections_at now index.new.entries ≡ pruned_first count least (sections_at calls index.old.entries)))
+        × MatchResult result (λ _. (leaving.new ≡ None) × (sections_at now index.new.entries ≡ pruned least (sections_at calls index.old.entries)))
         (λ _. (dropped : ℕ) × (sections_at now index.new.entries ≡ pruned_first dropped least (sections_at calls index.old.entries))
         × ((named : ℕ) → 0 < named → D.order disk.old ≡ Some (2 * named) → dropped ≡ named))) }
     ensures gone { leaving.old ≡ None → OnOk result (leaving.new ≡ None) }
     ensures leaves { leaving.old ≡ None → LeavesNoneAbove least None leaving.new }
-    ensures named { (named : ℕ) → 0 < named → named ≤ count → named ≤ count_below least index.old.entries → D.order disk.old ≡ Some (2 * named) → OnOk result ⊥ }
+    ensures named { (named : ℕ) → 0 < named → named ≤ count_below least index.old.entries → D.order disk.old ≡ Some (2 * named) → OnOk result ⊥ }
     ensures room { ¬ IsErrOf result DiskError.Memory }
     ensures ends { Ends (D.fault_count disk.old) (D.order disk.old) result (D.fault_count disk.new) (D.order disk.new) }
 {
-    let mut left = count;
-    while left > 0 {
-        let Some(number) = first_below(index, least) else {
+    // The length is asked for its clause, which says that the numbers rise.
+    let _ordered = index.len();
+    for number in numbers {
+        if *number >= least {
             return Ok(());
-        };
-        drop_section(disk, index, leaving, number)?;
-        left -= 1;
+        }
+        drop_section(disk, index, leaving, *number)?;
     }
     Ok(())
 }
 
-/// Drops the sections below the least number.
+/// Drops the sections below the least number: no file below it is there then.
 pub(crate) fn prune_files<D: Disk>(
     disk: &mut D,
     index: &mut Index,
@@ -121,11 +110,11 @@ pub(crate) fn prune_files<D: Disk>(
     ensures ends { Ends (D.fault_count disk.old) (D.order disk.old) result (D.fault_count disk.new) (D.order disk.new) }
     ensures named { (named : ℕ) → named ≤ count_below least index.old.entries → D.order disk.old ≡ Some (failing_disk_call leaving.old named) → OnOk result ⊥ }
 {
-    // Every call of a journal makes a call of its disk.
-    disk.files(alloc)?;
+    // The length is asked for its clause, which says that the numbers rise.
+    let _ordered = index.len();
     finish_removal(disk, leaving)?;
-    let all = index.len() as u64;
-    drop_sections(disk, index, leaving, all, least)
+    let numbers = disk.files(alloc)?;
+    drop_listed(disk, index, leaving, &numbers, least)
 }
 
 /// How many sections are below the least number.
@@ -158,9 +147,6 @@ pub(crate) fn call_to_fail(
     // The length is asked for its clause, which says that the numbers rise.
     let _ordered = index.len();
     let dropped = sections.min(sections_below(index, least));
-    if dropped == 0 {
-        return Some(1);
-    }
     let before: u64 = if leaving.is_some() { 3 } else { 1 };
     let calls = dropped.checked_mul(2)?;
     calls.checked_add(before)

@@ -1,4 +1,5 @@
 -- A batcher hands on to the voter alone.
+use Rattle.simplex_types.specs.declared.cause.BlockCause.TheVariants.{InvalidCertificate}
 use Rattle.std.proofs.Common.{◌≡◌, refl, ℕ, zero, suc, Bool, true, false, List, [], ◌∷◌, ◌++◌, map, Option, Some, None, Result, Ok, Err}
 use Rattle.std.specs.Prelude.{if◌then◌else◌, nat_le, not, ◌||◌}
 use Rattle.std.specs.List.{filter_map}
@@ -114,7 +115,7 @@ unfolding took_certificate
 tells-certificate made sender certificate doing q =
     let good = is_certified (made.scheme.verifies (certificate_subject certificate)) made.members (certificate_signatures certificate) in
     let kept = kept_certificate made certificate doing in
-    let blocked = and_blocked sender doing in
+    let blocked = and_blocked sender InvalidCertificate doing in
     tells-if (not (retains_view made doing.standing (certificate_view certificate)) || holds_kind doing.standing certificate)
     doing (if good then kept else blocked) q (tells-if good kept blocked (tells-kept made certificate doing q) q)
 

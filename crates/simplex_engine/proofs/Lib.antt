@@ -12,3 +12,4 @@ pub mod Settling
 pub mod Limits
 pub mod Making
 pub mod Told
+pub mod Blocks

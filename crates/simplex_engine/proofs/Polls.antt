@@ -1,6 +1,6 @@
 -- What a crew takes and gives, source by source.
 use Rattle.std.proofs.Common.{◌≡◌, ◌∙◌, refl, sym, ℕ, true, false, List, [], ◌∷◌, Option, Some, None}
-use Rattle.std.specs.Prelude.{IfNone, Bool}
+use Rattle.std.specs.Prelude.{IfNone, Bool, if◌then◌else◌}
 use Rattle.std.specs.List.{filter_map}
 use Rattle.std.specs.Option.{option_map, option_and_then}
 use Rattle.simplex_values.specs.declared.answer.Answer.{Answer}
@@ -38,7 +38,8 @@ use Rattle.simplex_transcript.specs.declared.event.StepSource.TheVariants as sou
 use Rattle.model_steps.specs.Performed.{Performed}
 use Rattle.model_steps.specs.Batcher.{Timed, step_out}
 use Rattle.model_steps.specs.VoterLife.{Stepped, place_of, step_given}
-use Rattle.model_steps.specs.Engine.{EngineMade, Did, Took, for_voter, by_voter, by_batcher, by_resolver, on_voter, heard, stepped, replied, voter_in, voter_past, batcher_past, resolver_past, cut_short, takes_reply}
+use Rattle.model_steps.specs.Engine.{EngineMade, Did, Took, for_voter, by_voter, by_batcher, by_resolver, on_voter, heard, let_in, refused, is_blocked, stepped, replied, voter_in, voter_past, batcher_past, resolver_past, cut_short, takes_reply}
+use Rattle.model_resolver.specs.Asks.{holds_member}
 use Rattle.model_resolver.specs.Views.{is_reached}
 use Rattle.model_resolver.specs.Resolver as resolver
 use Rattle.simplex_engine.specs.declared.crew.Crew.{Crew}
@@ -47,7 +48,7 @@ use Rattle.simplex_engine.specs.Stands.{CrewStands, WorksAs, EndsAs, TellsAs, Cr
 use Rattle.simplex_engine.proofs.VoterMail.{step-quiet}
 use Rattle.simplex_engine.proofs.BatcherMail.{step-tells, cut-tells}
 use Rattle.simplex_engine.proofs.ResolverMail.{resolver-tells, cut-held}
-use Rattle.simplex_engine.proofs.More.{more-timer, more-propose, more-verify, more-certify, more-voter_mail, more-batcher_mail, more-vote, more-certificate, more-packet, more-resolver_mail, more-handler_mail, more-fetch, more-replied, more-voter_idle, more-batcher_idle, more-resolver_idle, more-handler_idle, more-fetch_idle}
+use Rattle.simplex_engine.proofs.More.{more-timer, more-propose, more-verify, more-certify, more-voter_mail, more-batcher_mail, more-vote, more-certificate, more-packet, more-resolver_mail, more-handler_mail, more-fetch, more-replied, more-voter_idle, more-batcher_idle, more-resolver_idle, more-handler_idle, more-fetch_idle, more-refused}
 
 -- a mailbox that holds nothing is as it was
 pub idle-recv : {M : Type 0} (skips : M → Bool) (mail : Mail M) (ready : List M) → None ≡ front ready → mail ≡ taken_from skips ready mail
@@ -101,12 +102,28 @@ inside-certify st = map-first (first_answered st.desk.certify st.answers)
 
 -- ---- packets take nothing from inside
 
+taken-let_in : (made : EngineMade) (past : List Did) (sender : ℕ) (channel : Channel) (bytes : List ℕ) (now : ℕ)
+    → taken_inside made past (let_in made past sender channel bytes now) ≡ None
+unfolding let_in by_batcher by_resolver taken_inside inside
+taken-let_in made past sender channels.Vote bytes now = refl
+taken-let_in made past sender channels.Certificate bytes now = refl
+taken-let_in made past sender channels.Resolver bytes now = refl
+
+taken-refused : (made : EngineMade) (past : List Did) (sender : ℕ) (channel : Channel) (bytes : List ℕ) (now : ℕ)
+    → taken_inside made past (refused sender channel bytes now) ≡ None
+unfolding taken_inside inside
+taken-refused made past sender channel bytes now = refl
+
+-- what holds of both holds of the one of them
+pub either-did : (P : Did → Type 0) (b : Bool) (x y : Did) → P x → P y → P (if b then x else y)
+either-did P true x y p q = p
+either-did P false x y p q = q
+
 taken-heard : (made : EngineMade) (past : List Did) (sender : ℕ) (channel : Channel) (bytes : List ℕ) (now : ℕ)
     → taken_inside made past (heard made past sender channel bytes now) ≡ None
-unfolding heard by_batcher by_resolver taken_inside inside
-taken-heard made past sender channels.Vote bytes now = refl
-taken-heard made past sender channels.Certificate bytes now = refl
-taken-heard made past sender channels.Resolver bytes now = refl
+unfolding heard
+taken-heard made past sender channel bytes now =
+    either-did (λ did. taken_inside made past did ≡ None) (is_blocked past sender) _ _ (taken-refused made past sender channel bytes now) (taken-let_in made past sender channel bytes now)
 
 module _ {S L J : Type 0} {s : scheme.Ghosts S} {l : elector.Ghosts L} {j : journal.Ghosts J} where
   -- whether a deadline of the fetcher is reached
@@ -477,46 +494,76 @@ module _ {S L J : Type 0} {s : scheme.Ghosts S} {l : elector.Ghosts L} {j : jour
 
   -- ---- packets and answers
 
+  -- a packet of a member that is blocked, and of one that is not
+  pub takes-refused : (old new : Crew S L J s l j) (sender : ℕ) (channel : Channel) (bytes : List ℕ) (now : ℕ) (test : Bool)
+      → test ≡ true → TellsAs told old (λ parts. holds_member parts.blocked sender) test → WorksAs told old new (λ parts. parts)
+      → CrewTakesAs told old new (λ made past. heard made past sender channel bytes now)
+  unfolding CrewStands parts_of heard
+  takes-refused old new sender channel bytes now test e blocked works = λ made past h.
+      rw (← blocked (parts_of made past) h, e) (rw (more-refused made past sender channel bytes now) (works (parts_of made past) h))
+
+  pub gives-refused : (old : Crew S L J s l j) (sender : ℕ) (channel : Channel) (bytes : List ℕ) (now : ℕ) (test : Bool)
+      → test ≡ true → TellsAs told old (λ parts. holds_member parts.blocked sender) test
+      → CrewGivesAs told old (λ made past. heard made past sender channel bytes now) outcomes.Refused no_out
+  unfolding CrewStands parts_of heard
+  gives-refused old sender channel bytes now test e blocked = λ made past h. rw (← blocked (parts_of made past) h, e) (refl, refl)
+
+  pub takes-heard : (old new : Crew S L J s l j) (sender : ℕ) (channel : Channel) (bytes : List ℕ) (now : ℕ) (test : Bool)
+      → test ≡ false → TellsAs told old (λ parts. holds_member parts.blocked sender) test
+      → CrewTakesAs told old new (λ made past. let_in made past sender channel bytes now)
+      → CrewTakesAs told old new (λ made past. heard made past sender channel bytes now)
+  unfolding CrewStands parts_of heard
+  takes-heard old new sender channel bytes now test e blocked takes = λ made past h.
+      rw (← blocked (parts_of made past) h, e) (takes made past h)
+
+  pub gives-heard : (old : Crew S L J s l j) (sender : ℕ) (channel : Channel) (bytes : List ℕ) (now : ℕ) (test : Bool) (outcome : Outcome) (out : StepOut)
+      → test ≡ false → TellsAs told old (λ parts. holds_member parts.blocked sender) test
+      → CrewGivesAs told old (λ made past. let_in made past sender channel bytes now) outcome out
+      → CrewGivesAs told old (λ made past. heard made past sender channel bytes now) outcome out
+  unfolding CrewStands parts_of heard
+  gives-heard old sender channel bytes now test outcome out e blocked gives = λ made past h.
+      rw (← blocked (parts_of made past) h, e) (gives made past h)
+
   pub takes-vote : (old new : Crew S L J s l j) (sender : ℕ) (bytes : List ℕ) (now : ℕ) (outcome : Outcome) (out : StepOut)
       → WorksAs told old new (after_batcher (record { input = batcher_inputs.Vote sender bytes; now = now }) out)
       → EndsAs told old (λ parts. cut_short stops.None (step_out parts.batcher parts.timed (record { input = batcher_inputs.Vote sender bytes; now = now }))) outcome out
-      → CrewTakesAs told old new (λ made past. heard made past sender channels.Vote bytes now)
-  unfolding CrewStands parts_of heard by_batcher
+      → CrewTakesAs told old new (λ made past. let_in made past sender channels.Vote bytes now)
+  unfolding CrewStands parts_of let_in by_batcher
   takes-vote old new sender bytes now outcome out works ends = λ made past h.
       let given : Timed = record { input = batcher_inputs.Vote sender bytes; now = now } in
-      rw (more-vote made past sender bytes now stops.None outcomes.Done (step_out made.batcher (batcher_past past) given) (step-tells made.batcher (batcher_past past) given))
+      rw (more-vote made past sender bytes now stops.None (step_out made.batcher (batcher_past past) given) (step-tells made.batcher (batcher_past past) given))
       (rw (← (ends (parts_of made past) h).1) (works (parts_of made past) h))
 
   pub gives-vote : (old : Crew S L J s l j) (sender : ℕ) (bytes : List ℕ) (now : ℕ) (outcome : Outcome) (out : StepOut)
       → EndsAs told old (λ parts. cut_short stops.None (step_out parts.batcher parts.timed (record { input = batcher_inputs.Vote sender bytes; now = now }))) outcome out
-      → CrewGivesAs told old (λ made past. heard made past sender channels.Vote bytes now) outcome out
-  unfolding CrewStands parts_of heard by_batcher
+      → CrewGivesAs told old (λ made past. let_in made past sender channels.Vote bytes now) outcome out
+  unfolding CrewStands parts_of let_in by_batcher
   gives-vote old sender bytes now outcome out ends = λ made past h. ends (parts_of made past) h
 
   pub takes-certificate : (old new : Crew S L J s l j) (sender : ℕ) (bytes : List ℕ) (now : ℕ) (outcome : Outcome) (out : StepOut)
       → WorksAs told old new (after_batcher (record { input = batcher_inputs.Certificate sender bytes; now = now }) out)
       → EndsAs told old (λ parts. cut_short stops.None (step_out parts.batcher parts.timed (record { input = batcher_inputs.Certificate sender bytes; now = now }))) outcome out
-      → CrewTakesAs told old new (λ made past. heard made past sender channels.Certificate bytes now)
-  unfolding CrewStands parts_of heard by_batcher
+      → CrewTakesAs told old new (λ made past. let_in made past sender channels.Certificate bytes now)
+  unfolding CrewStands parts_of let_in by_batcher
   takes-certificate old new sender bytes now outcome out works ends = λ made past h.
       let given : Timed = record { input = batcher_inputs.Certificate sender bytes; now = now } in
-      rw (more-certificate made past sender bytes now stops.None outcomes.Done (step_out made.batcher (batcher_past past) given) (step-tells made.batcher (batcher_past past) given))
+      rw (more-certificate made past sender bytes now stops.None (step_out made.batcher (batcher_past past) given) (step-tells made.batcher (batcher_past past) given))
       (rw (← (ends (parts_of made past) h).1) (works (parts_of made past) h))
 
   pub gives-certificate : (old : Crew S L J s l j) (sender : ℕ) (bytes : List ℕ) (now : ℕ) (outcome : Outcome) (out : StepOut)
       → EndsAs told old (λ parts. cut_short stops.None (step_out parts.batcher parts.timed (record { input = batcher_inputs.Certificate sender bytes; now = now }))) outcome out
-      → CrewGivesAs told old (λ made past. heard made past sender channels.Certificate bytes now) outcome out
-  unfolding CrewStands parts_of heard by_batcher
+      → CrewGivesAs told old (λ made past. let_in made past sender channels.Certificate bytes now) outcome out
+  unfolding CrewStands parts_of let_in by_batcher
   gives-certificate old sender bytes now outcome out ends = λ made past h. ends (parts_of made past) h
 
   pub takes-packet : (old new : Crew S L J s l j) (sender : ℕ) (bytes : List ℕ) (now : ℕ) (outcome : Outcome) (out : StepOut)
       → WorksAs told old new (after_resolver (resolver.Stepped (resolver_inputs.Packet sender bytes) now) out)
       → EndsAs told old (λ parts. cut_short stops.None (resolver.step_out parts.resolver parts.asked (resolver_inputs.Packet sender bytes) now)) outcome out
-      → CrewTakesAs told old new (λ made past. heard made past sender channels.Resolver bytes now)
-  unfolding CrewStands parts_of heard by_resolver
+      → CrewTakesAs told old new (λ made past. let_in made past sender channels.Resolver bytes now)
+  unfolding CrewStands parts_of let_in by_resolver
   takes-packet old new sender bytes now outcome out works ends = λ made past h.
       let whole : StepOut = resolver.step_out made.resolver (resolver_past past) (resolver_inputs.Packet sender bytes) now in
-      rw (more-packet made past sender bytes now stops.None outcomes.Done whole (λ given. refl) (resolver-tells made.resolver (resolver_past past) _ now))
+      rw (more-packet made past sender bytes now stops.None whole (resolver-tells made.resolver (resolver_past past) _ now))
       (rw (← (ends (parts_of made past) h).1) (works (parts_of made past) h))
 
   pub takes-answer : (old new : Crew S L J s l j) (number : ℕ) (answer : Answer) (now : ℕ) → WorksAs told old new (after_answer number answer)
@@ -526,8 +573,8 @@ module _ {S L J : Type 0} {s : scheme.Ghosts S} {l : elector.Ghosts L} {j : jour
 
   pub gives-packet : (old : Crew S L J s l j) (sender : ℕ) (bytes : List ℕ) (now : ℕ) (outcome : Outcome) (out : StepOut)
       → EndsAs told old (λ parts. cut_short stops.None (resolver.step_out parts.resolver parts.asked (resolver_inputs.Packet sender bytes) now)) outcome out
-      → CrewGivesAs told old (λ made past. heard made past sender channels.Resolver bytes now) outcome out
-  unfolding CrewStands parts_of heard by_resolver
+      → CrewGivesAs told old (λ made past. let_in made past sender channels.Resolver bytes now) outcome out
+  unfolding CrewStands parts_of let_in by_resolver
   gives-packet old sender bytes now outcome out ends = λ made past h. ends (parts_of made past) h
 
   pub answers-whether : (old : Crew S L J s l j) (number : ℕ) (answer : Answer) (result value : Bool) → result ≡ value

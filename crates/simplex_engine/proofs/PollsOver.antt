@@ -21,7 +21,7 @@ use Rattle.simplex_messages.specs.declared.step.Stop.{Stop}
 use Rattle.simplex_messages.specs.declared.step.StepOut.{StepOut}
 use Rattle.simplex_transcript.specs.declared.event.StepSource.TheVariants as sources
 use Rattle.model_steps.specs.VoterLife.{place_of}
-use Rattle.model_steps.specs.Engine.{EngineMade, Did, Took, by_batcher, by_resolver, nothing_held, on_batcher_mail, on_resolver_mail, on_handler_mail, heard, stepped, replied, batcher_mail, resolver_mail, resolver_past, sections_of}
+use Rattle.model_steps.specs.Engine.{EngineMade, Did, Took, by_batcher, by_resolver, nothing_held, on_batcher_mail, on_resolver_mail, on_handler_mail, heard, let_in, refused, is_blocked, stepped, replied, batcher_mail, resolver_mail, resolver_past, sections_of}
 use Rattle.model_resolver.specs.Views.{is_reached}
 use Rattle.model_resolver.specs.Resolver as resolver
 use Rattle.simplex_voter.specs.Actor.{next_answer}
@@ -33,7 +33,7 @@ use Rattle.simplex_engine.specs.Parts.{parts_of, after_voter_mail}
 use Rattle.simplex_engine.specs.Polled.{answer_inside, unless_idle, taken_inside, sections_left}
 use Rattle.simplex_engine.specs.Stands.{CrewStands, WorksAs, TellsAs, CrewTakesAs, CrewGivesAs, CrewAnswersAs, VoterFares, CrewFares}
 use Rattle.simplex_engine.proofs.Voters.{crew-sections}
-use Rattle.simplex_engine.proofs.Polls.{takes-timer, gives-timer, taken-timer, takes-propose, gives-propose, taken-propose, takes-verify, gives-verify, taken-verify, takes-certify, gives-certify, taken-certify, takes-voter_mail, gives-voter_mail, taken-voter_mail}
+use Rattle.simplex_engine.proofs.Polls.{either-did, takes-timer, gives-timer, taken-timer, takes-propose, gives-propose, taken-propose, takes-verify, gives-verify, taken-verify, takes-certify, gives-certify, taken-certify, takes-voter_mail, gives-voter_mail, taken-voter_mail}
 
 -- what the batcher and the resolver are given is nothing of the voter's
 quiet-batcher_mail : (made : EngineMade) (past : List Did) (now : ℕ) (stop : Stop) (message : Option batcher_message.Message)
@@ -62,12 +62,23 @@ unfolding sections_left by_resolver
 quiet-fetch made past now stop true = refl
 quiet-fetch made past now stop false = refl
 
+quiet-let_in : (made : EngineMade) (past : List Did) (sender : ℕ) (channel : Channel) (bytes : List ℕ) (now : ℕ) (stop : Stop)
+    → sections_left made past stop (let_in made past sender channel bytes now) ≡ sections_of made past
+unfolding sections_left let_in by_batcher by_resolver
+quiet-let_in made past sender channels.Vote bytes now stop = refl
+quiet-let_in made past sender channels.Certificate bytes now stop = refl
+quiet-let_in made past sender channels.Resolver bytes now stop = refl
+
+quiet-refused : (made : EngineMade) (past : List Did) (sender : ℕ) (channel : Channel) (bytes : List ℕ) (now : ℕ) (stop : Stop)
+    → sections_left made past stop (refused sender channel bytes now) ≡ sections_of made past
+unfolding sections_left
+quiet-refused made past sender channel bytes now stop = refl
+
 quiet-packet : (made : EngineMade) (past : List Did) (sender : ℕ) (channel : Channel) (bytes : List ℕ) (now : ℕ) (stop : Stop)
     → sections_left made past stop (heard made past sender channel bytes now) ≡ sections_of made past
-unfolding sections_left heard by_batcher by_resolver
-quiet-packet made past sender channels.Vote bytes now stop = refl
-quiet-packet made past sender channels.Certificate bytes now stop = refl
-quiet-packet made past sender channels.Resolver bytes now stop = refl
+unfolding heard
+quiet-packet made past sender channel bytes now stop =
+    either-did (λ did. sections_left made past stop did ≡ sections_of made past) (is_blocked past sender) _ _ (quiet-refused made past sender channel bytes now stop) (quiet-let_in made past sender channel bytes now stop)
 
 module _ {S L J : Type 0} {s : scheme.Ghosts S} {l : elector.Ghosts L} {j : journal.Ghosts J} where
   -- the stop stays what it is, and the journal too

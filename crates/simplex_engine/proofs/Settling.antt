@@ -17,6 +17,7 @@ module _ {S L J : Type 0} {s : scheme.Ghosts S} {l : elector.Ghosts L} {j : jour
   ends-where : (crew : Crew S L J s l j) (outcome : Outcome) → ended_at (stages.Running crew) outcome ≡ settled crew outcome
   ends-where crew outcomes.Done = refl
   ends-where crew outcomes.Idle = refl
+  ends-where crew outcomes.Refused = refl
   ends-where crew outcomes.Journal = refl
   ends-where crew outcomes.Cut = refl
 

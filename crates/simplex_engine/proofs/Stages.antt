@@ -9,7 +9,7 @@ use Rattle.simplex_journal.specs.Journal.{Section}
 use Rattle.simplex_messages.specs.declared.step.Outcome.{Outcome}
 use Rattle.simplex_messages.specs.declared.step.Outcome.TheVariants as outcomes
 use Rattle.simplex_messages.specs.declared.step.Stop.{Stop}
-use Rattle.model_steps.specs.Engine.{EngineMade, Did, begun, runs, is_whole, sections_of, voter_in, voter_past, started_at}
+use Rattle.model_steps.specs.Engine.{EngineMade, Did, begun, runs, is_whole, is_blocked, blocked_in, sections_of, voter_in, voter_past, started_at}
 use Rattle.model_rules.specs.Views.{current_of}
 use Rattle.simplex_transcript.specs.declared.event.StepSource.{StepSource}
 use Rattle.model_steps.specs.VoterLife.{VoterMade, place_of}
@@ -26,6 +26,7 @@ use Rattle.simplex_engine.specs.declared.input.Input.{Input}
 use Rattle.simplex_engine.specs.declared.input.Polled.{Polled}
 use Rattle.simplex_engine.specs.declared.error.PollError.{PollError}
 use Rattle.simplex_engine.specs.declared.error.PollError.TheVariants as errors
+use Rattle.model_resolver.specs.Asks.{holds_member}
 use Rattle.simplex_engine.specs.Holding.{holds}
 use Rattle.simplex_engine.specs.Parts.{parts_of}
 use Rattle.simplex_engine.specs.Polled.{is_taken, refusal_of, is_memory, taken_inside}
@@ -37,6 +38,7 @@ module _ {S L J : Type 0} {s : scheme.Ghosts S} {l : elector.Ghosts L} {j : jour
   unfolding runs
   stage-settled told crew made past did outcomes.Done e h = (rw (← e) refl, h)
   stage-settled told crew made past did outcomes.Idle e h = (rw (← e) refl, h)
+  stage-settled told crew made past did outcomes.Refused e h = (rw (← e) refl, h)
   stage-settled told crew made past did outcomes.Journal e h = (rw (← e) refl, refl, h)
   stage-settled told crew made past did outcomes.Cut e h = (rw (← e) refl, refl, h)
 
@@ -48,6 +50,7 @@ module _ {S L J : Type 0} {s : scheme.Ghosts S} {l : elector.Ghosts L} {j : jour
   pub settled-alive : (crew : Crew S L J s l j) (outcome : Outcome) → is_failed (settled crew outcome) ≡ false
   settled-alive crew outcomes.Done = refl
   settled-alive crew outcomes.Idle = refl
+  settled-alive crew outcomes.Refused = refl
   settled-alive crew outcomes.Journal = refl
   settled-alive crew outcomes.Cut = refl
 
@@ -164,12 +167,14 @@ module _ {S L J : Type 0} {s : scheme.Ghosts S} {l : elector.Ghosts L} {j : jour
   pub settled-stops : (crew : Crew S L J s l j) (outcome : Outcome) → is_stopped (settled crew outcome) ≡ not (is_whole outcome)
   settled-stops crew outcomes.Done = refl
   settled-stops crew outcomes.Idle = refl
+  settled-stops crew outcomes.Refused = refl
   settled-stops crew outcomes.Journal = refl
   settled-stops crew outcomes.Cut = refl
 
   settled-journal : (engine : Engine S L J s l j) (crew : Crew S L J s l j) (outcome : Outcome) → engine.stage ≡ settled crew outcome → journal_of engine ≡ Some (voter.journal_of crew.voter)
   settled-journal engine crew outcomes.Done e = rw e refl
   settled-journal engine crew outcomes.Idle e = rw e refl
+  settled-journal engine crew outcomes.Refused e = rw e refl
   settled-journal engine crew outcomes.Journal e = rw e refl
   settled-journal engine crew outcomes.Cut e = rw e refl
 
@@ -318,3 +323,27 @@ module _ {S L J : Type 0} {s : scheme.Ghosts S} {l : elector.Ghosts L} {j : jour
   running-holds told engine crew held source now e tells = λ made past h.
       let is = rw e at h in
       tells told made past is.1
+
+  -- whom its calls blocked
+  pub running-blocked : (told : Bool) (engine : Engine S L J s l j) (crew : Crew S L J s l j) (member : ℕ) (blocked : Bool) → engine.stage ≡ stages.Running crew
+      → ((told : Bool) → TellsAs told crew (λ parts. holds_member parts.blocked member) blocked)
+      → StageAnswers told engine.stage (λ made past. is_blocked past member) blocked
+  unfolding CrewStands parts_of
+  running-blocked told engine crew member blocked e tells = λ made past h.
+      let held = rw e at h in
+      tells told (parts_of made past) held.1
+
+  pub stopped-blocked : (told : Bool) (engine : Engine S L J s l j) (crew : Crew S L J s l j) (member : ℕ) (blocked : Bool) → engine.stage ≡ stages.Stopped crew
+      → ((told : Bool) → TellsAs told crew (λ parts. holds_member parts.blocked member) blocked)
+      → StageAnswers told engine.stage (λ made past. is_blocked past member) blocked
+  unfolding CrewStands parts_of
+  stopped-blocked told engine crew member blocked e tells = λ made past h.
+      let held = rw e at h in
+      tells told (parts_of made past) held.2
+
+  pub waiting-blocked : (told : Bool) (engine : Engine S L J s l j) (unstarted : Unstarted S L J s l j) (member : ℕ) → engine.stage ≡ stages.Waiting unstarted
+      → StageAnswers told engine.stage (λ made past. is_blocked past member) false
+  unfolding blocked_in
+  waiting-blocked told engine unstarted member e = λ made past h.
+      let held = rw e at h in
+      rw held.0 refl

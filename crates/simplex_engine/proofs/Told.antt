@@ -36,6 +36,7 @@ module _ {S L J : Type 0} {s : scheme.Ghosts S} {l : elector.Ghosts L} {j : jour
         to_batcher = h.to_batcher;
         to_voter = h.to_voter;
         to_resolver = h.to_resolver;
+        blocked = h.blocked;
       }
 
   waits-over : (unstarted : Unstarted S L J s l j) (made : EngineMade) → Waits true unstarted made → Waits false unstarted made

@@ -23,6 +23,7 @@ module _ {S L J : Type 0} {s : scheme.Ghosts S} {l : elector.Ghosts L} {j : jour
   abbrev pub ended_at : Stage S L J s l j → Outcome → Stage S L J s l j
   ended_at stage outcomes.Done = stage
   ended_at stage outcomes.Idle = stage
+  ended_at stage outcomes.Refused = stage
   ended_at stage outcomes.Journal = halted stage
   ended_at stage outcomes.Cut = halted stage
 

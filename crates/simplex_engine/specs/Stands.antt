@@ -12,6 +12,7 @@ use Rattle.simplex_messages.specs.declared.step.Outcome.TheVariants as outcomes
 use Rattle.simplex_messages.specs.declared.step.Stop.{Stop}
 use Rattle.simplex_messages.specs.declared.step.StepOut.{StepOut}
 use Rattle.simplex_messages.specs.declared.voter.VoterInput.{VoterInput}
+use Rattle.model_resolver.specs.Asks.{holds_member}
 use Rattle.model_steps.specs.VoterLife.{VoterMade, Given, Stepped, place_of, step_given}
 use Rattle.model_steps.specs.Engine.{EngineMade, Did, begun, runs}
 use Rattle.simplex_voter.specs.Actor as voter
@@ -63,6 +64,7 @@ module _ {S L J : Type 0} {s : scheme.Ghosts S} {l : elector.Ghosts L} {j : jour
     pub to_batcher : crew.boxes.batcher ≡ parts.to_batcher
     pub to_voter : crew.boxes.voter ≡ parts.to_voter
     pub to_resolver : crew.boxes.resolver ≡ parts.to_resolver
+    pub blocked : (member : ℕ) → holds_member crew.blocked.keys member ≡ holds_member parts.blocked member
 
   -- the actors were just made, the voter at this clock
   pub record Fresh (told : Bool) (crew : Crew S L J s l j) (made : EngineMade) (start : ℕ) : Type 0 where
@@ -70,6 +72,7 @@ module _ {S L J : Type 0} {s : scheme.Ghosts S} {l : elector.Ghosts L} {j : jour
     pub batcher : batcher.StandsFor s.verifies s.recovers s.members s.member crew.batcher made.batcher []
     pub resolver : resolver.StandsFor s.verifies s.members s.member crew.resolver made.resolver []
     pub boxes : crew.boxes ≡ empty_boxes made.capacity
+    pub blocked : crew.blocked.keys ≡ []
 
   unfoldable pub CrewStands : Bool → Crew S L J s l j → EngineMade → List Did → Type 0
   CrewStands told crew made past = Holds told crew (parts_of made past)
@@ -186,6 +189,7 @@ module _ {S L J : Type 0} {s : scheme.Ghosts S} {l : elector.Ghosts L} {j : jour
   abbrev pub settled : Crew S L J s l j → Outcome → Stage S L J s l j
   settled crew outcomes.Done = stages.Running crew
   settled crew outcomes.Idle = stages.Running crew
+  settled crew outcomes.Refused = stages.Running crew
   settled crew outcomes.Journal = stages.Stopped crew
   settled crew outcomes.Cut = stages.Stopped crew
 

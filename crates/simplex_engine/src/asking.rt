@@ -8,7 +8,7 @@ ghost use Rattle.simplex_values.specs.declared.plan.Channel.TheVariants as chann
 ghost use Rattle.simplex_transcript.specs.declared.event.StepSource.TheVariants as sources;
 ghost use Rattle.model_resolver.specs.Resolver.{handler_message, deadline_after};
 ghost use Rattle.model_resolver.specs.Views.{is_reached};
-ghost use Rattle.model_steps.specs.Engine.{heard, stepped};
+ghost use Rattle.model_steps.specs.Engine.{let_in, stepped};
 ghost use Rattle.simplex_engine.specs.Parts.{after_resolver_mail, after_handler_mail};
 ghost use Rattle.simplex_engine.specs.Polled.{taken_inside};
 ghost use Rattle.simplex_voter.specs.Actor.{journal_of};
@@ -36,8 +36,8 @@ impl<S: Scheme + Drop, L: Elector + Drop, J: Journal + Drop> Crew<S, L, J> {
     ) -> Result<Polled, AllocError>
         requires clock { now < 2 ^ 63 }
         requires empty { out.old ≡ no_out }
-        ensures stands { OnOk result ((told : Bool) → CrewTakesAs told self.old self.new (λ made past. heard made past sender channels.Resolver bytes now)) }
-        ensures gives { IfOk result (λ given. (told : Bool) → CrewGivesAs told self.old (λ made past. heard made past sender channels.Resolver bytes now) given.outcome out.new) }
+        ensures stands { OnOk result ((told : Bool) → CrewTakesAs told self.old self.new (λ made past. let_in made past sender channels.Resolver bytes now)) }
+        ensures gives { IfOk result (λ given. (told : Bool) → CrewGivesAs told self.old (λ made past. let_in made past sender channels.Resolver bytes now) given.outcome out.new) }
         ensures taken { IfOk result (λ given. given.taken ≡ None) }
         ensures faults { IfOk result (λ given. FaultsAt given.outcome (faults_in self.old) (faults_in self.new)) }
         ensures journal { OnOk result (journal_of self.new.voter ≡ journal_of self.old.voter) }

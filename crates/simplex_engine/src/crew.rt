@@ -6,6 +6,7 @@ use simplex_journal::Journal;
 use simplex_types::Scheme;
 use simplex_types::elector::Elector;
 use std::alloc::Global;
+use std::collections::BTreeSet;
 
 /// The actors of a started engine, and the mail between them, for whoever steps each of them itself.
 #[derive(Drop)]
@@ -20,6 +21,8 @@ pub struct Crew<S: Scheme, L: Elector, J: Journal> {
     pub resolver: simplex_resolver::Actor<S>,
     /// The mail between them.
     pub boxes: Boxes,
+    /// The members that a call blocked since the start. Their packets are refused.
+    pub blocked: BTreeSet<u32>,
     // true of any three: contracts read from a crew's type what its scheme, its elector and its journal do
     ghost by_scheme: { (s : S) → S.members s ≡ S.members s },
     ghost by_elector: { (l : L) → L.built_for l ≡ L.built_for l },

@@ -6,7 +6,7 @@ ghost use Rattle.model_rules.specs.Views.{current_of};
 ghost use Rattle.simplex_journal.specs.Order.{no_order};
 ghost use Rattle.simplex_messages.specs.Step.{no_out};
 ghost use Rattle.model_steps.specs.VoterLife.{place_of};
-ghost use Rattle.model_steps.specs.Engine.{EngineMade, Did, begun, runs, is_whole, sections_of, voter_in, voter_past};
+ghost use Rattle.model_steps.specs.Engine.{EngineMade, Did, begun, runs, is_whole, is_blocked, sections_of, voter_in, voter_past};
 ghost use Rattle.simplex_engine.specs.Config.{engine_made, first_bad, Refused};
 ghost use Rattle.simplex_engine.specs.Holding.{holds};
 ghost use Rattle.simplex_engine.specs.Polled.{polled, refusal_of, is_memory};
@@ -29,7 +29,7 @@ use simplex_journal::Journal;
 use simplex_messages::{Outcome, StepOut, Stop};
 use simplex_transcript::StepSource;
 use simplex_types::elector::Elector;
-use simplex_types::{Keep, Scheme, View};
+use simplex_types::{Keep, Participant, Scheme, View};
 use std::alloc::{AllocError, Global};
 use std::mem;
 
@@ -207,7 +207,7 @@ impl<S: Scheme + Drop, L: Elector + Drop, J: Journal + Drop> Engine<S, L, J> {
     {
         match given {
             Ok(polled) => match polled.outcome {
-                Outcome::Done | Outcome::Idle => {}
+                Outcome::Done | Outcome::Idle | Outcome::Refused => {}
                 Outcome::Journal | Outcome::Cut => self.halt(),
             },
             Err(PollError::Memory) => self.fail(),
@@ -320,6 +320,20 @@ impl<S: Scheme + Drop, L: Elector + Drop, J: Journal + Drop> Engine<S, L, J> {
         ensures in_time { result < 2 ^ 63 }
     {
         self.clock.ms
+    }
+
+    /// Whether a call of the engine blocked the member since its start. Packets of such a member are refused. Before a
+    /// start, and after want of memory, it is no one.
+    pub fn is_blocked(&self, member: Participant) -> bool
+        ensures told { Answers self.now (λ made past. is_blocked past member) result }
+        ensures over { AnswersOver self.now (λ made past. is_blocked past member) result }
+    {
+        match &self.stage {
+            Stage::Running(crew) => crew.is_blocked(member),
+            Stage::Stopped(crew) => crew.is_blocked(member),
+            Stage::Waiting(_) => false,
+            Stage::Failed => false,
+        }
     }
 
     /// The view that the voter is in, while the engine runs; before its start 1.

@@ -6,6 +6,7 @@
 #![tactic(auto)]
 
 mod asking;
+mod blocking;
 mod boxes;
 mod clock;
 mod config;

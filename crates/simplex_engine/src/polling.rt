@@ -8,7 +8,7 @@ ghost use Rattle.simplex_values.specs.declared.plan.Channel.TheVariants as chann
 ghost use Rattle.simplex_messages.specs.declared.step.Outcome.TheVariants as outcomes;
 ghost use Rattle.simplex_engine.specs.declared.error.PollError.TheVariants as poll_errors;
 ghost use Rattle.simplex_transcript.specs.declared.event.StepSource.TheVariants as sources;
-ghost use Rattle.model_steps.specs.Engine.{heard, stepped, replied, takes_reply};
+ghost use Rattle.model_steps.specs.Engine.{heard, let_in, stepped, replied, takes_reply};
 ghost use Rattle.simplex_engine.specs.Parts.{after_voter_mail, after_batcher_mail};
 ghost use Rattle.simplex_engine.specs.Polled.{polled, taken_inside, is_taken};
 ghost use Rattle.simplex_voter.specs.Actor.{journal_of};
@@ -59,7 +59,7 @@ impl<S: Scheme + Drop, L: Elector + Drop, J: Journal + Drop> Crew<S, L, J> {
         }
     }
 
-    /// A packet of the network is heard.
+    /// A packet of the network is heard. One of a member that is blocked is refused.
     fn deliver(
         &mut self,
         sender: Participant,
@@ -72,6 +72,30 @@ impl<S: Scheme + Drop, L: Elector + Drop, J: Journal + Drop> Crew<S, L, J> {
         requires empty { out.old ≡ no_out }
         ensures stands { OnOk result ((told : Bool) → CrewTakesAs told self.old self.new (λ made past. heard made past sender channel bytes now)) }
         ensures gives { IfOk result (λ given. (told : Bool) → CrewGivesAs told self.old (λ made past. heard made past sender channel bytes now) given.outcome out.new) }
+        ensures taken { IfOk result (λ given. given.taken ≡ None) }
+        ensures faults { IfOk result (λ given. FaultsAt given.outcome (faults_in self.old) (faults_in self.new)) }
+        ensures journal { OnOk result (journal_of self.new.voter ≡ journal_of self.old.voter) }
+    {
+        if self.is_blocked(sender) {
+            return Ok(polled(Outcome::Refused, None));
+        }
+        let given = self.let_in(sender, channel, bytes, now, out)?;
+        Ok(given)
+    }
+
+    /// A packet of a member that is not blocked goes to the actor of its channel.
+    fn let_in(
+        &mut self,
+        sender: Participant,
+        channel: Channel,
+        bytes: Bytes,
+        now: u64,
+        out: &mut StepOut,
+    ) -> Result<Polled, AllocError>
+        requires clock { now < 2 ^ 63 }
+        requires empty { out.old ≡ no_out }
+        ensures stands { OnOk result ((told : Bool) → CrewTakesAs told self.old self.new (λ made past. let_in made past sender channel bytes now)) }
+        ensures gives { IfOk result (λ given. (told : Bool) → CrewGivesAs told self.old (λ made past. let_in made past sender channel bytes now) given.outcome out.new) }
         ensures taken { IfOk result (λ given. given.taken ≡ None) }
         ensures faults { IfOk result (λ given. FaultsAt given.outcome (faults_in self.old) (faults_in self.new)) }
         ensures journal { OnOk result (journal_of self.new.voter ≡ journal_of self.old.voter) }
@@ -93,8 +117,8 @@ impl<S: Scheme + Drop, L: Elector + Drop, J: Journal + Drop> Crew<S, L, J> {
     ) -> Result<Polled, AllocError>
         requires clock { now < 2 ^ 63 }
         requires empty { out.old ≡ no_out }
-        ensures stands { OnOk result ((told : Bool) → CrewTakesAs told self.old self.new (λ made past. heard made past sender channels.Vote bytes now)) }
-        ensures gives { IfOk result (λ given. (told : Bool) → CrewGivesAs told self.old (λ made past. heard made past sender channels.Vote bytes now) given.outcome out.new) }
+        ensures stands { OnOk result ((told : Bool) → CrewTakesAs told self.old self.new (λ made past. let_in made past sender channels.Vote bytes now)) }
+        ensures gives { IfOk result (λ given. (told : Bool) → CrewGivesAs told self.old (λ made past. let_in made past sender channels.Vote bytes now) given.outcome out.new) }
         ensures taken { IfOk result (λ given. given.taken ≡ None) }
         ensures faults { IfOk result (λ given. FaultsAt given.outcome (faults_in self.old) (faults_in self.new)) }
         ensures journal { OnOk result (journal_of self.new.voter ≡ journal_of self.old.voter) }
@@ -114,8 +138,8 @@ impl<S: Scheme + Drop, L: Elector + Drop, J: Journal + Drop> Crew<S, L, J> {
     ) -> Result<Polled, AllocError>
         requires clock { now < 2 ^ 63 }
         requires empty { out.old ≡ no_out }
-        ensures stands { OnOk result ((told : Bool) → CrewTakesAs told self.old self.new (λ made past. heard made past sender channels.Certificate bytes now)) }
-        ensures gives { IfOk result (λ given. (told : Bool) → CrewGivesAs told self.old (λ made past. heard made past sender channels.Certificate bytes now) given.outcome out.new) }
+        ensures stands { OnOk result ((told : Bool) → CrewTakesAs told self.old self.new (λ made past. let_in made past sender channels.Certificate bytes now)) }
+        ensures gives { IfOk result (λ given. (told : Bool) → CrewGivesAs told self.old (λ made past. let_in made past sender channels.Certificate bytes now) given.outcome out.new) }
         ensures taken { IfOk result (λ given. given.taken ≡ None) }
         ensures faults { IfOk result (λ given. FaultsAt given.outcome (faults_in self.old) (faults_in self.new)) }
         ensures journal { OnOk result (journal_of self.new.voter ≡ journal_of self.old.voter) }

@@ -13,6 +13,7 @@ use simplex_messages::Outcome;
 use simplex_types::Scheme;
 use simplex_types::elector::Elector;
 use std::alloc::{AllocError, Global};
+use std::collections::BTreeSet;
 
 /// How far an engine is.
 #[derive(Drop)]
@@ -51,6 +52,7 @@ pub(crate) fn crew_of<S: Scheme + Drop, L: Elector + Drop, J: Journal + Drop>(
         batcher,
         resolver,
         boxes,
+        blocked: BTreeSet::new(alloc),
     })
 }
 
@@ -62,7 +64,7 @@ pub(crate) fn stage_after<S: Scheme, L: Elector, J: Journal>(
     ensures { result ≡ settled crew outcome }
 {
     match outcome {
-        Outcome::Done | Outcome::Idle => Stage::Running(crew),
+        Outcome::Done | Outcome::Idle | Outcome::Refused => Stage::Running(crew),
         Outcome::Journal | Outcome::Cut => Stage::Stopped(crew),
     }
 }

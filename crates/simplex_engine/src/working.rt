@@ -30,7 +30,7 @@ use std::alloc::{AllocError, Global};
 use std::mem;
 
 impl<S: Scheme + Drop, L: Elector + Drop, J: Journal + Drop> Crew<S, L, J> {
-    /// The start of the voter.
+    /// The start of the voter. Whom it blocks the resolver is told.
     pub(crate) fn start(
         &mut self,
         now: u64,
@@ -50,10 +50,11 @@ impl<S: Scheme + Drop, L: Elector + Drop, J: Journal + Drop> Crew<S, L, J> {
         let outcome = self
             .voter
             .start(now, stop, &mut boxes.batcher, &mut boxes.resolver, out)?;
+        self.tell_blocks(out.calls.as_slice())?;
         Ok(outcome)
     }
 
-    /// A step of the voter on this input.
+    /// A step of the voter on this input. Whom it blocks the resolver is told.
     pub(crate) fn step_voter(
         &mut self,
         input: VoterInput,
@@ -79,6 +80,7 @@ impl<S: Scheme + Drop, L: Elector + Drop, J: Journal + Drop> Crew<S, L, J> {
             &mut boxes.resolver,
             out,
         )?;
+        self.tell_blocks(out.calls.as_slice())?;
         Ok(outcome)
     }
 
@@ -111,8 +113,8 @@ impl<S: Scheme + Drop, L: Elector + Drop, J: Journal + Drop> Crew<S, L, J> {
         Some(TakenInside::Answer { request, answer })
     }
 
-    /// A step of the batcher on this input, with its calls from the stop's on cut off. What it hands on is put into
-    /// the voter's mailbox once the step is known to be whole.
+    /// A step of the batcher on this input, with its calls from the stop's on cut off. Whom it blocks the resolver is
+    /// told. What it hands on is put into the voter's mailbox once the step is known to be whole.
     pub(crate) fn step_batcher(
         &mut self,
         input: BatcherInput,
@@ -129,7 +131,9 @@ impl<S: Scheme + Drop, L: Elector + Drop, J: Journal + Drop> Crew<S, L, J> {
     {
         let mut held = Held::new(self.alloc);
         self.batcher.step(input, now, &mut held, out)?;
-        if cut_short(self.alloc, stop, out) {
+        let is_cut = cut_short(self.alloc, stop, out);
+        self.tell_blocks(out.calls.as_slice())?;
+        if is_cut {
             return Ok(Outcome::Cut);
         }
         held.put_into(&mut self.boxes.voter)?;
@@ -154,7 +158,9 @@ impl<S: Scheme + Drop, L: Elector + Drop, J: Journal + Drop> Crew<S, L, J> {
     {
         let mut held = Held::new(self.alloc);
         self.resolver.step(input, now, &mut held, out)?;
-        if cut_short(self.alloc, stop, out) {
+        let is_cut = cut_short(self.alloc, stop, out);
+        self.note_blocks(out.calls.as_slice())?;
+        if is_cut {
             return Ok(Outcome::Cut);
         }
         held.put_into(&mut self.boxes.voter)?;
@@ -214,7 +220,9 @@ pub(crate) fn polled(outcome: Outcome, taken: Option<TakenInside>) -> Polled
             outcome,
             taken: None,
         },
-        Outcome::Done | Outcome::Journal | Outcome::Cut => Polled { outcome, taken },
+        Outcome::Done | Outcome::Journal | Outcome::Cut | Outcome::Refused => {
+            Polled { outcome, taken }
+        }
     }
 }
 

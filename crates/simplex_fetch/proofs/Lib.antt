@@ -8,6 +8,7 @@ pub mod Reached
 pub mod Touched
 pub mod Sums
 pub mod Taken
+pub mod Others
 pub mod Visits
 pub mod Untouched
 pub mod Rounds

@@ -1,6 +1,6 @@
 -- The laws of a fetcher: whom its attempts ask, which answers it delivers, and that it serves once.
-use Rattle.std.proofs.Common.{◌≡◌, ◌≢◌, ℕ, zero, suc, ◌+◌, ◌-◌, ◌*◌, ◌/◌, ◌%◌, ◌<◌, ◌≤◌, ◌==◌, ◌⊎◌, inl, inr, false, cond, List, [], ◌∷◌, length, get_or, Contains, Option, Some, None, Result, Ok, Err, refl, sym, ap, ◌∙◌, arith}
-use Rattle.std.proofs.lemmas.Grind.{common_steps}
+use Rattle.std.proofs.Common.{◌≡◌, ℕ, zero, suc, ◌+◌, ◌-◌, ◌*◌, ◌/◌, ◌%◌, ◌<◌, ◌≤◌, ◌==◌, ◌⊎◌, inl, inr, true, false, cond, List, [], ◌∷◌, length, get_or, Contains, Option, Some, None, Result, Ok, Err, refl, sym, ap, ◌∙◌, arith}
+use Rattle.std.specs.Prelude.{if◌then◌else◌, slice_get}
 use Rattle.std.proofs.lemmas.Nat.{mod-mul-add}
 use Rattle.std.proofs.lemmas.Map.{lookup-remove_entry}
 use Rattle.std.proofs.lemmas.Map.Keys.{IsDistinct-from_sorted}
@@ -19,10 +19,11 @@ use Rattle.model_resolver.specs.declared.entry.Entry.{Entry}
 use Rattle.model_resolver.specs.declared.entry.Serving.{Serving}
 use Rattle.model_resolver.specs.declared.out.Out.{Out}
 use Rattle.model_resolver.specs.declared.out.Out.TheVariants as out
-use Rattle.model_resolver.specs.Asks.{is_targeted}
+use Rattle.model_resolver.specs.Asks.{is_targeted, targets_of, holds_member}
 use Rattle.model_resolver.specs.Views.{entry_at, asked_view}
-use Rattle.model_resolver.specs.Fetcher.{Machine, peer_of, other_at, requested, delivered, answered, heard_body, heard_message, served_as}
-use Rattle.simplex_fetch.specs.Laws.{AsksAll}
+use Rattle.model_resolver.specs.Fetcher.{Machine, cyclic, unblocked, others_of, peer_of, requested, delivered, answered, heard_body, heard_message, served_as}
+use Rattle.simplex_fetch.specs.Laws.{AsksAll, AsksNoneBlocked}
+use Rattle.simplex_fetch.proofs.Others.{unblocked_passes, alone}
 
 -- ---- going round
 
@@ -47,31 +48,46 @@ rest_comes m place w some low =
       )
     ]
 
--- each peer has its place among the others
-place_of : (n me peer : ℕ) → me < n → peer < n → peer ≢ me → (place : ℕ) × (place < n - 1) × (other_at me place ≡ peer)
-place_of n me peer low below apart =
-    elim (behind peer me) [
-      | inl less ↦ (peer, omega (arith, less, low), grind (arith, common_steps, less))
-      | inr more ↦ (peer - 1, omega (arith, more, below, apart), grind (arith, common_steps, more, apart))
-    ]
-
 next_sum : (view attempts more : ℕ) → view + (attempts + more) ≡ view + attempts + more
 next_sum view attempts more = omega arith
 
-asks_at : (config : FetchConfig) (view : ℕ) (entry : Entry) (more place peer : ℕ) → place < config.n - 1 → is_targeted entry.arrivals ≡ false
-    → (view + entry.attempts + more) % (config.n - 1) ≡ place → other_at config.me place ≡ peer
-    → peer_of config view (record entry { attempts = entry.attempts + more }) ≡ Some peer
-unfolding peer_of
-asks_at config view entry more place peer low nobody rest is =
-    let same = next_sum view entry.attempts more in
-    let several : (config.n == 1) ≡ false = grind (arith, common_steps, low) in
-    grind (arith, common_steps, nobody, rest, is, same, several)
+-- an item stands where it is
+there : (list : List ℕ) (i x : ℕ) → i < length list → get_or list i x ≡ x → slice_get list i ≡ Some x
+there [] i x low is = absurd (omega (arith, low))
+there (y ∷ list) zero x low is = ap Some is
+there (y ∷ list) (suc i) x low is = there list i x (omega arith) is
 
-pub goes_round : (config : FetchConfig) (view : ℕ) (entry : Entry) → config.me < config.n → is_targeted entry.arrivals ≡ false → AsksAll config view entry
-goes_round config view entry low nobody peer below apart =
-    let place = place_of config.n config.me peer low below apart in
-    let more = rest_comes (config.n - 1) place.0 (view + entry.attempts) (omega (arith, place.1)) place.1 in
-    (more.0, more.1, asks_at config view entry more.0 place.0 peer place.1 nobody more.2 place.2)
+asks_at : (config : FetchConfig) (blocked : List ℕ) (view : ℕ) (entry : Entry) (more place peer : ℕ) → config.me < config.n → is_targeted entry.arrivals ≡ false
+    → (view + entry.attempts + more) % length (unblocked blocked (others_of config)) ≡ place → slice_get (unblocked blocked (others_of config)) place ≡ Some peer
+    → peer_of config blocked view (record entry { attempts = entry.attempts + more }) ≡ Some peer
+unfolding peer_of
+asks_at config blocked view entry more place peer low nobody rest is =
+    elim (config.n == 1) as (λ b. (config.n == 1) ≡ b → (if b then None else if is_targeted entry.arrivals then cyclic (unblocked blocked (targets_of entry.arrivals)) (entry.attempts + more) else cyclic (unblocked blocked (others_of config)) (view + (entry.attempts + more))) ≡ Some peer) [
+      | true ↦ λ single. absurd (alone config blocked place peer low single is)
+      | false ↦ λ several. rw (nobody, next_sum view entry.attempts more, rest) is
+    ] refl
+
+pub goes_round : (config : FetchConfig) (blocked : List ℕ) (view : ℕ) (entry : Entry) → config.me < config.n → is_targeted entry.arrivals ≡ false → AsksAll config blocked view entry
+goes_round config blocked view entry low nobody peer holds =
+    let all = unblocked blocked (others_of config) in
+    let more = rest_comes (length all) holds.0 (view + entry.attempts) (omega (arith, holds.1)) holds.1 in
+    (more.0, more.1, asks_at config blocked view entry more.0 holds.0 peer low nobody more.2 (there all holds.0 peer holds.1 holds.2))
+
+-- ---- blocked members
+
+cyclic_passes : (blocked members : List ℕ) (place peer : ℕ) → cyclic (unblocked blocked members) place ≡ Some peer → holds_member blocked peer ≡ false
+cyclic_passes blocked members place peer h = unblocked_passes blocked members (place % length (unblocked blocked members)) peer h
+
+pub asks_none_blocked : (config : FetchConfig) (blocked : List ℕ) (view : ℕ) (entry : Entry) → AsksNoneBlocked config blocked view entry
+unfolding peer_of
+asks_none_blocked config blocked view entry peer h =
+    elim (config.n == 1) as (λ b. (if b then None else if is_targeted entry.arrivals then cyclic (unblocked blocked (targets_of entry.arrivals)) entry.attempts else cyclic (unblocked blocked (others_of config)) (view + entry.attempts)) ≡ Some peer → holds_member blocked peer ≡ false) [
+      | true ↦ λ none. cc
+      | false ↦ elim (is_targeted entry.arrivals) as (λ b. (if b then cyclic (unblocked blocked (targets_of entry.arrivals)) entry.attempts else cyclic (unblocked blocked (others_of config)) (view + entry.attempts)) ≡ Some peer → holds_member blocked peer ≡ false) [
+        | true ↦ cyclic_passes blocked (targets_of entry.arrivals) entry.attempts peer
+        | false ↦ cyclic_passes blocked (others_of config) (view + entry.attempts) peer
+      ]
+    ] h
 
 -- ---- delivering
 

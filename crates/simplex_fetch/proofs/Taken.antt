@@ -5,32 +5,36 @@ use Rattle.std.proofs.lemmas.Grind.{common_steps}
 use Rattle.std.specs.Ordering.{nat_cmp}
 use Rattle.std.specs.BTreeMap.{is_at}
 use Rattle.simplex_values.specs.declared.ask.Outcome.{Outcome}
+use Rattle.simplex_values.specs.declared.ask.Outcome.TheVariants as outcome
 use Rattle.model_resolver.specs.Asks.{holds_ask}
 use Rattle.model_resolver.specs.declared.entry.Entry.{Entry}
 use Rattle.model_resolver.specs.declared.entry.State.{State}
 use Rattle.model_resolver.specs.declared.entry.State.TheVariants.{Waiting, Asked, Judged}
 use Rattle.model_resolver.specs.Views.{with_entry, without_entry, entry_at, judged_view}
-use Rattle.model_resolver.specs.Fetcher.{Machine, quiet, attempted, attempting, attempted_at, expiring, expired_at, expired_as, asking, retrying, peer_of, judged, judged_at, judged_entry, refused, retried, IsSoundAt, IsSoundEntry, judged_as, asked_on, without, delivered_of}
+use Rattle.model_resolver.specs.Fetcher.{Machine, quiet, attempted, attempting, attempted_at, expiring, expired_at, expired_as, asking, retrying, in_state, once_more, blocking, blocked_by, peer_of, judged, judged_at, judged_entry, refused, retried, IsSoundAt, IsSoundEntry, judged_as, asked_on, without, delivered_of, is_done}
 
 -- what is put there is put there
 abbrev pub PutsAlike : ℕ → List (ℕ × Entry) → List (ℕ × Entry) → Type 0
 PutsAlike view taken views = (entry : Entry) → with_entry view entry taken ≡ with_entry view entry views
 
+pub retrying_taken : (now view : ℕ) (entry : Entry) (fetcher : Machine) (taken : List (ℕ × Entry)) → PutsAlike view taken fetcher.views
+    → retrying now view entry (record fetcher { views = taken }) ≡ retrying now view entry fetcher
+unfolding retrying
+retrying_taken now view entry fetcher taken alike = cc (alike _)
+
 pub asking_taken : (now view : ℕ) (entry : Entry) (fetcher : Machine) (taken : List (ℕ × Entry)) (peer : Option ℕ) → PutsAlike view taken fetcher.views
     → asking now view entry (record fetcher { views = taken }) peer ≡ asking now view entry fetcher peer
 unfolding asking
-asking_taken now view entry fetcher taken None alike = cc (alike _)
+asking_taken now view entry fetcher taken None alike =
+    let for_good = alike (in_state (Waiting None) entry) in
+    let again = retrying_taken now view (once_more entry) fetcher taken alike in
+    grind (arith, common_steps, for_good, again)
 asking_taken now view entry fetcher taken (Some peer) alike = cc (alike _)
 
 pub attempted_taken : (now view : ℕ) (entry : Entry) (fetcher : Machine) (taken : List (ℕ × Entry)) → PutsAlike view taken fetcher.views
     → attempted now view entry (record fetcher { views = taken }) ≡ attempted now view entry fetcher
 unfolding attempted
-attempted_taken now view entry fetcher taken alike = asking_taken now view entry fetcher taken (peer_of fetcher.config view entry) alike
-
-pub retrying_taken : (now view : ℕ) (entry : Entry) (fetcher : Machine) (taken : List (ℕ × Entry)) → PutsAlike view taken fetcher.views
-    → retrying now view entry (record fetcher { views = taken }) ≡ retrying now view entry fetcher
-unfolding retrying
-retrying_taken now view entry fetcher taken alike = cc (alike _)
+attempted_taken now view entry fetcher taken alike = asking_taken now view entry fetcher taken (peer_of fetcher.config fetcher.blocked view entry) alike
 
 -- the next attempt of a view that was taken out
 pub attempting_is : (now view : ℕ) (entry : Entry) (fetcher : Machine) (taken : List (ℕ × Entry)) → entry_at fetcher.views view ≡ Some entry → PutsAlike view taken fetcher.views
@@ -75,15 +79,73 @@ judged_taken verdict now view entry fetcher taken is gone alike =
     let waits = retrying_taken now view entry fetcher taken alike in
     grind (arith, common_steps, forgotten, again, waits)
 
+-- a verdict that the asks are not done with
+pub judged_open : (verdict : Option Outcome) (now view : ℕ) (entry : Entry) (fetcher : Machine) → is_done verdict ≡ false
+    → judged_as verdict now view entry fetcher ≡ blocked_by verdict entry.state (retrying now view entry fetcher)
+unfolding judged_as
+judged_open verdict now view entry fetcher open_still = rw open_still refl
+
+-- who is blocked is nothing to a view that waits
+pub blocked_waits : (verdict : Option Outcome) (now view : ℕ) (entry : Entry) (fetcher : Machine)
+    → retrying now view entry (blocked_by verdict entry.state fetcher).fetcher ≡ (blocked_by verdict entry.state (retrying now view entry fetcher)).fetcher
+unfolding retrying blocking
+blocked_waits verdict now view entry fetcher = by verdict entry.state
+  where
+    by : (verdict : Option Outcome) (state : State)
+        → retrying now view entry (blocked_by verdict state fetcher).fetcher ≡ (blocked_by verdict state (retrying now view entry fetcher)).fetcher
+    by None state = refl
+    by (Some outcome.Ignored) state = refl
+    by (Some outcome.Unresolved) state = refl
+    by (Some (outcome.Resolved resolution)) state = refl
+    by (Some outcome.Invalid) (Waiting until) = refl
+    by (Some outcome.Invalid) (Asked id peer deadline) = refl
+    by (Some outcome.Invalid) (Judged id peer delivered) = refl
+
+-- and what is wanted of it is the same
+pub blocked_outs : (verdict : Option Outcome) (now view : ℕ) (entry : Entry) (fetcher : Machine)
+    → (blocked_by verdict entry.state fetcher).outs ≡ (blocked_by verdict entry.state (retrying now view entry fetcher)).outs
+blocked_outs verdict now view entry fetcher = by verdict entry.state
+  where
+    by : (verdict : Option Outcome) (state : State) → (blocked_by verdict state fetcher).outs ≡ (blocked_by verdict state (retrying now view entry fetcher)).outs
+    by None state = refl
+    by (Some outcome.Ignored) state = refl
+    by (Some outcome.Unresolved) state = refl
+    by (Some (outcome.Resolved resolution)) state = refl
+    by (Some outcome.Invalid) (Waiting until) = refl
+    by (Some outcome.Invalid) (Asked id peer deadline) = refl
+    by (Some outcome.Invalid) (Judged id peer delivered) = refl
+
+-- the views are where they were
+pub blocked_views : (verdict : Option Outcome) (state : State) (fetcher : Machine) → (blocked_by verdict state fetcher).fetcher.views ≡ fetcher.views
+unfolding blocking
+blocked_views None state fetcher = refl
+blocked_views (Some outcome.Ignored) state fetcher = refl
+blocked_views (Some outcome.Unresolved) state fetcher = refl
+blocked_views (Some (outcome.Resolved resolution)) state fetcher = refl
+blocked_views (Some outcome.Invalid) (Waiting until) fetcher = refl
+blocked_views (Some outcome.Invalid) (Asked id peer deadline) fetcher = refl
+blocked_views (Some outcome.Invalid) (Judged id peer delivered) fetcher = refl
+
+-- and so is the number of the next request
+pub blocked_ids : (verdict : Option Outcome) (state : State) (fetcher : Machine) → (blocked_by verdict state fetcher).fetcher.next_id ≡ fetcher.next_id
+unfolding blocking
+blocked_ids None state fetcher = refl
+blocked_ids (Some outcome.Ignored) state fetcher = refl
+blocked_ids (Some outcome.Unresolved) state fetcher = refl
+blocked_ids (Some (outcome.Resolved resolution)) state fetcher = refl
+blocked_ids (Some outcome.Invalid) (Waiting until) fetcher = refl
+blocked_ids (Some outcome.Invalid) (Asked id peer deadline) fetcher = refl
+blocked_ids (Some outcome.Invalid) (Judged id peer delivered) fetcher = refl
+
 -- an attempt draws at most one number
 pub asking_ids : (now view : ℕ) (entry : Entry) (fetcher : Machine) (peer : Option ℕ) → (asking now view entry fetcher peer).fetcher.next_id ≤ fetcher.next_id + 1
-unfolding asking
-asking_ids now view entry fetcher None = omega arith
+unfolding asking retrying
+asking_ids now view entry fetcher None = grind (arith, common_steps)
 asking_ids now view entry fetcher (Some peer) = omega arith
 
 pub attempted_ids : (now view : ℕ) (entry : Entry) (fetcher : Machine) → (attempted now view entry fetcher).fetcher.next_id ≤ fetcher.next_id + 1
 unfolding attempted
-attempted_ids now view entry fetcher = asking_ids now view entry fetcher (peer_of fetcher.config view entry)
+attempted_ids now view entry fetcher = asking_ids now view entry fetcher (peer_of fetcher.config fetcher.blocked view entry)
 
 pub attempted_at_ids : (now view : ℕ) (fetcher : Machine) (entry : Option Entry) → (attempted_at now view fetcher entry).fetcher.next_id ≤ fetcher.next_id + 1
 unfolding attempted_at

@@ -1,3 +1,4 @@
 pub mod Index
 pub mod Holders
+pub mod Peers
 pub mod Laws

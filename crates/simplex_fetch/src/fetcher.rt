@@ -1,16 +1,18 @@
 //! The fetcher.
-ghost use Rattle.std.specs.Prelude.{◌≡◌, ◌&&◌, nat_lt, ◌<◌, ◌+◌, ◌^◌, ◌++◌, ◌∷◌, ◌%◌, [], map, IfOk, OnOk, None, Some};
+ghost use Rattle.std.specs.Prelude.{◌≡◌, ◌&&◌, nat_lt, ◌<◌, ◌+◌, ◌^◌, ◌++◌, ◌∷◌, [], map, IfOk, OnOk, None, Some};
 ghost use Rattle.std.specs.Option.{option_map};
 ghost use Rattle.simplex_values.specs.declared.ask.Outcome.{Outcome};
+ghost use Rattle.model_resolver.specs.Asks.{holds_member};
 ghost use Rattle.model_resolver.specs.Views.{entry_at, asked_view, next_deadline};
-ghost use Rattle.model_resolver.specs.Fetcher.{no_fetches, attempted, attempting, expiring, retiring, peer_of, retrying, of_all, of_target, fetched, noting, adding, attempted_at, retained, retired_at, kept_or_left, heard, heard_body, requested, answered, refused, judged, judged_as, asked_on, served, expired, expired_at, message_bytes, visited, is_done, blocked_by, answer_body, keeping, in_state, cyclic, other_at, IsSoundConfig, IsSoundEntry};
+ghost use Rattle.model_resolver.specs.Fetcher.{no_fetches, attempted, attempting, expiring, retiring, peer_of, retrying, of_all, of_target, fetched, noting, adding, attempted_at, retained, retired_at, kept_or_left, heard, heard_body, requested, answered, refused, judged, judged_as, asked_on, served, expired, expired_at, message_bytes, visited, is_done, blocked_by, answer_body, keeping, in_state, once_more, asking, blocking, IsSoundConfig, IsSoundEntry};
 ghost use Rattle.model_resolver.specs.declared.entry.State.TheVariants.{Waiting};
 
+use crate::peers::{cyclic, cyclic_other, is_among, pass_over};
 use crate::views::Views;
 use model_resolver::{Arrivals, Entry, Fetch, FetchConfig, Out, Retire, Serving, State};
 use simplex_types::{
-    Bytes, DecodeError, Keep, Outcome, Participant, Resolution, ResolverBody, ResolverMessage,
-    Sequence, View,
+    BlockCause, Bytes, DecodeError, Keep, Outcome, Participant, Resolution, ResolverBody,
+    ResolverMessage, Sequence, View,
 };
 use std::alloc::{AllocError, Global};
 use std::collections::{BTreeMap, BTreeSet};
@@ -29,6 +31,8 @@ pub struct Fetcher {
     next_id: u64,
     serving: BTreeMap<u64, Serving>,
     next_serve: u64,
+    /// The members that are asked nothing.
+    blocked: BTreeSet<u32>,
 }
 
 impl Model for Fetcher {
@@ -36,7 +40,7 @@ impl Model for Fetcher {
 
     ghost Value = { Machine };
 
-    ghost view = { λ f. record { config = f.config; views = f.views; next_id = f.next_id; serving = f.serving.entries; next_serve = f.next_serve } };
+    ghost view = { λ f. record { config = f.config; views = f.views; next_id = f.next_id; serving = f.serving.entries; next_serve = f.next_serve; blocked = f.blocked.keys } };
 
     ghost use Rattle.model_resolver.specs.Fetcher.{IsSound};
 
@@ -56,7 +60,24 @@ impl Fetcher {
             next_id: 0,
             serving: BTreeMap::new(alloc),
             next_serve: 0,
+            blocked: BTreeSet::new(alloc),
         }
+    }
+
+    /// The member is asked nothing from now on.
+    #[tactic(auto, unfolding(model_resolver::specs::Fetcher::blocking))]
+    pub fn block(&mut self, member: Participant) -> Result<(), AllocError>
+        ensures { OnOk result (self.new ≡ blocking member self.old) }
+    {
+        self.blocked.insert(member.0)?;
+        Ok(())
+    }
+
+    /// Whether the member is asked nothing.
+    pub fn is_blocked(&self, member: Participant) -> bool
+        ensures { result ≡ holds_member self.now.blocked member }
+    {
+        is_among(&self.blocked, &member)
     }
 
     /// Whether numbers are left for each call.
@@ -74,18 +95,17 @@ impl Fetcher {
         view: u64,
         entry: &Entry,
     ) -> Result<Option<Participant>, AllocError>
-        ensures { IfOk result (λ peer. peer ≡ peer_of self.now.config view entry.now) }
+        ensures { IfOk result (λ peer. peer ≡ peer_of self.now.config self.now.blocked view entry.now) }
     {
         if self.config.n == 1 {
             return Ok(None);
         }
-        if entry.arrivals.is_targeted() {
-            let targets = entry.arrivals.targets(alloc)?;
-            return Ok(cyclic(&targets, entry.attempts));
+        if !entry.arrivals.is_targeted() {
+            return Ok(cyclic_other(&self.config, &self.blocked, view, entry.attempts));
         }
-        let others = self.config.n - 1;
-        let place = sum_modulo(view, entry.attempts, others);
-        Ok(Some(other_at(&self.config.me, place)))
+        let mut targets = entry.arrivals.targets(alloc)?;
+        pass_over(&mut targets, &self.blocked);
+        Ok(cyclic(&targets, entry.attempts))
     }
 
     /// The next attempt of the view, with this entry, which was taken out.
@@ -106,30 +126,36 @@ impl Fetcher {
         ensures outs { OnOk result (outs.new.items ≡ outs.old.items ++ (attempted now view entry self.old).outs) }
     {
         let Some(peer) = self.peer_of(alloc, view, &entry)? else {
-            return self.wait(view, entry, None);
+            return self.ask_nobody(view, entry, now);
         };
         let id = self.next_id;
         let body = ResolverBody::Request { view: View(view) };
         let bytes = message_bytes(alloc, id, body)?;
-        let state = State::Asked {
+        let mut asked = once_more(entry)?;
+        asked.state = State::Asked {
             id,
             peer,
             deadline: now + self.config.fetch_timeout,
-        };
-        let Entry {
-            arrivals,
-            attempts,
-            state: _,
-        } = entry;
-        let asked = Entry {
-            arrivals,
-            attempts: attempts + 1,
-            state,
         };
         self.next_id += 1;
         self.views.put(view, asked)?;
         outs.push(Out::Send { to: peer, bytes })?;
         Ok(())
+    }
+
+    /// The next attempt of the view, with this entry, which was taken out, finds nobody to ask.
+    #[tactic(auto, unfolding(model_resolver::specs::Fetcher::asking))]
+    fn ask_nobody(&mut self, view: u64, entry: Entry, now: u64) -> Result<(), AllocError>
+        requires absent { entry_at self.old.views view ≡ None }
+        requires sound { IsSoundEntry self.old.next_id entry }
+        requires early { now < 2 ^ 63 }
+        ensures { OnOk result (self.new ≡ (asking now view entry self.old None).fetcher) }
+    {
+        if self.config.n == 1 {
+            return self.wait(view, entry, None);
+        }
+        let entry = once_more(entry)?;
+        self.retry(view, entry, now)
     }
 
     /// The next attempt of the view as it stands.
@@ -350,7 +376,10 @@ impl Fetcher {
     {
         match ResolverMessage::decode(alloc, bytes) {
             Ok(message) => self.hear_message(alloc, sender, message, now),
-            Err(DecodeError::Fault { .. }) => only(alloc, Out::Block(sender)),
+            Err(DecodeError::Fault { .. }) => {
+                self.block(sender)?;
+                only(alloc, Out::Block(sender, BlockCause::Undecodable))
+            }
             Err(DecodeError::Memory) => Err(AllocError),
         }
     }
@@ -504,8 +533,25 @@ impl Fetcher {
             }
             return self.attempt(alloc, view, entry, now, outs);
         }
-        block_judged(verdict, &entry.state, outs)?;
+        self.block_judged(verdict, &entry.state, outs)?;
         self.retry(view, entry, now)
+    }
+
+    /// A peer whose answer is no valid one is blocked.
+    fn block_judged(
+        &mut self,
+        verdict: &Option<Outcome>,
+        state: &State,
+        outs: &mut Vec<Out>,
+    ) -> Result<(), AllocError>
+        ensures fetcher { OnOk result (self.new ≡ (blocked_by verdict.now state.now self.old).fetcher) }
+        ensures outs { OnOk result (outs.new.items ≡ outs.old.items ++ (blocked_by verdict.now state.now self.old).outs) }
+    {
+        if let (Some(Outcome::Invalid), State::Judged { peer, .. }) = (verdict, state) {
+            self.block(*peer)?;
+            outs.push(Out::Block(*peer, BlockCause::InvalidResponse))?;
+        }
+        Ok(())
     }
 
     /// The answer to a peer's request: a certificate's bytes, or that there is none.
@@ -578,18 +624,13 @@ fn is_done(verdict: &Option<Outcome>) -> bool
     }
 }
 
-/// A peer whose answer is no valid one is blocked.
-fn block_judged(
-    verdict: &Option<Outcome>,
-    state: &State,
-    outs: &mut Vec<Out>,
-) -> Result<(), AllocError>
-    ensures { OnOk result (outs.new.items ≡ outs.old.items ++ blocked_by verdict.now state.now) }
+/// The entry after one more attempt. There is no memory for more attempts than a number counts.
+fn once_more(entry: Entry) -> Result<Entry, AllocError>
+    ensures { IfOk result (λ made. made ≡ once_more entry) }
 {
-    if let (Some(Outcome::Invalid), State::Judged { peer, .. }) = (verdict, state) {
-        outs.push(Out::Block(*peer))?;
-    }
-    Ok(())
+    let mut made = entry;
+    made.attempts = made.attempts.checked_add(1).ok_or(AllocError)?;
+    Ok(made)
 }
 
 /// The body of an answer.
@@ -612,37 +653,4 @@ fn message_bytes(alloc: Global, id: u64, body: ResolverBody) -> Result<Bytes, Al
     let message = ResolverMessage { id, body };
     let bytes = message.encode(alloc)?;
     Ok(Sequence::from_vec(bytes))
-}
-
-/// An item of the list, which goes round.
-fn cyclic(list: &[Participant], place: u64) -> Option<Participant>
-    ensures { result ≡ cyclic list.now place }
-{
-    if list.is_empty() {
-        return None;
-    }
-    let at = place % list.len() as u64;
-    list.get(at as usize).copied()
-}
-
-/// The member at this place among the members other than `me`.
-fn other_at(me: &Participant, place: u32) -> Participant
-    requires { place + 1 < 2 ^ 32 }
-    ensures { result ≡ other_at me.now place }
-{
-    if place < me.0 {
-        Participant(place)
-    } else {
-        Participant(place + 1)
-    }
-}
-
-/// The sum modulo a number, also where the sum has no room.
-#[tactic(auto, using(crate::proofs::Sums::sum_modulo))]
-fn sum_modulo(a: u64, b: u64, n: u32) -> u32
-    requires { 0 < n }
-    ensures { result ≡ (a + b) % n }
-{
-    let n = u64::from(n);
-    ((a % n + b % n) % n) as u32
 }

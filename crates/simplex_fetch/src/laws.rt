@@ -7,11 +7,16 @@ ghost use Rattle.model_resolver.specs.declared.config.FetchConfig.{FetchConfig};
 ghost use Rattle.model_resolver.specs.declared.entry.Entry.{Entry};
 ghost use Rattle.model_resolver.specs.Asks.{is_targeted};
 ghost use Rattle.model_resolver.specs.Fetcher.{Machine};
-ghost use Rattle.simplex_fetch.specs.Laws.{AsksAll, DeliversOpen, ServesOnce};
+ghost use Rattle.simplex_fetch.specs.Laws.{AsksAll, AsksNoneBlocked, DeliversOpen, ServesOnce};
 
-/// Where an ask of a view names nobody, the attempts go round all peers.
+/// Where an ask of a view names nobody, the attempts go round all other members that are not blocked.
 pub fn untargeted_asks_go_round()
-    ensures { (config : FetchConfig) (view : ℕ) (entry : Entry) → config.me < config.n → is_targeted entry.arrivals ≡ false → AsksAll config view entry }
+    ensures { (config : FetchConfig) (blocked : List ℕ) (view : ℕ) (entry : Entry) → config.me < config.n → is_targeted entry.arrivals ≡ false → AsksAll config blocked view entry }
+{}
+
+/// No attempt asks a member that is blocked, whether the asks of a view name members or not.
+pub fn blocked_members_are_not_asked()
+    ensures { (config : FetchConfig) (blocked : List ℕ) (view : ℕ) (entry : Entry) → AsksNoneBlocked config blocked view entry }
 {}
 
 /// An answer is delivered only for the open request that it names, from the peer that was asked.

@@ -8,9 +8,13 @@ mod fetcher;
 mod holders;
 mod laws;
 mod numbers;
+mod peers;
 mod timers;
 mod views;
 
 pub use fetcher::Fetcher;
-pub use laws::{answers_are_of_open_requests, requests_are_served_once, untargeted_asks_go_round};
+pub use laws::{
+    answers_are_of_open_requests, blocked_members_are_not_asked, requests_are_served_once,
+    untargeted_asks_go_round,
+};
 pub use model_resolver::{Fetch, FetchConfig, Out, Retire};

@@ -33,6 +33,10 @@ use Rattle.simplex_form.specs.Form.{◌>>=◌, has_members, has_items, is_null, 
 abbrev pub bytes_of : List ℕ → Option (List ℕ)
 bytes_of text = if list_any is_ascii_uppercase text then None else made (decode_of text)
 
+-- HEX, as a value of its own
+abbrev pub hex_of : Data → Option (List ℕ)
+hex_of d = as_str d >>= bytes_of
+
 -- HEX32: those of 32 bytes
 abbrev pub digest_of : List ℕ → Option (List ℕ)
 digest_of text = if list_any is_ascii_uppercase text then None else made (decode_sized text 32)

@@ -2,9 +2,11 @@
 ghost use Rattle.std.specs.Prelude.{◌≡◌, IfOk};
 ghost use Rattle.std.specs.List.{list_any};
 ghost use Rattle.std.specs.Char.{is_ascii_uppercase};
-ghost use Rattle.simplex_form.specs.Events.{bytes_of, digest_of};
+ghost use Rattle.simplex_form.specs.Events.{bytes_of, digest_of, hex_of};
 
+use crate::pieces::FromData;
 use hex::{FromHex, FromHexError};
+use serde_json::Value;
 use simplex_types::{Bytes, Digest, Sequence};
 use std::alloc::{AllocError, Global};
 
@@ -45,4 +47,15 @@ pub fn read_digest(text: &str) -> Option<Digest>
     }
     let bytes = <[u8; 32]>::from_hex(text).ok()?;
     Some(Digest(bytes))
+}
+
+impl FromData for Bytes {
+    ghost of = { hex_of };
+
+    fn read(alloc: Global, value: &Value) -> Result<Option<Bytes>, AllocError> {
+        match value.as_str() {
+            Some(text) => read_hex(alloc, text),
+            None => Ok(None),
+        }
+    }
 }

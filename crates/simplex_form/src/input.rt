@@ -2,10 +2,11 @@
 ghost use Rattle.std.specs.Prelude.{◌≡◌, ◌⊎◌, Some, None, option_map, IfOk, IfErr};
 ghost use Rattle.serde_json.specs.View.{view};
 ghost use Rattle.simplex_form.specs.declared.fault.InputFault.TheVariants.{At, Memory};
+ghost use Rattle.simplex_form.specs.Form.{made};
 ghost use Rattle.simplex_form.specs.Input.{form_of, json_of, input_of, Says};
 
 use crate::fault::InputFault;
-use crate::pieces::{has_members, read_items};
+use crate::pieces::{FromData, has_members, read_items};
 use crate::setup::read_setup;
 use crate::stream::read_usual;
 use serde_json::Value;
@@ -60,6 +61,15 @@ fn read_form(alloc: Global, value: &Value) -> Result<Result<Input, u64>, AllocEr
     match read_items(alloc, values, 2)? {
         Ok(events) => Ok(Ok(Input { setup, events })),
         Err(place) => Ok(Err(place)),
+    }
+}
+
+/// An input as a part of a greater value: all of it, or nothing.
+impl FromData for Input {
+    ghost of = { λ d. made (form_of d) };
+
+    fn read(alloc: Global, value: &Value) -> Result<Option<Input>, AllocError> {
+        Ok(read_form(alloc, value)?.ok())
     }
 }
 

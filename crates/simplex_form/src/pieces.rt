@@ -2,7 +2,7 @@
 ghost use Rattle.std.specs.Prelude.{◌≡◌, ◌<◌, ◌^◌, Option, option_map, IfOk};
 ghost use Rattle.serde_json.specs.View.{view, items_view};
 ghost use Rattle.serde_json.specs.Data.{Data};
-ghost use Rattle.simplex_form.specs.Form.{has_members, has_items, number_at, text_at, flag_at, list_from, list_of};
+ghost use Rattle.simplex_form.specs.Form.{has_members, has_items, number_of, number_at, text_at, flag_at, list_from, list_of};
 
 use serde_json::Value;
 use simplex_types::Sequence;
@@ -16,6 +16,14 @@ pub trait FromData: Sized + Drop {
     /// Reads it.
     fn read(alloc: Global, value: &Value) -> Result<Option<Self>, AllocError>
         ensures { IfOk result (λ o. o ≡ of (view value.now)) };
+}
+
+impl FromData for u64 {
+    ghost of = { number_of };
+
+    fn read(_alloc: Global, value: &Value) -> Result<Option<u64>, AllocError> {
+        Ok(value.as_u64())
+    }
 }
 
 /// Whether it is an object of exactly so many members.

@@ -1,6 +1,6 @@
 //! What a step calls outside.
 use simplex_types::{
-    Activity, Artifact, Bytes, Channel, Digest, Keep, Participant, Plan, Recipients,
+    Activity, Artifact, BlockCause, Bytes, Channel, Digest, Keep, Participant, Plan, Recipients,
 };
 use std::alloc::{AllocError, Global};
 
@@ -26,8 +26,8 @@ pub enum Call {
         payload: Digest,
         plan: Plan,
     },
-    /// The member is blocked.
-    Block(Participant),
+    /// The member is blocked, for this cause.
+    Block(Participant, BlockCause),
 }
 
 impl Keep for Call {
@@ -50,7 +50,7 @@ impl Keep for Call {
                 payload: *payload,
                 plan: plan.keep(alloc)?,
             }),
-            Call::Block(member) => Ok(Call::Block(*member)),
+            Call::Block(member, cause) => Ok(Call::Block(*member, *cause)),
         }
     }
 }

@@ -6,7 +6,7 @@ ghost use Rattle.simplex_messages.specs.Step.{no_out, with_call};
 use crate::call::Call;
 use crate::handed::Handed;
 use model_rules::Asked;
-use simplex_types::{Blocker, Certificate, Participant, Sequence};
+use simplex_types::{BlockCause, Blocker, Certificate, Participant, Sequence};
 use std::alloc::{AllocError, Global};
 
 /// All that a step does.
@@ -52,10 +52,10 @@ impl StepOut {
 
 impl Blocker for StepOut {
     // The call is noted behind the others, or nothing is for want of memory.
-    ghost blocks = { λ before member answer after. MatchResult answer (λ _. after ≡ with_call (Block member) before) (λ _. after ≡ before) };
+    ghost blocks = { λ before member cause answer after. MatchResult answer (λ _. after ≡ with_call (Block member cause) before) (λ _. after ≡ before) };
 
-    fn block(&mut self, member: Participant) -> Result<(), AllocError> {
-        self.calls.push(Call::Block(member))
+    fn block(&mut self, member: Participant, cause: BlockCause) -> Result<(), AllocError> {
+        self.calls.push(Call::Block(member, cause))
     }
 }
 
@@ -70,6 +70,8 @@ pub enum Outcome {
     Journal,
     /// It was cut off before a call.
     Cut,
+    /// It was not made: a packet came from a member that is blocked.
+    Refused,
 }
 
 /// An order to stop inside a step. Calls are counted from 1; a number past the last call changes nothing.

@@ -74,3 +74,4 @@ took-named before node made past taken now stop outcomes.Idle out = refl
 took-named before node made past taken now stop outcomes.Done out = named-inside before node (place_of (voter_in made past) (voter_past past)).standing taken
 took-named before node made past taken now stop outcomes.Journal out = named-inside before node (place_of (voter_in made past) (voter_past past)).standing taken
 took-named before node made past taken now stop outcomes.Cut out = named-inside before node (place_of (voter_in made past) (voter_past past)).standing taken
+took-named before node made past taken now stop outcomes.Refused out = named-inside before node (place_of (voter_in made past) (voter_past past)).standing taken

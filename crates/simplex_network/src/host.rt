@@ -155,7 +155,7 @@ impl Host {
         ensures memory { IfErr result (λ error. is_memory error ≡ true) }
     {
         match outcome {
-            Outcome::Done | Outcome::Idle => Ok(()),
+            Outcome::Done | Outcome::Idle | Outcome::Refused => Ok(()),
             Outcome::Cut | Outcome::Journal => self.halt(alloc),
         }
     }
@@ -208,7 +208,7 @@ fn settled(engine: NodeEngine, outcome: Outcome) -> Result<Host, PollError>
     ensures memory { IfErr result (λ error. is_memory error ≡ true) }
 {
     match outcome {
-        Outcome::Done | Outcome::Idle => Ok(Host::Running(engine)),
+        Outcome::Done | Outcome::Idle | Outcome::Refused => Ok(Host::Running(engine)),
         Outcome::Cut | Outcome::Journal => {
             if engine.has_failed() {
                 return Err(PollError::Memory);

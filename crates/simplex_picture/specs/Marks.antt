@@ -35,6 +35,7 @@ is_crash _ = false
 abbrev pub stops : Deed → Outcome → Bool
 stops deed outcomes.Done = is_crash deed
 stops deed outcomes.Idle = false
+stops deed outcomes.Refused = false
 stops deed outcomes.Journal = true
 stops deed outcomes.Cut = true
 

@@ -38,7 +38,7 @@ sign_of_report (activities.NullifyFinalize e) = Some (signs.Evidence e.nullify.a
 abbrev pub sign_of : Call → Option Sign
 sign_of (calls.Append section artifact) = Some (sign_of_record artifact)
 sign_of (calls.Report activity) = sign_of_report activity
-sign_of (calls.Block member) = Some (signs.Block member)
+sign_of (calls.Block member cause) = Some (signs.Block member)
 sign_of (calls.Sync section) = None
 sign_of (calls.Prune least) = None
 sign_of (calls.Send channel recipients bytes) = None

@@ -71,6 +71,7 @@ impl Deed {
         match outcome {
             Outcome::Done => matches!(self, Deed::Crash),
             Outcome::Idle => false,
+            Outcome::Refused => false,
             Outcome::Journal => true,
             Outcome::Cut => true,
         }

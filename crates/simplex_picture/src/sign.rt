@@ -61,7 +61,7 @@ fn sign_of(call: &Call) -> Option<Sign>
     match call {
         Call::Append(_, artifact) => Some(sign_of_record(artifact)),
         Call::Report(activity) => sign_of_report(activity),
-        Call::Block(member) => Some(Sign::Block(*member)),
+        Call::Block(member, _) => Some(Sign::Block(*member)),
         Call::Sync(_) | Call::Prune(_) | Call::Send { .. } | Call::Relay { .. } => None,
     }
 }

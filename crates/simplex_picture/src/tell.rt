@@ -6,8 +6,8 @@ use model_rules::Asked;
 use simplex_messages::{Call, Outcome};
 use simplex_transcript::{Entry, Event, MemberKind, Packet, StepSource};
 use simplex_types::{
-    Activity, Answer, Artifact, Attestation, Certificate, Channel, Digest, Handoff, Plan, Proposal,
-    Recipients, Vote,
+    Activity, Answer, Artifact, Attestation, BlockCause, Certificate, Channel, Digest, Handoff,
+    Plan, Proposal, Recipients, Vote,
 };
 use std::alloc::{AllocError, Global};
 
@@ -218,7 +218,11 @@ fn push_call(alloc: Global, out: &mut String, call: &Call) -> Result<(), AllocEr
             };
             write!(out, "relays payload {payload}, {word}")
         }
-        Call::Block(member) => write!(out, "blocks member {member}"),
+        Call::Block(member, cause) => write!(
+            out,
+            "blocks member {member}, {}",
+            cause_words(*cause)
+        ),
     }
 }
 
@@ -306,12 +310,28 @@ fn push_deed(alloc: Global, out: &mut String, event: &Event) -> Result<(), Alloc
     }
 }
 
+// Why a member is blocked.
+fn cause_words(cause: BlockCause) -> &'static str {
+    match cause {
+        BlockCause::Undecodable => "whose bytes do not decode",
+        BlockCause::WrongEpoch => "whose message is of another epoch",
+        BlockCause::InvalidCertificate => "whose certificate does not verify",
+        BlockCause::WrongSender => "who sent a vote of another signer",
+        BlockCause::ConflictingVotes => "who voted for two proposals",
+        BlockCause::NullifyAndFinalize => "who nullified and finalized",
+        BlockCause::InvalidSignature => "whose vote does not verify",
+        BlockCause::LeaderConflict => "who proposed otherwise than was certified",
+        BlockCause::InvalidResponse => "whose answer is no valid one",
+    }
+}
+
 fn outcome_words(outcome: Outcome) -> Option<&'static str> {
     match outcome {
         Outcome::Done => None,
         Outcome::Idle => Some("nothing was there to take"),
         Outcome::Journal => Some("stopped: a call of the journal failed"),
         Outcome::Cut => Some("stopped: cut off before the next call"),
+        Outcome::Refused => Some("refused: its sender is blocked"),
     }
 }
 

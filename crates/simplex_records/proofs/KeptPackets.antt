@@ -30,7 +30,7 @@ packets-from setup node (calls.Sync section ∷ made) = packets-from setup node 
 packets-from setup node (calls.Prune least ∷ made) = packets-from setup node made
 packets-from setup node (calls.Report activity ∷ made) = packets-from setup node made
 packets-from setup node (calls.Relay payload plan ∷ made) = packets-from setup node made
-packets-from setup node (calls.Block other ∷ made) = packets-from setup node made
+packets-from setup node (calls.Block other why ∷ made) = packets-from setup node made
 
 -- ---- one event more
 

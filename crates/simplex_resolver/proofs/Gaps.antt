@@ -32,7 +32,7 @@ use Rattle.model_resolver.specs.Views.{entry_at, asked_view}
 use Rattle.model_resolver.specs.Fetcher as fetch
 use Rattle.model_resolver.specs.Fetcher.{is_done}
 use Rattle.simplex_fetch.proofs.Entries.{Rising}
-use Rattle.model_resolver.specs.Resolver.{Made, Given, Stepped, HandlerTaken, Standing, Doing, at_first, begun, with_fetcher, recorded, putting, leaving, serving, requested, is_backoff, minded, minded_all, called, after_fetcher, judging, hearing, expiring, retiring, retiring_all, fetching, ancestry, backfill, fetch_of, retire_of, with_effects, repairing, validated, is_excepted, passed_over, accepted, answered, delivered, produced, resolving, took_mail, took_handled, acted, step, after_taking, standing_after, handler_message}
+use Rattle.model_resolver.specs.Resolver.{Made, Given, Stepped, HandlerTaken, Blocked, Standing, Doing, at_first, begun, with_fetcher, recorded, putting, leaving, serving, requested, is_backoff, minded, minded_all, called, after_fetcher, judging, hearing, expiring, retiring, retiring_all, fetching, ancestry, backfill, fetch_of, retire_of, with_effects, repairing, validated, is_excepted, passed_over, accepted, answered, delivered, produced, resolving, took_mail, took_handled, acted, step, after_taking, after_blocking, standing_after, handler_message}
 use Rattle.simplex_resolver.specs.Laws.{WasTaken, HandlesTaken}
 use Rattle.simplex_resolver.proofs.Moving.{called-all-stays}
 use Rattle.simplex_resolver.proofs.Opening.{gap-asked}
@@ -90,7 +90,7 @@ module _ (F : ℕ → ℕ → List Ask → Type 0) (Wants : ℕ → Type 0) (hel
   minded-open (outs.Left id) doing plain o =
       record { held_is = o.held_is; right = o.right; mailed = leave-mailed (MessageIn F) (leave-in F) id doing.standing.handler o.mailed }
   minded-open (outs.Send to bytes) doing plain o = o
-  minded-open (outs.Block member) doing plain o = o
+  minded-open (outs.Block member why) doing plain o = o
 
   minded-all-open : (all : List Out) (doing : Doing) → are_plain all ≡ true → Opens doing → Opens (minded_all all doing)
   unfolding minded_all
@@ -297,7 +297,7 @@ module _ (made : Made) where
 
   packet-leads : (sender now : ℕ) (read : Result ResolverMessage DecodeError) (doing : Doing) → Holds made.term doing.standing
       → Leads made.term doing.standing (after_fetcher (fetch.heard_message sender now doing.standing.fetcher read) doing).standing
-  unfolding fetch.heard_message
+  unfolding fetch.heard_message fetch.blocking
   packet-leads sender now (Err fault) doing h = kept-leads _ doing (record { right = h.right; plain = refl }) h
   packet-leads sender now (Ok message) doing h = body-leads sender message.id now message.body doing h
 
@@ -354,6 +354,13 @@ module _ (made : Made) where
     ];
   }
 
+  blocking-stands : (past : List Given) (member : ℕ) → Stood past → Stood (Blocked member ∷ past)
+  unfolding standing_after after_blocking fetch.blocking WasTaken
+  blocking-stands past member s = record {
+    holds = record { held_is = refl; right = s.holds.right; mailed = s.holds.mailed };
+    taken = λ message was. s.taken message was;
+  }
+
   step-stands : (past : List Given) (input : ResolverInput) (now : ℕ) → Fitting input (standing_after made past) → Stood past → Stood (Stepped input now ∷ past)
   unfolding standing_after WasTaken
   step-stands past input now fits s =
@@ -367,6 +374,7 @@ module _ (made : Made) where
   unfolding HandlesTaken
   stood [] handled = first-stands
   stood (HandlerTaken ∷ past) handled = taking-stands past (stood past handled)
+  stood (Blocked member ∷ past) handled = blocking-stands past member (stood past handled)
   stood (Stepped (inputs.Handler message) now ∷ past) handled = let s = stood past handled.1 in step-stands past (inputs.Handler message) now (s.taken message handled.0) s
   stood (Stepped (inputs.Mail message) now ∷ past) handled = step-stands past (inputs.Mail message) now tt (stood past handled)
   stood (Stepped (inputs.Packet sender bytes) now ∷ past) handled = step-stands past (inputs.Packet sender bytes) now tt (stood past handled)

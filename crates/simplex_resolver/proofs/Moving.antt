@@ -21,7 +21,7 @@ use Rattle.simplex_resolver.specs.Stands.{IsAt, Stands, work_of}
 pub called-stays : (out : Out) (doing : Doing) → (called out doing).standing ≡ doing.standing
 unfolding called
 called-stays (outs.Send to bytes) doing = refl
-called-stays (outs.Block member) doing = refl
+called-stays (outs.Block member why) doing = refl
 called-stays (outs.Deliver id view bytes asks) doing = refl
 called-stays (outs.Produce id view) doing = refl
 called-stays (outs.Left id) doing = refl

@@ -1,5 +1,5 @@
 -- What each call of the fetcher keeps: the numbers, what a delivery was of, and the asks for gaps.
-use Rattle.std.proofs.Common.{◌≡◌, ◌∙◌, ◌<◌, ◌≤◌, ◌+◌, ◌==◌, ◌&&◌, ◌⊎◌, inl, inr, ℕ, not, Bool, true, false, List, [], ◌∷◌, length, Option, Some, None, if◌then◌else◌, refl, sym, ap, subst, arith}
+use Rattle.std.proofs.Common.{◌≡◌, ◌∙◌, ◌<◌, ◌≤◌, ◌+◌, ◌==◌, ◌&&◌, ◌⊎◌, inl, inr, ℕ, not, Bool, true, false, List, [], ◌∷◌, length, Option, Some, None, if◌then◌else◌, refl, sym, ap, subst, arith, subst₂}
 use Rattle.std.proofs.lemmas.Grind.{common_steps}
 use Rattle.std.proofs.lemmas.Bool.{cases_order, eqb-true, eqb-false}
 use Rattle.std.proofs.lemmas.Bool.Decides.{nat_tests}
@@ -32,6 +32,7 @@ use Rattle.model_resolver.specs.Fetcher as fetch
 use Rattle.model_resolver.specs.Fetcher.{Machine, After, Fetching, quiet, visited, in_state, asking, attempted, attempted_at, attempting, retrying, entry_with, adding, noting, fetched_beside, without, is_empty, left_of, kept_or_left, retired_at, retained, is_done, delivered_of, blocked_by, asked_on, judged_as, judged_entry, judged_at, judged, expired_as, expired_at, expiring, expired, retried, refused, peer_of}
 use Rattle.simplex_fetch.proofs.Entries.{Rising, passes, above_from, tail_rises, entry_at-above, entry_at-put, entry_at-taken, first_view-some, rising_put, rising_taken}
 use Rattle.simplex_fetch.proofs.Indexing.{asked_needs, value_here}
+use Rattle.simplex_fetch.proofs.Taken.{blocked_views, blocked_ids}
 use Rattle.model_resolver.specs.Resolver.{backfill}
 use Rattle.simplex_resolver.proofs.Opening.{is_backfill, entry-kept}
 
@@ -152,9 +153,9 @@ left-plain (Waiting until) = refl
 left-plain (Asked id peer deadline) = refl
 left-plain (Judged id peer delivered) = refl
 
-blocked-plain : (verdict : Option Outcome) (state : State) → are_plain (blocked_by verdict state) ≡ true
-blocked-plain (Some outcome.Invalid) (Judged id peer delivered) = refl
-blocked-plain _ _ = refl
+blocked-plain : (verdict : Option Outcome) (state : State) (m : Machine) → are_plain (blocked_by verdict state m).outs ≡ true
+blocked-plain (Some outcome.Invalid) (Judged id peer delivered) m = refl
+blocked-plain _ _ m = refl
 
 -- whether the ask for a gap stays at the view
 abbrev pub spares : Retire → ℕ → Bool
@@ -237,9 +238,17 @@ module _ (F : ℕ → ℕ → List Ask → Type 0) (Wants : ℕ → Type 0) wher
   waiting-right : (view : ℕ) (until : Option ℕ) (entry : Entry) (m : Machine) → Spares view entry m.views → RightIn m → Right F Wants m.next_id (with_entry view (in_state (Waiting until) entry) m.views)
   waiting-right view until entry m asks r = put-right view (in_state (Waiting until) entry) m.next_id m (omega arith) (λ id has. cc) (λ id v asked fits. tt) asks r
 
+  retrying-right : (now view : ℕ) (entry : Entry) (m : Machine) → Spares view entry m.views → RightIn m → RightIn (retrying now view entry m)
+  unfolding retrying
+  retrying-right now view entry m asks r = waiting-right view _ entry m asks r
+
   asking-kept : (now view : ℕ) (entry : Entry) (m : Machine) (peer : Option ℕ) → Spares view entry m.views → RightIn m → Kept (asking now view entry m peer)
   unfolding asking
-  asking-kept now view entry m None asks r = record { right = waiting-right view None entry m asks r; plain = refl }
+  asking-kept now view entry m None asks r =
+      elim (m.config.n == 1) as (λ b. Kept (quiet (if b then fetch.keeping view (in_state (Waiting None) entry) m else retrying now view (fetch.once_more entry) m))) [
+        | true ↦ record { right = waiting-right view None entry m asks r; plain = refl }
+        | false ↦ record { right = retrying-right now view (fetch.once_more entry) m asks r; plain = refl }
+      ]
   asking-kept now view entry m (Some peer) asks r = record {
     right = put-right view (record entry { attempts = entry.attempts + 1; state = Asked m.next_id peer (now + m.config.fetch_timeout) }) (m.next_id + 1) m (omega arith)
         (λ id has. let is : id ≡ m.next_id = value_here id m.next_id has in inr (omega arith, omega arith))
@@ -249,7 +258,7 @@ module _ (F : ℕ → ℕ → List Ask → Type 0) (Wants : ℕ → Type 0) wher
 
   attempted-kept : (now view : ℕ) (entry : Entry) (m : Machine) → Spares view entry m.views → RightIn m → Kept (attempted now view entry m)
   unfolding attempted
-  attempted-kept now view entry m asks r = asking-kept now view entry m (peer_of m.config view entry) asks r
+  attempted-kept now view entry m asks r = asking-kept now view entry m (peer_of m.config m.blocked view entry) asks r
 
   attempted_at-kept : (now view : ℕ) (m : Machine) (o : Option Entry) → entry_at m.views view ≡ o → RightIn m → Kept (attempted_at now view m o)
   unfolding attempted_at
@@ -259,10 +268,6 @@ module _ (F : ℕ → ℕ → List Ask → Type 0) (Wants : ℕ → Type 0) wher
   attempting-kept : (now view : ℕ) (m : Machine) → RightIn m → Kept (attempting now view m)
   unfolding attempting
   attempting-kept now view m r = attempted_at-kept now view m (entry_at m.views view) refl r
-
-  retrying-right : (now view : ℕ) (entry : Entry) (m : Machine) → Spares view entry m.views → RightIn m → RightIn (retrying now view entry m)
-  unfolding retrying
-  retrying-right now view entry m asks r = waiting-right view _ entry m asks r
 
   visited-kept : (change : ℕ → Machine → After) (test : ℕ → Bool) → ((view : ℕ) (m : Machine) → test view ≡ true → RightIn m → Kept (change view m))
       → (views : List ℕ) (m : Machine) → list_all test views ≡ true → RightIn m → Kept (visited change views m)
@@ -381,10 +386,15 @@ module _ (F : ℕ → ℕ → List Ask → Type 0) (Wants : ℕ → Type 0) wher
       → (is_done verdict ≡ true → Wants view → holds_ask (delivered_of entry.state) (backfill 0).ask ≡ false) → RightIn m → Kept (judged_as verdict now view entry m)
   unfolding judged_as
   judged_as-kept verdict now view entry m at spared r =
-      elim (is_done verdict) as (λ b. is_done verdict ≡ b → Kept (if b then asked_on now view (without (holds_ask (delivered_of entry.state)) entry) m else record { fetcher = retrying now view entry m; outs = blocked_by verdict entry.state })) [
+      elim (is_done verdict) as (λ b. is_done verdict ≡ b → Kept (if b then asked_on now view (without (holds_ask (delivered_of entry.state)) entry) m else blocked_by verdict entry.state (retrying now view entry m))) [
         | true ↦ λ done. asked_on-kept now view (without (holds_ask (delivered_of entry.state)) entry) m
             (λ wants held. without-kept (holds_ask (delivered_of entry.state)) (spared done wants) entry.arrivals (spares-same view entry m.views at wants held)) r
-        | false ↦ λ open_on. record { right = retrying-right now view entry m (spares-same view entry m.views at) r; plain = blocked-plain verdict entry.state }
+        | false ↦ λ open_on.
+            let waits = retrying now view entry m in record {
+              right = subst₂ (λ n views. Right F Wants n views) (sym (blocked_ids verdict entry.state waits)) (sym (blocked_views verdict entry.state waits))
+                  (retrying-right now view entry m (spares-same view entry m.views at) r);
+              plain = blocked-plain verdict entry.state waits;
+            }
       ] refl
 
   judged_entry-kept : (verdict : Option Outcome) (now view : ℕ) (m : Machine) (o : Option Entry) → entry_at m.views view ≡ o

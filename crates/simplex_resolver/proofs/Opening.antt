@@ -13,13 +13,14 @@ use Rattle.model_rules.specs.declared.effect.Effect.TheVariants as effects
 use Rattle.model_rules.specs.Repair.{RepairCall, Updated, Certified, Replayed, is_gap, gaps_of, settled_by, finalized_by, raised_by, fetched_by, effects_of}
 use Rattle.simplex_repair.proofs.Lacking.{gaps_listed}
 use Rattle.model_resolver.specs.declared.entry.Entry.{Entry}
+use Rattle.model_resolver.specs.declared.entry.State.TheVariants.{Waiting}
 use Rattle.model_resolver.specs.declared.arrivals.Arrival.{Arrival}
 use Rattle.model_resolver.specs.declared.out.Out.{Out}
 use Rattle.model_resolver.specs.declared.out.Out.TheVariants as outs
 use Rattle.model_resolver.specs.Asks.{same_arrival, same_ask, asks_any, with_arrival}
 use Rattle.model_resolver.specs.Views.{entry_at, with_entry}
 use Rattle.simplex_fetch.specs.Index.{has_ask}
-use Rattle.model_resolver.specs.Fetcher.{Machine, Fetching, of_all, entry_with, asking, attempted, attempted_at, attempting, visited, adding, noting, fetched_beside, served, peer_of}
+use Rattle.model_resolver.specs.Fetcher.{Machine, Fetching, of_all, keeping, in_state, once_more, retrying, entry_with, asking, attempted, attempted_at, attempting, visited, adding, noting, fetched_beside, served, peer_of}
 use Rattle.simplex_fetch.proofs.Entries.{entry_at-put}
 use Rattle.model_resolver.specs.Resolver.{Doing, backfill, fetch_of, retire_of, serving, requested, minded, minded_all, putting, leaving, called, fetching, retiring_all, with_effects}
 use Rattle.simplex_resolver.proofs.Moving.{called-all-stays}
@@ -32,15 +33,19 @@ entry-same test view entry other views q there same = grind (arith, common_steps
 
 asking-asks : (test : Ask → Bool) (now view : ℕ) (entry : Entry) (m : Machine) (peer : Option ℕ) (q : ℕ) → entry_at m.views view ≡ Some entry
     → has_ask test (entry_at (asking now view entry m peer).fetcher.views q) ≡ has_ask test (entry_at m.views q)
-unfolding asking
-asking-asks test now view entry m None q there = entry-same test view entry _ m.views q there refl
+unfolding asking retrying
+asking-asks test now view entry m None q there =
+    elim (m.config.n == 1) as (λ b. has_ask test (entry_at (if b then keeping view (in_state (Waiting None) entry) m else retrying now view (once_more entry) m).views q) ≡ has_ask test (entry_at m.views q)) [
+      | true ↦ entry-same test view entry _ m.views q there refl
+      | false ↦ entry-same test view entry _ m.views q there refl
+    ]
 asking-asks test now view entry m (Some peer) q there = entry-same test view entry _ m.views q there refl
 
 attempted_at-asks : (test : Ask → Bool) (now view : ℕ) (m : Machine) (o : Option Entry) (q : ℕ) → entry_at m.views view ≡ o
     → has_ask test (entry_at (attempted_at now view m o).fetcher.views q) ≡ has_ask test (entry_at m.views q)
 unfolding attempted_at attempted
 attempted_at-asks test now view m None q there = refl
-attempted_at-asks test now view m (Some entry) q there = asking-asks test now view entry m (peer_of m.config view entry) q there
+attempted_at-asks test now view m (Some entry) q there = asking-asks test now view entry m (peer_of m.config m.blocked view entry) q there
 
 visited-asks : (test : Ask → Bool) (now : ℕ) (views : List ℕ) (m : Machine) (q : ℕ)
     → has_ask test (entry_at (visited (attempting now) views m).fetcher.views q) ≡ has_ask test (entry_at m.views q)
@@ -179,7 +184,7 @@ minded-views (outs.Deliver id view bytes asks) doing = refl
 minded-views (outs.Produce id view) doing = either-views _ _ _ doing (serving-views id None _) refl
 minded-views (outs.Left id) doing = refl
 minded-views (outs.Send to bytes) doing = refl
-minded-views (outs.Block member) doing = refl
+minded-views (outs.Block member why) doing = refl
 
 minded-all-views : (all : List Out) (doing : Doing) → (minded_all all doing).standing.fetcher.views ≡ doing.standing.fetcher.views
 unfolding minded_all

@@ -7,8 +7,9 @@ ghost use Rattle.simplex_mailbox.specs.Post.{Posted};
 ghost use Rattle.simplex_messages.specs.Step.{no_out};
 ghost use Rattle.simplex_messages.specs.declared.step.Outcome.TheVariants.{Done};
 ghost use Rattle.simplex_messages.specs.Handing.{for_voter};
+ghost use Rattle.model_resolver.specs.Asks.{holds_member};
 ghost use Rattle.model_resolver.specs.Fetcher.{IsSoundConfig};
-ghost use Rattle.model_resolver.specs.Resolver.{Stepped, HandlerTaken, step_out, handler_message, holds_handled, deadline_after, validated};
+ghost use Rattle.model_resolver.specs.Resolver.{Stepped, HandlerTaken, Blocked, step_out, handler_message, holds_handled, deadline_after, blocked_after, validated};
 ghost use Rattle.simplex_resolver.specs.Stands.{StandsFor, Takes, Answers, resolver_made};
 
 use crate::config::Config;
@@ -79,6 +80,22 @@ impl<S: Scheme + Drop> Actor<S> {
         ensures { Answers S.verifies S.members S.member self.now (λ made past. holds_handled made past) result }
     {
         !self.handler.is_empty()
+    }
+
+    /// The member, which others blocked, is asked nothing from now on.
+    #[tactic(auto, unfolding(crate::specs::Stands::StandsFor, model_resolver::specs::Resolver::standing_after, model_resolver::specs::Resolver::after_blocking))]
+    pub fn block(&mut self, member: Participant) -> Result<(), AllocError>
+        ensures { OnOk result (Takes S.verifies S.members S.member self.old self.new (Blocked member)) }
+    {
+        self.fetcher.block(member)
+    }
+
+    /// Whether the member is asked nothing.
+    #[tactic(auto, unfolding(crate::specs::Stands::StandsFor, model_resolver::specs::Resolver::blocked_after))]
+    pub fn is_blocked(&self, member: Participant) -> bool
+        ensures { Answers S.verifies S.members S.member self.now (λ made past. holds_member (blocked_after made past) member) result }
+    {
+        self.fetcher.is_blocked(member)
     }
 
     /// When a step of the timer is due.

@@ -20,7 +20,7 @@ fn call(alloc: Global, out: Out, work: &mut Work) -> Result<(), AllocError>
 {
     match out {
         Out::Send { to, bytes } => work.send(alloc, to, bytes),
-        Out::Block(member) => work.block(member),
+        Out::Block(member, cause) => work.block(member, cause),
         Out::Deliver { .. } | Out::Produce { .. } | Out::Left { .. } => Ok(()),
     }
 }
@@ -114,8 +114,8 @@ impl<S: Scheme + Drop> Actor<S> {
                 work.send(self.alloc, to, bytes)?;
                 Ok(())
             }
-            Out::Block(member) => {
-                work.block(member)?;
+            Out::Block(member, cause) => {
+                work.block(member, cause)?;
                 Ok(())
             }
         }

@@ -6,7 +6,7 @@ ghost use Rattle.model_resolver.specs.Sends.{sending, placed};
 use crate::sends::Sends;
 use model_resolver::Sending;
 use simplex_messages::{Call, Handed};
-use simplex_types::{Bytes, Participant, Sequence};
+use simplex_types::{BlockCause, Bytes, Participant, Sequence};
 use std::alloc::{AllocError, Global};
 
 /// What a step has done so far: the messages that it hands on, the members that it blocks, and its sends.
@@ -37,11 +37,11 @@ impl Work {
         Ok(())
     }
 
-    /// The member is blocked.
-    pub(crate) fn block(&mut self, member: Participant) -> Result<(), AllocError>
-        ensures { OnOk result (self.new ≡ record self.old { blocks = self.old.blocks ++ Block member ∷ [] }) }
+    /// The member is blocked, for this cause.
+    pub(crate) fn block(&mut self, member: Participant, cause: BlockCause) -> Result<(), AllocError>
+        ensures { OnOk result (self.new ≡ record self.old { blocks = self.old.blocks ++ Block member cause ∷ [] }) }
     {
-        self.blocks.push(Call::Block(member))?;
+        self.blocks.push(Call::Block(member, cause))?;
         Ok(())
     }
 

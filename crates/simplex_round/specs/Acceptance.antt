@@ -1,4 +1,4 @@
--- Which votes a round accepts, and what it reports and blocks for them.
+-- Which votes a round accepts, and what it reports, and whom it blocks for them and why.
 use Rattle.std.specs.Prelude.{ℕ, ◌==◌, nat_lt, Bool, true, false, List, [], ◌∷◌, if◌then◌else◌, Option, Some, None}
 use Rattle.std.specs.List.{list_any}
 use Rattle.simplex_values.specs.Proposal.{is_same_proposal}
@@ -6,6 +6,8 @@ use Rattle.simplex_wire.specs.declared.vote.Vote.{Vote}
 use Rattle.simplex_wire.specs.declared.vote.Vote.TheVariants as votes
 use Rattle.simplex_types.specs.declared.activity.Activity.{Activity}
 use Rattle.simplex_types.specs.declared.activity.Activity.TheVariants as activities
+use Rattle.simplex_types.specs.declared.cause.BlockCause.{BlockCause}
+use Rattle.simplex_types.specs.declared.cause.BlockCause.TheVariants.{WrongSender, ConflictingVotes, NullifyAndFinalize}
 use Rattle.simplex_round.specs.declared.ballot.Ballot.{Ballot}
 use Rattle.simplex_round.specs.declared.evidence.Evidence.{Evidence}
 use Rattle.simplex_round.specs.declared.evidence.Evidence.TheVariants as proofs
@@ -57,6 +59,12 @@ evidence_activity (proofs.Notarizes e) = activities.ConflictingNotarize e
 evidence_activity (proofs.Finalizes e) = activities.ConflictingFinalize e
 evidence_activity (proofs.NullifyFinalize e) = activities.NullifyFinalize e
 
+-- why its signer is blocked
+abbrev pub evidence_cause : Evidence → BlockCause
+evidence_cause (proofs.Notarizes e) = ConflictingVotes
+evidence_cause (proofs.Finalizes e) = ConflictingVotes
+evidence_cause (proofs.NullifyFinalize e) = NullifyAndFinalize
+
 -- ---- what comes of a vote
 
 abbrev pub vote_activity : Vote → Activity
@@ -67,7 +75,8 @@ vote_activity (votes.Finalize v) = activities.Finalize v
 pub record Heard : Type 0 where
   pub accepted : Bool
   pub reports : List Activity
-  pub blocks : List ℕ
+  -- the members that are blocked, and why
+  pub blocks : List (ℕ × BlockCause)
   pub known : Known
 
 -- nothing comes of it
@@ -79,7 +88,7 @@ unfoldable pub accused : Known → ℕ → Option Evidence → Heard
 accused known signer None = unheard known
 accused known signer (Some proof) =
     if was_given proof known.given then unheard known
-    else record { accepted = false; reports = evidence_activity proof ∷ []; blocks = signer ∷ []; known = record known { given = with_given proof known.given } }
+    else record { accepted = false; reports = evidence_activity proof ∷ []; blocks = (signer, evidence_cause proof) ∷ []; known = record known { given = with_given proof known.given } }
 
 -- a vote is accepted and reported where its signer has none there
 unfoldable pub heard_beside : Known → Vote → Option Ballot → Heard
@@ -94,7 +103,7 @@ heard known vote = heard_beside known vote (ballot_of (side_of known (vote_kind 
 unfoldable pub heard_from : Known → ℕ → Vote → Heard
 heard_from known sender vote =
     if vote_signer vote == sender then heard known vote
-    else record { accepted = false; reports = []; blocks = sender ∷ []; known = known }
+    else record { accepted = false; reports = []; blocks = (sender, WrongSender) ∷ []; known = known }
 
 -- whether a nullify of the member was accepted
 abbrev pub is_nullify_ballot : Option Ballot → Bool

@@ -1,16 +1,16 @@
 //! What a round answers.
-use simplex_types::Activity;
+use simplex_types::{Activity, BlockCause};
 use simplex_values::{Participant, Sequence};
 use simplex_wire::Certificate;
 use std::alloc::Global;
 
-/// What a round reports, and whom it blocks.
+/// What a round reports, and whom it blocks and why.
 #[derive(Debug, Drop)]
 pub struct RoundOut {
     /// What is reported, in order.
     pub reports: Sequence<Activity>,
-    /// The members that are blocked, in order.
-    pub blocks: Sequence<Participant>,
+    /// The members that are blocked, and why, in order.
+    pub blocks: Sequence<(Participant, BlockCause)>,
 }
 
 impl RoundOut {

@@ -2,7 +2,9 @@
 ghost use Rattle.std.specs.Prelude.{◌≡◌};
 ghost use Rattle.simplex_round.specs.Acceptance as acceptance;
 
-use simplex_types::{Activity, ConflictingFinalize, ConflictingNotarize, NullifyFinalize};
+use simplex_types::{
+    Activity, BlockCause, ConflictingFinalize, ConflictingNotarize, NullifyFinalize,
+};
 use simplex_wire::Vote;
 
 /// Two votes of one signer of which an honest member signs one at most.
@@ -53,6 +55,16 @@ impl Evidence {
                 }))
             }
             _ => None,
+        }
+    }
+
+    /// Why its signer is blocked.
+    pub fn cause(&self) -> BlockCause
+        ensures { result ≡ acceptance.evidence_cause self.now }
+    {
+        match self {
+            Evidence::Notarizes(_) | Evidence::Finalizes(_) => BlockCause::ConflictingVotes,
+            Evidence::NullifyFinalize(_) => BlockCause::NullifyAndFinalize,
         }
     }
 

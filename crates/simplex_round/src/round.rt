@@ -18,6 +18,7 @@ use crate::ballots::Ballots;
 use crate::batch::{Batch, RoundOut};
 use crate::evidence::Evidence;
 use crate::votes::{self, activity_of, is_another, is_same_subject};
+use simplex_types::BlockCause;
 use simplex_values::{Keep, Participant, Proposal, Round as ViewRound, Subject};
 use simplex_wire::{
     Certificate, CertificateKind, Finalization, Notarization, Nullification, Scheme, Vote,
@@ -119,7 +120,7 @@ impl Round {
         ensures err { OnErr result (Stays self.old self.new) }
     {
         if vote.signer() != sender {
-            out.blocks.push(sender)?;
+            out.blocks.push((sender, BlockCause::WrongSender))?;
             return Ok(false);
         }
         self.hear(vote, out)
@@ -239,7 +240,7 @@ impl Round {
             return Ok(());
         }
         out.reports.push(evidence.activity())?;
-        out.blocks.push(signer)?;
+        out.blocks.push((signer, evidence.cause()))?;
         self.accused.add(&evidence)
     }
 

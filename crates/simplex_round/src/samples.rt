@@ -3,6 +3,7 @@
 
 ghost use Rattle.std.specs.Prelude.{◌≡◌, [], ◌∷◌, true, false, Some, None};
 ghost use Rattle.simplex_types.specs.declared.activity.Activity.TheVariants as activity;
+ghost use Rattle.simplex_types.specs.declared.cause.BlockCause.TheVariants.{WrongSender, ConflictingVotes, NullifyAndFinalize};
 ghost use Rattle.simplex_round.specs.Acceptance.{heard_from};
 ghost use Rattle.simplex_round.specs.Forwarding.{proposal_of, gives_proposal, forwarded_to_voter, missing_voters};
 ghost use Rattle.simplex_round.specs.Assembly.{constructed};
@@ -14,14 +15,14 @@ pub fn votes_come_out()
     ensures accepted { let h = heard_from (known_after made []) 3 (notarize (block 17) (signed 3)) in
         (h.accepted ≡ true) × (h.reports ≡ activity.Notarize (record { proposal = block 17; attestation = signed 3 }) ∷ []) × (h.blocks ≡ []) }
     ensures another_sender { let h = heard_from (known_after made []) 3 (notarize (block 17) (signed 0)) in
-        (h.accepted ≡ false) × (h.reports ≡ []) × (h.blocks ≡ 3 ∷ []) }
+        (h.accepted ≡ false) × (h.reports ≡ []) × (h.blocks ≡ (3, WrongSender) ∷ []) }
     ensures conflict { let h = heard_from (known_after made (AddNetwork 3 (notarize (block 17) (signed 3)) ∷ [])) 3 (notarize (block 18) (signed 3)) in
-        (h.accepted ≡ false) × (h.blocks ≡ 3 ∷ [])
+        (h.accepted ≡ false) × (h.blocks ≡ (3, ConflictingVotes) ∷ [])
         × (h.reports ≡ activity.ConflictingNotarize (record { first = record { proposal = block 17; attestation = signed 3 }; second = record { proposal = block 18; attestation = signed 3 } }) ∷ []) }
     ensures conflict_once { let h = heard_from (known_after made (AddNetwork 3 (notarize (block 18) (signed 3)) ∷ AddNetwork 3 (notarize (block 17) (signed 3)) ∷ [])) 3 (notarize (block 19) (signed 3)) in
         (h.accepted ≡ false) × (h.reports ≡ []) × (h.blocks ≡ []) }
     ensures nullify_finalize { let h = heard_from (known_after made (AddNetwork 3 (finalize (block 17) (signed 3)) ∷ [])) 3 (nullify (signed 3)) in
-        (h.accepted ≡ false) × (h.blocks ≡ 3 ∷ [])
+        (h.accepted ≡ false) × (h.blocks ≡ (3, NullifyAndFinalize) ∷ [])
         × (h.reports ≡ activity.NullifyFinalize (record { nullify = record { round = record { epoch = 0; view = 1 }; attestation = signed 3 }; finalize = record { proposal = block 17; attestation = signed 3 } }) ∷ []) }
 {}
 

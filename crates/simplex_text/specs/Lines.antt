@@ -59,6 +59,7 @@ call_line_of event node _ = []
 abbrev pub stop_of : Outcome → Option (List ℕ)
 stop_of outcomes.Done = None
 stop_of outcomes.Idle = None
+stop_of outcomes.Refused = None
 stop_of outcomes.Journal = Some (codes "stopped journal")
 stop_of outcomes.Cut = Some (codes "stopped cut")
 

@@ -5,5 +5,5 @@ mod lines;
 mod refusals;
 mod transcript;
 
-pub use refusals::refusal_text;
+pub use refusals::{error_name, refusal_text};
 pub use transcript::{printed, printed_run};

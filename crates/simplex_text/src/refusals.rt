@@ -1,14 +1,14 @@
 //! The text of a refusal.
 ghost use Rattle.std.specs.Prelude.{◌≡◌, IfOk, string_bytes};
-ghost use Rattle.simplex_text.specs.Refusals.{error_name, refused_line};
+ghost use Rattle.simplex_text.specs.Refusals.{error_name as name_of_error, refused_line};
 ghost use Rattle.simplex_text.specs.Refusals.{refusal_text as text_of_refusal};
 
 use simplex_transcript::{Refusal, RunError};
 use std::alloc::{AllocError, Global};
 
-// The name of a cause, with that of the item of the setup, if it is one.
-fn name(alloc: Global, error: &RunError) -> Result<String, AllocError>
-    ensures { IfOk result (λ text. string_bytes text ≡ error_name error.now) }
+/// The name of a cause, with that of the item of the setup, if it is one.
+pub fn error_name(alloc: Global, error: &RunError) -> Result<String, AllocError>
+    ensures { IfOk result (λ text. string_bytes text ≡ name_of_error error.now) }
 {
     match error {
         RunError::BadSetup(field) => format!(in alloc; "BadSetup:{field}"),
@@ -37,6 +37,6 @@ fn refused(alloc: Global, name: &str, event: u64) -> Result<String, AllocError>
 pub fn refusal_text(alloc: Global, refusal: &Refusal) -> Result<String, AllocError>
     ensures { IfOk result (λ text. string_bytes text ≡ text_of_refusal refusal.now) }
 {
-    let name = name(alloc, &refusal.error)?;
+    let name = error_name(alloc, &refusal.error)?;
     refused(alloc, name.as_str(), refusal.event)
 }

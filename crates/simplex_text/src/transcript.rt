@@ -12,7 +12,7 @@ fn stop(outcome: Outcome) -> Option<&'static str>
     ensures { option_map (λ s. s.now) result ≡ stop_of outcome }
 {
     match outcome {
-        Outcome::Done | Outcome::Idle => None,
+        Outcome::Done | Outcome::Idle | Outcome::Refused => None,
         Outcome::Journal => Some("stopped journal"),
         Outcome::Cut => Some("stopped cut"),
     }

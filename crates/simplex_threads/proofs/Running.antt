@@ -2,6 +2,7 @@
 use Rattle.std.proofs.Common.{◌≡◌, ℕ, ◌<◌, ◌^◌, List, [], ◌++◌, Bool, true, false, map, Option, sym, ap, subst, ◌∙◌}
 use Rattle.std.proofs.lemmas.List.{length-map}
 use Rattle.std.specs.Prelude.{All}
+use Rattle.std.specs.BTreeSet.{BTreeSet}
 use Rattle.simplex_wire.specs.declared.scheme.Scheme as scheme
 use Rattle.simplex_types.specs.declared.elector.Elector as elector
 use Rattle.simplex_journal.specs.declared.journal.Journal as journal
@@ -19,6 +20,7 @@ use Rattle.simplex_shared.specs.declared.terms.Terms.{Terms}
 use Rattle.simplex_shared.specs.Calls.{calls_by}
 use Rattle.simplex_shared.specs.History.{caller_of}
 use Rattle.simplex_shared.specs.Passes.{Viewer, IsSamePass, calls_of}
+use Rattle.model_resolver.specs.Asks.{holds_member}
 use Rattle.model_steps.specs.Engine.{none_skipped}
 use Rattle.model_steps.specs.VoterLife.{VoterMade, Given, Place, place_of}
 use Rattle.simplex_messages.specs.declared.step.Outcome.{Outcome}
@@ -107,7 +109,7 @@ module _ {S L J : Type 0} {s : scheme.Ghosts S} {l : elector.Ghosts L} {j : jour
       }
     where
       is-at : BatcherIsAt old.batcher parts.batcher (batcher_start parts feed.batcher.items)
-      is-at = record { stands = rw ready.batcher h.batcher; feed = ready.batcher_feed }
+      is-at = record { stands = rw ready.batcher h.batcher; feed = ready.batcher_feed; blocked = λ member. ap (λ (set : BTreeSet ℕ). holds_member set.keys member) ready.batcher_blocked ∙ h.blocked member }
 
   pub resolver-ran : (outs : List StepOut) → IsSameResolver old.resolver new.resolver → ResolverRuns old.resolver new.resolver turns outs → (parts : Parts) → Holds false crew parts
       → ResolverRan parts now turns feed.resolver.items logs.resolver outs

@@ -39,7 +39,7 @@ module _ {M : Type 0} where
 
 -- where the turns of the actors of an engine with these parts begin
 abbrev pub batcher_start : Parts → List Delivery → BatcherPlace
-batcher_start parts feed = record { past = parts.timed; feed = feed }
+batcher_start parts feed = record { past = parts.timed; feed = feed; blocked = parts.blocked }
 
 abbrev pub resolver_start : Parts → List Delivery → ResolverPlace
 resolver_start parts feed = record { past = parts.asked; feed = feed }

@@ -20,6 +20,7 @@ module _ {S L J : Type 0} {s : scheme.Ghosts S} {l : elector.Ghosts L} {j : jour
     pub voter : team.voter.actor ≡ crew.voter
     pub resolver : team.resolver.actor ≡ crew.resolver
     pub clocks : (team.batcher.now ≡ now) × (team.voter.now ≡ now) × (team.resolver.now ≡ now)
+    pub batcher_blocked : team.batcher.blocked ≡ crew.blocked
     pub batcher_feed : team.batcher.feed.items ≡ feed.batcher.items
     pub voter_feed : team.voter.feed.items ≡ feed.voter.items
     pub resolver_feed : team.resolver.feed.items ≡ feed.resolver.items

@@ -27,6 +27,9 @@ use std::thread::Threads;
 /// the engine's last call. Before its turn t, counted from 1, each passes the gate as `pass(who, t)`: the batcher is 0, the
 /// voter 1, the resolver 2. May wait.
 ///
+/// A packet of a member that the engine blocked before, or the actor's own steps since, gives nothing; whom another actor
+/// blocks meanwhile an actor is not told.
+///
 /// `Stopped` comes before a start and after a step that was broken off, `Failed` after want of memory.
 pub fn start_threads<S, L, J, G, R>(
     rt: &R,
@@ -82,7 +85,7 @@ fn team_of<S: Scheme + Drop, L: Elector + Drop, J: Journal + Drop, R: Wait>(
         batcher,
         resolver,
         boxes,
-        ..
+        blocked,
     } = crew;
     let (for_batcher, batcher_takes, voter_to_batcher) = open_for_two(rt, alloc, boxes.batcher)?;
     let (for_resolver, resolver_takes, voter_to_resolver) = open_for_two(
@@ -106,6 +109,7 @@ fn team_of<S: Scheme + Drop, L: Elector + Drop, J: Journal + Drop, R: Wait>(
             actor: batcher,
             now,
             feed: queue_of(alloc, feed.batcher)?,
+            blocked,
             own: batcher_takes,
             voter: batcher_to_voter,
         },

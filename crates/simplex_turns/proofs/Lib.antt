@@ -1,3 +1,4 @@
+pub mod Blocked
 pub mod BatcherTurned
 pub mod Drained
 pub mod Handed

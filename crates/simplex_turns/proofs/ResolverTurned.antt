@@ -14,7 +14,7 @@ use Rattle.simplex_messages.specs.Handing.{for_voter}
 use Rattle.simplex_messages.specs.Step.{no_out}
 use Rattle.simplex_shared.specs.declared.op.Op.TheVariants.{Took}
 use Rattle.simplex_shared.specs.Passes.{calls_of}
-use Rattle.model_resolver.specs.Resolver.{Made, Given, Stepped, HandlerTaken, step_out, handler_message, holds_handled, deadline_after, standing_after}
+use Rattle.model_resolver.specs.Resolver.{Made, Given, Stepped, HandlerTaken, step_out, handler_message, holds_handled, deadline_after, blocked_after, standing_after}
 use Rattle.model_resolver.specs.Views.{is_reached}
 use Rattle.simplex_resolver.specs.Stands.{StandsFor, Takes, Answers}
 use Rattle.simplex_turns.specs.declared.feed.Delivery.{Delivery}
@@ -52,10 +52,11 @@ module _ (made : Made) (now : ℕ) (place : ResolverPlace) where
   unfolding resolver_turn
   found-handler message took = rw (sym took) refl
 
-  pub found-delivery : (delivery : Delivery) (rest : List Delivery) → None ≡ handler_message made place.past → place.feed ≡ delivery ∷ rest
-      → resolver_turn made now place None ≡ resolver_step made now (record { past = place.past; feed = rest }) (resolver_input delivery)
+  pub found-delivery : (delivery : Delivery) (rest : List Delivery) (input : Option ResolverInput) → None ≡ handler_message made place.past → place.feed ≡ delivery ∷ rest
+      → input ≡ resolver_input (blocked_after made place.past) delivery
+      → resolver_turn made now place None ≡ resolver_step made now (record { past = place.past; feed = rest }) input
   unfolding resolver_turn
-  found-delivery delivery rest none feed = rw (sym none, feed) refl
+  found-delivery delivery rest input none feed is = rw (sym none, feed, is) refl
 
   pub found-deadline : (input : Option ResolverInput) → None ≡ handler_message made place.past → place.feed ≡ []
       → input ≡ (if is_reached now (deadline_after made place.past) then Some inputs.Timer else None)

@@ -43,6 +43,7 @@ unbroken-faults : (outcome : Outcome) (before now : ℕ) → FaultsAt outcome be
 unbroken-faults outcomes.Done before now faults going = faults
 unbroken-faults outcomes.Idle before now faults going = faults
 unbroken-faults outcomes.Cut before now faults going = faults
+unbroken-faults outcomes.Refused before now faults going = faults
 unbroken-faults outcomes.Journal before now faults going = absurd (going refl)
 
 module _ {S L J : Type 0} {s : scheme.Ghosts S} {l : elector.Ghosts L} {j : journal.Ghosts J} where

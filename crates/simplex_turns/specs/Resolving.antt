@@ -8,8 +8,9 @@ use Rattle.simplex_messages.specs.declared.resolver.ResolverInput.{ResolverInput
 use Rattle.simplex_messages.specs.declared.resolver.ResolverInput.TheVariants as inputs
 use Rattle.simplex_messages.specs.declared.step.StepOut.{StepOut}
 use Rattle.simplex_messages.specs.Step.{no_out}
+use Rattle.model_resolver.specs.Asks.{holds_member}
 use Rattle.model_resolver.specs.Views.{is_reached}
-use Rattle.model_resolver.specs.Resolver.{Made, Given, Stepped, HandlerTaken, step_out, handler_message, deadline_after}
+use Rattle.model_resolver.specs.Resolver.{Made, Given, Stepped, HandlerTaken, step_out, handler_message, deadline_after, blocked_after}
 use Rattle.simplex_turns.specs.declared.feed.Delivery.{Delivery}
 
 -- where a resolver's turns have come: what it was given, the newest first, and what of its feed is left
@@ -23,8 +24,10 @@ answered_on channels.Vote sender bytes = None
 answered_on channels.Certificate sender bytes = None
 answered_on channels.Resolver sender bytes = Some (inputs.Packet sender bytes)
 
-abbrev pub resolver_input : Delivery → Option ResolverInput
-resolver_input delivery = answered_on delivery.channel delivery.sender delivery.bytes
+-- unless its fetcher counts its sender as blocked
+abbrev pub resolver_input : (blocked : List ℕ) → Delivery → Option ResolverInput
+resolver_input blocked delivery =
+    if holds_member blocked delivery.sender then None else answered_on delivery.channel delivery.sender delivery.bytes
 
 -- a step at this clock, and an empty one where there is no input
 abbrev pub resolver_step : Made → ℕ → ResolverPlace → Option ResolverInput → ResolverPlace × StepOut
@@ -37,7 +40,7 @@ abbrev pub on_feed : Made → ℕ → List Given → List Delivery → ResolverP
 on_feed made now past [] =
     resolver_step made now (record { past = past; feed = [] })
     (if is_reached now (deadline_after made past) then Some inputs.Timer else None)
-on_feed made now past (delivery ∷ feed) = resolver_step made now (record { past = past; feed = feed }) (resolver_input delivery)
+on_feed made now past (delivery ∷ feed) = resolver_step made now (record { past = past; feed = feed }) (resolver_input (blocked_after made past) delivery)
 
 abbrev pub on_handler : Made → ℕ → ResolverPlace → Option HandlerMessage → ResolverPlace × StepOut
 on_handler made now place (Some message) =

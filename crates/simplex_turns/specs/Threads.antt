@@ -17,6 +17,7 @@ use Rattle.simplex_messages.specs.declared.step.Outcome.TheVariants as outcomes
 use Rattle.simplex_messages.specs.Handing.{for_batcher, for_voter, for_resolver}
 use Rattle.simplex_shared.specs.declared.op.Op.TheVariants.{Took}
 use Rattle.simplex_shared.specs.Passes.{IsSamePass, calls_of}
+use Rattle.model_resolver.specs.Asks.{holds_member}
 use Rattle.model_steps.specs.Batcher as batching
 use Rattle.model_steps.specs.VoterLife.{VoterMade, Given, place_of}
 use Rattle.model_resolver.specs.Resolver as resolving
@@ -47,6 +48,7 @@ module _ {S : Type 0} {s : scheme.Ghosts S} where
   pub record BatcherIsAt (thread : BatcherThread S s) (made : batching.Made) (place : BatcherPlace) : Type 0 where
     pub stands : batchers.StandsFor s.verifies s.recovers s.members s.member thread.actor made place.past
     pub feed : thread.feed.items ≡ place.feed
+    pub blocked : (member : ℕ) → holds_member thread.blocked.keys member ≡ holds_member place.blocked member
 
   -- the same passes and the same clock
   pub record IsSameBatcher (old new : BatcherThread S s) : Type 0 where

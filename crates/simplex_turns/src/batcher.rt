@@ -1,15 +1,18 @@
 //! A batcher on a thread of its own.
-ghost use Rattle.std.specs.Prelude.{◌≡◌, ◌<◌, ◌^◌, drop, filter_map, IfOk, OnOk, MatchOption, Some};
+ghost use Rattle.std.specs.Prelude.{◌≡◌, ◌<◌, ◌^◌, ◌++◌, ℕ, drop, filter_map, IfOk, OnOk, MatchOption, Some};
 ghost use Rattle.std.specs.Option.{option_and_then};
 ghost use Rattle.simplex_mailbox.specs.Waiting.{front};
 ghost use Rattle.simplex_messages.specs.declared.batcher.BatcherInput.TheVariants as inputs;
 ghost use Rattle.simplex_messages.specs.Handing.{for_voter};
+ghost use Rattle.simplex_messages.specs.Step.{blocked_by_calls};
 ghost use Rattle.simplex_shared.specs.Passes.{IsSamePass, calls_of};
+ghost use Rattle.model_resolver.specs.Asks.{holds_member};
 ghost use Rattle.model_steps.specs.Batcher.{step_out};
 ghost use Rattle.simplex_batcher.specs.Stands.{Takes, Answers};
-ghost use Rattle.simplex_turns.specs.Batching.{batcher_input};
+ghost use Rattle.simplex_turns.specs.Batching.{batcher_input, heard_on};
 ghost use Rattle.simplex_turns.specs.Handing.{PutsBehind};
 
+use crate::blocking::{is_among, note_blocks};
 use crate::feed::Delivery;
 use crate::handing::put_all;
 use crate::mailboxes::Mailboxes;
@@ -19,7 +22,7 @@ use simplex_messages::{BatcherInput, StepOut, batcher, voter};
 use simplex_shared::Pass;
 use simplex_types::{Channel, Scheme};
 use std::alloc::{AllocError, Global};
-use std::collections::VecDeque;
+use std::collections::{BTreeSet, VecDeque};
 use std::sync::Wait;
 
 /// A batcher between two of its turns.
@@ -33,6 +36,8 @@ pub struct BatcherThread<S: Scheme> {
     pub now: u64,
     /// What of its feed is left.
     pub feed: VecDeque<Delivery>,
+    /// The members whose packets it does not hear: the engine blocked them before, or its own steps since.
+    pub blocked: BTreeSet<u32>,
     /// It takes its messages with this.
     pub own: Pass<batcher::Message>,
     /// It puts messages into the voter's mailbox with this.
@@ -83,20 +88,25 @@ impl<S: Scheme + Drop> BatcherThread<S> {
         }
     }
 
-    // The message, else the next packet of the feed as an input: one of another channel is taken, and is none.
+    // The message, else the next packet of the feed as an input: one of another channel, or of a blocked member, is taken,
+    // and is none.
     fn find(&mut self, taken: Option<batcher::Message>) -> Option<BatcherInput>
         ensures same { (self.new.actor ≡ self.old.actor) × (self.new.now ≡ self.old.now) }
         ensures passes { (self.new.own ≡ self.old.own) × (self.new.voter ≡ self.old.voter) }
-        ensures found { MatchOption taken ((result ≡ option_and_then batcher_input (front self.old.feed.items)) × (self.new.feed.items ≡ drop 1 self.old.feed.items))
+        ensures blocked { self.new.blocked ≡ self.old.blocked }
+        ensures found { MatchOption taken ((result ≡ option_and_then (batcher_input self.old.blocked.keys) (front self.old.feed.items)) × (self.new.feed.items ≡ drop 1 self.old.feed.items))
             (λ message. (result ≡ Some (inputs.Mail message)) × (self.new.feed.items ≡ self.old.feed.items)) }
     {
         match taken {
             Some(message) => Some(BatcherInput::Mail(message)),
-            None => input_of(self.feed.pop_front()?),
+            None => {
+                let delivery = self.feed.pop_front()?;
+                heard(&self.blocked, delivery)
+            }
         }
     }
 
-    // A step on this input, of which the messages go to the voter.
+    // A step on this input, of which the messages go to the voter. Whom it blocks is heard no more.
     fn step<R: Wait>(
         &mut self,
         rt: &R,
@@ -109,19 +119,31 @@ impl<S: Scheme + Drop> BatcherThread<S> {
         ensures voter { OnOk result (IsSamePass self.old.voter self.new.voter) }
         ensures put { IfOk result (λ out. PutsBehind (filter_map for_voter out.handed) (calls_of self.old.voter) (calls_of self.new.voter)) }
         ensures stands { OnOk result (Takes S.verifies S.recovers S.members S.member self.old.actor self.new.actor (record { input = input; now = self.old.now })) }
+        ensures blocked { IfOk result (λ out. (member : ℕ) → holds_member self.new.blocked.keys member ≡ holds_member (blocked_by_calls out.calls ++ self.old.blocked.keys) member) }
         ensures out { IfOk result (λ out. Answers S.verifies S.recovers S.members S.member self.old.actor (λ made past. step_out made past (record { input = input; now = self.old.now })) out) }
     {
         let mut out = StepOut::new(self.alloc);
         let mut held = Held::new(self.alloc);
         self.actor.step(input, self.now, &mut held, &mut out)?;
+        note_blocks(&mut self.blocked, out.calls.as_slice())?;
         put_all(rt, &boxes.voter, &mut self.voter, held.into_messages())?;
         Ok(out)
     }
 }
 
+// A packet as an input of the batcher, where its sender is not blocked and it is one of its channels.
+fn heard(blocked: &BTreeSet<u32>, delivery: Delivery) -> Option<BatcherInput>
+    ensures { result ≡ batcher_input blocked.now.keys delivery }
+{
+    if is_among(blocked, delivery.sender) {
+        return None;
+    }
+    input_of(delivery)
+}
+
 // A packet as an input of the batcher, where it is one of its channels.
 fn input_of(delivery: Delivery) -> Option<BatcherInput>
-    ensures { result ≡ batcher_input delivery }
+    ensures { result ≡ heard_on delivery.channel delivery.sender delivery.bytes }
 {
     let Delivery {
         sender,

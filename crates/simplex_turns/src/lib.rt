@@ -6,6 +6,7 @@
 #![tactic(auto)]
 
 mod batcher;
+mod blocking;
 mod feed;
 mod handing;
 mod logs;

@@ -3,11 +3,11 @@ ghost use Rattle.std.specs.Prelude.{◌≡◌, ◌<◌, ◌^◌, filter_map, if�
 ghost use Rattle.simplex_messages.specs.declared.resolver.ResolverInput.TheVariants as inputs;
 ghost use Rattle.simplex_messages.specs.Handing.{for_voter};
 ghost use Rattle.simplex_shared.specs.Passes.{IsSamePass, calls_of};
-ghost use Rattle.model_resolver.specs.Resolver.{Stepped, step_out, holds_handled, deadline_after};
+ghost use Rattle.model_resolver.specs.Resolver.{Stepped, step_out, holds_handled, deadline_after, blocked_after};
 ghost use Rattle.model_resolver.specs.Views.{is_reached};
 ghost use Rattle.simplex_resolver.specs.Stands.{Takes, Answers};
 ghost use Rattle.simplex_turns.specs.Handing.{PutsBehind};
-ghost use Rattle.simplex_turns.specs.Resolving.{resolver_input};
+ghost use Rattle.simplex_turns.specs.Resolving.{resolver_input, answered_on};
 
 use crate::feed::Delivery;
 use crate::handing::put_all;
@@ -96,7 +96,8 @@ impl<S: Scheme + Drop> ResolverThread<S> {
         }
     }
 
-    // A message of the handler, else the next packet of the feed, else a deadline that is reached.
+    // A message of the handler, else the next packet of the feed, else a deadline that is reached. A packet of another
+    // channel, or of a blocked member, is taken, and is none.
     fn find_own(&mut self) -> Option<ResolverInput>
         ensures same { (self.new.own ≡ self.old.own) × (self.new.voter ≡ self.old.voter) × (self.new.now ≡ self.old.now) }
         ensures finds { ResolverFinds self.old self.new None result }
@@ -105,7 +106,7 @@ impl<S: Scheme + Drop> ResolverThread<S> {
             return self.find_handled();
         }
         match self.feed.pop_front() {
-            Some(delivery) => input_of(delivery),
+            Some(delivery) => self.heard(delivery),
             None => self.find_deadline(),
         }
     }
@@ -117,6 +118,16 @@ impl<S: Scheme + Drop> ResolverThread<S> {
     {
         let message = self.actor.take_handler()?;
         Some(ResolverInput::Handler(message))
+    }
+
+    // A packet as an input of the resolver, where its fetcher does not count the sender as blocked and it is one of its channel.
+    fn heard(&self, delivery: Delivery) -> Option<ResolverInput>
+        ensures { Answers S.verifies S.members S.member self.entry.now.actor (λ made past. resolver_input (blocked_after made past) delivery) result }
+    {
+        if self.actor.is_blocked(delivery.sender) {
+            return None;
+        }
+        input_of(delivery)
     }
 
     // A deadline of the fetcher that is reached.
@@ -155,7 +166,7 @@ impl<S: Scheme + Drop> ResolverThread<S> {
 
 // A packet as an input of the resolver, where it is one of its channel.
 fn input_of(delivery: Delivery) -> Option<ResolverInput>
-    ensures { result ≡ resolver_input delivery }
+    ensures { result ≡ answered_on delivery.channel delivery.sender delivery.bytes }
 {
     let Delivery {
         sender,

@@ -5,8 +5,10 @@ ghost use Rattle.simplex_values.specs.declared.round.Context.{Context};
 ghost use Rattle.simplex_values.specs.declared.round.Round.{Round};
 ghost use Rattle.simplex_values.specs.declared.plan.Plan.{Plan};
 ghost use Rattle.simplex_values.specs.declared.feedback.Feedback.{Feedback};
+ghost use Rattle.simplex_types.specs.declared.cause.BlockCause.{BlockCause};
 ghost use Rattle.simplex_types.specs.Reporting.{if_there};
 
+use crate::cause::BlockCause;
 use simplex_values::{Context, Digest, Feedback, Participant, Plan, Round, View};
 use std::alloc::AllocError;
 
@@ -83,11 +85,11 @@ pub trait Relay {
 /// Keeps members out.
 pub trait Blocker {
     /// What the blocker answers where a member is to be kept out, and what it is then.
-    ghost blocks: { Self → ℕ → Result (Unit {0}) AllocError → Self → Type 0 };
+    ghost blocks: { Self → ℕ → BlockCause → Result (Unit {0}) AllocError → Self → Type 0 };
 
-    /// Blocks the member.
-    fn block(&mut self, member: Participant) -> Result<(), AllocError>
-        ensures blocked { blocks self.old member result self.new };
+    /// Blocks the member, for this cause.
+    fn block(&mut self, member: Participant, cause: BlockCause) -> Result<(), AllocError>
+        ensures blocked { blocks self.old member cause result self.new };
 }
 
 /// Tells how far a member is.

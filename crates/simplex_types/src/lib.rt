@@ -7,6 +7,7 @@
 #![tactic(auto)]
 
 mod activity;
+mod cause;
 pub mod elector;
 mod evidence;
 mod floor;
@@ -18,6 +19,7 @@ mod keys;
 mod round_robin;
 
 pub use activity::Activity;
+pub use cause::BlockCause;
 pub use evidence::{ConflictingFinalize, ConflictingNotarize, NullifyFinalize};
 pub use floor::Floor;
 pub use hashing::{absorb_number, genesis};

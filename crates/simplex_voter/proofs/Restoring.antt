@@ -1,4 +1,5 @@
 -- What a start knows again, and with which call it begins.
+use Rattle.simplex_types.specs.declared.cause.BlockCause.TheVariants.{LeaderConflict}
 use Rattle.std.proofs.Common.{◌≡◌, ℕ, ◌+◌, ◌<◌, Bool, true, false, List, [], ◌∷◌, ◌++◌, length, get_or, drop, take, Option, Some, None, refl, ap, ◌∙◌, arith, nat_lt, cond}
 use Rattle.simplex_wire.specs.declared.artifact.Artifact.{Artifact}
 use Rattle.simplex_wire.specs.declared.artifact.Artifact.TheVariants as artifacts
@@ -197,7 +198,7 @@ first-more call (c ∷ made) more first = first
 module _ (call : Call) where
   begins-block : (leader : Option ℕ) (doing : Doing) → Begins call doing → Begins call (block_for leader doing)
   begins-block None doing first = first
-  begins-block (Some leader) doing first = first-more call doing.calls (calls.Block leader ∷ []) first
+  begins-block (Some leader) doing first = first-more call doing.calls (calls.Block leader LeaderConflict ∷ []) first
 
   begins-report : (activity : Option Activity) (doing : Doing) → Begins call doing → Begins call (report_if activity doing)
   begins-report None doing first = first

@@ -69,4 +69,5 @@ abbrev pub FaultsAt : Outcome → ℕ → ℕ → Type 0
 FaultsAt outcomes.Done before now = now ≡ before
 FaultsAt outcomes.Idle before now = now ≡ before
 FaultsAt outcomes.Cut before now = now ≡ before
+FaultsAt outcomes.Refused before now = now ≡ before
 FaultsAt outcomes.Journal before now = (before ≤ now) × Rose before now

@@ -15,8 +15,8 @@ use simplex_messages::{Call, Handed, StepOut, batcher, resolver};
 use simplex_state::{State, StateConfig};
 use simplex_types::elector::Elector;
 use simplex_types::{
-    Activity, Artifact, Certificate, Channel, Kind, Notarization, Nullify, Participant, Recipients,
-    Scheme, Sequence, View, Vote,
+    Activity, Artifact, BlockCause, Certificate, Channel, Kind, Notarization, Nullify, Participant,
+    Recipients, Scheme, Sequence, View, Vote,
 };
 use std::alloc::{AllocError, Global};
 use std::mem;
@@ -185,14 +185,14 @@ impl<S: Scheme + Drop, L: Elector + Drop> Planner<S, L> {
         Ok(())
     }
 
-    /// The member is blocked, if one is named.
-    pub(crate) fn block(&mut self, member: Option<Participant>) -> Result<(), AllocError>
-        ensures { OnOk result (Does S.attests L.elects self.old self.new (λ made. block_for member)) }
+    /// The leader whose proposal a certificate contradicts is blocked, if there is one.
+    pub(crate) fn block(&mut self, leader: Option<Participant>) -> Result<(), AllocError>
+        ensures { OnOk result (Does S.attests L.elects self.old self.new (λ made. block_for leader)) }
     {
-        let Some(member) = member else {
+        let Some(member) = leader else {
             return Ok(());
         };
-        self.make(Call::Block(member))?;
+        self.make(Call::Block(member, BlockCause::LeaderConflict))?;
         Ok(())
     }
 }

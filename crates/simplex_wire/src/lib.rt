@@ -25,6 +25,7 @@ pub use codec::{
     no_resolver_message_begins_another, no_vote_begins_another,
 };
 pub use error::{DecodeCause, DecodeError};
+pub use reading::Reader;
 pub use resolver::{ResolverBody, ResolverMessage};
 pub use samples::{numbers_come_out, quorums_come_out};
 pub use scheme::{AssemblyError, Scheme, a_verifying_quorum_certifies};

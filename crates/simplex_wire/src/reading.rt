@@ -19,9 +19,9 @@ use simplex_values::{Bytes, Digest, Epoch, Participant, Proposal, Round, View};
 use std::alloc::Global;
 use std::marker::Model;
 
-/// What is left to read of a message.
+/// What is left to read of a message, from left to right.
 #[derive(Drop)]
-pub(crate) struct Reader<'a> {
+pub struct Reader<'a> {
     bytes: &'a [u8],
     end: usize,
 }
@@ -75,7 +75,8 @@ fn number_at(place: u64, most: u64, bytes: &[u8]) -> Result<(u64, &[u8]), Decode
 }
 
 impl<'a> Reader<'a> {
-    pub(crate) fn new(bytes: &'a [u8]) -> Reader<'a>
+    /// A reader with all of these bytes before it.
+    pub fn new(bytes: &'a [u8]) -> Reader<'a>
         ensures { result ≡ record { end = length bytes.now; bytes = bytes.now } }
     {
         Reader {
@@ -91,7 +92,8 @@ impl<'a> Reader<'a> {
         (self.end - self.bytes.len()) as u64
     }
 
-    pub(crate) fn fault(&self, cause: DecodeCause) -> DecodeError
+    /// The error that says this cause at the byte that would be read next.
+    pub fn fault(&self, cause: DecodeCause) -> DecodeError
         ensures { result ≡ fault_at cause self.now }
     {
         DecodeError::Fault {
@@ -121,8 +123,10 @@ impl<'a> Reader<'a> {
         }
     }
 
+    /// The number below 2^64 at the front, seven bits a byte, the lowest first. One that is cut off, longer than it need be or too
+    /// great is an error.
     #[tactic(auto, using(crate::proofs::Numbers::limit64))]
-    fn u64(&mut self) -> Result<u64, DecodeError>
+    pub fn u64(&mut self) -> Result<u64, DecodeError>
         ensures { Gives self.new result (number64.reading self.old) }
     {
         if let Some(value) = self.short_number() {
@@ -133,8 +137,9 @@ impl<'a> Reader<'a> {
         Ok(value)
     }
 
+    /// As [`Reader::u64`], of a number below 2^32.
     #[tactic(auto, using(crate::proofs::Numbers::limit32))]
-    fn u32(&mut self) -> Result<u32, DecodeError>
+    pub fn u32(&mut self) -> Result<u32, DecodeError>
         ensures { Gives self.new result (number32.reading self.old) }
     {
         if let Some(value) = self.short_number() {
@@ -418,7 +423,8 @@ impl<'a> Reader<'a> {
         Ok(ResolverMessage { id, body })
     }
 
-    pub(crate) fn is_empty(&self) -> bool
+    /// Whether all has been read.
+    pub fn is_empty(&self) -> bool
         ensures { result ≡ (length self.now.bytes == 0) }
     {
         self.bytes.is_empty()

@@ -279,6 +279,61 @@ fn a_dropped_section_may_be_back(rt: HostRuntime) {
     same(&rt, "opened after another prune", &later, &wanted);
 }
 
+/// What is done behind a first append that failed.
+#[derive(Clone, Copy, Debug)]
+enum Behind {
+    Nothing,
+    /// A prune of all.
+    Prune,
+    /// An append to another section.
+    Another,
+    /// The same append.
+    Again,
+}
+
+/// A first append to section 5 on a disk whose call of this number fails, what is done behind it, and which files are there then.
+fn after_failed_append(
+    alloc: Global,
+    failing: u64,
+    behind: Behind,
+) -> Result<Vec<u64>, JournalError> {
+    let mut journal = new_journal(alloc, failing)?;
+    let failed = journal.append(alloc, 5, &record(1)).is_err();
+    match behind {
+        _ if !failed => {}
+        Behind::Nothing => {}
+        Behind::Prune => journal.prune(9)?,
+        Behind::Another => journal.append(alloc, 7, &record(1))?,
+        Behind::Again => journal.append(alloc, 5, &record(1))?,
+    }
+    let mut disk = journal.into_disk();
+    let numbers = disk.files(alloc)?;
+    Ok(numbers)
+}
+
+#[test]
+fn a_first_append_that_fails(rt: HostRuntime) {
+    let alloc = rt.alloc();
+    // The file is cut and synced, its gate is written and synced, and then the record is written.
+    for failing in 2..=6u64 {
+        let at_once = after_failed_append(alloc, failing, Behind::Nothing).expect(&rt, "room");
+        let made = if failing > 4 { 1 } else { 0 };
+        assert_eq!(rt; at_once.len(), made, "disk call {failing}");
+        for (behind, wanted) in [
+            (Behind::Prune, [].as_slice()),
+            (Behind::Another, [7].as_slice()),
+            (Behind::Again, [5].as_slice()),
+        ] {
+            let numbers = after_failed_append(alloc, failing, behind).expect(&rt, "room");
+            assert_eq!(rt;
+                numbers.as_slice(),
+                wanted,
+                "disk call {failing}, {behind:?}"
+            );
+        }
+    }
+}
+
 /// Appends so many records to one section, syncs them, and replays them.
 fn many(alloc: Global, size: u64) -> Result<u64, JournalError> {
     let mut journal = new_journal(alloc, 0)?;

@@ -64,6 +64,77 @@ fn attempts_go_round_the_others(rt: HostRuntime) -> Result<(), AllocError> {
     run(&rt, alloc, 0, 1, &alone)
 }
 
+/// A member that is blocked is passed over, whoever blocked it.
+#[test]
+fn blocked_members_are_passed_over(rt: HostRuntime) -> Result<(), AllocError> {
+    let alloc = rt.alloc();
+    let by_others = [
+        (0, Call::Block(2), ""),
+        (5, Call::Fetch(7, gap()), "3 is asked for 7 as 0"),
+        (1005, Call::Expire, ""),
+        (1105, Call::Expire, "1 is asked for 7 as 1"),
+        (2105, Call::Expire, ""),
+        (2205, Call::Expire, "3 is asked for 7 as 2"),
+    ];
+    run(&rt, alloc, 0, 4, &by_others)?;
+    let by_itself = [
+        (0, Call::Hear(3, Heard::Noise), "3 is blocked: Undecodable"),
+        (1, Call::Fetch(8, gap()), "1 is asked for 8 as 0"),
+        (10, Call::Hear(1, Heard::Response(0)), "0 is of 8 for gap"),
+        (
+            20,
+            Call::Verdict(0, Some(Outcome::Invalid)),
+            "1 is blocked: InvalidResponse",
+        ),
+        (20, Call::Due, "at 120"),
+        (120, Call::Expire, "2 is asked for 8 as 1"),
+    ];
+    run(&rt, alloc, 0, 4, &by_itself)
+}
+
+/// Where all targets are blocked the view waits, and does not widen. An attempt that finds nobody counts, and draws no
+/// number. A member alone waits for good.
+#[test]
+fn attempts_may_find_nobody(rt: HostRuntime) -> Result<(), AllocError> {
+    let alloc = rt.alloc();
+    let targets = [
+        (0, Call::Target(10, gap(), 3), "3 is asked for 10 as 0"),
+        (1, Call::Target(10, gap(), 1), ""),
+        (2, Call::Block(3), ""),
+        (1000, Call::Expire, ""),
+        (1100, Call::Expire, "1 is asked for 10 as 1"),
+        (1101, Call::Block(1), ""),
+        (2100, Call::Expire, ""),
+        (2200, Call::Expire, ""),
+        (2200, Call::Due, "at 2300"),
+        (2250, Call::Fetch(10, void()), ""),
+        (2300, Call::Expire, "2 is asked for 10 as 2"),
+    ];
+    run(&rt, alloc, 0, 4, &targets)?;
+    let counted = [
+        (0, Call::Block(1), ""),
+        (0, Call::Target(10, gap(), 1), ""),
+        (0, Call::Due, "at 100"),
+        (10, Call::Target(10, gap(), 2), ""),
+        (20, Call::Target(10, gap(), 3), ""),
+        (100, Call::Expire, "3 is asked for 10 as 0"),
+    ];
+    run(&rt, alloc, 0, 4, &counted)?;
+    let all = [
+        (0, Call::Block(1), ""),
+        (0, Call::Block(1), ""),
+        (0, Call::Block(2), ""),
+        (0, Call::Block(3), ""),
+        (0, Call::Fetch(7, gap()), ""),
+        (0, Call::Due, "at 100"),
+        (100, Call::Expire, ""),
+        (100, Call::Due, "at 200"),
+    ];
+    run(&rt, alloc, 0, 4, &all)?;
+    let alone = [(0, Call::Target(7, gap(), 0), ""), (0, Call::Due, "never")];
+    run(&rt, alloc, 0, 1, &alone)
+}
+
 /// The ask without a target widens, and its going narrows. An ask that comes again with another target adds it,
 /// and without one makes it untargeted for good.
 #[test]
@@ -108,7 +179,11 @@ fn verdicts_end_or_delay_a_view(rt: HostRuntime) -> Result<(), AllocError> {
         (complete, "", "never"),
         (partial, "", "at 120"),
         (Some(Outcome::Unresolved), "", "at 120"),
-        (Some(Outcome::Invalid), "2 is blocked", "at 120"),
+        (
+            Some(Outcome::Invalid),
+            "2 is blocked: InvalidResponse",
+            "at 120",
+        ),
     ];
     for (verdict, told, due) in verdicts {
         let steps = [
@@ -199,7 +274,11 @@ fn answers_are_those_that_were_asked_for(rt: HostRuntime) -> Result<(), AllocErr
         (116, Call::Hear(3, Heard::Response(1)), ""),
         (117, Call::Hear(3, Heard::Refusal(1)), ""),
         (117, Call::Due, "never"),
-        (118, Call::Hear(1, Heard::Noise), "1 is blocked"),
+        (
+            118,
+            Call::Hear(1, Heard::Noise),
+            "1 is blocked: Undecodable",
+        ),
     ];
     run(&rt, alloc, 0, 4, &steps)
 }

@@ -13,7 +13,7 @@ use std::thread::Threads;
 const NUMBER: u64 = 7;
 
 // What `gen 7 2000` says.
-const SUMMARY: &str = "events 2000 finalized 0 greatest 0 evidence 25 stops 3\n";
+const SUMMARY: &str = "events 2000 finalized 0 greatest 0 evidence 10 stops 3\n";
 
 // The setup of number 7.
 const SETUP: &str =

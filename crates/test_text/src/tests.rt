@@ -3,9 +3,9 @@ use simplex_messages::{Call, Outcome};
 use simplex_text::{printed, printed_run, refusal_text};
 use simplex_transcript::{Entry, Event, Field, Node, Refusal, RunError};
 use simplex_types::{
-    Activity, Attestation, ConflictingFinalize, ConflictingNotarize, Digest, Epoch, Finalization,
-    Finalize, Notarize, Nullify, NullifyFinalize, Participant, Proposal, Round, Sequence,
-    Signatures, Subject, View,
+    Activity, Attestation, BlockCause, ConflictingFinalize, ConflictingNotarize, Digest, Epoch,
+    Finalization, Finalize, Notarize, Nullify, NullifyFinalize, Participant, Proposal, Round,
+    Sequence, Signatures, Subject, View,
 };
 use std::alloc::{AllocError, Global};
 use std::fmt::Debug;
@@ -96,7 +96,7 @@ fn reports(alloc: Global) -> Result<Vec<Call>, AllocError> {
             nullify: nullify(),
             finalize: finalize(),
         })),
-        Call::Block(Participant(2)),
+        Call::Block(Participant(2), BlockCause::WrongSender),
     ]?;
     Ok(calls)
 }

@@ -1,7 +1,7 @@
 //! A member that votes twice, and one that votes in another's name.
 use super::script::{Given, last};
 use simplex_messages::{Call, StepOut};
-use simplex_types::{Activity, ConflictingNotarize};
+use simplex_types::{Activity, BlockCause, ConflictingNotarize};
 use std::test::Fail;
 
 /// Member 1 leads view 1. Member 3 notarizes one proposal, and then twice another.
@@ -28,12 +28,12 @@ fn is_the_conflict(it: &ConflictingNotarize) -> bool {
     first && second
 }
 
-/// Whether the conflict is reported and member 3 blocked, and nothing else.
+/// Whether the conflict is reported and member 3 blocked for it, and nothing else.
 fn is_evidence(out: &StepOut) -> bool {
     match out.calls.as_slice() {
         [
             Call::Report(Activity::ConflictingNotarize(it)),
-            Call::Block(member),
+            Call::Block(member, BlockCause::ConflictingVotes),
         ] => { is_the_conflict(it) && member.0 == 3 }
         _ => false,
     }
@@ -67,10 +67,10 @@ const IMPERSONATED: [Given; 3] = [
     },
 ];
 
-/// Whether the step's one call is that it blocks member 3.
+/// Whether the step's one call is that it blocks member 3, since the vote is of another signer.
 fn only_blocks(out: &StepOut) -> bool {
     match out.calls.as_slice() {
-        [Call::Block(blocked)] => blocked.0 == 3,
+        [Call::Block(blocked, BlockCause::WrongSender)] => blocked.0 == 3,
         _ => false,
     }
 }

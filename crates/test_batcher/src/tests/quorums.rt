@@ -1,6 +1,7 @@
 //! Certificates that are made of votes.
 use super::script::{Given, last};
 use simplex_messages::{Call, Handed, StepOut, voter};
+use simplex_types::BlockCause;
 use std::test::Fail;
 
 /// Whether a certificate is handed on last.
@@ -11,10 +12,10 @@ fn has_certificate(out: &StepOut) -> bool {
     )
 }
 
-/// Whom the last call blocks.
+/// Whom the last call blocks for a vote that does not verify.
 fn last_blocked(out: &StepOut) -> Option<u32> {
     match out.calls.as_slice().last()? {
-        Call::Block(member) => Some(member.0),
+        Call::Block(member, BlockCause::InvalidSignature) => Some(member.0),
         _ => None,
     }
 }

@@ -54,7 +54,7 @@ struct Pair {
 /// Tells the member of the certificate.
 fn tell(alloc: Global, seat: &mut Seat, paper: Paper) -> Result<(), Fail> {
     let bytes = bytes_of(alloc, paper)?;
-    seat.hear(Participant(1), Channel::Certificate, &bytes, 0)?;
+    let _outcome = seat.hear(Participant(1), Channel::Certificate, &bytes, 0)?;
     seat.rest(0)
 }
 
@@ -90,7 +90,7 @@ fn carry(from: &mut Seat, to: &mut Seat, line: &mut Line, now: u64) -> Result<()
     for packet in from.sent.iter() {
         if packet.to == to.me {
             for _ in 0..line.next() {
-                to.hear(from.me, Channel::Resolver, &packet.bytes, now)?;
+                let _outcome = to.hear(from.me, Channel::Resolver, &packet.bytes, now)?;
             }
         }
     }

@@ -10,7 +10,7 @@ use std::alloc::Global;
 use std::test::Fail;
 
 /// A certificate of a view.
-#[derive(Clone, Copy)]
+#[derive(Clone, Copy, Debug)]
 pub(super) enum Paper {
     Notarized(u64),
     Nullified(u64),
@@ -52,7 +52,7 @@ fn two(alloc: Global, subject: &Subject) -> Result<Signatures, Fail> {
     Ok(Signatures::new(attestations))
 }
 
-fn round(epoch: u64, view: u64) -> Round {
+pub(super) fn round(epoch: u64, view: u64) -> Round {
     Round {
         epoch: Epoch(epoch),
         view: View(view),

@@ -3,7 +3,7 @@ use super::papers::{Paper, bytes_of, message, noise};
 use super::seat::Seat;
 use simplex_messages::Outcome;
 use simplex_transcript::StepSource;
-use simplex_types::{Bytes, Channel, Participant, ResolverBody, ResolverMessage, View};
+use simplex_types::{BlockCause, Bytes, Channel, Participant, ResolverBody, ResolverMessage, View};
 use std::alloc::Global;
 use std::process::Abort;
 use std::test::Fail;
@@ -17,16 +17,16 @@ enum Answer {
 
 /// Member 3, with terms of three views, which knows that view 4 was notarized on genesis: it lacks the nullification
 /// of view 1.
-fn asking(alloc: Global) -> Result<Seat, Fail> {
+pub(super) fn asking(alloc: Global) -> Result<Seat, Fail> {
     let mut seat = Seat::new(alloc, 3, 3, 16)?;
     let bytes = bytes_of(alloc, Paper::Notarized(4))?;
-    seat.hear(Participant(1), Channel::Certificate, &bytes, 0)?;
+    let _outcome = seat.hear(Participant(1), Channel::Certificate, &bytes, 0)?;
     seat.rest(0)?;
     Ok(seat)
 }
 
 /// Whom it asked last, under which number, and for which view.
-fn last_asked(alloc: Global, seat: &Seat) -> Result<(Participant, u64, View), Fail> {
+pub(super) fn last_asked(alloc: Global, seat: &Seat) -> Result<(Participant, u64, View), Fail> {
     let packet = seat.sent.last().ok_or("it asks")?;
     let ResolverMessage { id, body } = ResolverMessage::decode(alloc, packet.bytes.as_slice())?;
     match body {
@@ -55,10 +55,14 @@ fn assert_answered(
     assert_eq!(rt; asked, View(1));
     let bytes = bytes(alloc, answer)?;
     let bytes = message(alloc, id, ResolverBody::Response { bytes })?;
-    seat.hear(peer, Channel::Resolver, &bytes, 10)?;
+    let _outcome = seat.hear(peer, Channel::Resolver, &bytes, 10)?;
     seat.rest(10)?;
     assert_eq!(rt; seat.view(), View(view));
-    let wanted = if blocks { Some(peer) } else { None };
+    let wanted = if blocks {
+        Some((peer, BlockCause::InvalidResponse))
+    } else {
+        None
+    };
     assert_eq!(rt; seat.blocked.first().copied(), wanted);
     assert!(rt; seat.blocked.len() < 2);
     Ok(())
@@ -110,14 +114,14 @@ fn a_full_mailbox_of_the_handler(rt: HostRuntime) -> Result<(), Fail> {
     let alloc = rt.alloc();
     let mut seat = Seat::new(alloc, 0, 3, 1)?;
     let nullified = bytes_of(alloc, Paper::Nullified(1))?;
-    seat.hear(Participant(1), Channel::Certificate, &nullified, 0)?;
+    let _outcome = seat.hear(Participant(1), Channel::Certificate, &nullified, 0)?;
     seat.rest(0)?;
     let first = message(alloc, 7, ResolverBody::Request { view: View(1) })?;
     let second = message(alloc, 8, ResolverBody::Request { view: View(1) })?;
-    seat.hear(Participant(3), Channel::Resolver, &first, 0)?;
+    let _outcome = seat.hear(Participant(3), Channel::Resolver, &first, 0)?;
     assert!(rt; seat.sent.is_empty());
     // There is room for one request: the next one is answered by an error at once.
-    seat.hear(Participant(2), Channel::Resolver, &second, 0)?;
+    let _outcome = seat.hear(Participant(2), Channel::Resolver, &second, 0)?;
     assert_eq!(rt; last_answer(alloc, &seat)?, ResolverBody::Error);
     seat.rest(0)?;
     let wanted = ResolverBody::Response { bytes: nullified };

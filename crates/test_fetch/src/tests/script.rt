@@ -25,6 +25,8 @@ pub(super) enum Call {
     Serve(u64, bool),
     Retain(Retire),
     Expire,
+    /// The member is blocked by others.
+    Block(u32),
     /// When `expire` is to be called.
     Due,
 }
@@ -122,7 +124,7 @@ fn told(alloc: Global, out: &Out) -> Result<String, AllocError> {
             format!(in alloc; "{id} is of {view} for {asks}")
         }
         Out::Produce { id, view } => format!(in alloc; "{view} is wanted as {id}"),
-        Out::Block(member) => format!(in alloc; "{member} is blocked"),
+        Out::Block(member, cause) => format!(in alloc; "{member} is blocked: {cause:?}"),
         Out::Left { id } => format!(in alloc; "{id} is left"),
     }
 }
@@ -193,6 +195,10 @@ fn outs(alloc: Global, fetcher: &mut Fetcher, call: &Call, now: u64) -> Result<V
         Call::Serve(id, has) => serve(alloc, fetcher, *id, *has),
         Call::Retain(retire) => fetcher.retain(alloc, retire),
         Call::Expire => fetcher.expire(alloc, now),
+        Call::Block(member) => {
+            fetcher.block(Participant(*member))?;
+            Ok(Vec::new(alloc))
+        }
         Call::Due => Ok(Vec::new(alloc)),
     }
 }

@@ -4,6 +4,7 @@ use super::members::{
     VOTER_2, WITH_SILENT, run,
 };
 use super::words::{Part, part_told};
+use simplex_types::BlockCause;
 use std::alloc::{AllocError, Global};
 use std::test::Fail;
 
@@ -57,6 +58,36 @@ fn told_of(alloc: Global, shown: &str) -> Result<(String, String), Fail> {
     Ok((calls, handed))
 }
 
+/// Why member 3 is blocked for these bytes, in which the byte at this place was changed to this value.
+fn cause_of(place: usize, value: u8) -> BlockCause {
+    match (place, value) {
+        // the tag: a finalization is read off the same bytes, and nothing else is
+        (0, 2) => BlockCause::InvalidCertificate,
+        (0, _) => BlockCause::Undecodable,
+        // the epoch; from 128 on a number has a second byte, and all that stands behind it is read one byte off
+        (1, 0..=127) => BlockCause::WrongEpoch,
+        (1..=3, 128..) => BlockCause::Undecodable,
+        // how many have signed
+        (36, _) => BlockCause::Undecodable,
+        // the first two signers: the one behind is no longer above, or a number of several bytes leaves too few for the rest
+        (37 | 70, _) => BlockCause::Undecodable,
+        // the last signer: it is to be above the one before
+        (103, 0 | 128..) => BlockCause::Undecodable,
+        // the view, its parent, the payload, another last signer, or a signature
+        _ => BlockCause::InvalidCertificate,
+    }
+}
+
+/// The byte at a place of the digits.
+fn byte_at(digits: &str, place: usize) -> u8 {
+    let mut value = 0u8;
+    for digit in digits.chars().skip(place.saturating_mul(2)).take(2) {
+        let low = u8::try_from(digit.to_digit(16).unwrap_or(0)).unwrap_or(0);
+        value = value.saturating_mul(16).saturating_add(low);
+    }
+    value
+}
+
 /// The digits, with a bit of one of them changed.
 fn changed(alloc: Global, digits: &str, bit: usize) -> Result<String, AllocError> {
     let mut text = String::new(alloc);
@@ -77,7 +108,10 @@ fn each_changed_bit_of_a_notarization_is_blocked(rt: HostRuntime) -> Result<(), 
     for bit in 0..BITS {
         let shown = changed(alloc, NOTARIZATION, bit)?;
         let (calls, handed) = told_of(alloc, shown.as_str())?;
-        assert_eq!(rt; calls.as_str(), "block 3,", "bit {bit}");
+        let place = bit / 8;
+        let cause = cause_of(place, byte_at(shown.as_str(), place));
+        let blocked = format!(in alloc; "block 3 {cause:?},")?;
+        assert_eq!(rt; calls.as_str(), blocked.as_str(), "bit {bit}");
         assert_eq!(rt; handed.as_str(), "", "bit {bit}");
     }
     Ok(())

@@ -250,10 +250,15 @@ const TWO_VOTES: [&str; 9] = [
     SECOND_OF_3,
 ];
 
-const BLAMED: [(usize, Part, &str); 3] = [
+const BLAMED: [(usize, Part, &str); 4] = [
     (7, Part::Calls, "report notarize 1,"),
-    (8, Part::Calls, "report evidence 1,block 3,"),
+    (
+        8,
+        Part::Calls,
+        "report evidence 1,block 3 ConflictingVotes,",
+    ),
     (9, Part::Calls, ""),
+    (9, Part::Outcome, "refused"),
 ];
 
 const ANOTHERS_VOTE: [&str; 7] = [
@@ -268,7 +273,7 @@ const ANOTHERS_VOTE: [&str; 7] = [
 
 const BLOCKED: [(usize, Part, &str); 3] = [
     (4, Part::Packets, "0.0,1.0,2.0,"),
-    (7, Part::Calls, "block 3,"),
+    (7, Part::Calls, "block 3 WrongSender,"),
     (7, Part::Handed, ""),
 ];
 
@@ -348,7 +353,7 @@ const NOT_TAKEN: [(usize, Part, &str); 5] = [
     (5, Part::Calls, "append nullify 1,sync 1,send vote,"),
     (6, Part::Calls, "append nullify 1,sync 1,send vote,"),
     (8, Part::Packets, "2.0,"),
-    (9, Part::Calls, "block 3,"),
+    (9, Part::Calls, "block 3 InvalidCertificate,"),
     (9, Part::Handed, ""),
 ];
 

@@ -60,6 +60,7 @@ fn outcome_name(outcome: Outcome) -> &'static str {
         Outcome::Idle => "idle",
         Outcome::Journal => "the journal failed",
         Outcome::Cut => "cut",
+        Outcome::Refused => "refused",
     }
 }
 
@@ -76,7 +77,7 @@ fn call_name(alloc: Global, call: &Call) -> Result<String, AllocError> {
             format!(in alloc; "report {} {view},", activity_name(activity))
         }
         Call::Relay { .. } => format!(in alloc; "relay,"),
-        Call::Block(member) => format!(in alloc; "block {member},"),
+        Call::Block(member, cause) => format!(in alloc; "block {member} {cause:?},"),
     }
 }
 

@@ -24,21 +24,21 @@ const LACKING: [Step; 3] = [
     ),
 ];
 
-/// A nullification of view 4 covers view 5, and not the next term's view 6.
+/// A nullification of view 4 covers view 5, and not the next term's view 6. Who answers by it there is asked no more.
 const ROW: [Step; 5] = [
     (
         1,
         Move::Answer(1, 2, Paper::Nullified(4)),
         "deliver 2 for 6 as gap, due 1000",
     ),
-    (1, Move::Handle, "block 1, due 101"),
+    (1, Move::Handle, "block 1 for InvalidResponse, due 101"),
     (
         2,
         Move::Answer(3, 1, Paper::Nullified(4)),
         "deliver 1 for 5 as gap, due 101",
     ),
     (2, Move::Handle, "verified nullification 4, due 101"),
-    (101, Move::Timer, "ask 2 for 6 as 3, due 1000"),
+    (101, Move::Timer, "ask 3 for 6 as 3, due 1000"),
 ];
 
 #[test]

@@ -34,13 +34,31 @@ const STRANGERS: [Step; 5] = [
     (1303, Move::Answer(2, 3, Paper::Nullified(5)), "due 2302"),
     (1303, Move::Answer(3, 2, Paper::Nullified(5)), "due 2302"),
     (1303, Move::Refuse(1, 3), "due 2302"),
-    (1303, Move::Noise(1), "block 1, due 2302"),
+    (1303, Move::Noise(1), "block 1 for Undecodable, due 2302"),
     (1303, Move::Handle, "nothing waits"),
 ];
 
 #[test]
 fn peers_give_no_answer(rt: HostRuntime) -> Result<(), Fail> {
     run(&rt, rt.alloc(), FOUR, &TARGETS, &STRANGERS)
+}
+
+/// Others block the member that is asked, and one that is not. It stays asked until its deadline, and is then passed over.
+const BLOCKED: [Step; 5] = [
+    (
+        0,
+        Move::Missing(9, 5, Kind::Nullification, None),
+        "ask 3 for 5 as 0, due 1000",
+    ),
+    (1, Move::Blocked(3), "due 1000"),
+    (2, Move::Blocked(1), "due 1000"),
+    (1000, Move::Timer, "due 1100"),
+    (1100, Move::Timer, "ask 2 for 5 as 1, due 2100"),
+];
+
+#[test]
+fn blocked_peers_are_passed_over(rt: HostRuntime) -> Result<(), Fail> {
+    run(&rt, rt.alloc(), FOUR, &[], &BLOCKED)
 }
 
 const ALONE: Member = Member {

@@ -56,6 +56,8 @@ pub(super) enum Move {
     /// A member sends bytes that are no message.
     Noise(u32),
     Timer,
+    /// Others blocked a member.
+    Blocked(u32),
     /// The handler's first message is taken, for a step.
     Handle,
     /// The handler's first message is taken, for a later step.
@@ -149,6 +151,19 @@ impl Resolver {
         told(self.alloc, &out, self.actor.next_deadline())
     }
 
+    /// Others blocked the member, which is then asked nothing.
+    fn block(&mut self, member: u32) -> Result<String, Fail> {
+        self.actor.block(Participant(member))?;
+        if !self.actor.is_blocked(Participant(member)) {
+            return Err("the member is blocked".into());
+        }
+        told(
+            self.alloc,
+            &StepOut::new(self.alloc),
+            self.actor.next_deadline(),
+        )
+    }
+
     fn handle(&mut self, message: Option<HandlerMessage>, now: u64) -> Result<String, Fail>
         requires { now < 2 ^ 63 }
     {
@@ -171,6 +186,7 @@ impl Resolver {
                 self.taken = self.actor.take_handler();
                 Ok(format!(in self.alloc; "taken")?)
             }
+            Move::Blocked(member) => self.block(member),
             Move::Late => {
                 let message = self.taken.take();
                 self.handle(message, now)

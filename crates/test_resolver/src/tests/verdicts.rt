@@ -115,38 +115,46 @@ fn an_unresolved_answer_is_handed_on(rt: HostRuntime) -> Result<(), Fail> {
     run(&rt, rt.alloc(), FOUR, &NULLIFICATION, &UNRESOLVED)
 }
 
-/// An earlier view's nullification, one that two signed, one of another epoch, and bytes that are no certificate. Each
-/// time the next peer is asked after the delay.
-const INVALID: [Step; 12] = [
+/// An earlier view's nullification, one that two signed, and one of another epoch. Each time the next peer that is not
+/// blocked is asked after the delay, until there is none.
+const INVALID: [Step; 11] = [
     (1, Move::Known(Paper::Nullified(1)), "due 1000"),
     (
         2,
         Move::Answer(3, 1, Paper::Nullified(1)),
         "deliver 1 for 2 as gap",
     ),
-    (2, Move::Handle, "block 3, due 102"),
-    (102, Move::Timer, "ask 1 for 2 as 2, due 1102"),
+    (2, Move::Handle, "block 3 for InvalidResponse, due 102"),
+    (102, Move::Timer, "ask 2 for 2 as 2, due 1102"),
     (
         103,
-        Move::Answer(1, 2, Paper::Thin(2)),
+        Move::Answer(2, 2, Paper::Thin(2)),
         "deliver 2 for 2 as gap",
     ),
-    (103, Move::Handle, "block 1, due 203"),
-    (203, Move::Timer, "ask 2 for 2 as 3, due 1203"),
+    (103, Move::Handle, "block 2 for InvalidResponse, due 203"),
+    (203, Move::Timer, "ask 1 for 2 as 3, due 1203"),
     (
         204,
-        Move::Answer(2, 3, Paper::Foreign(2)),
+        Move::Answer(1, 3, Paper::Foreign(2)),
         "deliver 3 for 2 as gap",
     ),
-    (204, Move::Handle, "block 2, due 304"),
-    (304, Move::Timer, "ask 3 for 2 as 4, due 1304"),
-    (305, Move::Garble(3, 4), "deliver 4 for 2 as gap"),
-    (305, Move::Handle, "block 3, due 405"),
+    (204, Move::Handle, "block 1 for InvalidResponse, due 304"),
+    (304, Move::Timer, "due 404"),
+    (404, Move::Timer, "due 504"),
+];
+
+/// Bytes that are no certificate.
+const GARBLED: [Step; 3] = [
+    (1, Move::Known(Paper::Nullified(1)), "due 1000"),
+    (2, Move::Garble(3, 1), "deliver 1 for 2 as gap"),
+    (2, Move::Handle, "block 3 for InvalidResponse, due 102"),
 ];
 
 #[test]
 fn an_invalid_answer_blocks_the_peer(rt: HostRuntime) -> Result<(), Fail> {
-    run(&rt, rt.alloc(), FOUR, &LACKING, &INVALID)
+    let alloc = rt.alloc();
+    run(&rt, alloc, FOUR, &LACKING, &INVALID)?;
+    run(&rt, alloc, FOUR, &LACKING, &GARBLED)
 }
 
 /// View 1 is settled while the answer waits in the handler's mailbox: it is dropped.

@@ -39,7 +39,7 @@ fn call(alloc: Global, call: &Call) -> Result<String, Fail> {
             recipients: Recipients::One(to),
             bytes,
         } => sent(alloc, to.0, bytes.as_slice()),
-        Call::Block(member) => Ok(format!(in alloc; "block {member}")?),
+        Call::Block(member, cause) => Ok(format!(in alloc; "block {member} for {cause:?}")?),
         _ => Ok(format!(in alloc; "another call")?),
     }
 }

@@ -1,7 +1,9 @@
 //! Votes of a member that conflict.
 use super::votes::{finalize, notarize, nullify, view_one};
 use simplex_round::{Round, RoundOut};
-use simplex_types::{Activity, ConflictingFinalize, ConflictingNotarize, NullifyFinalize};
+use simplex_types::{
+    Activity, BlockCause, ConflictingFinalize, ConflictingNotarize, NullifyFinalize,
+};
 use simplex_values::Participant;
 use simplex_wire::Vote;
 use std::alloc::{AllocError, Global};
@@ -40,30 +42,38 @@ fn heard_own(alloc: Global, votes: &[Vote]) -> Result<RoundOut, AllocError> {
     Ok(out)
 }
 
-/// Member 3, so many times.
-fn blocked(alloc: Global, blocks: u32) -> Result<Vec<Participant>, AllocError> {
-    let mut members = Vec::new(alloc);
-    for _ in 0..blocks {
-        members.push(Participant(3))?;
+/// Member 3 is blocked for each of these causes.
+fn blocked(
+    alloc: Global,
+    causes: &[BlockCause],
+) -> Result<Vec<(Participant, BlockCause)>, AllocError> {
+    let mut blocks = Vec::new(alloc);
+    for cause in causes {
+        blocks.push((Participant(3), *cause))?;
     }
-    Ok(members)
+    Ok(blocks)
 }
 
-fn assert_same(rt: &impl Abort, out: &RoundOut, reports: &[Activity], blocks: &[Participant]) {
+fn assert_same(
+    rt: &impl Abort,
+    out: &RoundOut,
+    reports: &[Activity],
+    blocks: &[(Participant, BlockCause)],
+) {
     assert_eq!(rt; out.reports.as_slice(), reports);
     assert_eq!(rt; out.blocks.as_slice(), blocks);
 }
 
-/// These reports, and member 3 blocked so often.
+/// These reports, and member 3 blocked for these causes.
 fn assert_out(
     rt: &impl Abort,
     alloc: Global,
     out: &RoundOut,
     reports: &[Activity],
-    blocks: u32,
+    causes: &[BlockCause],
 ) -> Result<(), AllocError> {
-    let members = blocked(alloc, blocks)?;
-    assert_same(rt, out, reports, &members);
+    let blocks = blocked(alloc, causes)?;
+    assert_same(rt, out, reports, &blocks);
     Ok(())
 }
 
@@ -73,12 +83,12 @@ fn assert_heard(
     alloc: Global,
     votes: &[Vote],
     reports: &[Activity],
-    blocks: u32,
+    causes: &[BlockCause],
 ) -> Result<(), AllocError> {
     let out = heard(alloc, votes)?;
-    assert_out(rt, alloc, &out, reports, blocks)?;
+    assert_out(rt, alloc, &out, reports, causes)?;
     let out = heard_own(alloc, votes)?;
-    assert_out(rt, alloc, &out, reports, blocks)
+    assert_out(rt, alloc, &out, reports, causes)
 }
 
 fn two_notarizes(first: u8, second: u8) -> Activity {
@@ -112,7 +122,8 @@ fn two_notarizes_are_evidence_once(rt: HostRuntime) -> Result<(), Fail> {
         Vote::Notarize(notarize(3, 7)),
     ];
     let reports = [Activity::Notarize(notarize(3, 9)), two_notarizes(9, 8)];
-    assert_heard(&rt, rt.alloc(), &votes, &reports, 1)?;
+    let causes = [BlockCause::ConflictingVotes];
+    assert_heard(&rt, rt.alloc(), &votes, &reports, &causes)?;
     Ok(())
 }
 
@@ -125,7 +136,8 @@ fn two_finalizes_are_evidence_once(rt: HostRuntime) -> Result<(), Fail> {
         Vote::Finalize(finalize(3, 7)),
     ];
     let reports = [Activity::Finalize(finalize(3, 9)), two_finalizes(9, 8)];
-    assert_heard(&rt, rt.alloc(), &votes, &reports, 1)?;
+    let causes = [BlockCause::ConflictingVotes];
+    assert_heard(&rt, rt.alloc(), &votes, &reports, &causes)?;
     Ok(())
 }
 
@@ -137,7 +149,8 @@ fn a_nullify_beside_a_finalize_is_evidence_once(rt: HostRuntime) -> Result<(), F
         Vote::Nullify(nullify(3)),
     ];
     let reports = [Activity::Finalize(finalize(3, 9)), nullify_and_finalize(9)];
-    assert_heard(&rt, rt.alloc(), &votes, &reports, 1)?;
+    let causes = [BlockCause::NullifyAndFinalize];
+    assert_heard(&rt, rt.alloc(), &votes, &reports, &causes)?;
     Ok(())
 }
 
@@ -149,7 +162,8 @@ fn a_finalize_beside_a_nullify_is_evidence_once(rt: HostRuntime) -> Result<(), F
         Vote::Finalize(finalize(3, 8)),
     ];
     let reports = [Activity::Nullify(nullify(3)), nullify_and_finalize(9)];
-    assert_heard(&rt, rt.alloc(), &votes, &reports, 1)?;
+    let causes = [BlockCause::NullifyAndFinalize];
+    assert_heard(&rt, rt.alloc(), &votes, &reports, &causes)?;
     Ok(())
 }
 
@@ -170,7 +184,12 @@ fn each_kind_of_evidence_is_given(rt: HostRuntime) -> Result<(), Fail> {
         two_finalizes(9, 8),
         two_notarizes(9, 8),
     ];
-    assert_heard(&rt, rt.alloc(), &votes, &reports, 3)?;
+    let causes = [
+        BlockCause::NullifyAndFinalize,
+        BlockCause::ConflictingVotes,
+        BlockCause::ConflictingVotes,
+    ];
+    assert_heard(&rt, rt.alloc(), &votes, &reports, &causes)?;
     Ok(())
 }
 
@@ -193,7 +212,8 @@ fn an_own_vote_beside_a_conflicting_one_is_evidence(rt: HostRuntime) -> Result<(
     let mut out = RoundOut::new(alloc);
     assert_conflict(&rt, &mut round, &mut out)?;
     let reports = [Activity::Notarize(notarize(3, 9)), two_notarizes(9, 8)];
-    assert_out(&rt, alloc, &out, &reports, 1)
+    let causes = [BlockCause::ConflictingVotes];
+    assert_out(&rt, alloc, &out, &reports, &causes)
 }
 
 /// Member 3 sends a vote of member 1, who then sends another one.
@@ -217,5 +237,6 @@ fn a_vote_of_another_sender_is_no_evidence(rt: HostRuntime) -> Result<(), AllocE
     let mut out = RoundOut::new(alloc);
     assert_foreign(&rt, &mut round, &mut out)?;
     let reports = [Activity::Notarize(notarize(1, 9))];
-    assert_out(&rt, alloc, &out, &reports, 1)
+    let causes = [BlockCause::WrongSender];
+    assert_out(&rt, alloc, &out, &reports, &causes)
 }

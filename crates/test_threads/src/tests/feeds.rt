@@ -1,12 +1,14 @@
 //! What comes from outside, item by item.
-use super::gates::{BATCHER, Leads, RESOLVER, VOTER};
-use super::member::{for_voter, started};
+ghost use Rattle.std.specs.Prelude.{◌<◌};
+
+use super::gates::{BATCHER, InStep, Leads, RESOLVER, VOTER};
+use super::member::{for_voter, hear, started};
 use super::told::told;
 use simplex_messages::StepOut;
-use simplex_threads::{AskKind, Delivery, Feed, FeedItem, start_threads};
+use simplex_threads::{AskKind, Delivery, Feed, FeedItem, OpenGate, start_threads};
 use simplex_types::{
-    Answer, Bytes, Channel, Digest, Epoch, Keyed, Notarize, Participant, Proposal, ResolverBody,
-    ResolverMessage, Round, Sequence, View, Vote,
+    Answer, Bytes, Certificate, Channel, Digest, Epoch, Keyed, Notarization, Notarize, Nullify,
+    Participant, Proposal, ResolverBody, ResolverMessage, Round, Sequence, Signatures, View, Vote,
 };
 use std::alloc::{AllocError, Global};
 use std::process::Abort;
@@ -93,22 +95,51 @@ enum Load {
     Noise,
     /// The other member's notarize of a proposal of view 1, whose leader it is.
     Notarize,
+    /// A notarization of another proposal of view 1.
+    Notarization,
+    /// The other member's nullify of view 1.
+    Nullify,
     /// A request of the other member for a certificate of view 1.
     Request,
 }
 
-fn notarize(alloc: Global) -> Result<Vec<u8>, Fail> {
-    let scheme = Keyed::new(alloc, 1, 2, Some(Participant(1)))?;
-    let proposal = Proposal {
-        round: Round {
-            epoch: Epoch(0),
-            view: View(1),
-        },
+const ROUND: Round = Round {
+    epoch: Epoch(0),
+    view: View(1),
+};
+
+fn proposal(payload: u8) -> Proposal {
+    Proposal {
+        round: ROUND,
         parent: View(0),
-        payload: Digest([17; 32]),
-    };
-    let vote = Notarize::sign(&scheme, proposal).ok_or("it signs")?;
-    Ok(Vote::Notarize(vote).encode(alloc)?)
+        payload: Digest([payload; 32]),
+    }
+}
+
+fn notarize(alloc: Global, signer: u32, payload: u8) -> Result<Notarize, Fail>
+    requires { signer < 2 }
+{
+    let scheme = Keyed::new(alloc, 1, 2, Some(Participant(signer)))?;
+    let vote = Notarize::sign(&scheme, proposal(payload)).ok_or("it signs")?;
+    Ok(vote)
+}
+
+fn notarization(alloc: Global, payload: u8) -> Result<Vec<u8>, Fail> {
+    let first = notarize(alloc, 0, payload)?.attestation;
+    let second = notarize(alloc, 1, payload)?.attestation;
+    let certificate = Signatures::new(vec![in alloc; first, second]?);
+    let proposal = proposal(payload);
+    let it = Certificate::Notarization(Notarization {
+        proposal,
+        certificate,
+    });
+    Ok(it.encode(alloc)?)
+}
+
+fn nullify(alloc: Global) -> Result<Vec<u8>, Fail> {
+    let scheme = Keyed::new(alloc, 1, 2, Some(Participant(1)))?;
+    let vote = Nullify::sign(&scheme, ROUND).ok_or("it signs")?;
+    Ok(Vote::Nullify(vote).encode(alloc)?)
 }
 
 fn request(alloc: Global) -> Result<Vec<u8>, AllocError> {
@@ -119,7 +150,9 @@ fn request(alloc: Global) -> Result<Vec<u8>, AllocError> {
 fn bytes_of(alloc: Global, load: Load) -> Result<Bytes, Fail> {
     let bytes = match load {
         Load::Noise => vec![in alloc; 9u8]?,
-        Load::Notarize => notarize(alloc)?,
+        Load::Notarize => Vote::Notarize(notarize(alloc, 1, 17)?).encode(alloc)?,
+        Load::Notarization => notarization(alloc, 18)?,
+        Load::Nullify => nullify(alloc)?,
         Load::Request => request(alloc)?,
     };
     Ok(Sequence::from_vec(bytes))
@@ -142,13 +175,15 @@ fn packets(alloc: Global, loads: &[(Channel, Load)]) -> Result<Vec<Delivery>, Fa
 #[test]
 fn packets_are_taken(rt: HostRuntime) -> Result<(), Fail> {
     let alloc = rt.alloc();
-    let by_batcher: [(Channel, Load); 4] = [
+    // Behind the noise its sender is blocked.
+    let by_batcher: [(Channel, Load); 5] = [
         (Channel::Resolver, Load::Request),
         (Channel::Vote, Load::Notarize),
         (Channel::Vote, Load::Noise),
         (Channel::Certificate, Load::Noise),
+        (Channel::Vote, Load::Nullify),
     ];
-    let wanted = ["", "", "report hand ", "block ", "block "];
+    let wanted = ["", "", "report hand ", "block ", "", ""];
     let turns = turns_for(&wanted);
     let feed = Feed {
         batcher: packets(alloc, &by_batcher)?,
@@ -164,12 +199,12 @@ fn packets_are_taken(rt: HostRuntime) -> Result<(), Fail> {
     let by_resolver: [(Channel, Load); 5] = [
         (Channel::Vote, Load::Notarize),
         (Channel::Certificate, Load::Noise),
+        (Channel::Resolver, Load::Request),
         (Channel::Resolver, Load::Noise),
         (Channel::Resolver, Load::Request),
-        (Channel::Vote, Load::Noise),
     ];
     // The request goes to the handler, which is served before the next packet: it has no such certificate.
-    let wanted = ["", "", "", "block ", "hand ", "error ", ""];
+    let wanted = ["", "", "", "hand ", "error ", "block ", ""];
     let turns = turns_for(&wanted);
     let feed = Feed {
         batcher: Vec::new(alloc),
@@ -182,4 +217,65 @@ fn packets_are_taken(rt: HostRuntime) -> Result<(), Fail> {
         .ok_or("a run")?;
     assert_eq!(rt; gate.progress.gave_up(), 0);
     assert_gave(&rt, alloc, "the resolver", &run.resolver, &wanted)
+}
+
+// The engine heard noise of the other member before, and blocked it.
+#[test]
+fn a_member_that_the_engine_blocked_is_not_heard(rt: HostRuntime) -> Result<(), Fail> {
+    let alloc = rt.alloc();
+    let wanted = ["", "", ""];
+    let turns = turns_for(&wanted);
+    let votes: [(Channel, Load); 2] = [
+        (Channel::Vote, Load::Notarize),
+        (Channel::Certificate, Load::Notarization),
+    ];
+    let requests: [(Channel, Load); 2] = [
+        (Channel::Resolver, Load::Request),
+        (Channel::Resolver, Load::Noise),
+    ];
+    for channel in [Channel::Vote, Channel::Certificate, Channel::Resolver] {
+        let mut engine = started(alloc, 2, 0)?;
+        let noise = bytes_of(alloc, Load::Noise)?;
+        hear(alloc, &mut engine, Participant(1), channel, noise)?;
+        let feed = Feed {
+            batcher: packets(alloc, &votes)?,
+            resolver: packets(alloc, &requests)?,
+            voter: Vec::new(alloc),
+        };
+        let run = start_threads(&rt, engine, feed, turns, &OpenGate)
+            .ok()
+            .ok_or("a run")?;
+        assert_gave(&rt, alloc, "the batcher", &run.batcher, &wanted)?;
+        assert_gave(&rt, alloc, "the resolver", &run.resolver, &wanted)?;
+    }
+    Ok(())
+}
+
+// The voter learns that the leader's proposal is not the certified one, and blocks it. The batcher is not told.
+#[test]
+fn whom_the_voter_blocks_meanwhile_the_batcher_hears(rt: HostRuntime) -> Result<(), Fail> {
+    let alloc = rt.alloc();
+    let by_batcher: [(Channel, Load); 4] = [
+        (Channel::Vote, Load::Notarize),
+        (Channel::Certificate, Load::Notarization),
+        (Channel::Vote, Load::Nullify),
+        (Channel::Vote, Load::Nullify),
+    ];
+    let feed = Feed {
+        batcher: packets(alloc, &by_batcher)?,
+        resolver: Vec::new(alloc),
+        voter: Vec::new(alloc),
+    };
+    let wanted = ["", "report hand ", "hand ", "report ", ""];
+    let turns = turns_for(&wanted);
+    let gate = InStep::new(turns);
+    let run = start_threads(&rt, started(alloc, 2, 0)?, feed, turns, &gate)
+        .ok()
+        .ok_or("a run")?;
+    assert_eq!(rt; gate.progress.gave_up(), 0);
+    assert_gave(&rt, alloc, "the batcher", &run.batcher, &wanted)?;
+    // before its fourth turn the batcher heard the certificate, and not the nullify yet
+    let blocks = run.voter.get(3).ok_or("a fourth turn")?;
+    assert!(rt; told(alloc, blocks)?.as_str().contains("block "));
+    Ok(())
 }

@@ -2,14 +2,14 @@
 ghost use Rattle.std.specs.Prelude.{◌<◌, All, IfOk, IfSome};
 ghost use Rattle.simplex_turns.specs.Threads.{IsInTime};
 
-use simplex_engine::{Engine, EngineConfig};
+use simplex_engine::{Engine, EngineConfig, Input};
 use simplex_journal::{Journal, MemoryJournal};
 use simplex_messages::{Call, Outcome, StepOut, Stop};
 use simplex_threads::{AskKind, Feed, FeedItem};
 use simplex_types::elector::Config as _;
 use simplex_types::{
-    Activity, Answer, Digest, Epoch, Floor, ForwardPolicy, Keyed, Participant, RoundRobin,
-    RoundRobinElector, SkipPolicy, TermLength, Terms, View, ViewDelta,
+    Activity, Answer, Bytes, Channel, Digest, Epoch, Floor, ForwardPolicy, Keyed, Participant,
+    RoundRobin, RoundRobinElector, SkipPolicy, TermLength, Terms, View, ViewDelta,
 };
 use std::alloc::Global;
 use std::test::Fail;
@@ -63,6 +63,27 @@ pub(super) fn started(alloc: Global, members: u32, call: u64) -> Result<Member, 
         return Err("a whole start".into());
     }
     Ok(engine)
+}
+
+/// The engine hears a packet at clock 0.
+pub(super) fn hear(
+    alloc: Global,
+    engine: &mut Member,
+    sender: Participant,
+    channel: Channel,
+    bytes: Bytes,
+) -> Result<(), Fail> {
+    let input = Input::Deliver {
+        sender,
+        channel,
+        bytes,
+    };
+    let mut out = StepOut::new(alloc);
+    let _polled = engine
+        .poll(input, 0, &Stop::None, &mut out)
+        .ok()
+        .ok_or("a poll")?;
+    Ok(())
 }
 
 /// An item whose clock, if it is one, is a time.

@@ -28,7 +28,7 @@ fn call_word(alloc: Global, call: &Call) -> &'static str {
         },
         Call::Report(_) => "report ",
         Call::Relay { .. } => "relay ",
-        Call::Block(_) => "block ",
+        Call::Block(..) => "block ",
     }
 }
 

@@ -74,7 +74,7 @@ fn call(alloc: Global, call: &Call) -> Result<String, AllocError> {
             let payload = payload.0[0];
             format!(in alloc; "{} {payload}", relayed(plan))
         }
-        Call::Block(member) => format!(in alloc; "block {member}"),
+        Call::Block(member, cause) => format!(in alloc; "block {member} for {cause:?}"),
     }
 }
 
@@ -168,6 +168,7 @@ fn add_outcome(text: &mut String, outcome: Outcome) -> Result<(), AllocError> {
         Outcome::Idle => add(text, "idle"),
         Outcome::Journal => add(text, "the journal failed"),
         Outcome::Cut => add(text, "cut"),
+        Outcome::Refused => add(text, "refused"),
     }
 }
 

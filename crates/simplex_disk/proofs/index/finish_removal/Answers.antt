@@ -1,7 +1,7 @@
 use Rattle.std.proofs.Common.{◌≡◌, ◌∙◌, ◌+◌, ◌-◌, ◌∷◌, ℕ, Option, Some, refl, ap, arith, true}
 use Rattle.simplex_disk.specs.Pruning.{removal_calls}
 use Rattle.simplex_disk.specs.Calls.{Remove, Sync}
-use Rattle.simplex_disk.proofs.Leaving.{still_leaving, removed_in_part, removed, removed_synced, moments_leaving, same_leaving, indexed_left, IsShut-removed}
+use Rattle.simplex_disk.proofs.Leaving.{still_leaving, removed_in_part, removed, removed_synced, moments_leaving, same_leaving, indexed_left, IsAbsent-removed}
 use Rattle.simplex_disk.proofs.Whole.{moments_no}
 use Rattle.simplex_disk.proofs.Paces.{heeded_ok, heeded_err, failed_of}
 use Rattle.simplex_disk.proofs.index.finish_removal.Goals as goal
@@ -28,7 +28,7 @@ returns-in_ok-sync-clause-goes g c = λ es H st indexed.
       now = H2;
       stands = c.in_ok-sync.ensures.ok _ (c.in_ok-remove.ensures.ok H st);
       held = moments_leaving n es c.args.leaving.now c.in-Some.is H indexed H2 h;
-      holds = (indexed_left n es c.args.leaving.now c.in-Some.is H indexed H2 h (IsShut-removed n H), same_leaving n es c.args.leaving.now c.in-Some.is H indexed H2 h);
+      holds = (indexed_left n es c.args.leaving.now c.in-Some.is H indexed H2 h (IsAbsent-removed n H), same_leaving n es c.args.leaving.now c.in-Some.is H indexed H2 h);
     }
 
 pub returns-in_default-clause-goes : goal.returns-in_default-clause-goes

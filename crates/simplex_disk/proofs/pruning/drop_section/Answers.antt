@@ -57,3 +57,9 @@ returns-in_err-drop_file-clause-paced g c = λ more told.
 
 pub returns-clause-paced : goal.returns-clause-paced
 returns-clause-paced g c = λ more told. match_ok _ _ c.drop_file.result _ c.in_ok-drop_file.was (c.drop_file.ensures.paced more told)
+
+pub returns-in_err-drop_file-clause-kept : goal.returns-in_err-drop_file-clause-kept
+returns-in_err-drop_file-clause-kept g c = c.remove.ensures.entries ∙ removed_first c.args.index.now.entries c.args.number c.requires
+
+pub returns-clause-kept : goal.returns-clause-kept
+returns-clause-kept g c = c.remove.ensures.entries ∙ removed_first c.args.index.now.entries c.args.number c.requires

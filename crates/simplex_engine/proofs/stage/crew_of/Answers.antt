@@ -7,4 +7,5 @@ returns-clause-fresh g c = λ told made waits. record {
   batcher = waits.batcher;
   resolver = waits.resolver;
   boxes = waits.boxes;
+  blocked = c.new-2.ensures.empty;
 }

@@ -4,12 +4,12 @@ use Rattle.simplex_journal.specs.Order.{Obeys}
 use Rattle.simplex_journal.specs.Journal.{appended}
 use Rattle.simplex_disk.specs.Calls.{Call}
 use Rattle.simplex_disk.specs.Contents.{sections_kept, IsOf, Any}
-use Rattle.simplex_disk.specs.Goes.{Changes, LeavesNoMore}
+use Rattle.simplex_disk.specs.Goes.{Changes, LeavesNoMore, LeavesNoneBut}
 use Rattle.simplex_disk.specs.Index.{LeavesJournal, IsIndexed}
 use Rattle.simplex_disk.specs.Moments.{Always, Then}
 use Rattle.simplex_disk.specs.Orders.{order_told}
 use Rattle.simplex_disk.proofs.Segments.{on_weaker, err_with}
-use Rattle.simplex_disk.proofs.Called.{still, moments, becomes, answer_ok, answer_err}
+use Rattle.simplex_disk.proofs.Called.{still, moments, becomes, answer_ok, answer_if_ok, answer_err}
 use Rattle.simplex_disk.proofs.Obeying.{obeys_in, counts_in}
 use Rattle.simplex_disk.proofs.journal.DiskJournalJournal.append.Goals as goal
 
@@ -49,4 +49,8 @@ returns-clause-moments g c =
     (moments c.begin_call.ensures.stands c.end_call.ensures.stands c.self.inside.index.entries c.append_to-appended.new.index.entries c.self.inside.leaving c.append_to-appended.new.leaving (λ s. LeavesJournal s c.self.inside.leaving) (Changes c.append_to-appended.result (appended c.args.section c.args.artifact.now)) c.append_to-appended.ensures.goes (K c.self.inside.disk) (g.met.D.Disk.reads c.self.inside.disk))
 
 pub returns-clause-leaving : goal.returns-clause-leaving
-returns-clause-leaving g c = subst (λ j. LeavesNoMore j.leaving c.append_to-appended.new.leaving) c.self.view_is c.append_to-appended.ensures.less
+returns-clause-leaving g c = subst (λ j. LeavesNoneBut c.args.section j.leaving c.append_to-appended.new.leaving) c.self.view_is c.append_to-appended.ensures.less
+
+pub returns-clause-made : goal.returns-clause-made
+returns-clause-made g c = on_weaker c.end_call.result (λ (less : LeavesNoMore c.self.inside.leaving c.append_to-appended.new.leaving). subst (λ j. LeavesNoMore j.leaving c.append_to-appended.new.leaving) c.self.view_is less)
+    (answer_if_ok (λ _. LeavesNoMore c.self.inside.leaving c.append_to-appended.new.leaving) c.append_to-appended.result c.end_call.result c.end_call.ensures.answer c.append_to-appended.ensures.made)

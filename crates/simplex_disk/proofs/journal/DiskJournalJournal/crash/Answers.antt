@@ -7,6 +7,7 @@ use Rattle.simplex_disk.specs.Moments.{Then}
 use Rattle.simplex_disk.specs.Opening.{IsSettled}
 use Rattle.simplex_disk.specs.Orders.{order_told}
 use Rattle.simplex_disk.proofs.Obeying.{order_stands}
+use Rattle.simplex_disk.proofs.Others.{no_other}
 use Rattle.simplex_disk.proofs.journal.DiskJournalJournal.crash.Goals as goal
 
 pub returns-clause-order : goal.returns-clause-order
@@ -21,3 +22,10 @@ returns-clause-moments g c =
     (λ H is.
     let t = c.crash.ensures.stands H is.0 c.self.inside.leaving is.1 in
     record { now = t.now; stands = (t.stands, t.holds.0); held = tt; holds = (t.holds.1, t.holds.3) })
+
+pub returns-clause-rest : goal.returns-clause-rest
+returns-clause-rest g c =
+    let inv = c.self.invariant in
+    let leaving = c.self.inside.leaving in
+    let t = c.crash.ensures.stands inv.0 inv.1 leaving inv.2 in
+    no_other (g.D.Disk.contents c.crash.new.disk) c.crash.new.index.entries leaving t.now t.holds.0 (g.met.D.Disk.reads c.crash.new.disk t.now t.stands)

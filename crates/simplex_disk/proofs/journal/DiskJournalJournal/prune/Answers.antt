@@ -18,6 +18,7 @@ use Rattle.simplex_disk.proofs.Whole.{moments_no}
 use Rattle.simplex_disk.proofs.Segments.{on_weaker}
 use Rattle.simplex_disk.proofs.Called.{sections_same, still, moments, becomes, answer_ok, answer_if_ok, answer_failed, answer_memory}
 use Rattle.simplex_disk.proofs.Obeying.{obeys_in, counts_in, IsExact, prunes_in_part}
+use Rattle.simplex_disk.proofs.Others.{on_both, absent_below}
 use Rattle.simplex_disk.proofs.Paces.{match_err, enough_first}
 use Rattle.simplex_disk.proofs.journal.DiskJournalJournal.prune.Goals as goal
 
@@ -120,3 +121,36 @@ returns-clause-gone g c = answer_if_ok (λ _. c.prune_files-pruned.new.leaving �
 
 pub returns-clause-leaving : goal.returns-clause-leaving
 returns-clause-leaving g c = subst (λ j. LeavesNoneAbove c.args.min j.leaving c.prune_files-pruned.new.leaving) c.self.view_is c.prune_files-pruned.ensures.leaves
+
+pub returns-clause-bare : goal.returns-clause-bare
+returns-clause-bare g c =
+    let K = g.D.Disk.contents in
+    let reads = g.met.D.Disk.reads in
+    let new = c.prune_files-pruned.new.index.entries in
+    let leaving = c.prune_files-pruned.new.leaving in
+    let Becomes = Prunes c.prune_files-pruned.result c.args.min c.self.inside.leaving (g.D.Disk.order c.begin_call.new.disk) in
+    let all = becomes c.begin_call.ensures.stands c.end_call.ensures.stands c.self.inside.index.entries new c.self.inside.leaving leaving
+    (λ s. LeavesPruned c.args.min s c.self.inside.leaving) Becomes c.prune_files-pruned.ensures.stands
+    (K c.self.inside.disk) (reads c.self.inside.disk) (K c.end_call.new.disk) (reads c.end_call.new.disk) c.self.invariant in
+    let inv = still c.begin_call.ensures.stands c.end_call.ensures.stands c.self.inside.index.entries new c.self.inside.leaving leaving
+    (λ s. LeavesPruned c.args.min s c.self.inside.leaving) Becomes c.prune_files-pruned.ensures.stands c.self.invariant in
+    let gone = answer_if_ok (λ _. leaving ≡ None) c.prune_files-pruned.result c.end_call.result c.end_call.ensures.answer c.prune_files-pruned.ensures.gone in
+    on_both c.end_call.result
+    (λ (is : sections_in (K c.end_call.new.disk) new ≡ pruned c.args.min (sections_in (K c.self.inside.disk) c.self.inside.index.entries)) (none : leaving ≡ None). λ n below.
+    sym (reads c.end_call.new.disk inv.0 inv.1 n) ∙ (absent_below (K c.end_call.new.disk) new leaving inv.0 inv.2 c.args.min _ is none n below).content)
+    (answer_ok _ _ c.prune_files-pruned.result c.end_call.result c.end_call.ensures.answer all) gone
+
+pub returns-clause-bare_for_good : goal.returns-clause-bare_for_good
+returns-clause-bare_for_good g c =
+    let K = g.D.Disk.contents in
+    let reads = g.met.D.Disk.reads in
+    let new = c.prune_files-pruned.new.index.entries in
+    let leaving = c.prune_files-pruned.new.leaving in
+    let all = becomes c.begin_call.ensures.stands c.end_call.ensures.stands c.self.inside.index.entries new c.self.inside.leaving leaving
+    (λ s. LeavesPruned c.args.min s c.self.inside.leaving) (Prunes c.prune_files-pruned.result c.args.min c.self.inside.leaving (g.D.Disk.order c.begin_call.new.disk)) c.prune_files-pruned.ensures.stands
+    (K c.self.inside.disk) (reads c.self.inside.disk) (K c.end_call.new.disk) (reads c.end_call.new.disk) c.self.invariant in
+    let gone = answer_if_ok (λ _. leaving ≡ None) c.prune_files-pruned.result c.end_call.result c.end_call.ensures.answer c.prune_files-pruned.ensures.gone in
+    on_both c.end_call.result
+    (λ (is : sections_in (K c.end_call.new.disk) new ≡ pruned c.args.min (sections_in (K c.self.inside.disk) c.self.inside.index.entries)) (none : leaving ≡ None). λ H of n below.
+    absent_below (K c.end_call.new.disk) new leaving H of.1 c.args.min _ is none n below)
+    (answer_ok _ _ c.prune_files-pruned.result c.end_call.result c.end_call.ensures.answer all) gone

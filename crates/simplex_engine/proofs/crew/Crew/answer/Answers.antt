@@ -19,6 +19,7 @@ returns-clause-stands g c = λ e told parts h. record {
   to_batcher = h.to_batcher;
   to_voter = h.to_voter;
   to_resolver = h.to_resolver;
+  blocked = h.blocked;
 }
 
 pub returns-clause-stays : goal.returns-clause-stays
@@ -33,4 +34,5 @@ returns-clause-stays g c = λ e told parts h. record {
   to_batcher = h.to_batcher;
   to_voter = h.to_voter;
   to_resolver = h.to_resolver;
+  blocked = h.blocked;
 }

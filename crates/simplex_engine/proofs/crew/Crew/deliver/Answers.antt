@@ -1,19 +1,18 @@
+use Rattle.simplex_engine.proofs.Polls.{takes-refused, gives-refused, takes-heard, gives-heard}
 use Rattle.simplex_engine.proofs.crew.Crew.deliver.Goals as goal
 
-pub returns-in-Vote-clause-stands : goal.returns-in-Vote-clause-stands
-returns-in-Vote-clause-stands g c = rw c.in-Vote.is c.hear_vote.ensures.stands
+pub returns-then-is_blocked-clause-stands : goal.returns-then-is_blocked-clause-stands
+returns-then-is_blocked-clause-stands g c = λ told.
+    takes-refused c.args.self.now c.args.self.now _ _ _ _ _ c.if-is_blocked.true (c.is_blocked.ensures told) (λ parts h. h)
 
-pub returns-in-Vote-clause-gives : goal.returns-in-Vote-clause-gives
-returns-in-Vote-clause-gives g c = rw c.in-Vote.is c.hear_vote.ensures.gives
+pub returns-then-is_blocked-clause-gives : goal.returns-then-is_blocked-clause-gives
+returns-then-is_blocked-clause-gives g c =
+    rw (c.polled.ensures, c.requires.empty) (λ told. gives-refused c.args.self.now _ _ _ _ _ c.if-is_blocked.true (c.is_blocked.ensures told))
 
-pub returns-in-Certificate-clause-stands : goal.returns-in-Certificate-clause-stands
-returns-in-Certificate-clause-stands g c = rw c.in-Certificate.is c.hear_certificate.ensures.stands
+pub returns-clause-stands : goal.returns-clause-stands
+returns-clause-stands g c = λ told.
+    takes-heard c.args.self.now _ _ _ _ _ _ c.if-is_blocked.false (c.is_blocked.ensures told) (c.in_ok-given.ensures.stands told)
 
-pub returns-in-Certificate-clause-gives : goal.returns-in-Certificate-clause-gives
-returns-in-Certificate-clause-gives g c = rw c.in-Certificate.is c.hear_certificate.ensures.gives
-
-pub returns-in-Resolver-clause-stands : goal.returns-in-Resolver-clause-stands
-returns-in-Resolver-clause-stands g c = rw c.in-Resolver.is c.hear_resolver.ensures.stands
-
-pub returns-in-Resolver-clause-gives : goal.returns-in-Resolver-clause-gives
-returns-in-Resolver-clause-gives g c = rw c.in-Resolver.is c.hear_resolver.ensures.gives
+pub returns-clause-gives : goal.returns-clause-gives
+returns-clause-gives g c = λ told.
+    gives-heard c.args.self.now _ _ _ _ _ _ _ c.if-is_blocked.false (c.is_blocked.ensures told) (c.in_ok-given.ensures.gives told)

@@ -13,6 +13,7 @@ returns-clause-takes g c = λ told parts h. record {
   to_batcher = h.to_batcher;
   to_voter = rw (← h.to_voter) c.recv.ensures.after;
   to_resolver = h.to_resolver;
+  blocked = h.blocked;
 }
 
 pub returns-clause-none : goal.returns-clause-none
@@ -23,4 +24,5 @@ returns-clause-none g c = if-none c.recv.result (λ e told parts h. record {
   to_batcher = h.to_batcher;
   to_voter = c.recv.ensures.after ∙ e ∙ h.to_voter;
   to_resolver = h.to_resolver;
+  blocked = h.blocked;
 }) (recv-none _ _ c.recv.result c.recv.ensures.message)

@@ -22,5 +22,5 @@ invariant_of-self-2 c =
     record {
       configured = c.self.invariant.configured;
       rising = c.in_ok-put.ensures.rising;
-      drawn = drawn_put c.self.inside.next_id c.in-Some.view _ c.self.inside.views c.take.new.self c.put.new.self c.take.ensures.at c.in_ok-put.ensures.at c.self.invariant.drawn (record { wanted = sound.wanted; attempts = sound.attempts; drawn = drawn });
+      drawn = drawn_put c.self.inside.next_id c.in-Some.view _ c.self.inside.views c.take.new.self c.put.new.self c.take.ensures.at c.in_ok-put.ensures.at c.self.invariant.drawn (record { wanted = sound.wanted; drawn = drawn });
     }

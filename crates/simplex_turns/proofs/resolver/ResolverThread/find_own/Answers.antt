@@ -8,7 +8,7 @@ returns-in-Some-clause-finds g c = λ made place at.
     let rest = c.pop_front.new.self.items in
     let none = nothing-handled made place.past _ c.if-holds_handler.false (c.holds_handler.ensures made place.past at.stands) in (
       record { past = place.past; feed = rest },
-      rw c.input_of.ensures (found-delivery made c.args.self.now.now place c.in-Some.delivery rest none (sym at.feed ∙ c.in-Some.ensures.items)),
+      found-delivery made c.args.self.now.now place c.in-Some.delivery rest c.heard.result none (sym at.feed ∙ c.in-Some.ensures.items) (c.heard.ensures made place.past at.stands),
       record { stands = at.stands; feed = refl },
     )
 

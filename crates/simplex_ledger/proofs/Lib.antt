@@ -1,0 +1,4 @@
+pub mod Extending
+pub mod Indexing
+pub mod Reading
+pub mod Transfers

@@ -1,0 +1,4 @@
+pub mod Book
+pub mod Decoding
+pub mod Fits
+pub mod Index
