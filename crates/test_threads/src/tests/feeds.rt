@@ -1,5 +1,5 @@
 //! What comes from outside, item by item.
-ghost use Rattle.std.specs.Prelude.{◌<◌};
+ghost use Rattle.std.specs.Prelude.{◌≡◌, ◌<◌, IfOk};
 
 use super::gates::{BATCHER, InStep, Leads, RESOLVER, VOTER};
 use super::member::{for_voter, hear, started};
@@ -7,8 +7,9 @@ use super::told::told;
 use simplex_messages::StepOut;
 use simplex_threads::{AskKind, Delivery, Feed, FeedItem, OpenGate, start_threads};
 use simplex_types::{
-    Answer, Bytes, Certificate, Channel, Digest, Epoch, Keyed, Notarization, Notarize, Nullify,
-    Participant, Proposal, ResolverBody, ResolverMessage, Round, Sequence, Signatures, View, Vote,
+    Answer, Attestation, Bytes, Certificate, Channel, Digest, Epoch, Keyed, Notarization, Notarize,
+    Nullify, Participant, Proposal, ResolverBody, ResolverMessage, Round, Scheme, Sequence,
+    Signatures, Subject, View, Vote,
 };
 use std::alloc::{AllocError, Global};
 use std::process::Abort;
@@ -116,19 +117,33 @@ fn proposal(payload: u8) -> Proposal {
     }
 }
 
-fn notarize(alloc: Global, signer: u32, payload: u8) -> Result<Notarize, Fail>
+/// The signature of one of the two members.
+fn attestation(alloc: Global, signer: u32, subject: &Subject) -> Result<Attestation, Fail>
     requires { signer < 2 }
+    ensures { IfOk result (λ a. a.signer ≡ signer) }
 {
     let scheme = Keyed::new(alloc, 1, 2, Some(Participant(signer)))?;
+    let signed = scheme.sign(subject).ok_or("it signs")?;
+    let signature = signed.signature;
+    Ok(Attestation {
+        signer: Participant(signer),
+        signature,
+    })
+}
+
+fn notarize(alloc: Global, payload: u8) -> Result<Vec<u8>, Fail> {
+    let scheme = Keyed::new(alloc, 1, 2, Some(Participant(1)))?;
     let vote = Notarize::sign(&scheme, proposal(payload)).ok_or("it signs")?;
-    Ok(vote)
+    Ok(Vote::Notarize(vote).encode(alloc)?)
 }
 
 fn notarization(alloc: Global, payload: u8) -> Result<Vec<u8>, Fail> {
-    let first = notarize(alloc, 0, payload)?.attestation;
-    let second = notarize(alloc, 1, payload)?.attestation;
-    let certificate = Signatures::new(vec![in alloc; first, second]?);
     let proposal = proposal(payload);
+    let subject = Subject::Notarize(proposal);
+    let first = attestation(alloc, 0, &subject)?;
+    let second = attestation(alloc, 1, &subject)?;
+    let attestations = vec![in alloc; first, second]?;
+    let certificate = Signatures::new(attestations);
     let it = Certificate::Notarization(Notarization {
         proposal,
         certificate,
@@ -150,7 +165,7 @@ fn request(alloc: Global) -> Result<Vec<u8>, AllocError> {
 fn bytes_of(alloc: Global, load: Load) -> Result<Bytes, Fail> {
     let bytes = match load {
         Load::Noise => vec![in alloc; 9u8]?,
-        Load::Notarize => Vote::Notarize(notarize(alloc, 1, 17)?).encode(alloc)?,
+        Load::Notarize => notarize(alloc, 17)?,
         Load::Notarization => notarization(alloc, 18)?,
         Load::Nullify => nullify(alloc)?,
         Load::Request => request(alloc)?,

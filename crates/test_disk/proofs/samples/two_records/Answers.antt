@@ -27,7 +27,7 @@ returns-clause-sections c =
 pub returns-clause-met : goal.returns-clause-met
 returns-clause-met c =
     let before = one c.args.first.now c.in-Ok.journal c.append.new.self c.sync.new.self c.new-disk.result.kept (ap (λ (h : Held). h.kept) c.new-disk.ensures) c.in-Ok.ensures.ok.2 c.in_ok-append.ensures.ok c.in_ok-sync.ensures.ok in
-    let none = c.sync.ensures.leaving ∙ none_more c.in-Ok.journal.leaving c.append.new.self.leaving c.in-Ok.ensures.ok.0 c.append.ensures.leaving in
+    let none = c.sync.ensures.leaving ∙ none_more c.in-Ok.journal.leaving c.append.new.self.leaving c.in-Ok.ensures.ok.0 c.in_ok-append.ensures.made in
     let settled = c.may_be_settled.ensures in
     let t0 = c.in-Ok.ensures.moments settled.0 settled.1 settled.2 in
     let t1 = c.append.ensures.moments t0.now t0.stands in
