@@ -1,0 +1,4 @@
+pub mod End
+pub mod Form
+pub mod Says
+pub mod Sound
