@@ -1,0 +1,4 @@
+pub mod Form
+pub mod Reasons
+pub mod Runs
+pub mod Says
