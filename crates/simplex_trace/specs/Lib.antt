@@ -1,0 +1,4 @@
+pub mod Deeds
+pub mod Items
+pub mod Trace
+pub mod Words
