@@ -8,8 +8,8 @@
 //! | run the same by several threads, or from another genesis digest | [`run_network_par`], [`run_network_from`] | `crates/test_par` |
 //! | step the engine of one member | [`Engine::new`], [`Engine::start`], [`Engine::poll`] | `crates/test_engine` |
 //! | let its actors run on threads | [`threads::start_threads`] | `crates/test_threads` |
-//! | keep its journal in files | [`journal::DiskJournal`], over a [`journal::Disk`] | `crates/test_disk` |
-//! | propose, verify and certify by an application | [`mocks::application`] | `crates/test_application` |
+//! | keep its journal in files, on a disk of one's own | [`journal::DiskJournal`], over a [`journal::Disk`] | `crates/example_disk` |
+//! | propose, verify and certify by an application | [`Network::apply`], answering what an [`Entry`] asked; or [`mocks::application`] | `crates/example_application` |
 //! | be told what a member reports | [`types::Reporter`], [`hand_reports`], [`mocks::reporter`] | `crates/test_recording` |
 //! | try members that break the rules | [`mocks`], [`twins`], [`MemberKind`] | `crates/test_mocks` |
 //! | read an input, and print its run | [`form::read_run`], [`text::printed_run`], or both by [`program`] | `crates/simplex_net` |
