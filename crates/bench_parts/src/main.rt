@@ -5,6 +5,7 @@
 //!   judges it, `serve` hears a request and serves it, `expire` lets a millisecond pass, `sweep` retires what reaches all views.
 //! - `round`: rounds of SIZE members. `take` gives them all votes, `make` lets them make their certificates too.
 //! - `state`: a member's state, with SIZE views to a term. `final` takes a view to its finalization, `given_up` then gives one up.
+//! - `ledger`: a ledger of 65,536 accounts. `extend` applies SIZE blocks of a thousand transfers.
 //! - `log`: a finalized log that is told of SIZE certificates of a chain. `rise` tells it finalizations from the first view up, `fall`
 //!   the last view's and then the links below it, `wait` finalizations above a link that never comes.
 //! - `repair`: a repair state with SIZE terms. `jump` gives it a nullification that many terms ahead, `fill` one of those before.
@@ -15,6 +16,7 @@
 ghost use Rattle.std.specs.Prelude.{◌<◌};
 
 mod fetch;
+mod ledger;
 mod log;
 mod repair;
 mod round;
@@ -28,6 +30,7 @@ use std::{env, io};
 #[derive(Clone, Copy)]
 enum Work {
     Fetch(fetch::Work),
+    Ledger,
     Log(log::Work),
     Round { makes: bool },
     State { gives_up: bool },
@@ -36,12 +39,13 @@ enum Work {
 }
 
 /// Each part's works.
-const WORKS: [(&str, &str, Work); 14] = [
+const WORKS: [(&str, &str, Work); 15] = [
     ("fetch", "ask", Work::Fetch(fetch::Work::Ask)),
     ("fetch", "answer", Work::Fetch(fetch::Work::Answer)),
     ("fetch", "serve", Work::Fetch(fetch::Work::Serve)),
     ("fetch", "expire", Work::Fetch(fetch::Work::Expire)),
     ("fetch", "sweep", Work::Fetch(fetch::Work::Sweep)),
+    ("ledger", "extend", Work::Ledger),
     ("log", "rise", Work::Log(log::Work::Rise)),
     ("log", "fall", Work::Log(log::Work::Fall)),
     ("log", "wait", Work::Log(log::Work::Wait)),
@@ -59,6 +63,7 @@ fn done(alloc: Global, work: Work, size: u32, times: u32) -> Result<u64, AllocEr
 {
     match work {
         Work::Fetch(work) => fetch::turns(alloc, work, size, times),
+        Work::Ledger => ledger::turns(alloc, size, times),
         Work::Log(work) => log::turns(alloc, work, size, times),
         Work::Round { makes } => round::turns(alloc, makes, size, times),
         Work::State { gives_up } => state::turns(alloc, gives_up, size, times),
