@@ -1,0 +1,51 @@
+//! The program over memory: what it writes of an input, and with which status it ends.
+use simplex_io::{MemorySink, MemorySource};
+use simplex_logs::log_program;
+use std::alloc::Global;
+use std::process::Abort;
+
+/// The words that ask for logs.
+pub(crate) const LOGS: &[&str] = &["logs"];
+
+fn words_of(rt: &impl Abort, alloc: Global, words: &[&str]) -> Vec<String> {
+    let mut owned = Vec::new(alloc);
+    for &word in words {
+        let word = String::from_str(alloc, word).expect(rt, "room");
+        owned.push(word).expect(rt, "room");
+    }
+    owned
+}
+
+/// The program writes this text with these words and this input, and ends with this status.
+pub(crate) fn assert_tells(
+    rt: &impl Abort,
+    alloc: Global,
+    words: &[&str],
+    input: &str,
+    (text, status): (&str, u8),
+) {
+    let words = words_of(rt, alloc, words);
+    let bytes = input.as_bytes().to_vec(alloc).expect(rt, "room");
+    let mut source = MemorySource::new(bytes, Vec::new(alloc));
+    let mut sink = MemorySink::new(alloc, Vec::new(alloc));
+    let exit = log_program(alloc, &words, &mut source, &mut sink);
+    let written = (sink.bytes(), exit.status());
+    assert_eq!(rt; &written, &(text.as_bytes(), status));
+}
+
+#[test]
+fn other_words_are_told_the_usage(rt: HostRuntime) {
+    let alloc = rt.alloc();
+    let table: [&[&str]; 4] = [&[], &["log"], &["logs", ""], &["logs", "logs"]];
+    for words in table {
+        assert_tells(&rt, alloc, words, "", ("usage: logs\n", 2));
+    }
+}
+
+#[test]
+fn an_input_of_no_form_is_told_its_place(rt: HostRuntime) {
+    let alloc = rt.alloc();
+    for (input, line) in [("", "bad input at 0\n"), ("[]", "bad input at 1\n")] {
+        assert_tells(&rt, alloc, LOGS, input, (line, 3));
+    }
+}
