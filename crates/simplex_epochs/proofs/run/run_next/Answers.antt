@@ -48,7 +48,7 @@ returns-in_err-next-clause-err c =
     let why = c.in_err-next.ensures.err in
     let same : c.as_slice.result.now ≡ logged.logs = search rules in
     err_is (λ (e : EpochError). (next : Input) (later : List Input) → is_memory e ≡ false
-        → epochs_from RunFrom c.args.height at.place at.epoch at.genesis (input ∷ next ∷ later) ≡ Err e)
+    → epochs_from RunFrom c.args.height at.place at.epoch at.genesis (input ∷ next ∷ later) ≡ Err e)
     c.from_residual-in_err-next.result error (search rules)
     (λ next later other. open_error c.args.height at.place at.epoch at.genesis input logged.transcript c.as_slice.result.now error c.in_ok-check_number.ensures.ok
-        c.in_ok-logged.ensures.whole (same ∙ c.in_ok-logged.ensures.logs) why.0 why.1 next later)
+    c.in_ok-logged.ensures.whole (same ∙ c.in_ok-logged.ensures.logs) why.0 why.1 next later)
