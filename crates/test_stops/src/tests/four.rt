@@ -1,0 +1,163 @@
+//! Four members in terms of three views, with a lookahead of one: one of them stops before each of its calls, and starts again at
+//! what it reported last.
+use super::checker::{Group, assert_sound, last_final};
+use super::world::{Answers, World, start, stopped};
+use simplex_messages::{Outcome, Stop};
+use simplex_network::run_network;
+use simplex_transcript::{Event, MemberKind, Node, Setup};
+use simplex_types::{ForwardPolicy, Keep, Sequence, SkipPolicy, View};
+use std::alloc::{AllocError, Global};
+use std::process::Abort;
+use std::test::Fail;
+
+const HONEST: [Node; 3] = [
+    Node { member: 0, half: 0 },
+    Node { member: 1, half: 0 },
+    Node { member: 2, half: 0 },
+];
+
+/// The member that stops.
+const STOPPING: Node = Node { member: 1, half: 0 };
+
+const GROUP: Group = Group {
+    key_base: 1,
+    members: 4,
+    term: 3,
+};
+
+const ANSWERS: Answers = Answers {
+    payload: 17,
+    last: View(5),
+};
+
+/// How many events come before a stop at most, and how many behind it.
+const MOST: u64 = 150;
+
+fn setup(alloc: Global) -> Result<Setup, AllocError> {
+    let members = vec![in alloc;
+        MemberKind::Honest,
+        MemberKind::Honest,
+        MemberKind::Honest,
+        MemberKind::Silent,
+    ]?;
+    Ok(Setup {
+        epoch: 0,
+        key_base: 1,
+        members: Sequence::from_vec(members),
+        term: 3,
+        lookahead: 1,
+        leader_timeout: 1000,
+        certification_timeout: 2000,
+        retry: 500,
+        stall: None,
+        retention: 10,
+        skip: SkipPolicy::Disabled,
+        forward: ForwardPolicy::Disabled,
+        mailbox: 16,
+        track: false,
+        handoff: false,
+        fetch_timeout: 1000,
+        fetch_retry: 100,
+        scenario: Sequence::new(alloc),
+    })
+}
+
+/// The honest members start.
+fn started(alloc: Global) -> Result<World, Fail> {
+    let mut world = World::new(alloc, &setup(alloc)?, ANSWERS)?;
+    for node in HONEST {
+        let _made = world.make(start(node, None))?;
+    }
+    Ok(world)
+}
+
+/// Whether the event is a start or a step of the member that stops.
+fn may_stop(event: &Event) -> bool {
+    match event {
+        Event::Start { node, .. } | Event::Step { node, .. } => *node == STOPPING,
+        _ => false,
+    }
+}
+
+/// The places of the whole run's events that may stop, with how many calls each makes.
+fn calls_of(alloc: Global, world: &World) -> Result<Vec<(usize, u64)>, AllocError> {
+    let mut calls = Vec::new(alloc);
+    for (place, event) in world.happened.iter().enumerate() {
+        let made = world
+            .entries
+            .get(place)
+            .map_or(0, |entry| entry.calls.as_slice().len());
+        if may_stop(event) && made > 0 && place >= HONEST.len() {
+            calls.push((place, made as u64))?;
+        }
+    }
+    Ok(calls)
+}
+
+/// The run up to the event at this place, which is made with this stop.
+fn until(alloc: Global, place: usize, stop: Stop) -> Result<World, Fail> {
+    let mut world = started(alloc)?;
+    for _ in 0..MOST {
+        let event = world.next().ok_or("an event that waits")?;
+        if world.happened.len() == place && may_stop(&event) {
+            let made = world.make(stopped(event, stop))?;
+            return if made {
+                Ok(world)
+            } else {
+                Err("an event that is made".into())
+            };
+        }
+        let _made = world.make(event)?;
+    }
+    Err("an event that stops".into())
+}
+
+/// The event at this place is made with this stop, and the member starts at what it reported last.
+fn stops(rt: &impl Abort, alloc: Global, place: usize, stop: Stop) -> Result<(), Fail> {
+    let case = format!(in alloc; "place {place}, {stop:?}")?;
+    let mut world = until(alloc, place, stop)?;
+    let broken = world.entries.last().ok_or("an entry")?;
+    assert_eq!(rt; broken.outcome, Outcome::Cut, "{case}");
+    let floor = match last_final(world.entries.as_slice(), STOPPING) {
+        Some(it) => Some(it.keep(alloc)?),
+        None => None,
+    };
+    assert!(rt; world.make(start(STOPPING, floor))?, "{case}: it starts");
+    world.settle(MOST)?;
+    assert_sound(rt, alloc, &case, GROUP, &HONEST, world.entries.as_slice())?;
+    let transcript = run_network(alloc, &setup(alloc)?, world.happened.as_slice())
+        .ok()
+        .ok_or("a whole run")?;
+    assert!(rt;
+        transcript.entries.as_slice() == world.entries.as_slice(),
+        "{case}"
+    );
+    Ok(())
+}
+
+#[test]
+fn one_of_four_stops_before_each_of_its_calls(rt: HostRuntime) -> Result<(), Fail> {
+    let alloc = rt.alloc();
+    let mut whole = started(alloc)?;
+    whole.settle(MOST)?;
+    assert_sound(
+        &rt,
+        alloc,
+        "a whole run",
+        GROUP,
+        &HONEST,
+        whole.entries.as_slice(),
+    )?;
+    assert!(rt; last_final(whole.entries.as_slice(), STOPPING).is_some());
+    let mut cases = 0u64;
+    for (place, calls) in calls_of(alloc, &whole)? {
+        for call in 1..=calls {
+            for keep in 0..=2u64 {
+                stops(&rt, alloc, place, Stop::Cut { call, keep })?;
+                cases = cases.saturating_add(1);
+            }
+        }
+    }
+    assert!(rt; cases >= 60, "{cases} cases");
+    Ok(())
+}
