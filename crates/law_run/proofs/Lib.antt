@@ -83,6 +83,7 @@ pub mod Unforged
 pub mod Sending
 pub mod Entries
 pub mod Transcripts
+pub mod Blaming
 pub mod LimitSampling
 pub mod AskedListing
 pub mod Knowing

@@ -42,7 +42,7 @@ module _ (P : Entry → Type 0) where
   unmapped [] h = tt
   unmapped (n ∷ noted) h = (h.0, unmapped noted h.1)
 
-  in_order : (noted : List Noted) (entries : List Entry) → reverse (entries_of noted) ≡ entries → Each (λ (n : Noted). P n.entry) noted → Each P entries
+  pub in_order : (noted : List Noted) (entries : List Entry) → reverse (entries_of noted) ≡ entries → Each (λ (n : Noted). P n.entry) noted → Each P entries
   in_order noted entries e h = subst (Each P) e (turned P (entries_of noted) [] (mapped noted h) tt)
 
   out_of_order : (noted : List Noted) (entries : List Entry) → reverse (entries_of noted) ≡ entries → Each P entries → Each (λ (n : Noted). P n.entry) noted

@@ -56,7 +56,9 @@ pub use limit_laws::payloads_keep_the_limit;
 pub use limit_samples::faulty_members_may_send_more;
 pub use lives::nodes_live;
 pub use refusing::{blocked_members_are_one_set, packets_of_blocked_members_are_refused};
-pub use reports::{reported_finalizations_agree, transcripts_report_one_chain};
+pub use reports::{
+    reported_finalizations_agree, transcripts_blame_no_honest_member, transcripts_report_one_chain,
+};
 pub use safe::runs_are_safe;
 pub use sayings::{starts_say_what_was_given, steps_say_what_was_given};
 pub use times::votes_are_in_time;

@@ -1,4 +1,4 @@
-//! What engines report as final.
+//! What engines report: what is final, and evidence.
 ghost use Rattle.std.specs.Prelude.{◌≡◌, List, Ok};
 ghost use Rattle.simplex_wire.specs.declared.certificate.Finalization.{Finalization};
 ghost use Rattle.simplex_transcript.specs.declared.entry.Entry.{Entry};
@@ -6,9 +6,11 @@ ghost use Rattle.simplex_transcript.specs.declared.event.Event.{Event};
 ghost use Rattle.model_run.specs.Run as runs;
 ghost use Rattle.model_run.specs.Setting.{Setting};
 ghost use Rattle.model_run.specs.Life.{Noted};
+ghost use Rattle.law_run.specs.Blame.{BlamesNoHonest};
 ghost use Rattle.law_run.specs.Chains.{IsOnEachChain};
 ghost use Rattle.law_run.specs.OneChain.{AreOfOneChain, IsReported, ReportOneChain};
 ghost use Rattle.law_run.specs.Safe.{IsSafe, RunsSafely};
+ghost use Rattle.law_run.specs.Sayings.{Each};
 
 /// In a safe run two finalizations that engines report are of one proposal where they are of one view, and none skips the
 /// other. Each chain of certified proposals that goes down to the view of one of them, or past it, has its proposal.
@@ -22,4 +24,10 @@ pub fn reported_finalizations_agree()
 pub fn transcripts_report_one_chain()
     ensures { (setting : Setting) (events : List Event) (entries : List Entry) → runs.RunFrom setting events ≡ Ok entries → RunsSafely setting events
         → ReportOneChain entries }
+{}
+
+/// No evidence that a transcript of a safe run reports names an honest member, whichever node reports it.
+pub fn transcripts_blame_no_honest_member()
+    ensures { (setting : Setting) (events : List Event) (entries : List Entry) → runs.RunFrom setting events ≡ Ok entries → RunsSafely setting events
+        → Each (BlamesNoHonest setting.setup) entries }
 {}

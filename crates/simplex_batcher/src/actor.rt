@@ -12,9 +12,8 @@ ghost use Rattle.simplex_batcher.specs.Stands.{StandsFor, Takes, Answers, batche
 use crate::config::Config;
 use crate::rounds::Rounds;
 use crate::seen::Seen;
-use crate::steps::post_each;
 use simplex_mailbox::Post;
-use simplex_messages::{BatcherInput, Outcome, StepOut, voter};
+use simplex_messages::{BatcherInput, Outcome, StepOut, post_to_voter, voter};
 use simplex_types::{Participant, Scheme, View};
 use std::alloc::{AllocError, Global};
 
@@ -76,7 +75,7 @@ impl<S: Scheme + Drop> Actor<S> {
         ensures voter { OnOk result (Posted V.puts voter.old (filter_map for_voter out.new.handed) voter.new) }
     {
         self.take(&input, now, out)?;
-        post_each(self.alloc, out.handed.as_slice(), voter)?;
+        post_to_voter(self.alloc, out.handed.as_slice(), voter)?;
         Ok(Outcome::Done)
     }
 }

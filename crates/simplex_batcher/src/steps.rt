@@ -1,24 +1,20 @@
 //! What a step takes, and all that it does with it.
-ghost use Rattle.std.specs.Prelude.{◌≡◌, ◌==◌, List, filter_map, OnOk};
+ghost use Rattle.std.specs.Prelude.{◌≡◌, ◌==◌, OnOk};
 ghost use Rattle.simplex_messages.specs.Step.{no_out};
 ghost use Rattle.simplex_messages.specs.declared.batcher.BatcherInput.TheVariants.{Mail};
-ghost use Rattle.std.specs.List.{cons_option};
 ghost use Rattle.simplex_messages.specs.declared.voter.Message.{Message};
 ghost use Rattle.simplex_wire.specs.Format.{whole};
 ghost use Rattle.simplex_wire.specs.Message as format;
-ghost use Rattle.simplex_mailbox.specs.Post.{Posted};
 ghost use Rattle.model_steps.specs.Batcher.{acted, heard_vote, heard_certificate, step};
-ghost use Rattle.model_steps.specs.Engine.{for_voter};
 ghost use Rattle.simplex_batcher.specs.Working.{decoded_vote, decoded_certificate};
 ghost use Rattle.simplex_batcher.specs.Stands.{Marks, Reads, WorksAs};
 
 use crate::actor::Actor;
 use crate::marks::Marked;
 use crate::work::block;
-use simplex_mailbox::Post;
-use simplex_messages::{BatcherInput, Handed, StepOut, batcher, voter};
-use simplex_types::{BlockCause, Certificate, DecodeError, Epoch, Keep, Participant, Scheme, Vote};
-use std::alloc::{AllocError, Global};
+use simplex_messages::{BatcherInput, StepOut, batcher, voter};
+use simplex_types::{BlockCause, Certificate, DecodeError, Epoch, Participant, Scheme, Vote};
+use std::alloc::AllocError;
 
 impl<S: Scheme + Drop> Actor<S> {
     /// Whether it is this batcher's epoch.
@@ -193,37 +189,4 @@ impl<S: Scheme + Drop> Actor<S> {
         self.finish(&dirty, work)?;
         Ok(())
     }
-}
-
-/// A copy of the message, where it is for the voter, is put into its mailbox.
-fn post_one<V: Post<voter::Message>>(
-    alloc: Global,
-    message: &Handed,
-    post: &mut V,
-) -> Result<(), AllocError>
-    // What is posted behind it is posted behind its copy.
-    ensures { OnOk result ((rest : List Message) (after : V) → Posted V.puts post.new rest after → Posted V.puts post.old (cons_option (for_voter message.now) rest) after) }
-{
-    match message {
-        Handed::Voter(message) => {
-            let copy = message.keep(alloc)?;
-            post.enqueue(copy)?;
-            Ok(())
-        }
-        _ => Ok(()),
-    }
-}
-
-/// Copies of the messages for the voter are put into its mailbox.
-pub(crate) fn post_each<V: Post<voter::Message>>(
-    alloc: Global,
-    handed: &[Handed],
-    post: &mut V,
-) -> Result<(), AllocError>
-    ensures { OnOk result (Posted V.puts post.old (filter_map for_voter handed.now) post.new) }
-{
-    for message in handed {
-        post_one(alloc, message, post)?;
-    }
-    Ok(())
 }

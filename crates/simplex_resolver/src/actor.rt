@@ -13,12 +13,11 @@ ghost use Rattle.model_resolver.specs.Resolver.{Stepped, HandlerTaken, Blocked, 
 ghost use Rattle.simplex_resolver.specs.Stands.{StandsFor, Takes, Answers, resolver_made};
 
 use crate::config::Config;
-use crate::steps::post_each;
 use crate::work::Work;
 use simplex_fetch::{FetchConfig, Fetcher};
 use simplex_mailbox::{Mailbox, Post};
 use simplex_messages::resolver::HandlerMessage;
-use simplex_messages::{Outcome, ResolverInput, StepOut, voter};
+use simplex_messages::{Outcome, ResolverInput, StepOut, post_to_voter, voter};
 use simplex_repair::RepairState;
 use simplex_types::{Certificate, Participant, Scheme, View};
 use std::alloc::{AllocError, Global};
@@ -127,7 +126,7 @@ impl<S: Scheme + Drop> Actor<S> {
             blocks,
             sends,
         } = self.take(input, now)?;
-        post_each(self.alloc, handed.as_slice(), voter)?;
+        post_to_voter(self.alloc, handed.as_slice(), voter)?;
         let mut calls = blocks;
         sends.call_each(&mut calls)?;
         out.handed = handed;

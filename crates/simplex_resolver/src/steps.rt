@@ -1,20 +1,15 @@
 //! What a step takes, and all that it does with it.
-ghost use Rattle.std.specs.Prelude.{◌<◌, ◌^◌, List, filter_map, IfOk, OnOk};
-ghost use Rattle.std.specs.List.{cons_option};
+ghost use Rattle.std.specs.Prelude.{◌<◌, ◌^◌, IfOk, OnOk};
 ghost use Rattle.simplex_values.specs.declared.ask.Kind.{Kind};
-ghost use Rattle.simplex_messages.specs.declared.voter.Message.{Message};
-ghost use Rattle.simplex_mailbox.specs.Post.{Posted};
-ghost use Rattle.simplex_messages.specs.Handing.{for_voter};
 ghost use Rattle.model_resolver.specs.Resolver.{produced, resolving, took_mail, took_handled, acted, step};
 ghost use Rattle.simplex_resolver.specs.Stands.{Does, WorksAs};
 
 use crate::actor::Actor;
 use crate::work::Work;
-use simplex_mailbox::Post;
 use simplex_messages::resolver::{HandlerMessage, MailboxMessage};
-use simplex_messages::{Handed, ResolverInput, voter};
-use simplex_types::{Keep, Kind, Participant, Scheme, View};
-use std::alloc::{AllocError, Global};
+use simplex_messages::{ResolverInput, voter};
+use simplex_types::{Kind, Participant, Scheme, View};
+use std::alloc::AllocError;
 
 impl<S: Scheme + Drop> Actor<S> {
     /// A peer asks for the view.
@@ -130,37 +125,4 @@ impl<S: Scheme + Drop> Actor<S> {
         self.act(input, now, &mut work)?;
         Ok(work)
     }
-}
-
-/// A copy of the message, where it is for the voter, is put into its mailbox.
-fn post_one<V: Post<voter::Message>>(
-    alloc: Global,
-    message: &Handed,
-    post: &mut V,
-) -> Result<(), AllocError>
-    // What is posted behind it is posted behind its copy.
-    ensures { OnOk result ((rest : List Message) (after : V) → Posted V.puts post.new rest after → Posted V.puts post.old (cons_option (for_voter message.now) rest) after) }
-{
-    match message {
-        Handed::Voter(message) => {
-            let copy = message.keep(alloc)?;
-            post.enqueue(copy)?;
-            Ok(())
-        }
-        _ => Ok(()),
-    }
-}
-
-/// Copies of the messages for the voter are put into its mailbox.
-pub(crate) fn post_each<V: Post<voter::Message>>(
-    alloc: Global,
-    handed: &[Handed],
-    post: &mut V,
-) -> Result<(), AllocError>
-    ensures { OnOk result (Posted V.puts post.old (filter_map for_voter handed.now) post.new) }
-{
-    for message in handed {
-        post_one(alloc, message, post)?;
-    }
-    Ok(())
 }
