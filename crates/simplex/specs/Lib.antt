@@ -310,7 +310,16 @@ pub use Rattle.law_log.specs.Transcripts
 -- Of accounts over the log.
 pub use Rattle.model_ledger.specs.Balances
 pub use Rattle.model_ledger.specs.Blocks
+pub use Rattle.model_ledger.specs.Doubles as LedgerDoubles
+pub use Rattle.model_ledger.specs.Failing as LedgerFailing
 pub use Rattle.model_ledger.specs.Ledger
+pub use Rattle.simplex_ledger.specs.Book
+pub use Rattle.simplex_ledger.specs.Fits as BlockFits
+pub use Rattle.simplex_ledger.specs.Index as BlockIndex
+pub use Rattle.simplex_ledgers.specs.End as LedgerEnd
+pub use Rattle.simplex_ledgers.specs.Form as LedgerForm
+pub use Rattle.simplex_ledgers.specs.Says as LedgerSays
+pub use Rattle.simplex_ledgers.specs.Sound as SoundLedger
 pub use Rattle.law_ledger.specs.Answers as LedgerAnswers
 pub use Rattle.law_ledger.specs.Faults as LedgerFaults
 pub use Rattle.law_ledger.specs.Lines as LedgerLines
@@ -322,6 +331,13 @@ pub use Rattle.model_epochs.specs.Epochs
 pub use Rattle.model_epochs.specs.Lines as EpochLines
 pub use Rattle.law_epochs.specs.Alike
 pub use Rattle.law_epochs.specs.Whole as WholeEpochs
+pub use Rattle.simplex_epochs.specs.Form as ChainForm
+pub use Rattle.simplex_epochs.specs.Reasons as ChainReasons
+pub use Rattle.simplex_epochs.specs.Runs as EpochRuns
+pub use Rattle.simplex_epochs.specs.Says as ChainSays
+-- Of a run told line by line.
+pub use Rattle.simplex_trace.specs.Trace
+pub use Rattle.simplex_lab.specs.Says as LabSays
 -- Of what all programs share.
 pub use Rattle.simplex_front.specs.Answer as FrontAnswer
 pub use Rattle.simplex_front.specs.Cause as FrontCause

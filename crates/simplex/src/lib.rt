@@ -14,6 +14,10 @@
 //! | try members that break the rules | [`mocks`], [`twins`], [`MemberKind`] | `crates/test_mocks` |
 //! | read an input, and print its run | [`form::read_run`], [`text::printed_run`], or both by [`program`] | `crates/simplex_net` |
 //! | keep the finalized log, or get those of a run | [`log::FinalizedLog`], [`log::logs`], [`log::log_program`] | `crates/simplex_log_cli` |
+//! | apply the blocks of a log to accounts | [`ledger::Ledger`], [`ledger::ledger_program`] | `crates/simplex_ledger_cli` |
+//! | run one network behind another | [`epochs::run_epochs`], [`epochs::chain`] | `crates/simplex_epochs_cli` |
+//! | be told what each event did, also up to a refusal | [`lab::lines`], [`lab::lab_program`] | `crates/simplex_lab_cli` |
+//! | rest on evidence: whoever is named is faulty | [`run_network`], [`laws::runs::transcripts_blame_no_honest_member`] | `crates/example_monitor` |
 //! | make an input from a number | [`gen_run`] | `crates/test_program` |
 //! | cite why no two members disagree | [`laws::runs`], `runs_are_safe` and `transcripts_report_one_chain` | docs/AGREEMENT.md |
 //!
@@ -31,7 +35,8 @@
 //! - [`gen_run`] and [`generated`]: the events that a number makes, and what they are drawn from;
 //! - [`form`] (`read_run`, `read_setup`, `read_event`, `read_value`, ..), [`text`] and [`program`]: such a run as JSON, its
 //!   lines, and both behind one call;
-//! - [`log`]: the finalized log, and the logs of a run; [`front`]: what programs share, from words to exit;
+//! - [`log`]: the finalized log, and the logs of a run; [`ledger`]: accounts over it; [`epochs`]: one network per epoch;
+//!   [`lab`]: a run told line by line; [`front`]: what programs share, from words to exit;
 //! - [`mocks`], [`twins`]: members that break the rules, an application and a relay to try engines with, a reporter that
 //!   records, and scripts for twins;
 //! - [`report`]: two reporters in one, and reports of schemes whose signatures prove nothing; [`hand_reports`] gives them what
@@ -39,14 +44,18 @@
 //! - [`state`], [`round`], [`repair`], [`fetch`]: the parts of which the actors are made;
 //! - [`laws`]: what is proved of the definitions themselves.
 //!
-//! Whoever writes contracts finds each definition that these promise in this crate's `specs/`, by one path. `Network::lend` and `enter` and
+//! Whoever writes contracts finds each definition that these promise in this crate's `specs/`, by one path, and each type by its
+//! path here, as `Rattle.simplex.specs.declared.types.Activity`. `Network::lend` and `enter` and
 //! `Engine::into_crew` serve [`run_network_par`] and [`threads`], and their types stay below. The crate may assume nothing, and
 //! owes nothing but the names: each clause is that of the crate below.
 #![tactic(auto)]
 
 pub mod actors;
+pub mod epochs;
 pub mod journal;
+pub mod lab;
 pub mod laws;
+pub mod ledger;
 pub mod log;
 pub mod mailbox;
 pub mod mocks;

@@ -8,5 +8,7 @@ mod runs;
 mod samples;
 #[cfg(test)]
 mod tests;
+#[cfg(test)]
+mod view;
 
 pub use samples::two_records;
