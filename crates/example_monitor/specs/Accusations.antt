@@ -1,5 +1,5 @@
 -- Whom the evidence of a run accuses.
-use Rattle.std.specs.Prelude.{ℕ, ◌≡◌, ◌==◌, false, List, Option, Some, None, All, Contains, filter_map, flat_map}
+use Rattle.std.specs.Prelude.{ℕ, ◌≡◌, ◌==◌, ◌++◌, false, List, [], ◌∷◌, Option, Some, None, All, Contains, filter_map}
 use Rattle.simplex.specs.declared.types.Activity.{Activity}
 use Rattle.simplex.specs.declared.types.Activity.TheVariants as activities
 use Rattle.simplex.specs.declared.actors.Call.{Call}
@@ -27,7 +27,8 @@ accusation_by event _ = None
 
 -- the accusations of these entries, in order
 abbrev pub accusations_of : List Entry → List Accusation
-accusations_of entries = flat_map (λ entry. filter_map (accusation_by entry.event) entry.calls) entries
+accusations_of [] = []
+accusations_of (entry ∷ entries) = filter_map (accusation_by entry.event) entry.calls ++ accusations_of entries
 
 -- none of them accuses the member
 abbrev pub Spares : ℕ → List Accusation → Type 0

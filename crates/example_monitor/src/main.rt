@@ -2,46 +2,14 @@
 //! events are.
 #![tactic(auto)]
 
-ghost use Rattle.std.specs.Prelude.{◌≡◌, List, IfOk, Ok};
-ghost use Rattle.simplex.specs.declared.Entry.{Entry};
-ghost use Rattle.simplex.specs.Run.{Run};
-ghost use Rattle.example_monitor.specs.Accusations.{SparesHonest, accusations_of};
-
 mod accusation;
+mod watching;
 
-use crate::accusation::{Accusation, accusations_of};
+use crate::watching::{Ended, watch};
 use anyhow::{Result, bail};
 use simplex::form::read_run;
 use simplex::io::{ReaderSource, read_bytes};
-use simplex::laws::runs::transcripts_blame_no_honest_member;
-use simplex::{Event, Refusal, Setup, run_network};
-use std::alloc::{AllocError, Global};
 use std::io::Print;
-
-/// Why there are no accusations.
-#[derive(Drop)]
-enum Ended {
-    /// The run is refused.
-    Refused(Refusal),
-    /// Out of memory.
-    Memory,
-}
-
-/// Runs the events, and accuses whom the evidence in the run names: exactly these, and whoever is accused is faulty.
-fn watch(alloc: Global, setup: &Setup, events: &[Event]) -> Result<Vec<Accusation>, Ended>
-    ensures exact { IfOk result (λ found. (entries : List Entry) × (Run setup.now events.now ≡ Ok entries) × (found.items ≡ accusations_of entries)) }
-    ensures faulty { IfOk result (λ found. SparesHonest setup.now found.items) }
-{
-    let transcript = match run_network(alloc, setup, events) {
-        Ok(transcript) => transcript,
-        Err(refusal) => return Err(Ended::Refused(refusal)),
-    };
-    transcripts_blame_no_honest_member();
-    match accusations_of(alloc, transcript.entries.as_slice()) {
-        Ok(found) => Ok(found),
-        Err(AllocError) => Err(Ended::Memory),
-    }
-}
 
 fn main(rt: HostRuntime) -> Result<()> {
     let alloc = rt.alloc();
