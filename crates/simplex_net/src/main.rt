@@ -3,13 +3,14 @@
 //!
 //! It hands the process to [`program`] and decides nothing: threads, words, standard input and standard output go in, and the
 //! status is that of the exit. Of an exit by a fault or want of memory, for which standard output stays as it is, it says on
-//! standard error which it was.
+//! standard error which it was, and of an input that is not of the form, what is wrong with it.
 #![tactic(auto)]
 
 ghost use Rattle.std.specs.Prelude.{◌↔◌, IsSome};
 ghost use Rattle.simplex_program.specs.Exit.{told};
 ghost use Rattle.simplex_program.specs.Cause.{IsFault};
 
+use simplex_diagnosis::{KeptSource, say_why};
 use simplex_front::words_of;
 use simplex_io::{ReaderSource, WriterSink};
 use simplex_program::{Exit, program};
@@ -41,14 +42,17 @@ fn tell(rt: &impl Eprint, exit: &Exit) {
 }
 
 fn main(rt: HostRuntime) -> ExitCode {
+    let mut source = KeptSource::new(rt.alloc(), ReaderSource::new(rt.alloc(), rt.reader()));
     let exit = match words_of(&rt) {
         Err(AllocError) => Exit::Memory,
         Ok(words) => {
-            let mut source = ReaderSource::new(rt.alloc(), rt.reader());
             let mut sink = WriterSink::new(io::writer(&rt));
             program(&rt, rt.alloc(), &words, &mut source, &mut sink)
         }
     };
+    if let Exit::BadInput { place } = &exit {
+        say_why(&rt, "simplex_net", *place, &source);
+    }
     tell(&rt, &exit);
     let status = exit.status();
     // The process ends here, and its memory with it: a run's entries need not be let go one by one.
