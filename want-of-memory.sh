@@ -1,25 +1,44 @@
 #!/usr/bin/env bash
-# Lets each allocation of a run fail in turn: the program is built once, unproved, for each stored example, and run with the first
-# allocation refused, the second, and so on to the last. `rt try` says where a run faults, hangs, or ends with the status of the
-# whole run and another output; any other ends with status 7, out of memory.
-# Usage: want-of-memory.sh [EXAMPLE..]. Where none is named, it is the four below. It takes minutes for each.
+# Refuses each request for memory of a run in turn: the built program runs on a stored example with the first request refused, the
+# second, and so on to the last. Each run is to end with status 7, out of memory, having written a first part of what it writes with
+# ample memory; or as it ends then, where it could do without. Needs a C compiler, and the program that rt ci or make build built.
+# Usage: want-of-memory.sh [EXAMPLE..]. Where none is named, it is the four below.
 set -uo pipefail
-cd "$(dirname "$0")"
+here=$(cd "$(dirname "$0")" && pwd)
+program=$here/crates/simplex_net/out/simplex_net
+[[ -x $program ]] || { echo "want-of-memory: there is no $program: make build"; exit 2; }
 examples=("$@")
-[[ $# -eq 0 ]] && examples=(one-member-finalizes four-members-notarize restart-at-a-reported-floor member-behind-fetches)
-ended=0
+[[ $# -gt 0 ]] || examples=(one-member-finalizes four-members-notarize restart-at-a-reported-floor member-behind-fetches)
+
+room=$(mktemp -d)
+trap 'rm -rf "$room"' EXIT
+cc -O1 -shared -fPIC -o "$room/refuse.so" "$here/bench/refuse_memory.c" -ldl || exit 2
+
+# Runs the program with the request of this number refused: its status, with what it wrote in written.
+run() {
+    REFUSED=$1 COUNTED=$room/count LD_PRELOAD=$room/refuse.so "$program" run <"$input" >"$room/written" 2>"$room/said"
+}
+
+failed=0
 for example in "${examples[@]}"; do
-    [[ -f examples/$example.json ]] || { echo "want-of-memory: there is no examples/$example.json"; exit 2; }
-    next=1
-    while true; do
-        told=$(cd crates/simplex_net && rt try --fail-alloc "$next.." -- run < "../../examples/$example.json" 2>&1)
+    input=$here/examples/$example.json
+    [[ -f $input ]] || { echo "want-of-memory: there is no $input"; exit 2; }
+    run 0
+    usual=$?
+    cp "$room/written" "$room/usual"
+    count=$(<"$room/count")
+    short=0
+    for ((number = 1; number <= count; number++)); do
+        run "$number"
         status=$?
-        echo "$example from $next: $(tail -n 1 <<< "$told")"
-        # It stops after so many runs, and says where to go on.
-        after=$(grep -o 'next=[0-9]*' <<< "$told" | tail -n 1 | cut -d= -f2)
-        if [[ -n $after ]]; then next=$after; continue; fi
-        [[ $status -eq 0 ]] || { echo "$told" | tail -n 20; ended=1; }
-        break
+        size=$(stat -c %s "$room/written")
+        if [[ $status == 7 ]] && cmp -s -n "$size" "$room/written" "$room/usual"; then
+            short=$((short + 1))
+        elif [[ $status != "$usual" ]] || ! cmp -s "$room/written" "$room/usual"; then
+            echo "want-of-memory: $example, request $number: status $status"
+            failed=$((failed + 1))
+        fi
     done
+    echo "want-of-memory: $example: of $count requests $short ended the run for want of memory"
 done
-exit "$ended"
+exit "$((failed > 0))"
