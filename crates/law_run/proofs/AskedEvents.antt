@@ -1,5 +1,5 @@
 -- An entry is its event's.
-use Rattle.std.proofs.Common.{◌≡◌, ℕ, ◌+◌, ◌-◌, ◌^◌, ◌&&◌, nat_lt, nat_le, Bool, true, false, List, [], ◌∷◌, map, length, Contains, Option, Some, None, Result, Ok, Err, ◌⊎◌, refl, sym, ap, ◌∙◌, subst, inl, inr, if◌then◌else◌}
+use Rattle.std.proofs.Common.{◌≡◌, ℕ, ◌+◌, ◌-◌, ◌^◌, ◌&&◌, nat_lt, nat_le, Bool, true, false, List, [], ◌∷◌, map, length, Contains, Option, Some, None, Result, Ok, Err, ◌⊎◌, refl, sym, ◌∙◌, subst, inl, inr, if◌then◌else◌}
 use Rattle.std.specs.List.{list_all}
 use Rattle.simplex_values.specs.declared.answer.Answer.{Answer}
 use Rattle.simplex_wire.specs.declared.certificate.Finalization.{Finalization}
@@ -10,7 +10,6 @@ use Rattle.simplex_transcript.specs.declared.event.Event.TheVariants as events
 use Rattle.simplex_transcript.specs.declared.event.StepSource.{StepSource}
 use Rattle.simplex_transcript.specs.declared.node.Node.{Node}
 use Rattle.simplex_transcript.specs.declared.node.Ref.{Ref}
-use Rattle.simplex_transcript.specs.declared.refusal.Refusal.{Refusal}
 use Rattle.simplex_transcript.specs.declared.refusal.RunError.{RunError}
 use Rattle.model_steps.specs.Engine as engine
 use Rattle.model_steps.specs.Engine.{EngineMade, Did}
@@ -21,7 +20,7 @@ use Rattle.model_run.specs.Requests.{request_number, packet_for}
 use Rattle.model_run.specs.Entries.{is_own_floor, is_at_end, on_start, on_packet, on_deliver, on_step, on_request, on_answer, on_crash, on_hearing, by_engine, made_of, entry_of}
 use Rattle.model_run.specs.Run.{run, unless_refused}
 use Rattle.model_run.proofs.Honest.{was_made}
-use Rattle.law_agreement.proofs.ListFacts.{not_in_empty, Contains-here, Contains-there, Contains-cons_cases}
+use Rattle.law_agreement.proofs.ListFacts.{Contains-here, Contains-there, Contains-cons_cases}
 
 abbrev KeepsEvent : Event → Result Noted RunError → Type 0
 KeepsEvent event (Ok noted) = noted.event ≡ event

@@ -1,8 +1,8 @@
 -- What stands at a place of a list, and what is looked up first.
-use Rattle.std.proofs.Common.{◌≡◌, ℕ, zero, suc, ◌+◌, ◌-◌, ◌<◌, ◌≤◌, max, ◌||◌, Bool, true, false, List, [], ◌∷◌, ◌++◌, length, Option, Some, None, refl, sym, ap, subst, ◌∙◌, inl, inr, arith, if◌then◌else◌}
-use Rattle.std.specs.List.{slice_get, list_any, range_with_len}
+use Rattle.std.proofs.Common.{◌≡◌, ℕ, zero, suc, ◌+◌, ◌≤◌, Bool, true, false, List, [], ◌∷◌, ◌++◌, length, Option, Some, refl, ap, subst, ◌∙◌, arith, if◌then◌else◌}
+use Rattle.std.specs.List.{slice_get}
 use Rattle.std.specs.Prelude.{find}
-use Rattle.std.specs.Option.{IfSome, option_or}
+use Rattle.std.specs.Option.{option_or}
 use Rattle.model_rules.specs.Lists.{first_of, greatest_of, greatest_below}
 
 module _ {X : Type 0} where

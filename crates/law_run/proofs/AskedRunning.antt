@@ -1,5 +1,5 @@
 -- Along a run, what a node knows and asks.
-use Rattle.std.proofs.Common.{◌≡◌, ℕ, ◌+◌, ◌-◌, ◌^◌, ◌<◌, ◌==◌, ◌&&◌, ◌++◌, nat_lt, nat_le, Bool, true, false, List, [], ◌∷◌, length, take, Contains, Option, Some, None, Result, Ok, Err, refl, sym, ap, subst, ◌∙◌, inl, inr, ◌⊎◌, arith, append-nil, if◌then◌else◌}
+use Rattle.std.proofs.Common.{◌≡◌, ℕ, ◌+◌, ◌-◌, ◌^◌, ◌==◌, ◌&&◌, ◌++◌, nat_lt, nat_le, Bool, true, false, List, [], ◌∷◌, length, take, Contains, Option, Some, None, Result, Ok, Err, refl, sym, ap, subst, ◌∙◌, inl, inr, ◌⊎◌, append-nil, if◌then◌else◌}
 use Rattle.std.specs.List.{slice_get, list_all}
 use Rattle.std.specs.Option.{IfSome, option_map, option_map_or}
 use Rattle.std.proofs.lemmas.List.Elements.{Contains-append_cases}
@@ -7,7 +7,6 @@ use Rattle.simplex_values.specs.declared.answer.Answer.{Answer}
 use Rattle.simplex_values.specs.declared.plan.Channel.{Channel}
 use Rattle.simplex_values.specs.declared.plan.Channel.TheVariants as channels
 use Rattle.simplex_values.specs.declared.proposal.Proposal.{Proposal}
-use Rattle.simplex_values.specs.declared.proposal.Subject.{Subject}
 use Rattle.simplex_values.specs.declared.proposal.Subject.TheVariants as subjects
 use Rattle.simplex_wire.specs.declared.artifact.Artifact.{Artifact}
 use Rattle.simplex_wire.specs.declared.artifact.Artifact.TheVariants as artifacts
@@ -15,8 +14,8 @@ use Rattle.simplex_wire.specs.declared.certificate.Finalization.{Finalization}
 use Rattle.simplex_types.specs.declared.floor.Floor.{Floor}
 use Rattle.model_rules.specs.declared.request.Asked.{Asked}
 use Rattle.model_rules.specs.declared.request.ProposalState.{ProposalState}
-use Rattle.model_rules.specs.Known.{Made, Fact, view_of}
-use Rattle.model_rules.specs.Pending.{Desk, Pending, Opened}
+use Rattle.model_rules.specs.Known.{Fact}
+use Rattle.model_rules.specs.Pending.{Pending, Opened}
 use Rattle.simplex_journal.specs.Journal.{Section, replayed}
 use Rattle.simplex_mailbox.specs.Mail.{received}
 use Rattle.simplex_messages.specs.declared.batcher.BatcherInput.{BatcherInput}
@@ -43,10 +42,10 @@ use Rattle.simplex_transcript.specs.declared.node.Node.{Node}
 use Rattle.simplex_transcript.specs.declared.node.Ref.{Ref}
 use Rattle.simplex_transcript.specs.declared.refusal.RunError.{RunError}
 use Rattle.model_steps.specs.Desk.{Doing}
-use Rattle.model_steps.specs.Performed.{Performed, stop_place, stop_outcome, journal_place, whole, broken, performed}
+use Rattle.model_steps.specs.Performed.{Performed, stop_place, stop_outcome, whole, broken, performed}
 use Rattle.model_steps.specs.Voter as voter
 use Rattle.model_steps.specs.Voter.{Standing}
-use Rattle.model_steps.specs.VoterLife.{VoterMade, Place, Given, Started, Stepped, Answered, place_of, start_at, rest, unreadable, unread, before_reading, start_performed, step_given}
+use Rattle.model_steps.specs.VoterLife.{VoterMade, Place, Started, Stepped, Answered, place_of, start_at, rest, unread, before_reading, start_performed, step_given}
 use Rattle.model_steps.specs.Batcher as batcher
 use Rattle.model_steps.specs.Engine as engine
 use Rattle.model_steps.specs.Engine.{EngineMade, Did, Began, started_at, given_to_voter, voter_in, voter_past, batcher_past, by_voter, runs, sections_of, cut_short, is_whole}
@@ -58,7 +57,7 @@ use Rattle.model_run.specs.Life.{Noted, Life, Stopped, Running, clock_of, is_of,
 use Rattle.model_run.specs.Members.{is_same_node, floor_of, rules_of, engine_of}
 use Rattle.model_run.specs.Requests.{is_start, request_number, packet_for}
 use Rattle.simplex_transcript.specs.declared.entry.Took.TheVariants as tooks
-use Rattle.model_run.specs.Entries.{noted_with, noted_idle, is_own_floor, is_at_end, on_start, on_packet, on_deliver, on_step, on_request, on_answer, on_crash, on_hearing, by_engine, made_of, entry_of}
+use Rattle.model_run.specs.Entries.{noted_with, noted_idle, is_own_floor, is_at_end, on_start, on_packet, on_deliver, on_step, on_request, on_answer, on_crash, on_hearing, by_engine, made_of}
 use Rattle.model_run.proofs.Honest.{was_made}
 use Rattle.law_member.specs.Life.{vote_in, voted}
 use Rattle.law_agreement.proofs.ListFacts.{not_in_empty, Contains-cons_cases}
@@ -72,7 +71,7 @@ use Rattle.law_run.proofs.Nodes.{resolver_no_start, handler_no_start, fetcher_no
 use Rattle.law_run.proofs.NodeQuiet.{AllHush, batcher_hush}
 use Rattle.law_run.proofs.Telling.{Each-take}
 use Rattle.law_run.specs.Answers.{vouched_in}
-use Rattle.law_run.specs.Asked.{asked_at, asked_of}
+use Rattle.law_run.specs.Asked.{asked_of}
 use Rattle.law_run.specs.Answered.{IsAnsweredBy, AnswersFor, AllAnswersAre}
 use Rattle.law_run.specs.Rooted.{IsRooted, AreRooted}
 use Rattle.law_run.proofs.AskedListing.{place_front}

@@ -1,5 +1,5 @@
 -- A step, and a start: what is appended was answered, and what is asked is rooted.
-use Rattle.std.proofs.Common.{◌≡◌, ℕ, ◌-◌, ◌==◌, ◌++◌, not, Bool, true, false, nat_lt, nat_le, List, [], ◌∷◌, length, Option, Some, None, refl, sym, ap, subst, ◌∙◌, inl, inr, ◌<◌, arith, append-nil, eqb-true, if◌then◌else◌}
+use Rattle.std.proofs.Common.{◌≡◌, ℕ, ◌-◌, ◌++◌, not, Bool, true, false, nat_lt, nat_le, List, [], ◌∷◌, Option, Some, None, refl, sym, ap, subst, ◌∙◌, inl, inr, ◌<◌, arith, append-nil, eqb-true, if◌then◌else◌}
 use Rattle.std.specs.List.{slice_get, list_any}
 use Rattle.std.specs.Prelude.{find}
 use Rattle.std.specs.Option.{IfSome, option_map, option_map_or, option_and_then}
@@ -33,17 +33,17 @@ use Rattle.model_rules.specs.declared.request.Asked.TheVariants as asks
 use Rattle.model_rules.specs.declared.request.ProposalState.{ProposalState}
 use Rattle.model_rules.specs.declared.request.ProposalState.TheVariants.{Preparing, Proposing, Waiting, Held, Closed}
 use Rattle.model_rules.specs.Lists.{first_of, greatest_of}
-use Rattle.model_rules.specs.Known.{Made, Fact, FloorAt, view_of, has_nullified}
-use Rattle.model_rules.specs.Views.{finalized_view, last_finalized, current_of, admits_certificate}
+use Rattle.model_rules.specs.Known.{Made, Fact, view_of, has_nullified}
+use Rattle.model_rules.specs.Views.{last_finalized, current_of, admits_certificate}
 use Rattle.model_rules.specs.Slot.{records_answer}
-use Rattle.model_rules.specs.Ancestry.{is_certified, floor_in}
+use Rattle.model_rules.specs.Ancestry.{is_certified}
 use Rattle.model_rules.specs.Deadline.{deadline_of}
 use Rattle.model_rules.specs.Best.{best_certificate, forwardable_at}
 use Rattle.model_rules.specs.Requests.{verify_asked}
 use Rattle.model_rules.specs.Votes.{notarize_at, nullify_at, finalize_at}
 use Rattle.model_rules.specs.Calls as state
 use Rattle.model_rules.specs.Calls.{facts_of, replay_answer, certified_answer, unsent_notarization, unsent_nullification, unsent_finalization, prune_answer}
-use Rattle.model_rules.specs.Pending.{Desk, Pending, Opened, is_open, pending_view, pending_parent, told, reconciled, iterated}
+use Rattle.model_rules.specs.Pending.{Desk, Pending, Opened, pending_view, pending_parent, reconciled, iterated}
 use Rattle.simplex_types.specs.declared.cause.BlockCause.TheVariants.{LeaderConflict}
 use Rattle.simplex_messages.specs.declared.call.Call.{Call}
 use Rattle.simplex_messages.specs.declared.call.Call.TheVariants as calls
@@ -54,14 +54,12 @@ use Rattle.simplex_messages.specs.declared.voter.Message.TheVariants as mail
 use Rattle.simplex_messages.specs.declared.voter.VoterInput.{VoterInput}
 use Rattle.simplex_messages.specs.declared.voter.VoterInput.TheVariants as inputs
 use Rattle.model_steps.specs.Desk.{Doing, begun, tell, make, hand, append, seek, send_vote, send_certificate, report}
-use Rattle.model_steps.specs.Voter.{Standing, answer_to, is_of, settle_proposal, proposal_stands, propose, stage, give_up, act_on_deadline, act_on_proposal, act_on_verify, settle_certify, take_verdict, act_on_certify, record_of, adds, adding, block_for, certificate_view, act_on_certificate, act_on_mail, vote_notarize, vote_finalize, open_requests, sync, publish_verdict, publish_nullify, publish_notarization, publish_nullification, publish_finalization, update_message, update_batcher, with_certificate, end_of_step, prune_at, prune, begin_iteration, ended, finished, take_proposal, first_answered, acted, stepped, activity_of, certificate_in, report_if, updated_if, replay_verdict, replay_record, replay_all, floor_view, stand_on, is_final_from, keep_floor, blank_desk, started}
+use Rattle.model_steps.specs.Voter.{Standing, answer_to, is_of, settle_proposal, proposal_stands, propose, stage, give_up, act_on_deadline, act_on_proposal, act_on_verify, settle_certify, take_verdict, act_on_certify, record_of, adds, adding, block_for, certificate_view, act_on_certificate, act_on_mail, vote_notarize, vote_finalize, open_requests, sync, publish_verdict, publish_nullify, publish_notarization, publish_nullification, publish_finalization, update_message, update_batcher, with_certificate, end_of_step, prune_at, prune, begin_iteration, finished, take_proposal, first_answered, acted, stepped, activity_of, certificate_in, report_if, updated_if, replay_verdict, replay_record, replay_all, floor_view, stand_on, is_final_from, keep_floor, blank_desk, started}
 use Rattle.law_run.specs.Sayings.{Each}
 use Rattle.law_run.proofs.Speaking.{Each-append}
-use Rattle.law_run.proofs.Telling.{some_is, gives, gives_some}
+use Rattle.law_run.proofs.Telling.{some_is, gives}
 use Rattle.law_run.specs.Answers.{vouched_in}
-use Rattle.law_run.specs.Rooted.{IsRooted}
-use Rattle.law_run.proofs.AskedListing.{place_front, first_more, found_passes}
-use Rattle.law_run.proofs.Knowing.{AllFrom, StandsOn, stands_more, ToldFrom, told_from, notarize_from}
+use Rattle.law_run.proofs.Knowing.{ToldFrom, notarize_from}
 use Rattle.law_run.proofs.Asking as asking
 
 -- an own notarize that is appended is of such a payload

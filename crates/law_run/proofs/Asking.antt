@@ -1,5 +1,5 @@
 -- The open requests: what each asks, and that a held payload was answered.
-use Rattle.std.proofs.Common.{◌≡◌, ℕ, ◌+◌, ◌==◌, ◌&&◌, ◌||◌, not, Bool, true, false, nat_lt, List, [], ◌∷◌, ◌++◌, fold, length, Option, Some, None, refl, sym, ap, subst, ◌∙◌, inl, inr, arith, append_assoc, append-nil, length-append, if◌then◌else◌}
+use Rattle.std.proofs.Common.{◌≡◌, ℕ, ◌+◌, ◌&&◌, ◌||◌, not, Bool, true, false, nat_lt, List, [], ◌∷◌, ◌++◌, fold, length, Option, Some, None, refl, sym, ap, ◌∙◌, arith, append_assoc, length-append, if◌then◌else◌}
 use Rattle.std.specs.List.{slice_get}
 use Rattle.std.specs.Prelude.{find}
 use Rattle.std.specs.Option.{IfSome, is_none, option_or, option_map, option_map_or, option_and_then, unwrap_or}
@@ -12,12 +12,12 @@ use Rattle.model_rules.specs.declared.request.Asked.TheVariants as asks
 use Rattle.model_rules.specs.declared.request.ProposalRequest.{ProposalRequest}
 use Rattle.model_rules.specs.declared.request.ProposalRequest.TheVariants.{Prepare, Propose}
 use Rattle.model_rules.specs.declared.request.ProposalState.{ProposalState}
-use Rattle.model_rules.specs.declared.request.ProposalState.TheVariants.{Preparing, Proposing, Waiting, Held, Closed}
+use Rattle.model_rules.specs.declared.request.ProposalState.TheVariants.{Waiting, Held}
 use Rattle.model_rules.specs.declared.request.Verify.{Verify}
 use Rattle.model_rules.specs.declared.request.Verify.TheVariants.{Ready, Resolve, Wait}
 use Rattle.model_rules.specs.declared.request.CertificateFetch.{CertificateFetch}
 use Rattle.model_rules.specs.Lists.{first_of}
-use Rattle.model_rules.specs.Known.{Made, Fact, VerifyAsked, view_of}
+use Rattle.model_rules.specs.Known.{Made, Fact, view_of}
 use Rattle.model_rules.specs.Views.{current_of}
 use Rattle.model_rules.specs.Slot.{slot_of}
 use Rattle.model_rules.specs.Ancestry.{has_ancestry, is_certified, greatest_parent}
@@ -26,7 +26,6 @@ use Rattle.model_rules.specs.Calls as state
 use Rattle.model_rules.specs.Calls.{facts_of, verify_facts}
 use Rattle.model_rules.specs.Pending.{Desk, Pending, Opened, told, is_open, is_preparing, is_waiting, is_closed, pending_view, pending_parent, drop_request, drop_number, drop_proposal, drop_verify, abandon_handoff, end_waiting, with_request, open_proposal, with_verify, open_verify, reconciled, drop_certify, open_certify, seek_parent, certifying, iterated}
 use Rattle.model_rules.proofs.Soundness.{slot_view}
-use Rattle.law_member.proofs.Choices.{some_at}
 use Rattle.law_run.specs.Sayings.{Each}
 use Rattle.law_run.proofs.Speaking.{Each-append}
 use Rattle.law_run.specs.Rooted.{IsRooted, IsRootedContext}

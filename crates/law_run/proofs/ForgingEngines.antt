@@ -37,17 +37,17 @@ use Rattle.law_run.proofs.Owning.{went_own}
 use Rattle.law_run.proofs.Reporting.{floor_good}
 use Rattle.law_run.proofs.Signing.{rules_own}
 use Rattle.law_run.proofs.Stepping.{taken_fine}
-use Rattle.law_run.proofs.Testing.{IsGenuine}
+use Rattle.law_run.proofs.Testing.{IsOwnOrSent}
 use Rattle.law_run.proofs.Worlds.{backers_of, sized_of, fine_of, reported_above, floors_hold}
 use Rattle.law_run.proofs.Owned.{IsOwnVote, own_passes}
-use Rattle.law_run.proofs.ForgingPassing.{PassesFrom}
+use Rattle.law_run.specs.Passing.{PassesFrom}
 
 -- ---- what a node's calls send
 
 -- all that is signed in a backed certificate is genuine
-good_genuine : (setting : Setting) (before : List Noted) (c : Certificate) → IsGood (backers_of setting before) c → All (IsGenuine setting.setup before (certificate_subject c)) (certificate_signatures c)
+good_genuine : (setting : Setting) (before : List Noted) (c : Certificate) → IsGood (backers_of setting before) c → All (IsOwnOrSent setting.setup before (certificate_subject c)) (certificate_signatures c)
 good_genuine setting before c g =
-    All-weaker (λ (a : Attestation). Counts (backers_of setting before) a.signer (certificate_subject c)) (IsGenuine setting.setup before (certificate_subject c)) (λ a h v. h) (certificate_signatures c) g.backed
+    All-weaker (λ (a : Attestation). Counts (backers_of setting before) a.signer (certificate_subject c)) (IsOwnOrSent setting.setup before (certificate_subject c)) (λ a h v. h) (certificate_signatures c) g.backed
 
 -- each vote that these calls send is the member's own
 abbrev SendsOwn : ℕ → List Call → Type 0

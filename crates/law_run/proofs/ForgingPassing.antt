@@ -43,7 +43,8 @@ use Rattle.law_run.proofs.Members.{listed_faulty}
 use Rattle.law_run.proofs.Speaking.{Each-append}
 use Rattle.law_run.specs.Backed.{read_certificate, in_body, in_response}
 use Rattle.law_run.specs.Voting.{read_vote, vote_on, vote_in, sent_votes, HasVoted}
-use Rattle.law_run.proofs.Testing.{NoneForged, IsGenuine, PassesOn}
+use Rattle.law_run.specs.Passing.{IsOwnOrSent, PassesOn, PassesFrom}
+use Rattle.law_run.proofs.Testing.{NoneForged}
 use Rattle.law_run.proofs.Worlds.{in_flat_map}
 
 -- ---- whom the packets show to have sent a vote, the run's test finds to have sent it
@@ -138,7 +139,7 @@ not_both setup m e = at (slice_get setup.members m) e
     at None h = cc
     at (Some kind) h = ap not h
 
-genuine_unforged : (setup : Setup) (before : List Noted) (subject : Subject) (a : Attestation) → IsGenuine setup before subject a → is_forged setup before (signed subject a) ≡ false
+genuine_unforged : (setup : Setup) (before : List Noted) (subject : Subject) (a : Attestation) → IsOwnOrSent setup before subject a → is_forged setup before (signed subject a) ≡ false
 unfolding is_forged
 genuine_unforged setup before subject a g = at (keyed_verifies setup.key_base (members_of setup) subject a) refl
   where
@@ -166,15 +167,15 @@ genuine_unforged setup before subject a g = at (keyed_verifies setup.key_base (m
 -- ---- bytes
 
 module _ (setup : Setup) (before : List Noted) where
-  each_unforged : (subject : Subject) (list : List Attestation) → All (IsGenuine setup before subject) list → NoneForged setup before (map (signed subject) list)
+  each_unforged : (subject : Subject) (list : List Attestation) → All (IsOwnOrSent setup before subject) list → NoneForged setup before (map (signed subject) list)
   each_unforged subject [] g = tt
   each_unforged subject (a ∷ list) g =
-      (genuine_unforged setup before subject a (All-head (IsGenuine setup before subject) a list g), each_unforged subject list (All-tail (IsGenuine setup before subject) a list g))
+      (genuine_unforged setup before subject a (All-head (IsOwnOrSent setup before subject) a list g), each_unforged subject list (All-tail (IsOwnOrSent setup before subject) a list g))
 
   abbrev AllGenuine : Certificate → Type 0
-  AllGenuine c = All (IsGenuine setup before (certificate_subject c)) (certificate_signatures c)
+  AllGenuine c = All (IsOwnOrSent setup before (certificate_subject c)) (certificate_signatures c)
 
-  vote_unforged : (r : Result Vote DecodeError) → ((v : Vote) → r ≡ Ok v → IsGenuine setup before (vote_subject v) (vote_attestation v)) → NoneForged setup before (signed_in_vote r)
+  vote_unforged : (r : Result Vote DecodeError) → ((v : Vote) → r ≡ Ok v → IsOwnOrSent setup before (vote_subject v) (vote_attestation v)) → NoneForged setup before (signed_in_vote r)
   vote_unforged (Ok v) g = (genuine_unforged setup before (vote_subject v) (vote_attestation v) (g v refl), tt)
   vote_unforged (Err error) g = tt
 
@@ -203,11 +204,7 @@ module _ (setup : Setup) (before : List Noted) where
 
   -- ---- packets
 
-  -- where it is of a faulty member, all that is signed in it is genuine
-  abbrev pub PassesFrom : Packet → Type 0
-  PassesFrom p = is_faulty_member setup p.from.member ≡ true → PassesOn setup before p.channel p.bytes
-
-  packets_unforged : (ps : List Packet) → Each PassesFrom ps → NoneForged setup before (signed_by_faulty setup ps)
+  packets_unforged : (ps : List Packet) → Each (PassesFrom setup before) ps → NoneForged setup before (signed_by_faulty setup ps)
   packets_unforged [] h = tt
   packets_unforged (p ∷ ps) h = at (is_faulty_member setup p.from.member) refl (packets_unforged ps h.1)
     where
@@ -223,6 +220,6 @@ module _ (setup : Setup) (before : List Noted) where
   none_there test [] h = refl
   none_there test (x ∷ xs) h = ap (λ (b : Bool). if b then Some x else find test xs) h.0 ∙ none_there test xs h.1
 
-  pub passing_entry : (entry : Entry) → Each PassesFrom entry.packets → first_forged setup before entry ≡ None
+  pub passing_entry : (entry : Entry) → Each (PassesFrom setup before) entry.packets → first_forged setup before entry ≡ None
   unfolding first_forged
   passing_entry entry h = none_there (is_forged setup before) (signed_by_faulty setup entry.packets) (packets_unforged entry.packets h)

@@ -38,7 +38,8 @@ use Rattle.law_run.proofs.Members.{faulty_listed}
 use Rattle.law_run.proofs.Good.{both, signature_raw}
 use Rattle.law_run.specs.ForgingSamples.{with_nullifier, first_proposal, notarize_by, tells_itself, signed_by_first, forges, Answers, IsForgery}
 use Rattle.law_run.proofs.Owned.{own_passes}
-use Rattle.law_run.proofs.ForgingPassing.{PassesFrom, passing_entry}
+use Rattle.law_run.specs.Passing.{PassesFrom}
+use Rattle.law_run.proofs.ForgingPassing.{passing_entry}
 
 -- ---- bytes
 

@@ -1,12 +1,11 @@
 -- What a member knows came from answers, and stands on the genesis digest.
-use Rattle.std.proofs.Common.{◌≡◌, ℕ, ◌<◌, ◌≤◌, ◌&&◌, ◌||◌, not, Bool, true, false, List, [], ◌∷◌, ◌++◌, map, Option, Some, None, ◌⊎◌, refl, sym, ap, subst, ◌∙◌, inl, inr, arith, if◌then◌else◌}
+use Rattle.std.proofs.Common.{◌≡◌, ℕ, ◌<◌, ◌≤◌, ◌||◌, not, Bool, true, false, List, [], ◌∷◌, ◌++◌, map, Option, Some, None, ◌⊎◌, refl, ap, subst, ◌∙◌, inl, inr, arith, if◌then◌else◌}
 use Rattle.std.specs.List.{list_any}
-use Rattle.std.specs.Option.{IfSome, is_none, option_or, option_map, option_map_or, option_and_then, unwrap_or}
+use Rattle.std.specs.Option.{IfSome, option_map_or}
 use Rattle.std.specs.Str.{bytes_eq}
 use Rattle.std.proofs.lemmas.Slice.Eq.{bytes_eq-Decides}
 use Rattle.std.proofs.lemmas.Grind.{common_steps}
 use Rattle.simplex_values.specs.declared.proposal.Proposal.{Proposal}
-use Rattle.simplex_values.specs.declared.round.Context.{Context}
 use Rattle.simplex_values.specs.declared.timeout.TimeoutReason.{TimeoutReason}
 use Rattle.simplex_values.specs.declared.timeout.TimeoutReason.TheVariants.{FailedCertification}
 use Rattle.simplex_values.specs.Proposal.{is_same_proposal}
@@ -24,7 +23,7 @@ use Rattle.model_rules.specs.declared.request.Verify.{Verify}
 use Rattle.model_rules.specs.declared.request.Verify.TheVariants.{Ready, Resolve, Wait}
 use Rattle.model_rules.specs.declared.request.CertificateFetch.{CertificateFetch}
 use Rattle.model_rules.specs.Lists.{first_of}
-use Rattle.model_rules.specs.Known.{Made, Fact, FloorAt, Added, Taken, Answered, Approved, Judged, Voted, Published, Expired, Failed, ProposalAsked, CertifyAsked, ParentAsked, Pruned, view_of, own_notarize, was_answered, was_approved, has_nullified, is_answer_in, is_approval_in}
+use Rattle.model_rules.specs.Known.{Made, Fact, Added, Taken, Answered, Approved, Judged, Voted, Expired, Failed, ProposalAsked, CertifyAsked, ParentAsked, Pruned, view_of, own_notarize, was_answered, was_approved, has_nullified, is_answer_in, is_approval_in}
 use Rattle.model_rules.specs.Views.{finalized_view, last_finalized}
 use Rattle.model_rules.specs.Slot.{slot_of, records_proposal, records_answer}
 use Rattle.model_rules.specs.Ancestry.{has_ancestry, floor_in, payload_at}

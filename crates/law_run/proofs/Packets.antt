@@ -39,7 +39,7 @@ use Rattle.law_run.specs.Sayings.{Each, InCall}
 use Rattle.law_run.specs.Voting.{vote_in, sent_votes, HasVoted}
 use Rattle.law_run.proofs.Backers.{Backers, Counts, Spoke}
 use Rattle.law_run.specs.Backed.{read_certificate, in_body, in_response, certificate_on, IsVerifying}
-use Rattle.law_run.proofs.Testing.{in_flat, vote_here, IsGenuine, PassesOn, IsTested}
+use Rattle.law_run.proofs.Testing.{in_flat, vote_here, IsOwnOrSent, PassesOn, IsTested}
 use Rattle.law_run.proofs.Answering.{answer_good}
 use Rattle.law_run.proofs.Good.{IsGood, IsSized, certified_parts, each_verifies, good_again}
 use Rattle.law_run.proofs.Hearing.{IsFineInput}
@@ -174,12 +174,12 @@ each_contained P (x ∷ xs) h = (h x (Contains-here x xs), each_contained P xs (
 -- ---- the packets of a faulty member
 
 genuine_counts : (backers : Backers) (later before : List Noted) (subject : Subject) (list : List Attestation) → backers.noted ≡ later ++ before
-    → All (IsGenuine backers.setting.setup before subject) list
+    → All (IsOwnOrSent backers.setting.setup before subject) list
     → All (λ (a : Attestation). (a.signer < members_of backers.setting.setup) × (keyed_verifies backers.setting.setup.key_base (members_of backers.setting.setup) subject a ≡ true)) list
     → All (λ (a : Attestation). Counts backers a.signer subject) list
 genuine_counts backers later before subject [] whole_is g v = All-nil (λ (a : Attestation). Counts backers a.signer subject)
 genuine_counts backers later before subject (a ∷ list) whole_is g v =
-    let G = IsGenuine backers.setting.setup before subject in
+    let G = IsOwnOrSent backers.setting.setup before subject in
     let V = λ (x : Attestation). (x.signer < members_of backers.setting.setup) × (keyed_verifies backers.setting.setup.key_base (members_of backers.setting.setup) subject x ≡ true) in
     let here : Counts backers a.signer subject = elim (All-head G a list g (All-head V a list v).1) [
       | inl f ↦ inl f

@@ -32,27 +32,14 @@ use Rattle.model_run.specs.Forged.{Signed, signed, signed_in_vote, signed_in_cer
 use Rattle.model_run.specs.Entries.{made_of, entry_of}
 use Rattle.law_agreement.proofs.ListFacts.{not_in_empty, Contains-here, Contains-cons_cases}
 use Rattle.law_run.specs.Faulty.{faulty_of}
+pub use Rattle.law_run.specs.Passing.{IsOwnOrSent, PassesOn}
 use Rattle.law_run.specs.Sayings.{Each}
 use Rattle.law_run.proofs.Members.{unhonest_faulty, faulty_listed}
-use Rattle.law_run.specs.Backed.{read_certificate, in_body, in_response, certificate_on}
+use Rattle.law_run.specs.Backed.{read_certificate, in_body, in_response}
 use Rattle.law_run.specs.Voting.{read_vote, vote_on, vote_in, HasVoted}
 use Rattle.law_run.proofs.Sent.{voted}
 
 -- ---- what passes the test
-
--- where the signature verifies, its signer is faulty or sent a vote on the subject
-abbrev pub IsGenuine : Setup → List Noted → Subject → Attestation → Type 0
-IsGenuine setup before subject a =
-    keyed_verifies setup.key_base (members_of setup) subject a ≡ true → Contains (faulty_of setup) a.signer ⊎ HasVoted before a.signer subject
-
--- so it is with each signature that is read from the bytes
-abbrev pub PassesOn : Setup → List Noted → Channel → List ℕ → Type 0
-PassesOn setup before channels.Vote bytes =
-    (v : Vote) → whole format.vote bytes ≡ Ok v → IsGenuine setup before (vote_subject v) (vote_attestation v)
-PassesOn setup before channels.Certificate bytes =
-    (c : Certificate) → whole format.certificate bytes ≡ Ok c → All (IsGenuine setup before (certificate_subject c)) (certificate_signatures c)
-PassesOn setup before channels.Resolver bytes =
-    (c : Certificate) → Contains (certificate_on channels.Resolver bytes) c → All (IsGenuine setup before (certificate_subject c)) (certificate_signatures c)
 
 -- a packet of a faulty member that passes the test
 pub record IsTested (setup : Setup) (before : List Noted) (packet : Packet) : Type 0 where
@@ -90,7 +77,7 @@ unfolding keyed_verifies
 signer_there base n subject a h = grind (arith, nat_tests, common_steps, h)
 
 -- what is not forged is genuine
-genuine_where : (setup : Setup) (before : List Noted) (subject : Subject) (a : Attestation) → is_forged setup before (signed subject a) ≡ false → IsGenuine setup before subject a
+genuine_where : (setup : Setup) (before : List Noted) (subject : Subject) (a : Attestation) → is_forged setup before (signed subject a) ≡ false → IsOwnOrSent setup before subject a
 unfolding is_forged
 genuine_where setup before subject a e v = by (is_honest setup a.signer) refl (has_sent before a.signer subject) refl (subst (λ (b : Bool). (is_honest setup a.signer && b && not (has_sent before a.signer subject)) ≡ false) v e)
   where
@@ -99,23 +86,23 @@ genuine_where setup before subject a e v = by (is_honest setup a.signer) refl (h
     by true h true k f = inr (voted before a.signer subject k)
     by true h false k f = cc
 
-genuine_each : (setup : Setup) (before : List Noted) (subject : Subject) (list : List Attestation) → Each (λ (s : Signed). is_forged setup before s ≡ false) (map (signed subject) list) → All (IsGenuine setup before subject) list
-genuine_each setup before subject [] h = All-nil (IsGenuine setup before subject)
-genuine_each setup before subject (a ∷ list) h = All-cons (IsGenuine setup before subject) a list (genuine_where setup before subject a h.0) (genuine_each setup before subject list h.1)
+genuine_each : (setup : Setup) (before : List Noted) (subject : Subject) (list : List Attestation) → Each (λ (s : Signed). is_forged setup before s ≡ false) (map (signed subject) list) → All (IsOwnOrSent setup before subject) list
+genuine_each setup before subject [] h = All-nil (IsOwnOrSent setup before subject)
+genuine_each setup before subject (a ∷ list) h = All-cons (IsOwnOrSent setup before subject) a list (genuine_where setup before subject a h.0) (genuine_each setup before subject list h.1)
 
 abbrev pub NoneForged : Setup → List Noted → List Signed → Type 0
 NoneForged setup before list = Each (λ (s : Signed). is_forged setup before s ≡ false) list
 
 certificate_passes : (setup : Setup) (before : List Noted) (r : Result Certificate DecodeError) (c : Certificate) → NoneForged setup before (signed_in_certificate r) → Contains (read_certificate r) c
-    → All (IsGenuine setup before (certificate_subject c)) (certificate_signatures c)
+    → All (IsOwnOrSent setup before (certificate_subject c)) (certificate_signatures c)
 certificate_passes setup before (Ok x) c h k = elim (Contains-cons_cases x [] c k) [
-  | inl same ↦ subst (λ (y : Certificate). All (IsGenuine setup before (certificate_subject y)) (certificate_signatures y)) same (genuine_each setup before (certificate_subject x) (certificate_signatures x) h)
+  | inl same ↦ subst (λ (y : Certificate). All (IsOwnOrSent setup before (certificate_subject y)) (certificate_signatures y)) same (genuine_each setup before (certificate_subject x) (certificate_signatures x) h)
   | inr r ↦ absurd (not_in_empty c r)
 ]
 certificate_passes setup before (Err error) c h k = absurd (not_in_empty c k)
 
 body_passes : (setup : Setup) (before : List Noted) (body : ResolverBody) (c : Certificate) → NoneForged setup before (signed_in_body body) → Contains (in_body body) c
-    → All (IsGenuine setup before (certificate_subject c)) (certificate_signatures c)
+    → All (IsOwnOrSent setup before (certificate_subject c)) (certificate_signatures c)
 body_passes setup before (bodies.Response bytes) c h k = certificate_passes setup before (whole format.certificate bytes) c h k
 body_passes setup before (bodies.Request view) c h k = absurd (not_in_empty c k)
 body_passes setup before bodies.Error c h k = absurd (not_in_empty c k)
@@ -126,7 +113,7 @@ passes_on setup before channels.Vote bytes h = λ v e. (let s = subst (λ r. Non
 passes_on setup before channels.Certificate bytes h = λ c e. certificate_passes setup before (Ok c) c (subst (λ r. NoneForged setup before (signed_in_certificate r)) e h) (Contains-here c [])
 passes_on setup before channels.Resolver bytes h = λ c k. at (whole resolver_message bytes) c h k
   where
-    at : (r : Result ResolverMessage DecodeError) (c : Certificate) → NoneForged setup before (signed_in_message r) → Contains (in_response r) c → All (IsGenuine setup before (certificate_subject c)) (certificate_signatures c)
+    at : (r : Result ResolverMessage DecodeError) (c : Certificate) → NoneForged setup before (signed_in_message r) → Contains (in_response r) c → All (IsOwnOrSent setup before (certificate_subject c)) (certificate_signatures c)
     at (Ok message) c s i = body_passes setup before message.body c s i
     at (Err error) c s i = absurd (not_in_empty c i)
 

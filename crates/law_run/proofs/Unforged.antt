@@ -41,7 +41,8 @@ use Rattle.law_run.specs.EventForging.{is_impersonator, may_forge, IsNext}
 use Rattle.law_run.proofs.ForgingEngines.{going_passes, beginning_passes}
 use Rattle.law_run.proofs.Mocking.{IsOwnSend, mock_own}
 use Rattle.law_run.proofs.Owned.{own_passes}
-use Rattle.law_run.proofs.ForgingPassing.{PassesFrom, passing_entry}
+use Rattle.law_run.specs.Passing.{PassesFrom}
+use Rattle.law_run.proofs.ForgingPassing.{passing_entry}
 use Rattle.law_run.proofs.Subjects.{IsHeardBytes}
 
 -- ---- an entry is its event's
@@ -218,13 +219,17 @@ module _ (setting : Setting) (before : List Noted) (o : IsMostlyHonest setting b
     ]
   ]
 
--- ---- the law
+-- ---- the laws
 
-pub none_forged : (setting : Setting) (before : List Noted) (event : Event) (noted : Noted) → IsNext setting before event noted → may_forge setting.setup event ≡ false → first_forged setting.setup before noted.entry ≡ None
-none_forged setting before event noted next may =
+pub passed_on : (setting : Setting) (before : List Noted) (event : Event) (noted : Noted) → IsNext setting before event noted → may_forge setting.setup event ≡ false
+    → Each (PassesFrom setting.setup before) noted.entry.packets
+passed_on setting before event noted next may =
     let typed = next.typed in
     let o = mostly_honest setting before (limited setting.setup next.limits) next.ran typed.1 in
-    passing_entry setting.setup before noted.entry (event_passes setting before o event noted typed may next.made)
+    event_passes setting before o event noted typed may next.made
+
+pub none_forged : (setting : Setting) (before : List Noted) (event : Event) (noted : Noted) → IsNext setting before event noted → may_forge setting.setup event ≡ false → first_forged setting.setup before noted.entry ≡ None
+none_forged setting before event noted next may = passing_entry setting.setup before noted.entry (passed_on setting before event noted next may)
 
 pub none_refused : (setting : Setting) (before : List Noted) (event : Event) (noted : Noted) → IsNext setting before event noted → may_forge setting.setup event ≡ false → entry_of setting before event ≡ Ok noted
 unfolding entry_of unless_forged

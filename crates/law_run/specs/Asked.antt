@@ -1,5 +1,5 @@
 -- The requests of a run, by their names and of a node in order.
-use Rattle.std.specs.Prelude.{ℕ, ◌+◌, ◌==◌, List, [], ◌∷◌, ◌++◌, length, Option, None, if◌then◌else◌}
+use Rattle.std.specs.Prelude.{◌+◌, ◌==◌, List, [], ◌∷◌, ◌++◌, length, Option, None, if◌then◌else◌}
 use Rattle.std.specs.List.{slice_get}
 use Rattle.model_rules.specs.declared.request.Asked.{Asked}
 use Rattle.simplex_transcript.specs.declared.node.Node.{Node}

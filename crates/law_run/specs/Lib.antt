@@ -20,6 +20,7 @@ pub mod InTime
 pub mod Keeping
 pub mod Late
 pub mod OneChain
+pub mod Passing
 pub mod MostlyHonest
 pub mod Naming
 pub mod Quiet

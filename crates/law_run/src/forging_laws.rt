@@ -10,12 +10,20 @@ ghost use Rattle.model_run.specs.Forged.{Signed, first_forged};
 ghost use Rattle.model_run.specs.Kinds.{is_of_kind};
 ghost use Rattle.model_run.specs.Life.{Noted};
 ghost use Rattle.law_run.specs.EventForging.{is_impersonator, may_forge, IsNext, HaveOneSignature};
+ghost use Rattle.law_run.specs.Passing.{PassesFrom};
+ghost use Rattle.law_run.specs.Sayings.{Each};
 
 /// Behind the entries of a run of members of whom few are faulty, only bytes that are injected and what an impersonator
 /// hears may make a forgery: whatever else the next event is, its packets hold none, and it is not refused for one.
 pub fn only_impersonators_and_injected_bytes_forge()
     ensures none { (setting : Setting) (before : List Noted) (event : Event) (noted : Noted) → IsNext setting before event noted → may_forge setting.setup event ≡ false → first_forged setting.setup before noted.entry ≡ None }
     ensures taken { (setting : Setting) (before : List Noted) (event : Event) (noted : Noted) → IsNext setting before event noted → may_forge setting.setup event ≡ false → entry_of setting before event ≡ Ok noted }
+{}
+
+/// Whatever else the next event is, what a faulty member sends in it passes on votes and certificates of which each signature that
+/// verifies is a faulty member's, or of a member that sent a vote on that subject before.
+pub fn faulty_members_pass_on()
+    ensures { (setting : Setting) (before : List Noted) (event : Event) (noted : Noted) → IsNext setting before event noted → may_forge setting.setup event ≡ false → Each (PassesFrom setting.setup before) noted.entry.packets }
 {}
 
 /// And what an impersonator hears makes a forgery only where its own signature on the subject, a digest, is also that of

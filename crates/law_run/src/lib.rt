@@ -48,7 +48,8 @@ pub use computed::a_start_is_quiet;
 pub use each::runs_have_one_entry_each;
 pub use evidence::nodes_are_not_blamed;
 pub use forging_laws::{
-    impersonators_forge_by_equal_digests, only_impersonators_and_injected_bytes_forge,
+    faulty_members_pass_on, impersonators_forge_by_equal_digests,
+    only_impersonators_and_injected_bytes_forge,
 };
 pub use forging_samples::{a_faulty_member_answers, injected_bytes_can_forge};
 pub use kept::{held_certificates_are_sound, nodes_keep_the_invariant};

@@ -232,6 +232,7 @@ pub use Rattle.law_run.specs.Limits
 pub use Rattle.law_run.specs.MostlyHonest
 pub use Rattle.law_run.specs.Naming
 pub use Rattle.law_run.specs.OneChain
+pub use Rattle.law_run.specs.Passing
 pub use Rattle.law_run.specs.Quiet
 pub use Rattle.law_run.specs.Refusing
 pub use Rattle.law_run.specs.Rooted
