@@ -1,52 +1,43 @@
 -- What a step does with what it takes is what was said of the taking.
-use Rattle.std.proofs.Common.{◌≡◌, ℕ, ◌⊎◌, ◌||◌, ◌&&◌, not, nat_le, nat_lt, Bool, true, false, cond, List, [], ◌∷◌, ◌++◌, map, filter, Option, Some, None, refl, sym, ap, ◌∙◌, subst, inl, inr, if◌then◌else◌}
-use Rattle.std.specs.Prelude.{option_to_list}
+use Rattle.std.proofs.Common.{◌≡◌, ℕ, ◌⊎◌, ◌&&◌, nat_le, nat_lt, Bool, true, false, List, [], ◌∷◌, ◌++◌, Option, Some, None, refl, sym, ap, ◌∙◌, subst, inl, inr, if◌then◌else◌}
 use Rattle.std.specs.Option.{option_map, option_map_or, option_and_then, is_none, is_some}
 use Rattle.std.proofs.lemmas.List.{append_assoc}
 use Rattle.law_member.proofs.Adding.{some_is}
 use Rattle.simplex_values.specs.declared.answer.Answer.{Answer}
 use Rattle.simplex_values.specs.declared.answer.Answer.TheVariants as answers
 use Rattle.simplex_values.specs.declared.answer.Handoff.TheVariants as handoffs
-use Rattle.simplex_values.specs.declared.plan.Plan.TheVariants as plans
 use Rattle.simplex_values.specs.declared.proposal.Proposal.{Proposal}
 use Rattle.simplex_values.specs.declared.round.Context.{Context}
 use Rattle.simplex_values.specs.declared.round.Round.{Round}
 use Rattle.simplex_values.specs.declared.timeout.TimeoutReason.{TimeoutReason}
-use Rattle.simplex_values.specs.declared.timeout.TimeoutReason.TheVariants.{LeaderTimeout, MissingProposal, IgnoredProposal, InvalidProposal, FailedCertification}
+use Rattle.simplex_values.specs.declared.timeout.TimeoutReason.TheVariants.{MissingProposal, IgnoredProposal, InvalidProposal, FailedCertification}
 use Rattle.simplex_wire.specs.declared.certificate.Certificate.{Certificate}
 use Rattle.simplex_wire.specs.declared.certificate.Certificate.TheVariants as certificates
 use Rattle.simplex_wire.specs.declared.certificate.Notarization.{Notarization}
 use Rattle.simplex_wire.specs.declared.vote.Nullify.{Nullify}
-use Rattle.simplex_wire.specs.declared.vote.Vote.{Vote}
-use Rattle.simplex_wire.specs.declared.vote.Vote.TheVariants as votes
 use Rattle.model_rules.specs.declared.request.Asked.{Asked}
 use Rattle.model_rules.specs.declared.request.Asked.TheVariants as asks
 use Rattle.model_rules.specs.declared.request.ProposalState.{ProposalState}
 use Rattle.model_rules.specs.declared.request.ProposalState.TheVariants.{Preparing, Proposing, Waiting, Held, Closed}
-use Rattle.model_rules.specs.Known.{Made, Fact, Added, Taken, Answered, Approved, Judged, Voted, Published, Expired, Failed, view_of, has_nullified, notarization_of, verdict_of}
+use Rattle.model_rules.specs.Known.{Made, Fact, Added, Taken, Answered, Approved, Judged, Expired, Failed, has_nullified, notarization_of, verdict_of}
 use Rattle.model_rules.specs.Views.{current_of, last_finalized, admits_certificate}
 use Rattle.model_rules.specs.Slot.{records_proposal, records_answer}
 use Rattle.model_rules.specs.Ancestry.{is_certified}
 use Rattle.model_rules.specs.Deadline.{expires, fails, triggered, deadline_of}
-use Rattle.model_rules.specs.Best.{best_certificate}
 use Rattle.model_rules.specs.Requests.{verify_asked}
 use Rattle.model_rules.specs.Votes.{nullify_at}
-use Rattle.model_rules.specs.Calls as state
-use Rattle.model_rules.specs.Calls.{only_if, fact_of, facts_of, proposal_on, judged, takes_verdict, certified_answer, nullify_facts, adds_notarization, adds_nullification, adds_finalization}
-use Rattle.model_rules.specs.Pending.{Desk, Pending, Opened, is_open, pending_view, pending_parent}
-use Rattle.simplex_messages.specs.declared.voter.Message.{Message}
+use Rattle.model_rules.specs.Calls.{only_if, facts_of, proposal_on, judged, takes_verdict, certified_answer, adds_notarization, adds_nullification, adds_finalization}
+use Rattle.model_rules.specs.Pending.{Desk, Pending, Opened, pending_view, pending_parent}
 use Rattle.simplex_messages.specs.declared.voter.Message.TheVariants as mail
 use Rattle.simplex_messages.specs.declared.voter.VoterInput.{VoterInput}
 use Rattle.simplex_messages.specs.declared.voter.VoterInput.TheVariants as inputs
-use Rattle.model_steps.specs.Desk.{Doing, begun, tell}
+use Rattle.model_steps.specs.Desk.{Doing, begun}
 use Rattle.model_steps.specs.Voter.{Standing, answer_to, act_on_deadline, propose, stage, give_up, act_on_proposal, act_on_verify, take_verdict, settle_certify, act_on_certify, adds, adding, certificate_view, block_for, act_on_certificate, act_on_mail, take_proposal, first_answered}
 use Rattle.model_steps.specs.Voter as voter
-use Rattle.law_member.specs.Learned.{added_at}
-use Rattle.law_member.specs.VoterVotes.{votes_of}
 use Rattle.model_audit.specs.Alike.{AreAlike}
-use Rattle.model_audit.specs.Taking.{Taking, Deadline, Mail, Reply, payload_for, own_proposal, judgement, learned, acted, view_if, view_answered, touched, given_up, newly_known}
-use Rattle.law_audit.specs.Taken.{IsGiven, TakesProposal, TakesVerify, TakesCertify, Takes}
-use Rattle.law_audit.proofs.Alike.{alike_itself, alike_then, alike_behind}
+use Rattle.model_audit.specs.Taking.{Taking, Deadline, Mail, Reply, payload_for, own_proposal, learned, acted, view_if, view_answered, touched, newly_known}
+use Rattle.law_audit.specs.Taken.{IsGiven, Takes}
+use Rattle.law_audit.proofs.Alike.{alike_itself}
 
 -- the view is the one that was said, and what is known is alike
 pub record ActsAs (made : Made) (now : ℕ) (known : List Fact) (taking : Taking) (outcome : Doing × Option ℕ) : Type 0 where

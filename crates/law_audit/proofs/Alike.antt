@@ -1,32 +1,26 @@
 -- On lists that are alike what is taken comes to the same.
-use Rattle.std.proofs.Common.{◌≡◌, ℕ, ◌||◌, ◌&&◌, Bool, true, false, cond, List, [], ◌∷◌, ◌++◌, map, filter, Option, Some, None, refl, sym, ap, ◌∙◌, subst, if◌then◌else◌}
-use Rattle.std.specs.Prelude.{option_to_list}
-use Rattle.std.specs.Option.{option_map, option_map_or}
+use Rattle.std.proofs.Common.{◌≡◌, ℕ, Bool, true, false, List, [], ◌++◌, map, filter, Option, Some, None, refl, sym, ap, ◌∙◌, subst}
+use Rattle.std.specs.Option.{option_map_or}
 use Rattle.std.proofs.lemmas.List.Elements.{filter-append}
 use Rattle.simplex_values.specs.declared.answer.Answer.{Answer}
 use Rattle.simplex_values.specs.declared.answer.Answer.TheVariants as answers
 use Rattle.simplex_values.specs.declared.answer.Handoff.TheVariants as handoffs
 use Rattle.simplex_values.specs.declared.round.Context.{Context}
-use Rattle.simplex_values.specs.declared.round.Round.{Round}
 use Rattle.simplex_wire.specs.declared.certificate.Certificate.{Certificate}
-use Rattle.simplex_wire.specs.declared.vote.Vote.{Vote}
 use Rattle.simplex_wire.specs.declared.vote.Vote.TheVariants as votes
-use Rattle.model_rules.specs.declared.request.Asked.{Asked}
 use Rattle.model_rules.specs.declared.request.Asked.TheVariants as asks
-use Rattle.model_rules.specs.Known.{Made, Fact, Voted, Taken, Judged, view_of, has_nullified}
+use Rattle.model_rules.specs.Known.{Made, Fact, Voted}
 use Rattle.model_rules.specs.Views.{current_of}
-use Rattle.model_rules.specs.Votes.{notarize_at, finalize_at, nullify_at}
+use Rattle.model_rules.specs.Votes.{notarize_at, finalize_at}
 use Rattle.model_rules.specs.Slot.{records_answer}
-use Rattle.model_rules.specs.Calls.{only_if}
-use Rattle.simplex_messages.specs.declared.voter.Message.{Message}
 use Rattle.simplex_messages.specs.declared.voter.Message.TheVariants as mail
 use Rattle.model_steps.specs.Voter.{certificate_view}
-use Rattle.law_member.specs.Learned.{is_addition, additions, added_at}
-use Rattle.law_member.specs.Tidings.{is_of_proposal, of_proposals}
+use Rattle.law_member.specs.Learned.{is_addition, added_at}
+use Rattle.law_member.specs.Tidings.{is_of_proposal}
 use Rattle.law_member.specs.VoterVotes.{votes_of, votes_on}
-use Rattle.model_audit.specs.Alike.{is_verdict, is_vote, verdicts, own_votes, AreAlike}
+use Rattle.model_audit.specs.Alike.{is_verdict, is_vote, AreAlike}
 use Rattle.law_audit.proofs.Looking.{same_current, same_records, same_records_answer, same_certified, same_takes, same_admits, same_nullified, same_notarize_at, same_finalize_at}
-use Rattle.model_audit.specs.Taking.{Taking, Deadline, Mail, Reply, payload_for, own_proposal, judgement, learned, acted, view_if, view_answered, touched, given_up, newly_known, votes_then, votes_due}
+use Rattle.model_audit.specs.Taking.{Taking, Deadline, Mail, Reply, payload_for, own_proposal, learned, acted, view_if, touched, given_up, newly_known, votes_then, votes_due}
 
 -- ---- lists that are alike
 

@@ -1,11 +1,9 @@
 -- The calls of the journal that a step makes are those by the rules, with the same prunes at the same places.
-use Rattle.std.proofs.Common.{◌≡◌, ℕ, ◌-◌, ◌||◌, nat_lt, Bool, true, false, cond, List, [], ◌∷◌, ◌++◌, map, filter, Option, Some, None, refl, sym, ap, ◌∙◌, subst, append-nil, if◌then◌else◌}
+use Rattle.std.proofs.Common.{◌≡◌, ℕ, ◌-◌, ◌||◌, nat_lt, Bool, true, false, List, [], ◌∷◌, ◌++◌, map, Option, Some, None, refl, sym, ap, ◌∙◌, subst, append-nil, if◌then◌else◌}
 use Rattle.std.proofs.lemmas.List.{append_assoc, map-append}
 use Rattle.std.specs.Option.{option_map, option_map_or}
 use Rattle.law_member.proofs.Adding.{some_is}
-use Rattle.simplex_values.specs.declared.plan.Recipients.TheVariants as recipients
 use Rattle.simplex_wire.specs.declared.artifact.Artifact.{Artifact}
-use Rattle.simplex_wire.specs.declared.artifact.Artifact.TheVariants as artifacts
 use Rattle.simplex_wire.specs.declared.certificate.Certificate.{Certificate}
 use Rattle.simplex_wire.specs.declared.certificate.Certificate.TheVariants as certificates
 use Rattle.simplex_wire.specs.declared.certificate.Notarization.{Notarization}
@@ -17,14 +15,11 @@ use Rattle.simplex_wire.specs.declared.vote.Finalize.{Finalize}
 use Rattle.simplex_wire.specs.declared.vote.Vote.{Vote}
 use Rattle.simplex_wire.specs.declared.vote.Vote.TheVariants as votes
 use Rattle.simplex_types.specs.declared.activity.Activity.TheVariants as activities
-use Rattle.model_rules.specs.declared.request.Asked.{Asked}
 use Rattle.model_rules.specs.declared.request.Asked.TheVariants as asks
-use Rattle.simplex_values.specs.declared.answer.Answer.{Answer}
 use Rattle.simplex_values.specs.declared.answer.Answer.TheVariants as answers
-use Rattle.simplex_values.specs.declared.round.Round.{Round}
 use Rattle.model_rules.specs.Lists.{greatest_of}
 use Rattle.model_rules.specs.Known.{Made, Fact, Voted}
-use Rattle.model_rules.specs.Views.{current_of, last_finalized, least_active}
+use Rattle.model_rules.specs.Views.{current_of, least_active}
 use Rattle.model_rules.specs.Votes.{notarize_at, finalize_at}
 use Rattle.model_rules.specs.Calls as state
 use Rattle.model_rules.specs.Calls.{facts_of, unsent_notarization, unsent_nullification, unsent_finalization, pruned_view, prune_answer}
@@ -36,7 +31,7 @@ use Rattle.simplex_messages.specs.declared.resolver.MailboxMessage.TheVariants a
 use Rattle.simplex_messages.specs.declared.voter.Message.TheVariants as mail
 use Rattle.simplex_messages.specs.declared.voter.VoterInput.{VoterInput}
 use Rattle.model_rules.specs.Best.{forwardable_at}
-use Rattle.model_steps.specs.Desk.{Doing, tell, make, hand, append, seek, send_vote, send_certificate, report}
+use Rattle.model_steps.specs.Desk.{Doing, tell, make, hand, seek, send_vote, send_certificate, report}
 use Rattle.model_steps.specs.Voter.{Standing, stepped, adds, vote_notarize, vote_finalize, open_requests, sync, publish_verdict, with_certificate, publish_nullify, publish_notarization, publish_nullification, publish_finalization, update_message, update_batcher, end_of_step, prune_at, prune, begin_iteration, ended, finished}
 use Rattle.model_steps.specs.Voter as voter
 use Rattle.law_member.specs.Learned.{additions}
@@ -44,7 +39,7 @@ use Rattle.law_member.specs.VoterVotes.{votes_of, votes_on}
 use Rattle.law_member.proofs.Quiet.{iterated_same}
 use Rattle.law_requests.proofs.Pruning.{prune_stands}
 use Rattle.model_audit.specs.Alike.{AreAlike}
-use Rattle.model_audit.specs.Taking.{Taking, Deadline, Mail, Reply, acted, touched, newly_known, given_up, votes_then}
+use Rattle.model_audit.specs.Taking.{Taking, Deadline, Mail, Reply, acted, touched, newly_known, votes_then}
 use Rattle.model_audit.specs.JournalCalls.{vote_record, added_by, records_taken, known_then, records_made, append_of, syncs_of, prunes_of, journal_calls}
 use Rattle.law_audit.specs.Taken.{Takes}
 use Rattle.law_audit.specs.Recording.{shape_of}
@@ -52,7 +47,7 @@ use Rattle.law_audit.proofs.Looking.{finalized_by, same_current, same_nullified,
 use Rattle.law_audit.proofs.Alike.{alike_behind, alike_acted, same_touched, same_newly, same_votes_then}
 use Rattle.law_audit.proofs.Finishing.{ends_later}
 use Rattle.law_audit.proofs.Acting.{ActsAs, acts}
-use Rattle.law_audit.proofs.Writing.{plain, is_any, shape-append, shape_still, WritesAs, writes}
+use Rattle.law_audit.proofs.Writing.{Mark, Written, Dropped, mark_of, marks_of, prune_of, is_any, marks-append, marks_still, shape_told, WritesAs, writes}
 
 -- ---- by the rules: the same of lists that are alike
 
@@ -106,7 +101,7 @@ module _ (made : Made) (now : ℕ) (a b : List Fact) (alike : AreAlike a b) wher
       ∙ ap (λ (ps : List Call). map append_of (records_made made now b taking) ++ syncs_of (records_made made now b taking) ++ ps)
       (ap (λ before. levels before (least_active made x)) (same_active a b alike made) ∙ ap (levels (least_active made b)) (same_active x y (alike_known taking) made))
 
--- ---- their shape
+-- ---- what is told of them
 
 or_false : (b : Bool) → b ≡ (b || false)
 or_false true = refl
@@ -124,25 +119,25 @@ any-append : (xs ys : List Artifact) → is_any (xs ++ ys) ≡ (is_any xs || is_
 any-append [] ys = refl
 any-append (x ∷ xs) ys = refl
 
-appends_shape : (rs : List Artifact) → shape_of (map append_of rs) ≡ map plain rs
+appends_shape : (rs : List Artifact) → marks_of (map append_of rs) ≡ map mark_of rs
 appends_shape [] = refl
-appends_shape (r ∷ rs) = ap (λ xs. None ∷ xs) (appends_shape rs)
+appends_shape (r ∷ rs) = ap (λ xs. mark_of r ∷ xs) (appends_shape rs)
 
-abbrev synced : Bool → List (Option ℕ)
-synced wrote = if wrote then None ∷ [] else []
+abbrev pub synced : Bool → List Mark
+synced wrote = if wrote then Written None ∷ [] else []
 
-syncs_shape : (rs : List Artifact) → shape_of (syncs_of rs) ≡ synced (is_any rs)
+syncs_shape : (rs : List Artifact) → marks_of (syncs_of rs) ≡ synced (is_any rs)
 syncs_shape [] = refl
 syncs_shape (r ∷ rs) = refl
 
-abbrev pruned_at : Option ℕ → List (Option ℕ)
+abbrev pruned_at : Option ℕ → List Mark
 pruned_at None = []
-pruned_at (Some least) = Some least ∷ []
+pruned_at (Some least) = Dropped least ∷ []
 
-prunes_shape : (before after : ℕ) → pruned_at (if nat_lt before after then Some after else None) ≡ shape_of (if nat_lt before after then calls.Prune after ∷ [] else [])
+prunes_shape : (before after : ℕ) → pruned_at (if nat_lt before after then Some after else None) ≡ marks_of (if nat_lt before after then calls.Prune after ∷ [] else [])
 prunes_shape before after = at (nat_lt before after)
   where
-    at : (b : Bool) → pruned_at (if b then Some after else None) ≡ shape_of (if b then calls.Prune after ∷ [] else [])
+    at : (b : Bool) → pruned_at (if b then Some after else None) ≡ marks_of (if b then calls.Prune after ∷ [] else [])
     at true = refl
     at false = refl
 
@@ -157,7 +152,7 @@ module _ (made : Made) (view : ℕ) where
 
   -- these were appended
   record Appended (before after : Doing) (rs : List Artifact) : Type 0 where
-    shape : shape_of after.calls ≡ shape_of before.calls ++ map plain rs
+    shape : marks_of after.calls ≡ marks_of before.calls ++ map mark_of rs
     wrote : after.wrote ≡ (before.wrote || is_any rs)
 
   notarized : (d : Doing) → Appended d (vote_notarize made view d) (map vote_record (notarizes_of d.desk.known)) × ((vote_notarize made view d).desk.known ≡ map Voted (notarizes_of d.desk.known) ++ d.desk.known)
@@ -166,16 +161,16 @@ module _ (made : Made) (view : ℕ) where
     where
       at : (o : Option Notarize) → notarize_at made d.desk.known view ≡ o
           → Appended d (vote_notarize made view d) (map vote_record (notarizes_of d.desk.known)) × ((vote_notarize made view d).desk.known ≡ map Voted (notarizes_of d.desk.known) ++ d.desk.known)
-      at None e = (record { shape = rw e (sym (append-nil (shape_of d.calls))); wrote = rw e (or_false d.wrote) }, rw e refl)
-      at (Some n) e = (record { shape = rw e (shape-append d.calls _); wrote = rw e (or_true d.wrote) }, rw e refl)
+      at None e = (record { shape = rw e (sym (append-nil (marks_of d.calls))); wrote = rw e (or_false d.wrote) }, rw e refl)
+      at (Some n) e = (record { shape = rw e (marks-append d.calls _); wrote = rw e (or_true d.wrote) }, rw e refl)
 
   finalized : (d : Doing) → Appended d (vote_finalize made view d) (map vote_record (finalizes_of d.desk.known))
   unfolding vote_finalize
   finalized d = at (finalize_at made d.desk.known view) refl
     where
       at : (o : Option Finalize) → finalize_at made d.desk.known view ≡ o → Appended d (vote_finalize made view d) (map vote_record (finalizes_of d.desk.known))
-      at None e = record { shape = rw e (sym (append-nil (shape_of d.calls))); wrote = rw e (or_false d.wrote) }
-      at (Some n) e = record { shape = rw e (shape-append d.calls _); wrote = rw e (or_true d.wrote) }
+      at None e = record { shape = rw e (sym (append-nil (marks_of d.calls))); wrote = rw e (or_false d.wrote) }
+      at (Some n) e = record { shape = rw e (marks-append d.calls _); wrote = rw e (or_true d.wrote) }
 
   votes_appended : (d : Doing) → Appended d (vote_finalize made view (vote_notarize made view d)) (map vote_record (votes_on made d.desk.known view))
   unfolding votes_on
@@ -190,83 +185,83 @@ module _ (made : Made) (view : ℕ) where
       ∙ ap (λ (known : List Fact). ns ++ map vote_record (finalizes_of known)) (sym first.1) in
       record {
         shape =
-            second.shape ∙ ap (λ xs. xs ++ map plain fs) first.0.shape ∙ append_assoc (shape_of d.calls) (map plain ns) (map plain fs)
-            ∙ ap (λ xs. shape_of d.calls ++ xs) (sym (map-append plain ns fs) ∙ ap (map plain) (sym all));
+            second.shape ∙ ap (λ xs. xs ++ map mark_of fs) first.0.shape ∙ append_assoc (marks_of d.calls) (map mark_of ns) (map mark_of fs)
+            ∙ ap (λ xs. marks_of d.calls ++ xs) (sym (map-append mark_of ns fs) ∙ ap (map mark_of) (sym all));
         wrote = second.wrote ∙ ap (λ b. b || is_any fs) first.0.wrote ∙ sym (or_assoc d.wrote (is_any ns) (is_any fs)) ∙ ap (λ b. d.wrote || b) (sym (any-append ns fs) ∙ ap is_any (sym all));
       }
 
   -- ---- what is published is none of the journal
 
-  sync_shape : (d : Doing) → shape_of (sync view d).calls ≡ shape_of d.calls ++ synced d.wrote
+  sync_shape : (d : Doing) → marks_of (sync view d).calls ≡ marks_of d.calls ++ synced d.wrote
   sync_shape d = at d.wrote
     where
-      at : (b : Bool) → shape_of (if b then make (calls.Sync view) d else d).calls ≡ shape_of d.calls ++ synced b
-      at true = shape-append d.calls (calls.Sync view ∷ [])
-      at false = sym (append-nil (shape_of d.calls))
+      at : (b : Bool) → marks_of (if b then make (calls.Sync view) d else d).calls ≡ marks_of d.calls ++ synced b
+      at true = marks-append d.calls (calls.Sync view ∷ [])
+      at false = sym (append-nil (marks_of d.calls))
 
-  verdict_shape : (d : Doing) → shape_of (publish_verdict d).calls ≡ shape_of d.calls
+  verdict_shape : (d : Doing) → marks_of (publish_verdict d).calls ≡ marks_of d.calls
   unfolding publish_verdict
   verdict_shape d = at d.verdict
     where
-      judged : (n : Notarization) (good : Bool) → shape_of (if good then report (activities.Certification n) (hand (handed.Resolver (resolver.Certified n good)) d) else hand (handed.Resolver (resolver.Certified n good)) d).calls ≡ shape_of d.calls
-      judged n true = shape_still d.calls _ refl
+      judged : (n : Notarization) (good : Bool) → marks_of (if good then report (activities.Certification n) (hand (handed.Resolver (resolver.Certified n good)) d) else hand (handed.Resolver (resolver.Certified n good)) d).calls ≡ marks_of d.calls
+      judged n true = marks_still d.calls _ refl
       judged n false = refl
 
-      at : (o : Option (Notarization × Bool)) → shape_of (option_map_or (λ v. let told = hand (handed.Resolver (resolver.Certified v.0 v.1)) d in if v.1 then report (activities.Certification v.0) told else told) o d).calls ≡ shape_of d.calls
+      at : (o : Option (Notarization × Bool)) → marks_of (option_map_or (λ v. let told = hand (handed.Resolver (resolver.Certified v.0 v.1)) d in if v.1 then report (activities.Certification v.0) told else told) o d).calls ≡ marks_of d.calls
       at None = refl
       at (Some v) = judged v.0 v.1
 
-  vote_shape : (v : Vote) (d : Doing) → shape_of (send_vote v d).calls ≡ shape_of d.calls
-  vote_shape v d = shape_still d.calls _ refl
+  vote_shape : (v : Vote) (d : Doing) → marks_of (send_vote v d).calls ≡ marks_of d.calls
+  vote_shape v d = marks_still d.calls _ refl
 
-  certificate_shape : (c : Certificate) (d : Doing) → shape_of (send_certificate c d).calls ≡ shape_of d.calls
-  certificate_shape c d = shape_still d.calls _ refl
+  certificate_shape : (c : Certificate) (d : Doing) → marks_of (send_certificate c d).calls ≡ marks_of d.calls
+  certificate_shape c d = marks_still d.calls _ refl
 
-  nullify_shape : (d : Doing) → shape_of (publish_nullify d).calls ≡ shape_of d.calls
+  nullify_shape : (d : Doing) → marks_of (publish_nullify d).calls ≡ marks_of d.calls
   unfolding publish_nullify
   nullify_shape d = at d.nullify
     where
-      along : (n : Nullify) (o : Option Certificate) → shape_of (with_certificate o (send_vote (votes.Nullify n) d)).calls ≡ shape_of d.calls
+      along : (n : Nullify) (o : Option Certificate) → marks_of (with_certificate o (send_vote (votes.Nullify n) d)).calls ≡ marks_of d.calls
       along n None = vote_shape (votes.Nullify n) d
       along n (Some c) = certificate_shape c (send_vote (votes.Nullify n) d) ∙ vote_shape (votes.Nullify n) d
 
-      at : (o : Option (Nullify × Option Certificate)) → shape_of (option_map_or (λ n. with_certificate n.1 (send_vote (votes.Nullify n.0) d)) o d).calls ≡ shape_of d.calls
+      at : (o : Option (Nullify × Option Certificate)) → marks_of (option_map_or (λ n. with_certificate n.1 (send_vote (votes.Nullify n.0) d)) o d).calls ≡ marks_of d.calls
       at None = refl
       at (Some n) = along n.0 n.1
 
-  notarization_shape : (d : Doing) → shape_of (publish_notarization made view d).calls ≡ shape_of d.calls
+  notarization_shape : (d : Doing) → marks_of (publish_notarization made view d).calls ≡ marks_of d.calls
   unfolding publish_notarization
   notarization_shape d = at (unsent_notarization d.desk.known view)
     where
-      at : (o : Option Notarization) → shape_of (option_map_or (λ n. report (activities.Notarization n) (send_certificate (certificates.Notarization n) (tell made (state.BroadcastNotarization view) d))) o (tell made (state.BroadcastNotarization view) d)).calls ≡ shape_of d.calls
+      at : (o : Option Notarization) → marks_of (option_map_or (λ n. report (activities.Notarization n) (send_certificate (certificates.Notarization n) (tell made (state.BroadcastNotarization view) d))) o (tell made (state.BroadcastNotarization view) d)).calls ≡ marks_of d.calls
       at None = refl
-      at (Some n) = shape_still (send_certificate (certificates.Notarization n) d).calls _ refl ∙ certificate_shape (certificates.Notarization n) d
+      at (Some n) = marks_still (send_certificate (certificates.Notarization n) d).calls _ refl ∙ certificate_shape (certificates.Notarization n) d
 
-  nullification_shape : (d : Doing) → shape_of (publish_nullification made view d).calls ≡ shape_of d.calls
+  nullification_shape : (d : Doing) → marks_of (publish_nullification made view d).calls ≡ marks_of d.calls
   unfolding publish_nullification
   nullification_shape d = at (unsent_nullification d.desk.known view)
     where
-      at : (o : Option Nullification) → shape_of (option_map_or (λ n. report (activities.Nullification n) (send_certificate (certificates.Nullification n) (tell made (state.BroadcastNullification view) d))) o (tell made (state.BroadcastNullification view) d)).calls ≡ shape_of d.calls
+      at : (o : Option Nullification) → marks_of (option_map_or (λ n. report (activities.Nullification n) (send_certificate (certificates.Nullification n) (tell made (state.BroadcastNullification view) d))) o (tell made (state.BroadcastNullification view) d)).calls ≡ marks_of d.calls
       at None = refl
-      at (Some n) = shape_still (send_certificate (certificates.Nullification n) d).calls _ refl ∙ certificate_shape (certificates.Nullification n) d
+      at (Some n) = marks_still (send_certificate (certificates.Nullification n) d).calls _ refl ∙ certificate_shape (certificates.Nullification n) d
 
-  finalization_shape : (d : Doing) → shape_of (publish_finalization made view d).calls ≡ shape_of d.calls
+  finalization_shape : (d : Doing) → marks_of (publish_finalization made view d).calls ≡ marks_of d.calls
   unfolding publish_finalization
   finalization_shape d = at (unsent_finalization d.desk.known view)
     where
-      at : (o : Option Finalization) → shape_of (option_map_or (λ f. report (activities.Finalization f) (send_certificate (certificates.Finalization f) (tell made (state.BroadcastFinalization view) d))) o (tell made (state.BroadcastFinalization view) d)).calls ≡ shape_of d.calls
+      at : (o : Option Finalization) → marks_of (option_map_or (λ f. report (activities.Finalization f) (send_certificate (certificates.Finalization f) (tell made (state.BroadcastFinalization view) d))) o (tell made (state.BroadcastFinalization view) d)).calls ≡ marks_of d.calls
       at None = refl
-      at (Some n) = shape_still (send_certificate (certificates.Finalization n) d).calls _ refl ∙ certificate_shape (certificates.Finalization n) d
+      at (Some n) = marks_still (send_certificate (certificates.Finalization n) d).calls _ refl ∙ certificate_shape (certificates.Finalization n) d
 
-  sent_shape : {A : Type 0} (kind : A → Vote) (o : Option A) (d : Doing) → shape_of (option_map_or (λ a. send_vote (kind a) d) o d).calls ≡ shape_of d.calls
+  sent_shape : {A : Type 0} (kind : A → Vote) (o : Option A) (d : Doing) → marks_of (option_map_or (λ a. send_vote (kind a) d) o d).calls ≡ marks_of d.calls
   sent_shape kind None d = refl
   sent_shape kind (Some a) d = vote_shape (kind a) d
 
-  update_shape : (before : ℕ) (d : Doing) → shape_of (update_batcher made before d).calls ≡ shape_of d.calls
+  update_shape : (before : ℕ) (d : Doing) → marks_of (update_batcher made before d).calls ≡ marks_of d.calls
   unfolding update_batcher
   update_shape before d = at (nat_lt before (current_of made d.desk.known))
     where
-      at : (b : Bool) → shape_of (if b then hand (update_message made d.desk.known (forwardable_at d.desk.known (current_of made d.desk.known - 1))) d else d).calls ≡ shape_of d.calls
+      at : (b : Bool) → marks_of (if b then hand (update_message made d.desk.known (forwardable_at d.desk.known (current_of made d.desk.known - 1))) d else d).calls ≡ marks_of d.calls
       at true = refl
       at false = refl
 
@@ -276,7 +271,7 @@ module _ (made : Made) (view : ℕ) where
   unfolding open_requests
   asked_same now d = (refl, refl)
 
-  end_shape : (now before : ℕ) (d : Doing) → (let rs = map vote_record (votes_on made d.desk.known view) in shape_of (end_of_step made now before view d).calls ≡ shape_of d.calls ++ map plain rs ++ synced (d.wrote || is_any rs))
+  end_shape : (now before : ℕ) (d : Doing) → (let rs = map vote_record (votes_on made d.desk.known view) in marks_of (end_of_step made now before view d).calls ≡ marks_of d.calls ++ map mark_of rs ++ synced (d.wrote || is_any rs))
   unfolding end_of_step
   end_shape now before d =
       let rs = map vote_record (votes_on made d.desk.known view) in
@@ -296,23 +291,23 @@ module _ (made : Made) (view : ℕ) where
       let appended = votes_appended d in
       update_shape before final ∙ finalization_shape last ∙ sent_shape votes.Finalize finalize given_up ∙ nullification_shape notarized ∙ notarization_shape sent
       ∙ sent_shape votes.Notarize notarize nullified ∙ nullify_shape judged ∙ verdict_shape opened ∙ sync_shape asked
-      ∙ ap (λ (cs : List Call). shape_of cs ++ synced asked.wrote) (asked_same now both).0
-      ∙ ap (λ b. shape_of both.calls ++ synced b) ((asked_same now both).1 ∙ appended.wrote)
+      ∙ ap (λ (cs : List Call). marks_of cs ++ synced asked.wrote) (asked_same now both).0
+      ∙ ap (λ b. marks_of both.calls ++ synced b) ((asked_same now both).1 ∙ appended.wrote)
       ∙ ap (λ xs. xs ++ synced (d.wrote || is_any rs)) appended.shape
 
 -- ---- a step
 
-begin_shape : (made : Made) (now : ℕ) (d : Doing) → shape_of (begin_iteration made now d).calls ≡ shape_of d.calls ++ pruned_at (prune_answer made (iterated made now d.desk).known)
+begin_shape : (made : Made) (now : ℕ) (d : Doing) → marks_of (begin_iteration made now d).calls ≡ marks_of d.calls ++ pruned_at (prune_answer made (iterated made now d.desk).known)
 unfolding begin_iteration prune
 begin_shape made now d = at (prune_answer made (iterated made now d.desk).known)
   where
-    at : (o : Option ℕ) → shape_of (prune_at o (tell made state.Prune (seek (record d { desk = iterated made now d.desk })))).calls ≡ shape_of d.calls ++ pruned_at o
-    at None = sym (append-nil (shape_of d.calls))
-    at (Some least) = shape-append d.calls (calls.Prune least ∷ [])
+    at : (o : Option ℕ) → marks_of (prune_at o (tell made state.Prune (seek (record d { desk = iterated made now d.desk })))).calls ≡ marks_of d.calls ++ pruned_at o
+    at None = sym (append-nil (marks_of d.calls))
+    at (Some least) = marks-append d.calls (calls.Prune least ∷ [])
 
 -- what is pruned is told by the least active views before and behind
 same_prune : (made : Made) (known before after : List Fact) → greatest_of pruned_view known ≡ least_active made before → least_active made known ≡ least_active made after
-    → pruned_at (prune_answer made known) ≡ shape_of (prunes_of made before after)
+    → pruned_at (prune_answer made known) ≡ marks_of (prunes_of made before after)
 unfolding prune_answer
 same_prune made known before after low high =
     ap (λ n. pruned_at (if nat_lt n (least_active made known) then Some (least_active made known) else None)) low
@@ -327,14 +322,14 @@ module _ (made : Made) (now : ℕ) (s : Standing) (input : VoterInput) (taking :
   behind = known_then made now known taking
 
   -- the calls by the rules
-  ruled_shape : shape_of (journal_calls made now known taking)
-      ≡ map plain (records_made made now known taking) ++ synced (is_any (records_made made now known taking)) ++ shape_of (prunes_of made known behind)
+  pub ruled_shape : marks_of (journal_calls made now known taking)
+      ≡ map mark_of (records_made made now known taking) ++ synced (is_any (records_made made now known taking)) ++ marks_of (prunes_of made known behind)
   unfolding journal_calls
   ruled_shape =
       let rs = records_made made now known taking in
-      shape-append (map append_of rs ++ syncs_of rs) (prunes_of made known behind)
-      ∙ ap (λ xs. xs ++ shape_of (prunes_of made known behind))
-      (shape-append (map append_of rs) (syncs_of rs) ∙ ap (λ xs. xs ++ shape_of (syncs_of rs)) (appends_shape rs) ∙ ap (λ xs. map plain rs ++ xs) (syncs_shape rs))
+      marks-append (map append_of rs ++ syncs_of rs) (prunes_of made known behind)
+      ∙ ap (λ xs. xs ++ marks_of (prunes_of made known behind))
+      (marks-append (map append_of rs) (syncs_of rs) ∙ ap (λ xs. xs ++ marks_of (syncs_of rs)) (appends_shape rs) ∙ ap (λ xs. map mark_of rs ++ xs) (syncs_shape rs))
 
   module _ (outcome : Doing × Option ℕ) (e : voter.acted made now s input ≡ Some outcome) where
     w : WritesAs made known taking outcome
@@ -353,7 +348,7 @@ module _ (made : Made) (now : ℕ) (s : Standing) (input : VoterInput) (taking :
         ∙ sym (same_active behind outcome.0.desk.known knows made)
 
     -- a step that ends on a view
-    on_view : (d : Doing) (view : ℕ) → outcome ≡ (d, Some view) → shape_of (journal_calls made now known taking) ≡ shape_of (finished made now (current_of made known) outcome).calls
+    on_view : (d : Doing) (view : ℕ) → outcome ≡ (d, Some view) → marks_of (journal_calls made now known taking) ≡ marks_of (finished made now (current_of made known) outcome).calls
     unfolding finished
     on_view d view f =
         let before = current_of made known in
@@ -363,23 +358,23 @@ module _ (made : Made) (now : ℕ) (s : Standing) (input : VoterInput) (taking :
         let all : records_made made now known taking ≡ rs ++ vs = ap (λ o. rs ++ map vote_record (votes_then made behind o)) (sym a.touches ∙ ap (λ (o : Doing × Option ℕ). o.1) f) in
         let same : vs ≡ mine = ap (map vote_record) (same_votes_then made behind outcome.0.desk.known knows (Some view) ∙ ap (λ (o : Doing × Option ℕ). votes_on made o.0.desk.known view) f) in
         let last = end_of_step made now before view d in
-        let acted_shape : shape_of d.calls ≡ map plain rs = ap (λ (o : Doing × Option ℕ). shape_of o.0.calls) (sym f) ∙ w.shape in
+        let acted_shape : marks_of d.calls ≡ map mark_of rs = ap (λ (o : Doing × Option ℕ). marks_of o.0.calls) (sym f) ∙ w.shape in
         let acted_wrote : d.wrote ≡ is_any rs = ap (λ (o : Doing × Option ℕ). o.0.wrote) (sym f) ∙ w.wrote in
-        let pruned : pruned_at (prune_answer made (iterated made now last.desk).known) ≡ shape_of (prunes_of made known behind) =
+        let pruned : pruned_at (prune_answer made (iterated made now last.desk).known) ≡ marks_of (prunes_of made known behind) =
         same_prune made (iterated made now last.desk).known known behind
         (ap (λ (o : Doing × Option ℕ). greatest_of pruned_view (iterated made now (ended made now before o).desk).known) (sym f) ∙ prune_stands made now s input outcome e ∙ low)
         (active last ((ends_later made now before view d).certificates ∙ ap (λ (o : Doing × Option ℕ). additions o.0.desk.known) (sym f))) in
         ruled_shape
-        ∙ ap (λ (xs : List Artifact). map plain xs ++ synced (is_any xs) ++ shape_of (prunes_of made known behind)) (all ∙ ap (λ xs. rs ++ xs) same)
-        ∙ ap (λ xs. xs ++ synced (is_any (rs ++ mine)) ++ shape_of (prunes_of made known behind)) (map-append plain rs mine ∙ ap (λ xs. xs ++ map plain mine) (sym acted_shape))
-        ∙ ap (λ b. shape_of d.calls ++ map plain mine ++ synced b ++ shape_of (prunes_of made known behind)) (any-append rs mine ∙ ap (λ b. b || is_any mine) (sym acted_wrote))
-        ∙ ap (λ xs. xs ++ shape_of (prunes_of made known behind)) (sym (end_shape made view now before d))
-        ∙ ap (λ xs. shape_of last.calls ++ xs) (sym pruned)
+        ∙ ap (λ (xs : List Artifact). map mark_of xs ++ synced (is_any xs) ++ marks_of (prunes_of made known behind)) (all ∙ ap (λ xs. rs ++ xs) same)
+        ∙ ap (λ xs. xs ++ synced (is_any (rs ++ mine)) ++ marks_of (prunes_of made known behind)) (map-append mark_of rs mine ∙ ap (λ xs. xs ++ map mark_of mine) (sym acted_shape))
+        ∙ ap (λ b. marks_of d.calls ++ map mark_of mine ++ synced b ++ marks_of (prunes_of made known behind)) (any-append rs mine ∙ ap (λ b. b || is_any mine) (sym acted_wrote))
+        ∙ ap (λ xs. xs ++ marks_of (prunes_of made known behind)) (sym (end_shape made view now before d))
+        ∙ ap (λ xs. marks_of last.calls ++ xs) (sym pruned)
         ∙ sym (begin_shape made now last)
-        ∙ ap (λ (o : Doing × Option ℕ). shape_of (begin_iteration made now (ended made now before o)).calls) (sym f)
+        ∙ ap (λ (o : Doing × Option ℕ). marks_of (begin_iteration made now (ended made now before o)).calls) (sym f)
 
     -- and one that ends where it acted
-    on_none : (d : Doing) → outcome ≡ (d, None) → shape_of (journal_calls made now known taking) ≡ shape_of (finished made now (current_of made known) outcome).calls
+    on_none : (d : Doing) → outcome ≡ (d, None) → marks_of (journal_calls made now known taking) ≡ marks_of (finished made now (current_of made known) outcome).calls
     unfolding finished
     on_none d f =
         let before = current_of made known in
@@ -387,33 +382,35 @@ module _ (made : Made) (now : ℕ) (s : Standing) (input : VoterInput) (taking :
         let empty : rs ≡ [] = w.ends (ap (λ (o : Doing × Option ℕ). o.1) f) in
         let all : records_made made now known taking ≡ [] =
         ap (λ o. rs ++ map vote_record (votes_then made behind o)) (sym a.touches ∙ ap (λ (o : Doing × Option ℕ). o.1) f) ∙ append-nil rs ∙ empty in
-        let acted_shape : shape_of d.calls ≡ [] = ap (λ (o : Doing × Option ℕ). shape_of o.0.calls) (sym f) ∙ w.shape ∙ ap (map plain) empty in
-        let pruned : pruned_at (prune_answer made (iterated made now d.desk).known) ≡ shape_of (prunes_of made known behind) =
+        let acted_shape : marks_of d.calls ≡ [] = ap (λ (o : Doing × Option ℕ). marks_of o.0.calls) (sym f) ∙ w.shape ∙ ap (map mark_of) empty in
+        let pruned : pruned_at (prune_answer made (iterated made now d.desk).known) ≡ marks_of (prunes_of made known behind) =
         same_prune made (iterated made now d.desk).known known behind
         (ap (λ (o : Doing × Option ℕ). greatest_of pruned_view (iterated made now (ended made now before o).desk).known) (sym f) ∙ prune_stands made now s input outcome e ∙ low)
         (active d (ap (λ (o : Doing × Option ℕ). additions o.0.desk.known) (sym f))) in
         ruled_shape
-        ∙ ap (λ (xs : List Artifact). map plain xs ++ synced (is_any xs) ++ shape_of (prunes_of made known behind)) all
-        ∙ ap (λ xs. xs ++ shape_of (prunes_of made known behind)) (sym acted_shape)
-        ∙ ap (λ xs. shape_of d.calls ++ xs) (sym pruned)
+        ∙ ap (λ (xs : List Artifact). map mark_of xs ++ synced (is_any xs) ++ marks_of (prunes_of made known behind)) all
+        ∙ ap (λ xs. xs ++ marks_of (prunes_of made known behind)) (sym acted_shape)
+        ∙ ap (λ xs. marks_of d.calls ++ xs) (sym pruned)
         ∙ sym (begin_shape made now d)
-        ∙ ap (λ (o : Doing × Option ℕ). shape_of (begin_iteration made now (ended made now before o)).calls) (sym f)
+        ∙ ap (λ (o : Doing × Option ℕ). marks_of (begin_iteration made now (ended made now before o)).calls) (sym f)
 
-    outcome_shape : shape_of (journal_calls made now known taking) ≡ shape_of (finished made now (current_of made known) outcome).calls
+    outcome_shape : marks_of (journal_calls made now known taking) ≡ marks_of (finished made now (current_of made known) outcome).calls
     outcome_shape = at outcome refl
       where
-        at : (o : Doing × Option ℕ) → outcome ≡ o → shape_of (journal_calls made now known taking) ≡ shape_of (finished made now (current_of made known) outcome).calls
+        at : (o : Doing × Option ℕ) → outcome ≡ o → marks_of (journal_calls made now known taking) ≡ marks_of (finished made now (current_of made known) outcome).calls
         at (d, Some view) f = on_view d view f
         at (d, None) f = on_none d f
 
-  own_shape : (d : Doing) → stepped made now s input ≡ Some d → shape_of (journal_calls made now known taking) ≡ shape_of d.calls
+  pub own_shape : (d : Doing) → stepped made now s input ≡ Some d → marks_of (journal_calls made now known taking) ≡ marks_of d.calls
   unfolding stepped
   own_shape d h = at (voter.acted made now s input) refl h
     where
-      at : (o : Option (Doing × Option ℕ)) → voter.acted made now s input ≡ o → option_map (finished made now (current_of made s.desk.known)) o ≡ Some d → shape_of (journal_calls made now known taking) ≡ shape_of d.calls
+      at : (o : Option (Doing × Option ℕ)) → voter.acted made now s input ≡ o → option_map (finished made now (current_of made s.desk.known)) o ≡ Some d → marks_of (journal_calls made now known taking) ≡ marks_of d.calls
       at None f k = cc
-      at (Some outcome) f k = outcome_shape outcome f ∙ ap (λ (x : Doing). shape_of x.calls) (some_is _ d k)
+      at (Some outcome) f k = outcome_shape outcome f ∙ ap (λ (x : Doing). marks_of x.calls) (some_is _ d k)
 
   -- also where what is known is read otherwise
   pub same_shape : (r : List Fact) (d : Doing) → AreAlike r known → stepped made now s input ≡ Some d → shape_of (journal_calls made now r taking) ≡ shape_of d.calls
-  same_shape r d alike h = ap shape_of (same_journal_calls made now r known alike taking) ∙ own_shape d h
+  same_shape r d alike h =
+      shape_told (journal_calls made now r taking) ∙ ap (λ (cs : List Call). map prune_of (marks_of cs)) (same_journal_calls made now r known alike taking)
+      ∙ ap (map prune_of) (own_shape d h) ∙ sym (shape_told d.calls)

@@ -1,7 +1,6 @@
 -- But for own votes nothing is learned once a step has acted.
-use Rattle.std.proofs.Common.{◌≡◌, ℕ, ◌-◌, ◌&&◌, ◌||◌, not, nat_lt, Bool, true, false, cond, List, [], ◌∷◌, ◌++◌, filter, Option, Some, None, refl, sym, ap, ◌∙◌, subst, if◌then◌else◌}
+use Rattle.std.proofs.Common.{◌≡◌, ℕ, ◌-◌, nat_lt, Bool, true, false, cond, List, [], ◌∷◌, ◌++◌, filter, Option, Some, None, refl, sym, ap, ◌∙◌, subst, if◌then◌else◌}
 use Rattle.std.specs.Option.{option_map_or}
-use Rattle.simplex_values.specs.declared.proposal.Proposal.{Proposal}
 use Rattle.simplex_wire.specs.declared.certificate.Certificate.{Certificate}
 use Rattle.simplex_wire.specs.declared.certificate.Certificate.TheVariants as certificates
 use Rattle.simplex_wire.specs.declared.certificate.Notarization.{Notarization}
@@ -24,9 +23,9 @@ use Rattle.simplex_messages.specs.declared.call.Call.TheVariants as calls
 use Rattle.simplex_messages.specs.declared.handed.Handed.TheVariants as handed
 use Rattle.simplex_messages.specs.declared.resolver.MailboxMessage.TheVariants as resolver
 use Rattle.model_steps.specs.Desk.{Doing, tell, make, hand, append, seek, send_vote, send_certificate, report}
-use Rattle.model_steps.specs.Voter.{vote_notarize, vote_finalize, open_requests, sync, publish_verdict, with_certificate, publish_nullify, publish_notarization, publish_nullification, publish_finalization, update_message, update_batcher, end_of_step, prune_at, prune, begin_iteration, ended, finished}
-use Rattle.law_member.specs.Learned.{is_lasting, lasting, is_addition, additions}
-use Rattle.law_member.specs.Tidings.{is_of_proposal, of_proposals}
+use Rattle.model_steps.specs.Voter.{vote_notarize, vote_finalize, open_requests, sync, publish_verdict, with_certificate, publish_nullify, publish_notarization, publish_nullification, publish_finalization, update_message, update_batcher, end_of_step, prune_at, prune, begin_iteration, finished}
+use Rattle.law_member.specs.Learned.{is_lasting, lasting, additions}
+use Rattle.law_member.specs.Tidings.{of_proposals}
 use Rattle.law_member.proofs.Quiet.{Same, told_quiet, reconciled_same, iterated_same}
 use Rattle.model_audit.specs.Alike.{is_verdict, verdicts}
 

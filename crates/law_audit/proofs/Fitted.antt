@@ -1,5 +1,5 @@
 -- The record of an entry of a run fits its event.
-use Rattle.std.proofs.Common.{◌≡◌, ℕ, ◌+◌, ◌-◌, ◌^◌, ◌==◌, ◌&&◌, nat_lt, nat_le, Bool, true, false, List, [], ◌∷◌, map, length, Option, Some, None, Result, Ok, Err, refl, sym, ap, ◌∙◌, subst, inl, inr, arith, if◌then◌else◌}
+use Rattle.std.proofs.Common.{◌≡◌, ℕ, ◌+◌, ◌-◌, ◌^◌, ◌==◌, ◌&&◌, nat_lt, nat_le, Bool, true, false, List, map, length, Option, Some, None, Result, Ok, Err, refl, sym, ap, ◌∙◌, subst, inl, inr, arith, if◌then◌else◌}
 use Rattle.std.specs.List.{list_all}
 use Rattle.std.specs.Option.{option_map_or, option_eq}
 use Rattle.simplex_values.specs.declared.answer.Answer.{Answer}
@@ -10,7 +10,6 @@ use Rattle.simplex_wire.specs.declared.certificate.Finalization.{Finalization}
 use Rattle.simplex_journal.specs.Journal.{Section, replayed}
 use Rattle.simplex_mailbox.specs.Mail.{received}
 use Rattle.simplex_messages.specs.declared.batcher.Message as batcher_message
-use Rattle.simplex_messages.specs.declared.handed.Handed.TheVariants as handed
 use Rattle.simplex_messages.specs.declared.resolver.MailboxMessage.{MailboxMessage}
 use Rattle.simplex_messages.specs.declared.resolver.HandlerMessage.{HandlerMessage}
 use Rattle.simplex_messages.specs.declared.resolver.ResolverInput.TheVariants as resolver_inputs
@@ -21,7 +20,6 @@ use Rattle.simplex_messages.specs.declared.step.Stop.TheVariants as stops
 use Rattle.simplex_messages.specs.declared.step.StepOut.{StepOut}
 use Rattle.simplex_messages.specs.declared.voter.Message as voter_message
 use Rattle.simplex_transcript.specs.declared.entry.Packet.{Packet}
-use Rattle.simplex_transcript.specs.declared.entry.Took.{Took}
 use Rattle.simplex_transcript.specs.declared.entry.Took.TheVariants as tooks
 use Rattle.simplex_transcript.specs.declared.event.Event.{Event}
 use Rattle.simplex_transcript.specs.declared.event.Event.TheVariants as events
@@ -39,7 +37,7 @@ use Rattle.model_steps.specs.VoterLife.{start_performed, unread}
 use Rattle.model_steps.specs.Engine as engine
 use Rattle.model_steps.specs.Engine.{EngineMade, Did, Taken, did_of, cut_short, voter_in, voter_past}
 use Rattle.model_run.specs.Setting.{Setting}
-use Rattle.model_run.specs.Kinds.{is_honest, runs_engine, members_of, is_node, is_same_node, node_of}
+use Rattle.model_run.specs.Kinds.{is_honest, runs_engine, members_of, is_node, is_same_node}
 use Rattle.model_run.specs.Members.{floor_of, rules_of}
 use Rattle.model_run.specs.Life.{Noted, Life, Stopped, Running, clock_of, life_in}
 use Rattle.model_run.specs.Requests.{request_number, packet_for}
@@ -51,7 +49,7 @@ use Rattle.law_run.specs.Histories.{IsRun}
 use Rattle.law_run.proofs.Further.{same_self}
 use Rattle.law_run.proofs.AskedEvents.{entry_event}
 use Rattle.law_run.proofs.Letting.{heard_either}
-use Rattle.law_run.proofs.Events.{place_in, engine_at, given_start, begun_gives, step_gives, never_idle}
+use Rattle.law_run.proofs.Events.{place_in, engine_at, begun_gives, step_gives, never_idle}
 use Rattle.law_audit.proofs.Lives.{start_never_idle}
 use Rattle.law_requests.specs.Steps.{IsQuiet, IsVoters}
 use Rattle.law_requests.proofs.Steps.{any_step}

@@ -20,3 +20,7 @@ pub mod Tracked
 pub mod Fitted
 pub mod Reaching
 pub mod Voted
+pub mod Signed
+pub mod Holding
+pub mod Ordered
+pub mod Entire

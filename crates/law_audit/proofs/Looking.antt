@@ -1,17 +1,12 @@
 -- Each rule of votes answers the same on lists that are alike.
 use mathlib.Core.Path.{fun_ext}
-use Rattle.std.proofs.Common.{◌≡◌, ℕ, ◌+◌, ◌-◌, ◌==◌, ◌&&◌, ◌||◌, not, max, nat_lt, nat_le, Bool, true, false, cond, List, [], ◌∷◌, ◌++◌, map, filter, find, Option, Some, None, refl, sym, ap, ◌∙◌, arith, if◌then◌else◌}
+use Rattle.std.proofs.Common.{◌≡◌, ℕ, ◌+◌, ◌-◌, ◌&&◌, ◌||◌, not, max, Bool, true, false, cond, List, [], ◌∷◌, filter, find, Option, Some, None, refl, sym, ap, ◌∙◌, arith, if◌then◌else◌}
 use Rattle.std.specs.List.{list_any, range_with_len}
-use Rattle.std.specs.Option.{is_none, is_some, option_or, option_map, option_map_or, option_and_then}
+use Rattle.std.specs.Option.{option_or, option_map_or, option_and_then}
 use Rattle.simplex_values.specs.declared.proposal.Proposal.{Proposal}
-use Rattle.simplex_values.specs.declared.round.Round.{Round}
-use Rattle.simplex_wire.specs.declared.certificate.Certificate.{Certificate}
-use Rattle.simplex_wire.specs.declared.certificate.Certificate.TheVariants as certificates
 use Rattle.simplex_wire.specs.declared.certificate.Notarization.{Notarization}
 use Rattle.simplex_wire.specs.declared.certificate.Nullification.{Nullification}
 use Rattle.simplex_wire.specs.declared.certificate.Finalization.{Finalization}
-use Rattle.simplex_wire.specs.declared.vote.Vote.{Vote}
-use Rattle.simplex_wire.specs.declared.vote.Vote.TheVariants as votes
 use Rattle.model_rules.specs.Lists.{first_of, greatest_of}
 use Rattle.model_rules.specs.Known.{Made, Fact, FloorAt, Added, Taken, Answered, Approved, Judged, Voted, Published, Expired, Failed, Broadcast, ProposalAsked, ProposalFreed, VerifyAsked, CertifyAsked, MissingAsked, ParentAsked, Pruned, view_of, notarization_in, notarization_of, nullification_in, nullification_of, finalization_in, finalization_of, verdict_in, verdict_of, proposal_in, proposal_of, is_answer_in, was_answered, is_approval_in, was_approved, notarize_in, own_notarize, is_nullify_in, has_nullified, is_finalize_in, has_finalized}
 use Rattle.model_rules.specs.Views.{finalized_view, last_finalized, opened_view, current_of, least_active, admits_certificate, admits_vote, is_ahead}

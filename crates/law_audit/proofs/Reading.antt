@@ -3,7 +3,6 @@
 use Rattle.std.proofs.Common.{◌≡◌, ℕ, Bool, true, false, cond, List, [], ◌∷◌, ◌++◌, map, filter, Option, Some, None, refl, sym, ap, ◌∙◌, subst, if◌then◌else◌}
 use Rattle.std.specs.Option.{option_map, option_map_or}
 use Rattle.std.proofs.lemmas.List.Elements.{filter-append}
-use Rattle.simplex_values.specs.declared.answer.Answer.{Answer}
 use Rattle.simplex_values.specs.declared.answer.Answer.TheVariants as answers
 use Rattle.simplex_values.specs.declared.round.Context.{Context}
 use Rattle.simplex_wire.specs.declared.certificate.Certificate.{Certificate}
@@ -19,17 +18,17 @@ use Rattle.simplex_messages.specs.declared.voter.VoterInput.TheVariants as input
 use Rattle.model_steps.specs.Desk.{Doing}
 use Rattle.model_steps.specs.Voter.{Standing, stepped, finished}
 use Rattle.model_steps.specs.Voter as voter
-use Rattle.law_member.specs.Learned.{is_lasting, lasting, is_addition, additions, added_at, facts_of_step}
+use Rattle.law_member.specs.Learned.{is_lasting, lasting, is_addition, added_at, facts_of_step}
 use Rattle.law_member.specs.Tidings.{is_of_proposal, of_proposals}
-use Rattle.law_member.specs.VoterVotes.{nullifies, votes_at_end, votes_on, votes_by_rule}
+use Rattle.law_member.specs.VoterVotes.{nullifies, votes_at_end, votes_by_rule}
 use Rattle.law_member.proofs.Adding.{some_is}
-use Rattle.law_member.proofs.VoterStepping.{Tells, step_tells}
+use Rattle.law_member.proofs.VoterStepping.{step_tells}
 use Rattle.model_audit.specs.Alike.{is_verdict, is_vote, verdicts, own_votes, AreAlike}
 use Rattle.model_audit.specs.Taking.{Taking, Deadline, Mail, Reply, payload_for, own_proposal, learned, acted, touched, given_up, newly_known, votes_then, votes_due}
 use Rattle.law_audit.specs.Taken.{Takes}
 use Rattle.law_audit.proofs.Alike.{same_votes_then}
 use Rattle.law_audit.proofs.Finishing.{Later, finishes_later, within}
-use Rattle.law_audit.proofs.Acting.{ActsAs, acts}
+use Rattle.law_audit.proofs.Acting.{acts}
 
 -- ---- filters
 

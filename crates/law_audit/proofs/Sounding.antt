@@ -1,10 +1,9 @@
 -- What a record that is found sound holds.
-use Rattle.std.proofs.Common.{◌≡◌, ℕ, suc, ◌+◌, ◌⊎◌, ◌↔◌, ◌||◌, ◌&&◌, Bool, true, false, not, List, [], ◌∷◌, ◌++◌, length, Contains, Option, Some, None, is_some, refl, ap, subst, inl, inr, if◌then◌else◌}
+use Rattle.std.proofs.Common.{◌≡◌, ℕ, ◌+◌, ◌⊎◌, ◌↔◌, ◌||◌, ◌&&◌, Bool, true, false, not, List, [], ◌∷◌, ◌++◌, length, Contains, Option, Some, None, is_some, refl, subst, inl, inr, if◌then◌else◌}
 use Rattle.std.specs.Prelude.{IsNone}
-use Rattle.std.specs.List.{flat_map, list_any}
+use Rattle.std.specs.List.{list_any}
 use Rattle.std.specs.Option.{is_none, option_or}
 use Rattle.std.proofs.lemmas.List.Elements.{Contains-append_left, Contains-append_right}
-use Rattle.std.proofs.lemmas.Bool.{and_parts}
 use Rattle.simplex_wire.specs.declared.certificate.Certificate.{Certificate}
 use Rattle.simplex_wire.specs.Fields.{certificate_subject}
 use Rattle.simplex_transcript.specs.declared.event.Event.{Event}
@@ -13,8 +12,6 @@ use Rattle.model_run.specs.Setting.{Setting}
 use Rattle.model_run.specs.Life.{Noted}
 use Rattle.model_run.specs.Run.{are_few}
 use Rattle.model_run.specs.Setups.{first_bad}
-use Rattle.model_run.specs.Forged.{first_forged}
-use Rattle.law_run.specs.Complete.{node_named, IsValid}
 use Rattle.law_agreement.specs.Conflict.{Conflict}
 use Rattle.law_agreement.proofs.ListFacts.{not_in_empty, Contains-cons_cases, Contains-filter}
 use Rattle.law_run.specs.Backed.{IsVerifying, StandsIn, standing_in}
@@ -24,13 +21,10 @@ use Rattle.model_audit.specs.declared.record.AuditFault.{AuditFault}
 use Rattle.model_audit.specs.declared.record.AuditFault.TheVariants as faults
 use Rattle.model_audit.specs.declared.record.Verdict.{Verdict}
 use Rattle.model_audit.specs.declared.record.Verdict.TheVariants.{Sound, Fault}
-use Rattle.model_audit.specs.Rebuilt.{rebuilt, rebuilt_entry}
-use Rattle.model_audit.specs.Fitting.{fits}
-use Rattle.model_audit.specs.Conditions.{is_allowed}
-use Rattle.model_audit.specs.VotesDue.{sends_due}
+use Rattle.model_audit.specs.Rebuilt.{rebuilt}
 use Rattle.model_audit.specs.Conflicts.{conflicts, is_verifying, standing_good, all_standing, has_conflict}
 use Rattle.model_audit.specs.Holding.{rebuilt_from, all_rebuilt, IsFaultless, AreFaultless, IsSound}
-use Rattle.model_audit.specs.Audit.{unless, if_honest, stores_first, fault_in, verdict_or, judged_from, audited}
+use Rattle.model_audit.specs.Audit.{unless, fault_in, verdict_or, judged_from, audited}
 use Rattle.law_audit.proofs.Conflicting.{tested, turned_round}
 
 -- ---- one entry

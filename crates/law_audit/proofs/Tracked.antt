@@ -1,22 +1,15 @@
 -- What is read of the record of a run is where the engine of a node stands.
-use Rattle.std.proofs.Common.{◌≡◌, ℕ, ◌-◌, ◌==◌, ◌<◌, ◌&&◌, nat_le, Bool, true, false, nat_lt, List, [], ◌∷◌, ◌++◌, map, filter, reverse, Option, Some, None, refl, sym, ap, ◌∙◌, subst, inl, inr, ◌⊎◌, if◌then◌else◌}
+use Rattle.std.proofs.Common.{◌≡◌, ℕ, ◌-◌, ◌==◌, ◌<◌, ◌&&◌, nat_le, Bool, true, false, nat_lt, List, [], ◌∷◌, map, filter, reverse, Option, Some, None, refl, sym, ap, ◌∙◌, subst, inl, inr, if◌then◌else◌}
 use Rattle.std.specs.List.{filter_map}
 use Rattle.std.specs.Option.{option_map_or}
-use Rattle.simplex_values.specs.declared.plan.Channel.{Channel}
 use Rattle.simplex_types.specs.declared.floor.Floor.{Floor}
-use Rattle.simplex_wire.specs.declared.certificate.Certificate.{Certificate}
 use Rattle.simplex_wire.specs.declared.certificate.Finalization.{Finalization}
 use Rattle.simplex_journal.specs.Journal.{Section, replayed, crashed}
 use Rattle.simplex_journal.proofs.Contents.{crashed-rested}
-use Rattle.model_rules.specs.Lists.{greatest_of}
-use Rattle.model_rules.specs.Known.{Made, Fact}
-use Rattle.model_rules.specs.Views.{least_active}
-use Rattle.model_rules.specs.Calls.{pruned_view}
+use Rattle.model_rules.specs.Known.{Made}
 use Rattle.simplex_messages.specs.declared.batcher.Message as batcher_message
 use Rattle.simplex_messages.specs.declared.call.Call.{Call}
 use Rattle.simplex_messages.specs.declared.call.Call.TheVariants as calls
-use Rattle.simplex_messages.specs.declared.handed.Handed.{Handed}
-use Rattle.simplex_messages.specs.declared.handed.Handed.TheVariants as handed
 use Rattle.simplex_messages.specs.declared.resolver.MailboxMessage.{MailboxMessage}
 use Rattle.simplex_messages.specs.declared.resolver.HandlerMessage.{HandlerMessage}
 use Rattle.simplex_messages.specs.declared.step.Outcome.{Outcome}
@@ -34,24 +27,23 @@ use Rattle.simplex_transcript.specs.declared.event.StepSource.{StepSource}
 use Rattle.simplex_transcript.specs.declared.event.StepSource.TheVariants as sources
 use Rattle.simplex_transcript.specs.declared.node.Node.{Node}
 use Rattle.model_steps.specs.Desk.{Doing}
-use Rattle.model_steps.specs.Performed.{Performed, performed, is_of_journal, journal_place, after_call, after_calls, stop_place, kept_by}
+use Rattle.model_steps.specs.Performed.{Performed, performed, is_of_journal, journal_place, after_calls, stop_place, kept_by}
 use Rattle.model_steps.specs.Voter as voter
 use Rattle.model_steps.specs.Voter.{Standing}
-use Rattle.model_steps.specs.VoterLife.{VoterMade, Place, Given, Started, Stepped, Answered, start_performed, unread, unreadable, rest, start_at, idle, place_of, step_given}
+use Rattle.model_steps.specs.VoterLife.{VoterMade, Place, Given, Started, Stepped, Answered, start_performed, unread, unreadable, rest, start_at, place_of}
 use Rattle.model_steps.specs.Engine as engine
 use Rattle.model_resolver.specs.Resolver as resolver
 use Rattle.model_resolver.specs.Views.{is_reached}
 use Rattle.simplex_mailbox.specs.Mail.{received}
 use Rattle.simplex_messages.specs.declared.resolver.ResolverInput.TheVariants as resolver_inputs
-use Rattle.model_steps.specs.VoterLife as life
 use Rattle.model_steps.specs.Engine.{EngineMade, Did, Taken, Began, did_of, by_voter, is_whole, runs, started_at, sections_of, voter_in, voter_past, given_to_voter}
 use Rattle.model_run.specs.Setting.{Setting}
 use Rattle.model_run.specs.Kinds.{runs_engine}
 use Rattle.model_run.specs.Members.{floor_of, rules_of, engine_of}
-use Rattle.model_run.specs.Life.{Noted, Life, Stopped, Running, clock_of, is_of, going_on, went_on, sections_in, after, life_in}
+use Rattle.model_run.specs.Life.{Noted, Life, Stopped, Running, clock_of, is_of, going_on, sections_in, after, life_in}
 use Rattle.model_run.specs.Entries as entries
 use Rattle.model_run.specs.Entries.{noted_with, noted_blank}
-use Rattle.law_member.specs.Learned.{appended_fact, facts_of_step}
+use Rattle.law_member.specs.Learned.{appended_fact}
 use Rattle.law_run.specs.Histories.{IsRun, AreFloors, IsAt}
 use Rattle.law_run.proofs.Further.{same_self, at_rest, life_then, life_still}
 use Rattle.law_agreement.specs.Journal as kept
@@ -65,8 +57,8 @@ use Rattle.law_requests.proofs.Turning.{entry_turns}
 use Rattle.law_requests.proofs.Pruning.{pruned_in}
 use Rattle.model_audit.specs.Alike.{AreAlike, own_votes}
 use Rattle.model_audit.specs.Taking.{Taking}
-use Rattle.model_audit.specs.Record.{call_of, took_of, record_entry}
-use Rattle.model_audit.specs.Rebuilt.{call_for, took_for, rebuilt_entry, recorded}
+use Rattle.model_audit.specs.Record.{took_of, record_entry}
+use Rattle.model_audit.specs.Rebuilt.{took_for, rebuilt_entry, recorded}
 use Rattle.model_audit.specs.Journal.{behind_reading, after_failure, sections_behind}
 use Rattle.model_audit.specs.Reading.{Read, taking_of, votes_in, rules_at, step_read, start_read, read_behind, read}
 use Rattle.law_audit.specs.Recording.{IsStep, IsTakenSo, IsRunningAs, IsReadAs}

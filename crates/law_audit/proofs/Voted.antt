@@ -1,11 +1,10 @@
 -- In the record of a run an honest member's whole steps send the votes that are due.
-use Rattle.std.proofs.Common.{◌≡◌, ℕ, ◌<◌, ◌==◌, ◌&&◌, ◌||◌, not, Bool, true, false, List, [], ◌∷◌, ◌++◌, map, filter, length, Contains, Option, Some, None, Ok, refl, sym, ap, ◌∙◌, subst, inl, inr, arith, if◌then◌else◌}
+use Rattle.std.proofs.Common.{◌≡◌, ℕ, ◌<◌, ◌==◌, ◌&&◌, ◌||◌, not, Bool, true, false, List, [], ◌∷◌, ◌++◌, map, length, Contains, Option, Some, None, Ok, refl, sym, ap, ◌∙◌, subst, inl, inr, arith, if◌then◌else◌}
 use Rattle.std.specs.List.{filter_map, list_any, list_all}
 use Rattle.std.specs.Option.{option_map_or}
 use Rattle.std.specs.Str.{bytes_eq}
 use Rattle.std.proofs.lemmas.List.{append_assoc}
 use Rattle.simplex_values.specs.declared.plan.Channel.TheVariants as channels
-use Rattle.simplex_journal.specs.Journal.{Section}
 use Rattle.simplex_wire.specs.declared.vote.Vote.{Vote}
 use Rattle.simplex_wire.specs.declared.certificate.Certificate.{Certificate}
 use Rattle.simplex_wire.specs.Message as format
@@ -32,12 +31,12 @@ use Rattle.model_rules.specs.Known.{Made}
 use Rattle.model_steps.specs.Desk.{Doing}
 use Rattle.model_steps.specs.Performed.{Performed, performed, whole}
 use Rattle.model_steps.specs.Voter as voter
-use Rattle.model_steps.specs.VoterLife.{Given, Stepped}
+use Rattle.model_steps.specs.VoterLife.{Given}
 use Rattle.model_steps.specs.Engine as engine
 use Rattle.model_steps.specs.Engine.{EngineMade, Did, is_whole, voter_in, voter_past}
 use Rattle.model_run.specs.Setting.{Setting}
-use Rattle.model_run.specs.Kinds.{is_faulty, is_faulty_member, is_honest, has_engine, runs_engine, is_same_node}
-use Rattle.model_run.specs.Life.{Noted, Life, Stopped, Running, clock_of, is_of, life_in}
+use Rattle.model_run.specs.Kinds.{is_faulty, is_honest, has_engine, runs_engine, is_same_node}
+use Rattle.model_run.specs.Life.{Noted, Life, Running, clock_of, is_of, life_in}
 use Rattle.model_run.specs.Entries as entries
 use Rattle.model_run.specs.Entries.{noted_with, noted_blank, packet_of, packets_of, entry_of}
 use Rattle.std.specs.List.{slice_get}
@@ -60,10 +59,10 @@ use Rattle.law_requests.proofs.Steps.{any_step}
 use Rattle.law_requests.proofs.Turning.{entry_turns}
 use Rattle.model_audit.specs.Taking as taking
 use Rattle.model_audit.specs.Taking.{Taking}
-use Rattle.model_audit.specs.Record.{took_of, record_entry}
-use Rattle.model_audit.specs.Rebuilt.{took_for, rebuilt_entry, recorded}
+use Rattle.model_audit.specs.Record.{record_entry}
+use Rattle.model_audit.specs.Rebuilt.{rebuilt_entry, recorded}
 use Rattle.model_audit.specs.Running.{is_done}
-use Rattle.model_audit.specs.Reading.{Read, taking_of, rules_at, read}
+use Rattle.model_audit.specs.Reading.{Read, rules_at, read}
 use Rattle.model_audit.specs.VotesDue.{vote_bytes, are_those, sends, is_of_voter, votes_at, sends_due}
 use Rattle.model_audit.specs.Audit.{if_honest}
 use Rattle.law_audit.specs.Recording.{IsTakenSo, IsRunningAs}

@@ -1,34 +1,24 @@
 -- Which calls of the journal a step makes.
-use Rattle.std.proofs.Common.{◌≡◌, ℕ, ◌⊎◌, ◌&&◌, ◌||◌, not, nat_le, nat_lt, Bool, true, false, cond, List, [], ◌∷◌, ◌++◌, map, filter, Option, Some, None, refl, sym, ap, ◌∙◌, subst, inl, inr, append-nil, if◌then◌else◌}
-use Rattle.std.proofs.lemmas.List.{map-append}
-use Rattle.std.proofs.lemmas.List.Elements.{filter-append}
-use Rattle.std.specs.Option.{option_map, option_map_or, option_and_then, is_none, is_some}
+use Rattle.std.proofs.Common.{◌≡◌, ℕ, ◌⊎◌, nat_le, Bool, true, false, List, [], ◌∷◌, ◌++◌, map, Option, Some, None, refl, sym, ap, ◌∙◌, subst, inl, inr, append-nil, if◌then◌else◌}
+use Rattle.std.specs.List.{filter_map, cons_option}
+use Rattle.std.proofs.lemmas.List.Elements.{filter_map-append}
+use Rattle.std.specs.Option.{option_map}
 use Rattle.law_member.proofs.Adding.{some_is}
 use Rattle.simplex_values.specs.declared.answer.Answer.{Answer}
 use Rattle.simplex_values.specs.declared.answer.Answer.TheVariants as answers
 use Rattle.simplex_values.specs.declared.answer.Handoff.TheVariants as handoffs
-use Rattle.simplex_values.specs.declared.proposal.Proposal.{Proposal}
 use Rattle.simplex_values.specs.declared.round.Context.{Context}
 use Rattle.simplex_values.specs.declared.round.Round.{Round}
-use Rattle.simplex_values.specs.declared.timeout.TimeoutReason.{TimeoutReason}
 use Rattle.simplex_wire.specs.declared.artifact.Artifact.{Artifact}
 use Rattle.simplex_wire.specs.declared.artifact.Artifact.TheVariants as artifacts
 use Rattle.simplex_wire.specs.declared.certificate.Certificate.{Certificate}
-use Rattle.simplex_wire.specs.declared.certificate.Certificate.TheVariants as certificates
 use Rattle.simplex_wire.specs.declared.certificate.Notarization.{Notarization}
-use Rattle.simplex_wire.specs.declared.certificate.Nullification.{Nullification}
-use Rattle.simplex_wire.specs.declared.certificate.Finalization.{Finalization}
-use Rattle.simplex_wire.specs.declared.vote.Notarize.{Notarize}
 use Rattle.simplex_wire.specs.declared.vote.Nullify.{Nullify}
-use Rattle.simplex_wire.specs.declared.vote.Finalize.{Finalize}
-use Rattle.simplex_wire.specs.declared.vote.Vote.{Vote}
-use Rattle.simplex_wire.specs.declared.vote.Vote.TheVariants as votes
-use Rattle.simplex_wire.specs.Fields.{artifact_round}
 use Rattle.model_rules.specs.declared.request.Asked.{Asked}
 use Rattle.model_rules.specs.declared.request.Asked.TheVariants as asks
 use Rattle.model_rules.specs.declared.request.ProposalState.{ProposalState}
 use Rattle.model_rules.specs.declared.request.ProposalState.TheVariants.{Preparing, Proposing, Waiting, Held, Closed}
-use Rattle.model_rules.specs.Known.{Made, Fact, Voted, has_nullified, notarization_of}
+use Rattle.model_rules.specs.Known.{Made, Fact, has_nullified, notarization_of}
 use Rattle.model_rules.specs.Views.{current_of, admits_certificate}
 use Rattle.model_rules.specs.Slot.{records_answer}
 use Rattle.model_rules.specs.Ancestry.{is_certified}
@@ -42,50 +32,86 @@ use Rattle.simplex_messages.specs.declared.voter.Message.TheVariants as mail
 use Rattle.simplex_messages.specs.declared.voter.VoterInput.{VoterInput}
 use Rattle.simplex_messages.specs.declared.voter.VoterInput.TheVariants as inputs
 use Rattle.model_steps.specs.Desk.{Doing, begun}
-use Rattle.model_steps.specs.Performed.{is_of_journal}
 use Rattle.model_steps.specs.Voter.{Standing, answer_to, act_on_deadline, propose, stage, give_up, act_on_proposal, act_on_verify, act_on_certify, adds, certificate_view, block_for, act_on_certificate, act_on_mail, take_proposal, first_answered, record_of}
 use Rattle.model_steps.specs.Voter as voter
-use Rattle.law_member.specs.VoterVotes.{votes_of}
-use Rattle.model_audit.specs.Taking.{Taking, Deadline, Mail, Reply, given_up}
-use Rattle.model_audit.specs.JournalCalls.{vote_record, added_by, records_taken}
-use Rattle.law_audit.specs.Taken.{IsGiven, TakesProposal, TakesVerify, TakesCertify, Takes}
-use Rattle.law_audit.specs.Recording.{prune_in, shape_of}
+use Rattle.model_audit.specs.Taking.{Taking, Deadline, Mail, Reply}
+use Rattle.model_audit.specs.JournalCalls.{added_by, records_taken}
+use Rattle.law_audit.specs.Taken.{IsGiven, Takes}
+use Rattle.law_audit.specs.Recording.{shape_of}
 use Rattle.law_audit.proofs.Acting.{taken_on_one, not_admitted, of_some, of_map}
 
--- ---- shapes
+-- ---- what is told of the calls of the journal
 
--- an append has no prune
-abbrev pub plain : Artifact → Option ℕ
-plain artifact = None
+-- a record was written or synced, with an own nullify where it is one; or sections were dropped
+pub data Mark : Type 0 where
+  Written : (nullify : Option Nullify) → Mark
+  Dropped : (least : ℕ) → Mark
+
+abbrev pub mark_of : Artifact → Mark
+mark_of (artifacts.Nullify v) = Written (Some v)
+mark_of _ = Written None
+
+abbrev pub mark_in : Call → Option Mark
+mark_in (calls.Append section artifact) = Some (mark_of artifact)
+mark_in (calls.Sync section) = Some (Written None)
+mark_in (calls.Prune least) = Some (Dropped least)
+mark_in _ = None
+
+abbrev pub marks_of : List Call → List Mark
+marks_of made = filter_map mark_in made
 
 abbrev pub is_any : List Artifact → Bool
 is_any [] = false
 is_any (artifact ∷ rest) = true
 
-pub shape-append : (xs ys : List Call) → shape_of (xs ++ ys) ≡ shape_of xs ++ shape_of ys
-shape-append xs ys = ap (map prune_in) (filter-append is_of_journal xs ys) ∙ map-append prune_in (filter is_of_journal xs) (filter is_of_journal ys)
+pub marks-append : (xs ys : List Call) → marks_of (xs ++ ys) ≡ marks_of xs ++ marks_of ys
+marks-append xs ys = filter_map-append mark_in xs ys
 
 -- a call that is none of the journal changes nothing
-pub shape_still : (xs : List Call) (c : Call) → is_of_journal c ≡ false → shape_of (xs ++ c ∷ []) ≡ shape_of xs
-shape_still xs c e = shape-append xs (c ∷ []) ∙ ap (λ b. shape_of xs ++ map prune_in (cond b (c ∷ []) [])) e ∙ append-nil (shape_of xs)
+pub marks_still : (xs : List Call) (c : Call) → mark_in c ≡ None → marks_of (xs ++ c ∷ []) ≡ marks_of xs
+marks_still xs c e = marks-append xs (c ∷ []) ∙ ap (λ o. marks_of xs ++ cons_option o []) e ∙ append-nil (marks_of xs)
+
+-- the prunes are told by that
+abbrev pub prune_of : Mark → Option ℕ
+prune_of (Written nullify) = None
+prune_of (Dropped least) = Some least
+
+plain : (a : Artifact) → prune_of (mark_of a) ≡ None
+plain (artifacts.Notarize v) = refl
+plain (artifacts.Nullify v) = refl
+plain (artifacts.Finalize v) = refl
+plain (artifacts.Notarization c) = refl
+plain (artifacts.Nullification c) = refl
+plain (artifacts.Finalization c) = refl
+plain (artifacts.Certification round good) = refl
+
+pub shape_told : (cs : List Call) → shape_of cs ≡ map prune_of (marks_of cs)
+shape_told [] = refl
+shape_told (calls.Append section artifact ∷ cs) = ap (λ xs. None ∷ xs) (shape_told cs) ∙ ap (λ o. o ∷ map prune_of (marks_of cs)) (sym (plain artifact))
+shape_told (calls.Sync section ∷ cs) = ap (λ xs. None ∷ xs) (shape_told cs)
+shape_told (calls.Prune least ∷ cs) = ap (λ xs. Some least ∷ xs) (shape_told cs)
+shape_told (calls.Send channel to bytes ∷ cs) = shape_told cs
+shape_told (calls.Report a ∷ cs) = shape_told cs
+shape_told (calls.Relay payload plan ∷ cs) = shape_told cs
+shape_told (calls.Block who why ∷ cs) = shape_told cs
 
 -- ---- acting appends what is recorded of the taking
 
 pub record WritesAs (made : Made) (known : List Fact) (taking : Taking) (outcome : Doing × Option ℕ) : Type 0 where
-  pub shape : shape_of outcome.0.calls ≡ map plain (records_taken made known taking)
+  pub shape : marks_of outcome.0.calls ≡ map mark_of (records_taken made known taking)
   pub wrote : outcome.0.wrote ≡ is_any (records_taken made known taking)
   pub added : outcome.0.added ≡ added_by made known taking
   pub ends : outcome.1 ≡ None → records_taken made known taking ≡ []
 
 -- nothing is recorded, and nothing appended
 writes_none : (made : Made) (known : List Fact) (asked : Asked) (answer : Answer) (outcome : Doing × Option ℕ) → records_taken made known (Reply asked answer) ≡ []
-    → shape_of outcome.0.calls ≡ [] → outcome.0.wrote ≡ false → outcome.0.added ≡ [] → WritesAs made known (Reply asked answer) outcome
-writes_none made known asked answer outcome r s w a = record { shape = s ∙ ap (map plain) (sym r); wrote = w ∙ ap is_any (sym r); added = a; ends = λ e. r }
+    → marks_of outcome.0.calls ≡ [] → outcome.0.wrote ≡ false → outcome.0.added ≡ [] → WritesAs made known (Reply asked answer) outcome
+writes_none made known asked answer outcome r s w a = record { shape = s ∙ ap (map mark_of) (sym r); wrote = w ∙ ap is_any (sym r); added = a; ends = λ e. r }
 
 module _ (made : Made) (now : ℕ) where
-  blocked_shape : (o : Option ℕ) (d : Doing) → shape_of (block_for o d).calls ≡ shape_of d.calls
+  blocked_shape : (o : Option ℕ) (d : Doing) → marks_of (block_for o d).calls ≡ marks_of d.calls
   blocked_shape None d = refl
-  blocked_shape (Some leader) d = shape_still d.calls _ refl
+  blocked_shape (Some leader) d = marks_still d.calls _ refl
 
   blocked_wrote : (o : Option ℕ) (d : Doing) → (block_for o d).wrote ≡ d.wrote
   blocked_wrote None d = refl

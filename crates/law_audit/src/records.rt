@@ -42,8 +42,10 @@ pub fn records_tell_the_same()
     ensures clock { (before : List Noted) → clock_of (all_recorded before) ≡ clock_of before }
     ensures packet { (before : List Noted) (node : Node) (at : Ref) → packet_for (all_recorded before) node at ≡ packet_for before node at }
     ensures request { (before : List Noted) (node : Node) (at : Ref) → request_number (all_recorded before) node at ≡ request_number before node at }
-    ensures floor { (setup : Setup) (before : List Noted) (floor : Option Finalization) → is_own_floor setup (all_recorded before) floor ≡ is_own_floor setup before floor }
-    ensures forged { (setup : Setup) (before : List Noted) (entry : Entry) → first_forged setup (all_recorded before) (rebuilt_entry (record_entry entry)) ≡ first_forged setup before entry }
+    ensures floor { (setup : Setup) (before : List Noted) (floor : Option Finalization)
+        → is_own_floor setup (all_recorded before) floor ≡ is_own_floor setup before floor }
+    ensures forged { (setup : Setup) (before : List Noted) (entry : Entry)
+        → first_forged setup (all_recorded before) (rebuilt_entry (record_entry entry)) ≡ first_forged setup before entry }
 {}
 
 /// In the record of a run nothing is forged; and where no two certificates of a run conflict, none of its record do.
@@ -64,7 +66,8 @@ pub fn journals_are_read()
 /// The journal that is read of what a record tells of a start is the one that the start leaves, by the calls that the rules make
 /// of its floor and of what the journal held.
 pub fn starts_are_read()
-    ensures { (made : Made) (now : ℕ) (floor : Floor) (records : List Artifact) (stop : Stop) (sections : List Section) → (let doing = started made now floor records in let given = start_performed stop floor doing sections in
+    ensures { (made : Made) (now : ℕ) (floor : Floor) (records : List Artifact) (stop : Stop) (sections : List Section)
+        → (let doing = started made now floor records in let given = start_performed stop floor doing sections in
         sections_behind given.outcome (behind_reading stop) doing.calls (filter_map call_for (map call_of given.out.calls)) sections ≡ given.sections) }
 {}
 
@@ -72,6 +75,7 @@ pub fn starts_are_read()
 /// The voter has pruned up to its least active view, as it has wherever it stands in a run.
 pub fn steps_are_followed()
     ensures { (made : Made) (now : ℕ) (s : Standing) (input : VoterInput) (taking : Taking) (d : Doing) (stop : Stop) (sections : List Section) (r : Read) (entry : Entry) → Takes s input taking → stepped made now s input ≡ Some d
-        → IsStep entry (performed stop d sections) → AreAlike r.known s.desk.known → r.sections ≡ sections → greatest_of pruned_view s.desk.known ≡ least_active made s.desk.known
+        → IsStep entry (performed stop d sections) → AreAlike r.known s.desk.known → r.sections ≡ sections
+        → greatest_of pruned_view s.desk.known ≡ least_active made s.desk.known
         → IsFollowed made now stop entry r taking d (performed stop d sections) }
 {}

@@ -68,7 +68,8 @@ pub record IsTakenBy (asked : List Asked) (dropped : List ℕ) (number : ℕ) (a
 
 -- Of all that was asked and dropped since the start, and the answers that were given: as many are counted as were asked,
 -- what was dropped was asked, and each request that is open is such
-pub record AreOpen (asked : List Asked) (dropped : List ℕ) (given : List (ℕ × Answer)) (known : List Fact) (p : Option Pending) (v : Option Opened) (cs : List Opened) (opened : ℕ) : Type 0 where
+pub record AreOpen (asked : List Asked) (dropped : List ℕ) (given : List (ℕ × Answer)) (known : List Fact)
+    (p : Option Pending) (v : Option Opened) (cs : List Opened) (opened : ℕ) : Type 0 where
   pub count : opened ≡ length asked
   pub below : Each (λ (n : ℕ). n < opened) dropped
   pub pending : IfSome p (λ (q : Pending). IsPending asked dropped given q q.state)

@@ -25,7 +25,8 @@ pub record HasStarted (setting : Setting) (before : List Noted) (node : Node) (n
   pub sections : List Section
   pub stopped : life_in setting before node ≡ Stopped sections
   pub own : is_own_floor setting.setup before floor ≡ true
-  pub is : noted_with setting.setup before (events.Start node floor stop) node (Some tooks.Floor) (engine.begun (engine_of setting node.member (floor_of setting.genesis floor) sections) (clock_of before) stop) ≡ noted
+  pub is : noted_with setting.setup before (events.Start node floor stop) node (Some tooks.Floor)
+      (engine.begun (engine_of setting node.member (floor_of setting.genesis floor) sections) (clock_of before) stop) ≡ noted
 
 -- it hears a packet
 pub record HasHeard (setting : Setting) (before : List Noted) (node : Node) (noted : Noted) : Type 0 where
@@ -36,7 +37,8 @@ pub record HasHeard (setting : Setting) (before : List Noted) (node : Node) (not
   pub running : life_in setting before node ≡ Running made past
   pub found : packet_for before node ref ≡ Some packet
   pub low : is_at_end setting.setup made past ≡ false
-  pub is : noted_with setting.setup before (events.Deliver node ref) node (Some (tooks.Packet ref)) (engine.heard made past packet.from.member packet.channel packet.bytes (clock_of before)) ≡ noted
+  pub is : noted_with setting.setup before (events.Deliver node ref) node (Some (tooks.Packet ref))
+      (engine.heard made past packet.from.member packet.channel packet.bytes (clock_of before)) ≡ noted
 
 -- it steps
 pub record HasStepped (setting : Setting) (before : List Noted) (node : Node) (noted : Noted) : Type 0 where
@@ -46,7 +48,8 @@ pub record HasStepped (setting : Setting) (before : List Noted) (node : Node) (n
   pub past : List Did
   pub running : life_in setting before node ≡ Running made past
   pub low : is_at_end setting.setup made past ≡ false
-  pub is : (let did = engine.stepped made past source (clock_of before) stop in noted_with setting.setup before (events.Step node source stop) node (took_of before node made past did) did) ≡ noted
+  pub is : (let did = engine.stepped made past source (clock_of before) stop in
+      noted_with setting.setup before (events.Step node source stop) node (took_of before node made past did) did) ≡ noted
 
 -- it is answered
 pub record WasAnswered (setting : Setting) (before : List Noted) (node : Node) (noted : Noted) : Type 0 where
@@ -70,4 +73,5 @@ pub record HasCrashed (setting : Setting) (before : List Noted) (node : Node) (n
 -- one of these, or the event is none of the node
 abbrev pub IsTurnOf : Setting → List Noted → Node → Noted → Type 0
 IsTurnOf setting before node noted =
-    (is_of node noted.event ≡ false) ⊎ (HasStarted setting before node noted ⊎ (HasHeard setting before node noted ⊎ (HasStepped setting before node noted ⊎ (WasAnswered setting before node noted ⊎ HasCrashed setting before node noted))))
+    (is_of node noted.event ≡ false) ⊎ (HasStarted setting before node noted ⊎ (HasHeard setting before node noted ⊎
+    (HasStepped setting before node noted ⊎ (WasAnswered setting before node noted ⊎ HasCrashed setting before node noted))))

@@ -1,5 +1,5 @@
 -- Whether an entry fits its event.
-use Rattle.std.specs.Prelude.{◌+◌, ◌==◌, ◌&&◌, Bool, true, false, List, length, Option, Some, None, is_some}
+use Rattle.std.specs.Prelude.{◌+◌, ◌==◌, ◌&&◌, Bool, true, false, List, length, is_some}
 use Rattle.std.specs.Option.{option_map_or, option_eq}
 use Rattle.simplex_values.specs.declared.answer.Answer.{Answer}
 use Rattle.model_rules.specs.declared.request.Asked.{Asked}

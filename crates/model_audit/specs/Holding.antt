@@ -4,8 +4,6 @@ use Rattle.simplex_transcript.specs.declared.event.Event.{Event}
 use Rattle.model_run.specs.Setting.{Setting}
 use Rattle.model_run.specs.Life.{Noted}
 use Rattle.model_run.specs.Forged.{first_forged}
-use Rattle.model_run.specs.Run.{are_few}
-use Rattle.model_run.specs.Setups.{first_bad}
 use Rattle.law_run.specs.Complete.{node_named, IsValid}
 use Rattle.model_audit.specs.declared.record.AuditEntry.{AuditEntry}
 use Rattle.model_audit.specs.Rebuilt.{rebuilt, rebuilt_entry}

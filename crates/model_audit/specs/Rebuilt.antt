@@ -1,5 +1,5 @@
 -- A record's entry as one of a run, so that what is said of runs is read of it. What a record does not tell is left out.
-use Rattle.std.specs.Prelude.{[], map, Option, Some, None}
+use Rattle.std.specs.Prelude.{[], Option, Some, None}
 use Rattle.std.specs.List.{filter_map}
 use Rattle.simplex_values.specs.declared.plan.Recipients.TheVariants as recipients
 use Rattle.simplex_wire.specs.declared.certificate.Certificate.{Certificate}
