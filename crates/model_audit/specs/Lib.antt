@@ -1,0 +1,17 @@
+pub mod Record
+pub mod Rebuilt
+pub mod Alike
+pub mod Answers
+pub mod Running
+pub mod Journal
+pub mod Taking
+pub mod JournalCalls
+pub mod Reading
+pub mod Fitting
+pub mod Conditions
+pub mod Order
+pub mod VotesDue
+pub mod Conflicts
+pub mod Audit
+pub mod Holding
+pub mod Samples
