@@ -102,6 +102,7 @@ pub use Rattle.model_rules.specs.Calls as RulesCalls
 pub use Rattle.model_rules.specs.Deadline
 pub use Rattle.model_rules.specs.Known as RulesKnown
 pub use Rattle.model_rules.specs.Laws as RulesLaws
+pub use Rattle.model_rules.specs.Lists as RulesLists
 pub use Rattle.model_rules.specs.Repair
 pub use Rattle.model_rules.specs.Requests
 pub use Rattle.model_rules.specs.Slot
@@ -209,6 +210,7 @@ pub use Rattle.law_member.specs.VoterVotes
 pub use Rattle.law_member.specs.Wire
 -- Of a safe run, and all laws of runs.
 pub use Rattle.law_run.specs.Answered
+pub use Rattle.law_run.specs.Asked as RunAsked
 pub use Rattle.law_run.specs.Backed
 pub use Rattle.law_run.specs.BackingSamples
 pub use Rattle.law_run.specs.Blame
@@ -336,6 +338,31 @@ pub use Rattle.simplex_epochs.specs.Form as ChainForm
 pub use Rattle.simplex_epochs.specs.Reasons as ChainReasons
 pub use Rattle.simplex_epochs.specs.Runs as EpochRuns
 pub use Rattle.simplex_epochs.specs.Says as ChainSays
+-- Of records of runs, and their audit.
+pub use Rattle.model_audit.specs.Alike as AuditAlike
+pub use Rattle.model_audit.specs.Answers as AuditAnswers
+pub use Rattle.model_audit.specs.Audit
+pub use Rattle.model_audit.specs.Conditions as AuditConditions
+pub use Rattle.model_audit.specs.Conflicts as AuditConflicts
+pub use Rattle.model_audit.specs.Fitting as AuditFitting
+pub use Rattle.model_audit.specs.Holding as AuditHolding
+pub use Rattle.model_audit.specs.Journal as AuditJournal
+pub use Rattle.model_audit.specs.JournalCalls as AuditJournalCalls
+pub use Rattle.model_audit.specs.Order as AuditOrder
+pub use Rattle.model_audit.specs.Reading as AuditReading
+pub use Rattle.model_audit.specs.Rebuilt as AuditRebuilt
+pub use Rattle.model_audit.specs.Record as AuditRecord
+pub use Rattle.model_audit.specs.Running as AuditRunning
+pub use Rattle.model_audit.specs.Samples as AuditSamples
+pub use Rattle.model_audit.specs.Taking as AuditTaking
+pub use Rattle.model_audit.specs.VotesDue as AuditVotesDue
+pub use Rattle.law_requests.specs.Named as RequestsNamed
+pub use Rattle.law_requests.specs.Open as RequestsOpen
+pub use Rattle.law_requests.specs.Since as RequestsSince
+pub use Rattle.law_requests.specs.Steps as RequestsSteps
+pub use Rattle.law_requests.specs.Turns as RequestsTurns
+pub use Rattle.law_audit.specs.Recording as AuditRecording
+pub use Rattle.law_audit.specs.Taken as AuditTaken
 -- Of a run told line by line.
 pub use Rattle.simplex_trace.specs.Trace
 pub use Rattle.simplex_lab.specs.Says as LabSays

@@ -4,13 +4,16 @@
 //! - [`members`]: what a step of a voter, a batcher or a resolver does; that a voter lives an honest member's life;
 //! - [`agreement`]: why members that vote so agree, and how they keep to it over crashes;
 //! - [`logs`], [`ledgers`], [`epochs`]: the finalized logs of a run, accounts over them, and one network per epoch;
+//! - [`audits`], [`requests`]: records of runs, judged without an engine, and the open requests of a node;
 //! - the rest, by its subject: groups of events, rules, mail, journals, threads, bytes.
 
 pub use law_agreement as agreement;
+pub use law_audit as audits;
 pub use law_epochs as epochs;
 pub use law_ledger as ledgers;
 pub use law_log as logs;
 pub use law_member as members;
+pub use law_requests as requests;
 pub use law_run as runs;
 
 // Of lists of reports, and of transfers.
