@@ -64,7 +64,7 @@ fn read_named_answer(name: &str) -> Option<Answer>
     }
 }
 
-// An answer of any kind.
+/// An answer of any kind.
 pub fn read_answer(value: &Value) -> Option<Answer>
     ensures { result ≡ answer_of (view value.now) }
 {

@@ -31,7 +31,8 @@ fn read_source(name: &str) -> Option<StepSource>
     }
 }
 
-fn read_channel(name: &str) -> Option<Channel>
+/// The channel of this name.
+pub fn read_channel(name: &str) -> Option<Channel>
     ensures { result ≡ channel_of name.now }
 {
     match name {

@@ -38,7 +38,7 @@ pub fn read_hex(alloc: Global, text: &str) -> Result<Option<Bytes>, AllocError>
     }
 }
 
-// The digest that the text spells.
+/// The digest that the text spells.
 pub fn read_digest(text: &str) -> Option<Digest>
     ensures { result ≡ digest_of text.now }
 {

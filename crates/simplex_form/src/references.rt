@@ -34,7 +34,7 @@ pub fn node_at(value: &Value) -> Option<Node>
     read_node(value.get("node")?)
 }
 
-// What names a packet or a request.
+/// What names a packet or a request.
 pub fn read_ref(value: &Value) -> Option<Ref>
     ensures { result ≡ ref_of (view value.now) }
 {
