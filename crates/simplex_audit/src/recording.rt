@@ -1,11 +1,18 @@
 //! Makes the record of a transcript.
-ghost use Rattle.std.specs.Prelude.{◌≡◌, map, IfOk};
+ghost use Rattle.std.specs.Prelude.{◌≡◌, List, Ok, map, IfOk};
+ghost use Rattle.simplex_transcript.specs.declared.event.Event.{Event};
+ghost use Rattle.model_run.specs.Setting.{Setting};
+ghost use Rattle.model_run.specs.Run.{RunFrom};
+ghost use Rattle.model_audit.specs.declared.record.Verdict.TheVariants.{Sound};
+ghost use Rattle.model_audit.specs.Audit.{audited};
 ghost use Rattle.model_audit.specs.Record as recorded;
 
+use law_audit::records_of_runs_are_sound;
 use model_audit::{AuditCall, AuditEntry, AuditTook};
 use model_rules::Asked;
 use simplex_messages::{Call, Handed, voter};
 use simplex_transcript::{Entry, Packet, Took};
+use simplex_typed::entries_are_typed;
 use simplex_types::{Activity, Certificate, Keep, Sequence};
 use std::alloc::{AllocError, Global};
 
@@ -144,10 +151,9 @@ fn record_entry(alloc: Global, entry: &Entry) -> Result<AuditEntry, AllocError>
     })
 }
 
-/// The record of a transcript: the same entries, but that messages that were put into mailboxes are left out, that mail of
-/// the voter stands by its content, and that of the calls those of the journal, the sends and the reported certificates stand.
+// The entries of the record.
 #[tactic(auto, unfolding(model_audit::specs::Record::record_of))]
-pub fn record_of(alloc: Global, transcript: &[Entry]) -> Result<Vec<AuditEntry>, AllocError>
+fn record_entries(alloc: Global, transcript: &[Entry]) -> Result<Vec<AuditEntry>, AllocError>
     ensures { IfOk result (λ told. told.items ≡ recorded.record_of transcript.now) }
 {
     let mut told = Vec::with_capacity(alloc, transcript.len())?;
@@ -155,4 +161,16 @@ pub fn record_of(alloc: Global, transcript: &[Entry]) -> Result<Vec<AuditEntry>,
         told.push(record_entry(alloc, entry)?)?;
     }
     Ok(told)
+}
+
+/// The record of a transcript: the same entries, but that messages that were put into mailboxes are left out, that mail of
+/// the voter stands by its content, and that of the calls those of the journal, the sends and the reported certificates stand.
+/// Where the transcript is that of a run, no fault is found in its record.
+pub fn record_of(alloc: Global, transcript: &[Entry]) -> Result<Vec<AuditEntry>, AllocError>
+    ensures record { IfOk result (λ told. told.items ≡ recorded.record_of transcript.now) }
+    ensures sound { IfOk result (λ told. (setting : Setting) (events : List Event) → RunFrom setting events ≡ Ok transcript.now → audited setting events told.items ≡ Sound) }
+{
+    records_of_runs_are_sound();
+    entries_are_typed(transcript);
+    record_entries(alloc, transcript)
 }
