@@ -168,7 +168,8 @@ fn record_entries(alloc: Global, transcript: &[Entry]) -> Result<Vec<AuditEntry>
 /// Where the transcript is that of a run, no fault is found in its record.
 pub fn record_of(alloc: Global, transcript: &[Entry]) -> Result<Vec<AuditEntry>, AllocError>
     ensures record { IfOk result (λ told. told.items ≡ recorded.record_of transcript.now) }
-    ensures sound { IfOk result (λ told. (setting : Setting) (events : List Event) → RunFrom setting events ≡ Ok transcript.now → audited setting events told.items ≡ Sound) }
+    ensures sound { IfOk result (λ told. (setting : Setting) (events : List Event) → RunFrom setting events ≡ Ok transcript.now
+        → audited setting events told.items ≡ Sound) }
 {
     records_of_runs_are_sound();
     entries_are_typed(transcript);

@@ -1,7 +1,7 @@
 -- The JSON forms of what entries are made of, as they are read and as they are written.
-use Rattle.std.specs.Prelude.{ℕ, List, [], ◌∷◌, map, codes, Option, Some, None, if◌then◌else◌}
+use Rattle.std.specs.Prelude.{ℕ, List, map, codes, Option, Some, None, if◌then◌else◌}
 use Rattle.hex.specs.Hex.{encode_lower}
-use Rattle.serde_json.specs.Data.{Data, null, number, unsigned, string, array, Items, no_items, item}
+use Rattle.serde_json.specs.Data.{Data, number, unsigned, string, array, no_items, item}
 use Rattle.serde_json.specs.Find.{at}
 use Rattle.serde_json.specs.View.{items_of}
 use Rattle.simplex_values.specs.declared.plan.Channel.{Channel}

@@ -1,5 +1,5 @@
 -- The JSON form of what a node took.
-use Rattle.std.specs.Prelude.{ℕ, List, codes, true, false, Bool, Option, Some, None, option_map, if◌then◌else◌}
+use Rattle.std.specs.Prelude.{ℕ, List, codes, Option, Some, None, option_map, if◌then◌else◌}
 use Rattle.std.specs.Option.{option_or}
 use Rattle.std.specs.Str.{bytes_eq}
 use Rattle.serde_json.specs.Data.{Data, null, boolean, string, array, object, no_items, item, no_members, member}

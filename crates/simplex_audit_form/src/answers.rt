@@ -1,7 +1,7 @@
 //! Writes an application's answers.
 ghost use Rattle.std.specs.Prelude.{◌≡◌, IfOk};
 ghost use Rattle.serde_json.specs.View.{view};
-ghost use Rattle.simplex_audit_form.specs.Took.{single, payload_data, answer_data};
+ghost use Rattle.simplex_audit_form.specs.Took.{payload_data, answer_data};
 ghost use Rattle.simplex_values.specs.declared.answer.Answer.TheVariants as answers;
 
 use crate::pieces::{write_hex, write_name};

@@ -1,9 +1,7 @@
 //! Reads and writes a record with the input of its run.
 ghost use Rattle.std.specs.Prelude.{◌≡◌, ◌+◌, ◌<◌, ◌^◌, length, IfOk};
-ghost use Rattle.serde_json.specs.Data.{Data};
 ghost use Rattle.serde_json.specs.View.{view, items_view};
-ghost use Rattle.simplex_form.specs.Input.{json_of};
-ghost use Rattle.simplex_audit_form.specs.Document.{with_events, with_entries, form_of, document_of, document_data};
+ghost use Rattle.simplex_audit_form.specs.Document.{with_events, form_of, document_of, document_data};
 
 use crate::form::{read_items, write_list};
 use model_audit::AuditEntry;

@@ -2,9 +2,7 @@
 ghost use Rattle.std.specs.Prelude.{◌≡◌, IfOk, Option, Some};
 ghost use Rattle.serde_json.specs.Find.{get};
 ghost use Rattle.serde_json.specs.View.{view};
-ghost use Rattle.simplex_form.specs.Form.{list_of};
 ghost use Rattle.simplex_audit_form.specs.Entries.{outcome_of, who_of, list_at, entry_of, outcome_name, who_data, entry_data};
-ghost use Rattle.simplex_audit_form.specs.Took.{took_of};
 ghost use Rattle.simplex_audit_form.specs.Entries as form;
 
 use crate::form::{Form, read_list, write_list};

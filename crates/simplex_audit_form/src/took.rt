@@ -1,5 +1,5 @@
 //! Reads and writes what a node took.
-ghost use Rattle.std.specs.Prelude.{◌≡◌, IfOk, Option, map};
+ghost use Rattle.std.specs.Prelude.{◌≡◌, IfOk, Option};
 ghost use Rattle.serde_json.specs.View.{view};
 ghost use Rattle.simplex_audit_form.specs.Took.{proposal_of, reason_of, timeout_of, named_took_of, packet_took_of, proposal_took_of, timeout_took_of, certificate_took_of, single_took_of, request_took_of, valued_took_of, took_of, proposal_data, reason_name, timeout_data, took_data};
 

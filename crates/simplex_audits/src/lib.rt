@@ -1,0 +1,6 @@
+//! Records of runs: the program that makes one.
+#![tactic(auto)]
+
+mod work;
+
+pub use work::{RecordDone, RecordWork, audit_program};
