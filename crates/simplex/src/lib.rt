@@ -61,7 +61,9 @@ pub use simplex_front as front;
 pub use simplex_generator as generated;
 pub use simplex_generator::gen_run;
 pub use simplex_io as io;
-pub use simplex_network::{Network, NodeEngine, Transcript, run_network, run_network_from};
+pub use simplex_network::{
+    Network, NodeEngine, NodeJournal, Transcript, run_network, run_network_from,
+};
 pub use simplex_par::{Gate, OpenGate, run_network_par};
 pub use simplex_program::{Command, Exit, LIMIT, MOST_STEPS, MOST_WORKERS, program};
 pub use simplex_report as report;

@@ -27,7 +27,6 @@ use Rattle.model_run.proofs.Apart.{ReadSame, reads, took_same, stands_apart}
 use Rattle.simplex_records.specs.Seats.{seat_of}
 use Rattle.simplex_records.specs.Events as records
 use Rattle.simplex_records.specs.Stands.{RecordsStand}
-use Rattle.simplex_journal.specs.Memory.{Contents}
 use Rattle.simplex_network.specs.declared.host.Host.{Host}
 use Rattle.simplex_network.specs.declared.host.Host.TheVariants as hosts
 use Rattle.simplex_network.specs.declared.network.Network.{Network}
@@ -406,9 +405,9 @@ pub stands-all : (network : Network) (setting : Setting) (before : List Noted) �
 stands-all network setting before s = record { keeps = keeps-all network setting before s.keeps; good = s.good; ran = s.ran; typed = s.typed }
 
 -- what is left where a host is lent
-pub stopped-empty : (setup : Setup) (member : ℕ) (journal : Contents) → journal.sections ≡ [] → HostStands setup member (hosts.Stopped journal) (Lives (Stopped []))
+pub away-empty : (setup : Setup) (member : ℕ) → HostStands setup member hosts.Away (Lives (Stopped []))
 unfolding HostStands
-stopped-empty setup member journal is = is
+away-empty setup member = refl
 
 -- what may be lent steps a node that exists
 pub may-lend : (network : Network) (event : Event) (node : Node) → MayLend network event → node_stepped event ≡ Some node → is_node network.setup node ≡ true

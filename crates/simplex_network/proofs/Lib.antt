@@ -1,6 +1,8 @@
 pub mod Lists
 pub mod Places
 pub mod OneHost
+pub mod Leaving
+pub mod Opening
 pub mod ManyHosts
 pub mod Moves
 pub mod Cutting

@@ -1,7 +1,6 @@
 -- One host.
 use Rattle.std.proofs.Common.{◌≡◌, ℕ, List, [], ◌∷◌, true, false, refl, sym, ap}
 use Rattle.std.specs.Prelude.{Option, Some, None}
-use Rattle.simplex_journal.specs.Memory.{Contents}
 use Rattle.simplex_journal.specs.Journal.{Section}
 use Rattle.model_rules.specs.Views.{current_of}
 use Rattle.simplex_messages.specs.declared.step.Outcome.{Outcome}
@@ -20,7 +19,7 @@ use Rattle.simplex_transcript.specs.declared.setup.Setup.{Setup}
 use Rattle.simplex_members.specs.declared.faulty_member.FaultyMember.{FaultyMember}
 use Rattle.simplex_members.specs.NodeEngine.{NodeConfig, made_with}
 use Rattle.simplex_network.specs.declared.status.Status.TheVariants as statuses
-use Rattle.simplex_network.specs.NodeEngine.{NodeEngine, EngineStands}
+use Rattle.simplex_network.specs.NodeEngine.{NodeJournal, NodeEngine, EngineStands, JournalStands}
 use Rattle.simplex_network.specs.Parts.{Part, Lives, Hears, goes_on, status_of, status_in, refusal_in, after_poll, IsPolled, after_start}
 use Rattle.simplex_network.specs.Stands.{HostStands}
 
@@ -59,16 +58,6 @@ host-stays setup member old new stays (Lives (Stopped sections)) stand = absurd 
 host-stays setup member old new stays (Lives (Running made past)) stand = stays made past stand
 host-stays setup member old new stays (Hears past) stand = absurd stand
 
--- a host that runs no engine refuses each input
-pub idle-refuses : (setup : Setup) (member : ℕ) (host : Host) (input : Input) → ((engine : NodeEngine) → host ≡ hosts.Running engine → ⊥)
-    → (life : Life) → HostStands setup member host (Lives life) → refusal_in life input ≡ refusal_in (Stopped []) input
-unfolding HostStands refusal_in
-idle-refuses setup member (hosts.Stopped journal) input never (Stopped sections) stand = refl
-idle-refuses setup member (hosts.Stopped journal) input never (Running made past) stand = absurd stand
-idle-refuses setup member (hosts.Running engine) input never life stand = absurd (never engine refl)
-idle-refuses setup member (hosts.Faulty faulty) input never (Stopped sections) stand = absurd stand
-idle-refuses setup member (hosts.Faulty faulty) input never (Running made past) stand = absurd stand
-
 pub host-views : (setup : Setup) (member : ℕ) (engine : NodeEngine) (view : ℕ)
     → ((made : EngineMade) (past : List Did) → EngineStands engine made past → runs past ≡ true
     → view ≡ current_of (voter_in made past).rules (place_of (voter_in made past) (voter_past past)).standing.desk.known)
@@ -78,11 +67,17 @@ host-views setup member engine view views (Lives (Stopped sections)) stand goes 
 host-views setup member engine view views (Lives (Running made past)) stand goes = ap (λ v. statuses.Running v) (views made past stand goes)
 host-views setup member engine view views (Hears past) stand goes = absurd stand
 
-pub stopped-views : (setup : Setup) (member : ℕ) (journal : Contents) (part : Part) → HostStands setup member (hosts.Stopped journal) part → statuses.Stopped ≡ status_in part
+pub stopped-views : (setup : Setup) (member : ℕ) (journal : NodeJournal) (part : Part) → HostStands setup member (hosts.Stopped journal) part → statuses.Stopped ≡ status_in part
 unfolding HostStands status_in status_of
 stopped-views setup member journal (Lives (Stopped sections)) stand = refl
 stopped-views setup member journal (Lives (Running made past)) stand = absurd stand
 stopped-views setup member journal (Hears past) stand = absurd stand
+
+pub away-views : (setup : Setup) (member : ℕ) (part : Part) → HostStands setup member hosts.Away part → statuses.Stopped ≡ status_in part
+unfolding HostStands status_in status_of
+away-views setup member (Lives (Stopped sections)) stand = refl
+away-views setup member (Lives (Running made past)) stand = absurd stand
+away-views setup member (Hears past) stand = absurd stand
 
 pub faulty-views : (setup : Setup) (member : ℕ) (faulty : FaultyMember) (part : Part) → HostStands setup member (hosts.Faulty faulty) part → statuses.Faulty ≡ status_in part
 unfolding HostStands status_in
@@ -90,32 +85,13 @@ faulty-views setup member faulty (Lives (Stopped sections)) stand = absurd stand
 faulty-views setup member faulty (Lives (Running made past)) stand = absurd stand
 faulty-views setup member faulty (Hears past) stand = refl
 
--- what a journal holds is what its life says
-pub stopped-sections : (setup : Setup) (member : ℕ) (journal : Contents) (life : Life) → HostStands setup member (hosts.Stopped journal) (Lives life) → journal.sections ≡ sections_in life
-unfolding HostStands
-stopped-sections setup member journal (Stopped sections) stand = stand
-stopped-sections setup member journal (Running made past) stand = absurd stand
-
-pub running-sections : (setup : Setup) (member : ℕ) (engine : NodeEngine) (journal : Contents)
-    → ((made : EngineMade) (past : List Did) → EngineStands engine made past → journal.sections ≡ sections_of made past)
-    → (life : Life) → HostStands setup member (hosts.Running engine) (Lives life) → journal.sections ≡ sections_in life
-unfolding HostStands
-running-sections setup member engine journal left (Stopped sections) stand = absurd stand
-running-sections setup member engine journal left (Running made past) stand = left made past stand
-
-pub faulty-sections : (setup : Setup) (member : ℕ) (faulty : FaultyMember) (journal : Contents) (life : Life) → HostStands setup member (hosts.Faulty faulty) (Lives life)
-    → journal.sections ≡ sections_in life
-unfolding HostStands
-faulty-sections setup member faulty journal (Stopped sections) stand = absurd stand
-faulty-sections setup member faulty journal (Running made past) stand = absurd stand
-
 -- an engine goes on, or is stopped, by how its last step ended
 pub going-whole : (setup : Setup) (member : ℕ) (engine : NodeEngine) (made : EngineMade) (past : List Did) → runs past ≡ true → EngineStands engine made past
     → HostStands setup member (hosts.Running engine) (Lives (going_on made past))
 unfolding HostStands
 going-whole setup member engine made past whole stand = rw whole stand
 
-pub going-broken : (setup : Setup) (member : ℕ) (journal : Contents) (made : EngineMade) (past : List Did) → runs past ≡ false → journal.sections ≡ sections_of made past
+pub going-broken : (setup : Setup) (member : ℕ) (journal : NodeJournal) (made : EngineMade) (past : List Did) → runs past ≡ false → JournalStands journal (sections_of made past)
     → HostStands setup member (hosts.Stopped journal) (Lives (going_on made past))
 unfolding HostStands
 going-broken setup member journal made past broken left = rw broken left

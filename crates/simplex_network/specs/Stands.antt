@@ -33,15 +33,16 @@ use Rattle.simplex_network.specs.declared.host.Host.TheVariants as hosts
 use Rattle.simplex_network.specs.declared.network.Network.{Network}
 use Rattle.simplex_network.specs.declared.status.Status.{Status}
 use Rattle.simplex_network.specs.declared.task.Given.{Given}
-use Rattle.simplex_network.specs.NodeEngine.{NodeEngine, EngineStands}
+use Rattle.simplex_network.specs.NodeEngine.{NodeEngine, EngineStands, JournalStands}
 use Rattle.simplex_network.specs.Parts.{Part, Lives, Hears, part_in, found_in}
 use Rattle.simplex_network.specs.Polls.{IsInput, tested_of, on_poll, noted_start}
 
--- a host at a node of this member does this
+-- a host at a node of this member does this. One that is away is at a node that is stopped, with nothing
 unfoldable pub HostStands : Setup → ℕ → Host → Part → Type 0
-HostStands setup member (hosts.Stopped journal) (Lives (Stopped sections)) = journal.sections ≡ sections
+HostStands setup member (hosts.Stopped journal) (Lives (Stopped sections)) = JournalStands journal sections
 HostStands setup member (hosts.Running engine) (Lives (Running made past)) = EngineStands engine made past
 HostStands setup member (hosts.Faulty faulty) (Hears past) = FaultyStands faulty setup member past
+HostStands setup member hosts.Away (Lives (Stopped sections)) = sections ≡ []
 HostStands setup member _ _ = ⊥
 
 -- each host does its node's part

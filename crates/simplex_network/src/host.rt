@@ -5,25 +5,25 @@ ghost use Rattle.std.specs.Prelude.{◌≡◌, ◌<◌, ◌≤◌, ◌^◌, ◌�
 ghost use Rattle.std.specs.Option.{option_map};
 ghost use Rattle.simplex_messages.specs.Step.{no_out};
 ghost use Rattle.simplex_journal.specs.Journal.{crashed};
-ghost use Rattle.simplex_journal.specs.Order.{no_order};
 ghost use Rattle.simplex_transcript.specs.declared.setup.Setup.{Setup};
-ghost use Rattle.model_steps.specs.Engine.{EngineMade, Did, runs, is_whole};
+ghost use Rattle.model_steps.specs.Engine.{EngineMade, Did, runs, is_whole, sections_of};
 ghost use Rattle.model_run.specs.Life.{Life, Stopped, Running, sections_in, going_on};
 ghost use Rattle.model_run.specs.Members.{kind_of};
 ghost use Rattle.model_run.specs.Mocks.{Heard, heard_by};
 ghost use Rattle.simplex_engine.specs.Config.{first_bad};
 ghost use Rattle.simplex_engine.specs.Polled.{is_memory};
 ghost use Rattle.simplex_members.specs.NodeEngine.{made_with};
-ghost use Rattle.simplex_network.specs.NodeEngine.{EngineStands};
+ghost use Rattle.simplex_network.specs.NodeEngine.{EngineStands, JournalStands};
 ghost use Rattle.simplex_network.specs.Parts.{Part, Lives, Hears, goes_on, status_of, status_in, refusal_in, after_poll, IsPolled, IsStarted, after_start};
 ghost use Rattle.model_run.specs.Kinds.{is_of_kind};
 ghost use Rattle.law_run.specs.EventForging.{is_impersonator};
 ghost use Rattle.simplex_network.specs.Stands.{HostStands, EngineOf};
 
+use crate::journal::{NodeJournal, new_journal};
 use crate::status::Status;
 use model_faults::Sent;
 use simplex_engine::{Engine, Input, NewError, PollError, Polled};
-use simplex_journal::{Journal, MemoryJournal};
+use simplex_journal::Journal;
 use simplex_members::{FaultyMember, NodeConfig, NodeElector, NodeScheme};
 use simplex_messages::{Outcome, StepOut, Stop};
 use simplex_types::{Channel, Sequence};
@@ -31,14 +31,16 @@ use std::alloc::{AllocError, Global};
 use std::mem;
 
 /// The engine of a node.
-pub type NodeEngine = Engine<NodeScheme, NodeElector, MemoryJournal>;
+pub type NodeEngine = Engine<NodeScheme, NodeElector, NodeJournal>;
 
-/// A stopped node's journal, a running node's engine, or a faulty member that only answers what it hears.
+/// A stopped node's journal, a running node's engine, or a faulty member that only answers what it hears. A host that is lent
+/// is away.
 #[derive(Drop)]
 pub(crate) enum Host {
-    Stopped(MemoryJournal),
+    Stopped(NodeJournal),
     Running(NodeEngine),
     Faulty(FaultyMember),
+    Away,
 }
 
 impl Host {
@@ -47,7 +49,7 @@ impl Host {
         ensures { (setup : Setup) (member : ℕ) (part : Part) → HostStands setup member self.now part → EngineOf part (option_map (λ engine. engine.now) result) }
     {
         match self {
-            Host::Stopped(_) | Host::Faulty(_) => None,
+            Host::Stopped(_) | Host::Faulty(_) | Host::Away => None,
             Host::Running(engine) => Some(engine),
         }
     }
@@ -58,6 +60,7 @@ impl Host {
     {
         match self {
             Host::Stopped(_) => Status::Stopped,
+            Host::Away => Status::Stopped,
             Host::Running(engine) => Status::Running(engine.current_view()),
             Host::Faulty(_) => Status::Faulty,
         }
@@ -172,34 +175,40 @@ impl Host {
         Ok(())
     }
 
-    // The journal, with no call ordered to fail. An empty one is left. Behind want of memory there may be none.
-    fn take_journal(&mut self, alloc: Global) -> Result<MemoryJournal, PollError>
-        ensures order { IfOk result (λ journal. journal.order ≡ no_order) }
-        ensures sections { IfOk result (λ journal. (setup : Setup) (member : ℕ) (life : Life) → HostStands setup member self.old (Lives life) → journal.sections ≡ sections_in life) }
+    // The journal. Nothing is left, and behind want of memory there may be none.
+    fn take_journal(&mut self, alloc: Global) -> Result<NodeJournal, PollError>
+        ensures stands { IfOk result (λ journal. (setup : Setup) (member : ℕ) (life : Life) → HostStands setup member self.old (Lives life) → JournalStands journal (sections_in life)) }
         ensures memory { IfErr result (λ error. is_memory error ≡ true) }
     {
-        let host = mem::replace(self, Host::Stopped(MemoryJournal::new(alloc)));
-        let mut journal = journal_of(alloc, host)?;
-        journal.fail_next(0, 0);
-        Ok(journal)
+        let host = mem::replace(self, Host::Away);
+        journal_of(alloc, host)
     }
 }
 
-// What a stop leaves. A faulty member without an engine has an empty journal.
-fn journal_of(alloc: Global, host: Host) -> Result<MemoryJournal, PollError>
-    ensures sections { IfOk result (λ journal. (setup : Setup) (member : ℕ) (life : Life) → HostStands setup member host (Lives life) → journal.sections ≡ sections_in life) }
+// What a stop leaves. Where there is no engine and none was stopped, the journal is a new one.
+fn journal_of(alloc: Global, host: Host) -> Result<NodeJournal, PollError>
+    ensures stands { IfOk result (λ journal. (setup : Setup) (member : ℕ) (life : Life) → HostStands setup member host (Lives life) → JournalStands journal (sections_in life)) }
     ensures memory { IfErr result (λ error. is_memory error ≡ true) }
 {
     match host {
         Host::Stopped(journal) => Ok(journal),
-        Host::Faulty(_) => Ok(MemoryJournal::new(alloc)),
-        Host::Running(engine) => {
-            if engine.has_failed() {
-                return Err(PollError::Memory);
-            }
-            Ok(engine.into_journal())
+        Host::Faulty(_) | Host::Away => {
+            let journal = new_journal(alloc)?;
+            Ok(journal)
         }
+        Host::Running(engine) => left_by(engine),
     }
+}
+
+// What an engine leaves. Behind want of memory it is nothing.
+fn left_by(engine: NodeEngine) -> Result<NodeJournal, PollError>
+    ensures stands { IfOk result (λ journal. (made : EngineMade) (past : List Did) → EngineStands engine made past → JournalStands journal (sections_of made past)) }
+    ensures memory { IfErr result (λ error. is_memory error ≡ true) }
+{
+    if engine.has_failed() {
+        return Err(PollError::Memory);
+    }
+    Ok(engine.into_journal())
 }
 
 // The engine runs, unless its step was broken.
@@ -210,10 +219,8 @@ fn settled(engine: NodeEngine, outcome: Outcome) -> Result<Host, PollError>
     match outcome {
         Outcome::Done | Outcome::Idle | Outcome::Refused => Ok(Host::Running(engine)),
         Outcome::Cut | Outcome::Journal => {
-            if engine.has_failed() {
-                return Err(PollError::Memory);
-            }
-            Ok(Host::Stopped(engine.into_journal()))
+            let journal = left_by(engine)?;
+            Ok(Host::Stopped(journal))
         }
     }
 }

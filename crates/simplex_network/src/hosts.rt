@@ -19,10 +19,10 @@ ghost use Rattle.law_run.specs.EventForging.{is_impersonator};
 ghost use Rattle.simplex_network.specs.Stands.{HostsStand, HostStands, HasSeat, EngineOf};
 
 use crate::host::{Host, NodeEngine};
+use crate::journal::new_journal;
 use crate::status::Status;
 use model_faults::Sent;
 use simplex_engine::{Input, PollError, Polled};
-use simplex_journal::MemoryJournal;
 use simplex_members::{FaultyMember, NodeConfig, has_engine};
 use simplex_messages::{Outcome, StepOut, Stop};
 use simplex_records::seat_of;
@@ -93,15 +93,15 @@ impl Hosts {
         }
     }
 
-    /// Lends the host of a node. A stopped one with an empty journal is left.
-    pub(crate) fn lend(&mut self, alloc: Global, node: Node) -> Host
+    /// Lends the host of a node, which is away then.
+    pub(crate) fn lend(&mut self, node: Node) -> Host
         requires { HasSeat self.old.list.items node }
         ensures count { length self.new.list.items ≡ length self.old.list.items }
         ensures host { (setup : setups.Setup) (parts : nodes.Node → Part) → HostsStand setup self.old.list.items parts → HostStands setup node.member result (parts node) }
         ensures stands { (setup : setups.Setup) (parts : nodes.Node → Part) → HostsStand setup self.old.list.items parts → HostsStand setup self.new.list.items (changed node (Lives (Stopped [])) parts) }
     {
         let at = seat_of(node);
-        mem::replace(&mut self.list[at], Host::Stopped(MemoryJournal::new(alloc)))
+        mem::replace(&mut self.list[at], Host::Away)
     }
 
     /// Puts the host of a node where it sits.
@@ -202,7 +202,7 @@ fn blank_host(alloc: Global, setup: &Setup, seat: usize) -> Result<Host, AllocEr
 {
     let member = member_at(setup, seat);
     if has_engine(setup, member) {
-        Ok(Host::Stopped(MemoryJournal::new(alloc)))
+        Ok(Host::Stopped(new_journal(alloc)?))
     } else {
         Ok(Host::Faulty(FaultyMember::new(alloc, setup, member)?))
     }

@@ -9,6 +9,7 @@ mod cut;
 mod host;
 mod hosts;
 mod inputs;
+mod journal;
 mod network;
 mod nodes;
 mod run;
@@ -18,6 +19,7 @@ mod task;
 mod testing;
 
 pub use host::NodeEngine;
+pub use journal::NodeJournal;
 pub use network::Network;
 pub use run::{Transcript, run_network, run_network_from};
 pub use task::Task;

@@ -590,7 +590,7 @@ impl Network {
         Task {
             alloc: self.alloc,
             now: self.clock,
-            host: self.hosts.lend(self.alloc, node),
+            host: self.hosts.lend(node),
             stage,
         }
     }

@@ -1,4 +1,4 @@
-use Rattle.simplex_network.proofs.OneHost.{stopped-views, host-views, faulty-views}
+use Rattle.simplex_network.proofs.OneHost.{stopped-views, away-views, host-views, faulty-views}
 use Rattle.simplex_network.proofs.host.Host.status.Goals as goal
 
 pub returns-in-Stopped : goal.returns-in-Stopped
@@ -9,3 +9,6 @@ returns-in-Running c = λ setup member part stand goes. host-views setup member 
 
 pub returns-in-Faulty : goal.returns-in-Faulty
 returns-in-Faulty c = λ setup member part stand goes. faulty-views setup member _ part (rw c.in-Faulty.is at stand)
+
+pub returns-in-Away : goal.returns-in-Away
+returns-in-Away c = λ setup member part stand goes. away-views setup member part (rw c.in-Away.is at stand)

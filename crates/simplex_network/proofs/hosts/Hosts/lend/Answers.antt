@@ -1,6 +1,6 @@
-use Rattle.std.proofs.Common.{refl, ap}
+use Rattle.std.proofs.Common.{refl}
 use Rattle.simplex_network.proofs.ManyHosts.{hosts-at, hosts-set}
-use Rattle.simplex_network.proofs.Lending.{stopped-empty}
+use Rattle.simplex_network.proofs.Lending.{away-empty}
 use Rattle.simplex_network.proofs.hosts.Hosts.lend.Goals as goal
 
 pub returns-clause-host : goal.returns-clause-host
@@ -12,4 +12,4 @@ pub returns-clause-stands : goal.returns-clause-stands
 returns-clause-stands c =
     λ setup parts stand.
     rw (c.seat_of-at.ensures, c.replace.ensures.after)
-    (hosts-set setup _ parts c.args.node _ _ c.requires.0 stand (stopped-empty setup c.args.node.member c.new.result (ap (λ j. j.sections) c.new.ensures)))
+    (hosts-set setup _ parts c.args.node _ _ c.requires.0 stand (away-empty setup c.args.node.member))
