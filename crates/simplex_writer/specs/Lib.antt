@@ -1,0 +1,5 @@
+pub mod Events
+pub mod Inputs
+pub mod Names
+pub mod Pieces
+pub mod Setups
