@@ -26,7 +26,7 @@ for example in "${examples[@]}"; do
     run 0
     usual=$?
     cp "$room/written" "$room/usual"
-    count=$(<"$room/count")
+    count=$(od -An -t u8 "$room/count" | tr -d ' ')
     short=0
     for ((number = 1; number <= count; number++)); do
         run "$number"

@@ -1,39 +1,34 @@
 /* Refuses one request for memory: preloaded into a program, it lets the request fail whose number REFUSED has, counted from 1, and
-   writes at the end how many there were into the file that COUNTED names. want-of-memory.sh uses it. */
+   keeps count of all in the file that COUNTED names, as eight bytes, since a program may end without a word to it.
+   want-of-memory.sh uses it. */
 #define _GNU_SOURCE
 #include <dlfcn.h>
 #include <errno.h>
+#include <fcntl.h>
 #include <stddef.h>
-#include <stdio.h>
+#include <stdint.h>
 #include <stdlib.h>
+#include <sys/mman.h>
+#include <unistd.h>
 
-static unsigned long made, refused;
-static int ready;
+static uint64_t *made;
+static uint64_t refused;
 
 static int refuses(void) {
-    if (!ready) {
+    if (!made) {
         return 0;
     }
-    made += 1;
-    return made == refused;
+    *made += 1;
+    return *made == refused;
 }
 
 __attribute__((constructor)) static void begin(void) {
-    const char *number = getenv("REFUSED");
-    refused = number ? strtoul(number, NULL, 10) : 0;
-    ready = 1;
-}
-
-__attribute__((destructor)) static void end(void) {
-    const char *file = getenv("COUNTED");
-    unsigned long count = made;
-    ready = 0;
-    if (file) {
-        FILE *out = fopen(file, "w");
-        if (out) {
-            fprintf(out, "%lu\n", count);
-            fclose(out);
-        }
+    const char *number = getenv("REFUSED"), *file = getenv("COUNTED");
+    int counted = file ? open(file, O_RDWR | O_CREAT | O_TRUNC, 0600) : -1;
+    refused = number ? strtoull(number, NULL, 10) : 0;
+    if (counted >= 0 && ftruncate(counted, sizeof *made) == 0) {
+        void *at = mmap(NULL, sizeof *made, PROT_READ | PROT_WRITE, MAP_SHARED, counted, 0);
+        made = at == MAP_FAILED ? NULL : at;
     }
 }
 
