@@ -18,7 +18,7 @@ def status_of(path):
 
 
 def is_run(path):
-    """Whether the input is one of `simplex_net run` or `par`, and has a part that others read differently in no place."""
+    """Whether the input is one of `simplex_net`: another program, which may read more members, is named beside it."""
     return not path.with_suffix(".program").exists()
 
 
