@@ -1,2 +1,3 @@
-pub mod Before
+pub mod Opened
 pub mod Traced
+pub mod Saying

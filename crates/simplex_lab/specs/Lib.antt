@@ -1,1 +1,7 @@
+pub mod About
+pub mod Lines
+pub mod Opening
+pub mod Reasons
+pub mod Refusals
 pub mod Says
+pub mod Words

@@ -1,53 +1,167 @@
--- What the words and the bytes of an input say of a trace.
-use Rattle.std.specs.Prelude.{ℕ, ◌≡◌, ◌-◌, ◌++◌, List, [], Option, Some, None, Result, Ok, Err, String, codes, map, string_bytes, take, if◌then◌else◌}
-use Rattle.std.specs.declared.alloc.Global.{Global}
-use Rattle.simplex_front.specs.Words.{is_alone}
+-- What the words make of an input.
+use Rattle.std.specs.Prelude.{ℕ, ◌≡◌, ◌≢◌, ◌≤◌, ◌==◌, ◌⊎◌, ◌-◌, ◌++◌, true, false, List, [], ◌∷◌, Option, None, Some, Ok, Err, codes, decimal, length}
+use Rattle.std.specs.Prelude.{option_and_then, take, if◌then◌else◌}
+use Rattle.std.specs.List.{slice_get}
+use Rattle.std.specs.Result.{result_ok}
+use Rattle.simplex_transcript.specs.declared.node.Node.{Node}
+use Rattle.simplex_generator.specs.Unanswered.{node_in}
+use Rattle.simplex_lab.specs.Opening.{TellsOpen}
+use Rattle.simplex_lab.specs.Refusals.{reason_line}
 use Rattle.simplex_transcript.specs.declared.entry.Entry.{Entry}
 use Rattle.simplex_transcript.specs.declared.event.Event.{Event}
 use Rattle.simplex_transcript.specs.declared.refusal.Refusal.{Refusal}
+use Rattle.simplex_transcript.specs.declared.setup.Setup.{Setup}
 use Rattle.simplex_form.specs.declared.input.Input.{Input}
+use Rattle.simplex_front.specs.declared.answer.Answer.{Answer}
+use Rattle.simplex_front.specs.Answer.{IsAnswer}
 use Rattle.simplex_form.specs.Input.{input_of}
+use Rattle.simplex_text.specs.Lines.{PrintedRun, pieces}
 use Rattle.simplex_text.specs.Refusals.{refusal_text}
 use Rattle.simplex_trace.specs.Trace.{lines_of}
+use Rattle.simplex_writer.specs.Inputs.{input_text}
 use Rattle.model_run.specs.Setting.{at_epoch_genesis}
 use Rattle.model_run.specs.Run.{Run}
 use Rattle.simplex_network.specs.declared.run.Transcript.{Transcript}
 use Rattle.simplex_network.specs.WholeRuns.{WholeRunFrom}
+use Rattle.simplex_simulator.specs.Going.{IsRunnable}
+use Rattle.simplex_lab.specs.Lines.{makes_as_written}
+use Rattle.simplex_lab.specs.declared.reason.LabReason.{LabReason}
+use Rattle.simplex_lab.specs.declared.reason.LabReason.TheVariants as reasons
+use Rattle.simplex_lab.specs.declared.told.Told.{Told}
+use Rattle.simplex_lab.specs.declared.told.Told.TheVariants as tells
+use Rattle.simplex_lab.specs.declared.words.Order.{Order}
+use Rattle.simplex_lab.specs.declared.words.Word.{Word}
+use Rattle.simplex_lab.specs.declared.words.Word.TheVariants as asks
 
--- the word is `trace` alone
-abbrev pub asks_for_trace : List (String Global) → Option (Unit {0})
-asks_for_trace words = if is_alone (codes "trace") (map string_bytes words) then Some tt else None
-
--- what is said of other words
-abbrev pub usage : List ℕ
-usage = codes "usage: trace\n"
-
--- the bytes are not of the form: this is the first place
-abbrev pub IsMisread : List ℕ → ℕ → Type 0
-IsMisread bytes place = input_of bytes ≡ Err place
+-- ---- trace
 
 -- the whole run of the input, told line by line
 pub record IsTraced (input : Input) (done : Transcript) (text : List ℕ) : Type 0 where
   pub whole : WholeRunFrom (at_epoch_genesis input.setup) input.events done
   pub told : text ≡ lines_of input.events done.entries
 
--- the bytes say a setup and events, of which this is the trace
-abbrev pub TraceSays : List ℕ → Transcript → List ℕ → Type 0
-TraceSays bytes done text = (input : Input) × (input_of bytes ≡ Ok input) × IsTraced input done text
+-- the entries of a run, if it is whole
+unfoldable pub entries_of : Setup → List Event → Option (List Entry)
+entries_of setup events = result_ok (Run setup events)
 
--- the lines of a run of these events, if they have one
-abbrev pub lines_if : List Event → Result (List Entry) Refusal → List ℕ
-lines_if events (Ok entries) = lines_of events entries
-lines_if events (Err refusal) = []
+-- the lines of a run, if there is one
+abbrev pub lines_if : List Event → Option (List Entry) → List ℕ
+lines_if events None = []
+lines_if events (Some entries) = lines_of events entries
 
--- the lines of the events before the one that is refused
-abbrev pub lines_before : Input → Refusal → List ℕ
-lines_before input refusal = let events = take (refusal.event - 1) input.events in lines_if events (Run input.setup events)
+-- the node of the event of this number, which is counted from 1
+abbrev pub node_at : List Event → ℕ → Option Node
+node_at events number = if number == 0 then None else option_and_then node_in (slice_get events (number - 1))
 
--- the run of the input is this refusal; the text tells the events before it, and then the refusal
+-- the text tells what is left open for the node, if there are both
+abbrev pub TellsOpenIf : List Event → Option (List Entry) → Option Node → List ℕ → Type 0
+TellsOpenIf events None _ text = text ≡ []
+TellsOpenIf events (Some entries) None text = text ≡ []
+TellsOpenIf events (Some entries) (Some node) text = TellsOpen events entries node text
+
+-- the events before the one that is refused
+abbrev pub earlier : Input → Refusal → List Event
+earlier input refusal = take (refusal.event - 1) input.events
+
+-- the text tells the events before the one that is refused, the refusal and its reason, and what was open then for the node of this event
+pub record TellsRefusal (input : Input) (refusal : Refusal) (text : List ℕ) : Type 0 where
+  pub left : List ℕ
+  pub tells : TellsOpenIf (earlier input refusal) (entries_of input.setup (earlier input refusal)) (node_at input.events refusal.event) left
+  pub told : text ≡ ((lines_if (earlier input refusal) (entries_of input.setup (earlier input refusal)) ++ refusal_text refusal)
+      ++ reason_line refusal.error) ++ left
+
+-- the run of the input is this refusal, which the text tells
 abbrev pub IsRefused : Input → Refusal → List ℕ → Type 0
-IsRefused input refusal text = (Run input.setup input.events ≡ Err refusal) × (text ≡ lines_before input refusal ++ refusal_text refusal)
+IsRefused input refusal text = (Run input.setup input.events ≡ Err refusal) × TellsRefusal input refusal text
 
--- the bytes say a setup and events of which this is so
-abbrev pub RefusalSays : List ℕ → Refusal → List ℕ → Type 0
-RefusalSays bytes refusal text = (input : Input) × (input_of bytes ≡ Ok input) × IsRefused input refusal text
+-- ---- simulate
+
+-- the text is an input of this setup, with no more events than choices were asked for, of which none is refused
+abbrev pub IsMadeFor : Order → Setup → List ℕ → Type 0
+IsMadeFor order setup written =
+    (events : List Event) × (length events ≤ order.plan.steps) × IsRunnable setup events × (written ≡ input_text setup events)
+
+-- the input itself, or what its run reports
+abbrev pub simulated_text : Order → List ℕ → Input → Transcript → List ℕ
+simulated_text order written made done = if order.shows_events then written else PrintedRun made.events done.entries
+
+-- an input without events was given, and one was written for its setup; what is read from that was run, and is told
+pub record IsSimulated (order : Order) (given : Input) (done : Transcript) (text : List ℕ) : Type 0 where
+  pub none_given : given.events ≡ []
+  pub written : List ℕ
+  pub made : Input
+  pub for_setup : IsMadeFor order given.setup written
+  pub read : input_of written ≡ Ok made
+  pub whole : WholeRunFrom (at_epoch_genesis made.setup) made.events done
+  pub told : text ≡ simulated_text order written made done
+
+-- such an input was written, and the run of what is read from it is refused
+pub record IsRefusedBehind (order : Order) (given : Input) (refusal : Refusal) (text : List ℕ) : Type 0 where
+  pub none_given : given.events ≡ []
+  pub written : List ℕ
+  pub made : Input
+  pub for_setup : IsMadeFor order given.setup written
+  pub read : input_of written ≡ Ok made
+  pub refused : Run made.setup made.events ≡ Err refusal
+  pub told : text ≡ refusal_text refusal
+
+-- what is said of an input that was written and is not read
+abbrev pub unread_line : ℕ → List ℕ
+unread_line place = pieces (codes "unread at " ∷ decimal place ∷ codes "\n" ∷ [])
+
+-- such an input was written, and it is not read at this place
+pub record IsUnread (order : Order) (given : Input) (place : ℕ) (text : List ℕ) : Type 0 where
+  pub none_given : given.events ≡ []
+  pub written : List ℕ
+  pub for_setup : IsMadeFor order given.setup written
+  pub unread : input_of written ≡ Err place
+  pub told : text ≡ unread_line place
+
+-- ---- shrink
+
+-- the text is an input of the same setup with no more events, and its run makes the line
+pub record IsShrunk (line : List ℕ) (input : Input) (left : List Event) (text : List ℕ) : Type 0 where
+  pub makes : makes_as_written input.setup line left ≡ true
+  pub few : length left ≤ length input.events
+  pub told : text ≡ input_text input.setup left
+
+-- ---- each word
+
+-- the whole work of a word on an input, and its text
+abbrev pub DoneOn : Word → Input → Told → List ℕ → Type 0
+DoneOn asks.Trace input (tells.Run done) text = IsTraced input done text
+DoneOn (asks.Simulate order) input (tells.Run done) text = IsSimulated order input done text
+DoneOn (asks.Shrink line) input (tells.Shrunk left) text = IsShrunk line input left text
+DoneOn _ input _ text = ⊥
+
+-- why it ends before, and its text
+abbrev pub RefusedOn : Word → Input → LabReason → List ℕ → Type 0
+RefusedOn asks.Trace input (reasons.Refused refusal) text = IsRefused input refusal text
+RefusedOn (asks.Simulate order) input (reasons.Refused refusal) text = IsRefusedBehind order input refusal text
+RefusedOn (asks.Simulate order) input (reasons.Unread place) text = IsUnread order input place text
+RefusedOn (asks.Shrink line) input reasons.NotMade text = (makes_as_written input.setup line input.events ≡ false) × (text ≡ codes "not made\n")
+RefusedOn _ input _ text = ⊥
+
+-- the input is not what the word takes: a simulation wants no events
+abbrev pub MisreadOn : Word → Input → ℕ → Type 0
+MisreadOn asks.Trace input place = ⊥
+MisreadOn (asks.Simulate order) input place = (place ≡ 2) × (input.events ≢ [])
+MisreadOn (asks.Shrink line) input place = ⊥
+
+-- what the work of a word on an input comes to
+abbrev pub AnswersOn : Word → Input → Answer Told LabReason → Type 0
+AnswersOn word input answer = IsAnswer (DoneOn word input) (RefusedOn word input) (MisreadOn word input) answer
+
+-- the bytes say an input of which this is so
+abbrev pub OfInput : List ℕ → (Input → Type 0) → Type 0
+OfInput bytes P = (input : Input) × (input_of bytes ≡ Ok input) × P input
+
+abbrev pub Does : Word → List ℕ → Told → List ℕ → Type 0
+Does word bytes done text = OfInput bytes (λ input. DoneOn word input done text)
+
+abbrev pub Refuses : Word → List ℕ → LabReason → List ℕ → Type 0
+Refuses word bytes reason text = OfInput bytes (λ input. RefusedOn word input reason text)
+
+-- the bytes are not of the form at this place, or their input is none that the word takes
+abbrev pub Misreads : Word → List ℕ → ℕ → Type 0
+Misreads word bytes place = (input_of bytes ≡ Err place) ⊎ OfInput bytes (λ input. MisreadOn word input place)

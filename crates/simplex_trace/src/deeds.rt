@@ -9,7 +9,7 @@ use simplex_types::{Answer, Channel, Digest, Finalization, Handoff};
 use std::alloc::{AllocError, Global};
 
 /// One word behind another.
-pub(crate) fn spaced(alloc: Global, first: &str, second: &str) -> Result<String, AllocError>
+pub fn spaced(alloc: Global, first: &str, second: &str) -> Result<String, AllocError>
     ensures { IfOk result (λ text. string_bytes text ≡ deeds.spaced first.now second.now) }
 {
     format!(in alloc; "{first} {second}")
@@ -22,7 +22,8 @@ pub(crate) fn numbered(alloc: Global, word: &str, number: u64) -> Result<String,
     format!(in alloc; "{word} {number}")
 }
 
-pub(crate) fn node_text(alloc: Global, node: &Node) -> Result<String, AllocError>
+/// A node, as `0.0`.
+pub fn node_text(alloc: Global, node: &Node) -> Result<String, AllocError>
     ensures { IfOk result (λ text. string_bytes text ≡ deeds.node_text node.now) }
 {
     let member = node.member;
@@ -31,7 +32,7 @@ pub(crate) fn node_text(alloc: Global, node: &Node) -> Result<String, AllocError
 }
 
 /// The packet or the request at this place of an event.
-pub(crate) fn ref_text(alloc: Global, at: &Ref) -> Result<String, AllocError>
+pub fn ref_text(alloc: Global, at: &Ref) -> Result<String, AllocError>
     ensures { IfOk result (λ text. string_bytes text ≡ deeds.ref_text at.now) }
 {
     let event = at.event;

@@ -59,7 +59,8 @@ fn call_text(alloc: Global, call: &Call) -> Result<String, AllocError>
     }
 }
 
-fn ask_text(alloc: Global, asked: &Asked) -> Result<String, AllocError>
+/// What is asked, and of which view.
+pub fn ask_text(alloc: Global, asked: &Asked) -> Result<String, AllocError>
     ensures { IfOk result (λ text. string_bytes text ≡ items.ask_text asked.now) }
 {
     match asked {

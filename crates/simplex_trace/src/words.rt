@@ -5,7 +5,8 @@ ghost use Rattle.simplex_trace.specs.Words as words;
 use simplex_transcript::StepSource;
 use simplex_types::{Activity, Artifact, BlockCause, Channel};
 
-pub(crate) fn source_word(source: StepSource) -> &'static str
+/// What a step takes from.
+pub fn source_word(source: StepSource) -> &'static str
     ensures { result.now ≡ words.source_word source }
 {
     match source {
@@ -21,7 +22,8 @@ pub(crate) fn source_word(source: StepSource) -> &'static str
     }
 }
 
-pub(crate) fn channel_word(channel: Channel) -> &'static str
+/// A channel.
+pub fn channel_word(channel: Channel) -> &'static str
     ensures { result.now ≡ words.channel_word channel }
 {
     match channel {

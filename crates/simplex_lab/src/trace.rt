@@ -1,0 +1,185 @@
+//! Tells a run line by line.
+ghost use Rattle.std.specs.Prelude.{◌≡◌, ◌-◌, Err, IfOk, option_map, string_bytes, take};
+ghost use Rattle.model_run.specs.Setting.{at_epoch_genesis};
+ghost use Rattle.model_run.specs.Run.{Run};
+ghost use Rattle.simplex_network.specs.WholeRuns.{WholeRunFrom};
+ghost use Rattle.simplex_generator.specs.Unanswered.{node_in};
+ghost use Rattle.simplex_lab.specs.declared.words.Word.TheVariants as asks;
+ghost use Rattle.simplex_lab.specs.Says.{AnswersOn, TellsOpenIf, TellsRefusal, earlier, entries_of, lines_if, node_at};
+
+use crate::opening::open_lines;
+use crate::reason::LabReason;
+use crate::reasons::reason_line;
+use crate::told::Told;
+use simplex_form::Input;
+use simplex_front::Answer;
+use simplex_network::{Transcript, run_network};
+use simplex_text::refusal_text;
+use simplex_trace::lines;
+use simplex_transcript::{Event, Node, Refusal, RunError, Setup};
+use std::alloc::{AllocError, Global};
+
+// The lines of a whole run of the input.
+fn tell(
+    alloc: Global,
+    input: &Input,
+    transcript: Transcript,
+) -> Result<Answer<Told, LabReason>, AllocError>
+    requires { WholeRunFrom (at_epoch_genesis input.now.setup) input.now.events transcript }
+    ensures { IfOk result (AnswersOn asks.Trace input.now) }
+{
+    let text = lines(
+        alloc,
+        input.events.as_slice(),
+        transcript.entries.as_slice(),
+    )?;
+    Ok(Answer::Done {
+        done: Told::Run(transcript),
+        text,
+    })
+}
+
+// The events before the one of this number, which is counted from 1; all, where there are not so many.
+fn events_before(events: &[Event], number: u64) -> &[Event]
+    ensures { result.now ≡ take (number - 1) events.now }
+{
+    let before = events.len().min(number.saturating_sub(1) as usize);
+    &events[..before]
+}
+
+// The node of an event, where it has one of its own.
+fn node_of(event: &Event) -> Option<Node>
+    ensures { result ≡ node_in event.now }
+{
+    match event {
+        Event::Start { node, .. } => Some(*node),
+        Event::Deliver { node, .. } => Some(*node),
+        Event::Step { node, .. } => Some(*node),
+        Event::Answer { node, .. } => Some(*node),
+        Event::Crash { node } => Some(*node),
+        Event::Tick { .. } => None,
+        Event::Inject { .. } => None,
+    }
+}
+
+// The node of the event of this number, which is counted from 1.
+fn node_at(events: &[Event], number: u64) -> Option<Node>
+    ensures { result ≡ node_at events.now number }
+{
+    let place = number.checked_sub(1)?;
+    node_of(events.get(place as usize)?)
+}
+
+// The run of the events, if it is whole.
+#[tactic(auto, unfolding(crate::specs::Says::entries_of))]
+fn whole_run(
+    alloc: Global,
+    setup: &Setup,
+    events: &[Event],
+) -> Result<Option<Transcript>, AllocError>
+    ensures { IfOk result (λ whole. option_map (λ transcript. transcript.entries) whole ≡ entries_of setup.now events.now) }
+{
+    match run_network(alloc, setup, events) {
+        Ok(transcript) => Ok(Some(transcript)),
+        Err(refusal) => {
+            if matches!(refusal.error, RunError::Memory) {
+                return Err(AllocError);
+            }
+            Ok(None)
+        }
+    }
+}
+
+// The lines of a run, if there is one.
+fn lines_if(
+    alloc: Global,
+    events: &[Event],
+    whole: Option<&Transcript>,
+) -> Result<String, AllocError>
+    ensures { IfOk result (λ text. string_bytes text ≡ lines_if events.now (option_map (λ it. it.now.entries) whole.entry)) }
+{
+    match whole {
+        None => Ok(String::new(alloc)),
+        Some(transcript) => lines(alloc, events, transcript.entries.as_slice()),
+    }
+}
+
+// What a run leaves open for a node, if there are both.
+fn open_if(
+    alloc: Global,
+    events: &[Event],
+    whole: Option<&Transcript>,
+    node: Option<Node>,
+) -> Result<String, AllocError>
+    ensures { IfOk result (λ text. TellsOpenIf events.now (option_map (λ it. it.now.entries) whole.entry) node (string_bytes text)) }
+{
+    match whole {
+        None => Ok(String::new(alloc)),
+        Some(transcript) => match node {
+            None => Ok(String::new(alloc)),
+            Some(node) => open_lines(alloc, events, transcript, node),
+        },
+    }
+}
+
+// The same, where this is the run of the events before, if it is whole.
+#[tactic(auto, using(crate::proofs::Saying::tells_refusal))]
+fn refused_behind(
+    alloc: Global,
+    input: &Input,
+    refusal: &Refusal,
+    whole: Option<&Transcript>,
+) -> Result<String, AllocError>
+    requires { option_map (λ it. it.now.entries) whole ≡ entries_of input.now.setup (earlier input.now refusal.now) }
+    ensures { IfOk result (λ text. TellsRefusal input.now refusal.now (string_bytes text)) }
+{
+    let events = events_before(input.events.as_slice(), refusal.event);
+    let node = node_at(input.events.as_slice(), refusal.event);
+    let open = open_if(alloc, events, whole, node)?;
+    let mut text = lines_if(alloc, events, whole)?;
+    text.push_str(refusal_text(alloc, refusal)?.as_str())?;
+    text.push_str(reason_line(alloc, &refusal.error)?.as_str())?;
+    text.push_str(open.as_str())?;
+    Ok(text)
+}
+
+// The lines on the events before, on the refusal, and on what was open then.
+fn refused_text(alloc: Global, input: &Input, refusal: &Refusal) -> Result<String, AllocError>
+    ensures { IfOk result (λ text. TellsRefusal input.now refusal.now (string_bytes text)) }
+{
+    let events = events_before(input.events.as_slice(), refusal.event);
+    let whole = whole_run(alloc, &input.setup, events)?;
+    refused_behind(alloc, input, refusal, whole.as_ref())
+}
+
+// What the trace of a refused run comes to.
+fn refuse(
+    alloc: Global,
+    input: &Input,
+    refusal: Refusal,
+) -> Result<Answer<Told, LabReason>, AllocError>
+    requires { Run input.now.setup input.now.events ≡ Err refusal }
+    ensures { IfOk result (AnswersOn asks.Trace input.now) }
+{
+    let text = refused_text(alloc, input, &refusal)?;
+    Ok(Answer::Refused {
+        reason: LabReason::Refused(refusal),
+        text,
+    })
+}
+
+/// What the trace of an input comes to.
+#[tactic(auto, using(crate::proofs::Traced::made_whole))]
+pub(crate) fn trace(alloc: Global, input: &Input) -> Result<Answer<Told, LabReason>, AllocError>
+    ensures { IfOk result (AnswersOn asks.Trace input.now) }
+{
+    match run_network(alloc, &input.setup, input.events.as_slice()) {
+        Ok(transcript) => tell(alloc, input, transcript),
+        Err(refusal) => {
+            if matches!(refusal.error, RunError::Memory) {
+                return Err(AllocError);
+            }
+            refuse(alloc, input, refusal)
+        }
+    }
+}
