@@ -1,25 +1,27 @@
 #!/usr/bin/env bash
-# Draws the runs of docs/TOUR.md, or those of the inputs that are named, as pictures/NAME.svg: by the program that rt ci or rt run
-# proved and built, and where there is none by rt try, which proves nothing and takes some minutes.
+# Draws the runs of docs/TOUR.md anew, as docs/pictures/NAME.svg, or those of the inputs that are named, as pictures/NAME.svg: by the
+# program that rt ci or rt run proved and built, and where there is none by rt try, which proves nothing and takes some minutes.
 # Usage: pictures.sh [INPUT.json..]
 set -euo pipefail
 here=$(cd "$(dirname "$0")" && pwd)
 program=$here/crates/simplex_draw/out/simplex_draw
 inputs=("$@")
+to=$here/pictures
 if [[ $# -eq 0 ]]; then
+    to=$here/docs/pictures
     for name in happy-path-of-four lost-proposal-is-nullified leader-crashes-behind-its-stored-vote \
         restarted-member-votes-once restart-at-a-floor-of-another equivocator-is-told-on member-behind-fetches \
         twins-do-not-split; do
         inputs+=("$here/examples/$name.json")
     done
 fi
-mkdir -p "$here/pictures"
+mkdir -p "$to"
 
 proved() {
     local input name
     for input in "${inputs[@]}"; do
         name=$(basename "$input" .json)
-        "$program" draw <"$input" >"$here/pictures/$name.svg"
+        "$program" draw <"$input" >"$to/$name.svg"
     done
 }
 
@@ -34,7 +36,7 @@ unproved() {
         echo draw >"$cases/$name.args"
     done
     (cd "$here/crates/simplex_draw" && rt try --cases "$cases") |
-        awk -v to="$here/pictures" '/^== / { file = to "/" $2 ".svg"; printf "" >file; next } file { print >file }'
+        awk -v to="$to" '/^== / { file = to "/" $2 ".svg"; printf "" >file; next } file { print >file }'
     echo "These runs were not proved (rt try). To prove the program first: cd crates/simplex_draw && rt run -- draw < stdin"
 }
 
@@ -43,4 +45,4 @@ if [[ -x $program ]]; then
 else
     unproved
 fi
-echo "Drawn: ${#inputs[@]} runs, in pictures/"
+echo "Drawn: ${#inputs[@]} runs, in ${to#"$here"/}/"

@@ -16,14 +16,15 @@ use Rattle.simplex_front.specs.Answer.{IsAnswer}
 use Rattle.simplex_picture.specs.declared.cut.Cut.{Cut}
 use Rattle.simplex_picture.specs.declared.picture.Picture.{Picture}
 use Rattle.simplex_picture.specs.Pictures.{picture_of}
-use Rattle.simplex_draw.specs.Words.{cut_of}
+use Rattle.simplex_draw.specs.Words.{wish_of}
+use Rattle.simplex_draw.specs.declared.words.Wish.{Wish}
 use Rattle.simplex_draw.specs.Unmade.{line_of}
 use Rattle.simplex_draw.specs.declared.exit.Unmade.{Unmade}
 use Rattle.simplex_draw.specs.declared.exit.Unmade.TheVariants.{Refused, NoNode}
 
 -- what the words ask for
-abbrev pub asked : List (String Global) → Option Cut
-asked words = cut_of (map string_bytes words)
+abbrev pub asked : List (String Global) → Option Wish
+asked words = wish_of (map string_bytes words)
 
 -- a picture, why there is none, or the first place that is not of the form
 pub data Drawn : Type 0 where
@@ -64,14 +65,14 @@ abbrev pub drawn_of : Cut → List ℕ → Drawn
 drawn_of cut bytes = drawn_of_input cut (input_of bytes)
 
 -- the picture is of the part that was asked for. How a picture is written is not said
-abbrev pub IsDrawn : Cut → List ℕ → Picture → List ℕ → Type 0
-IsDrawn cut bytes picture text = drawn_of cut bytes ≡ Made picture
+abbrev pub IsDrawn : Wish → List ℕ → Picture → List ℕ → Type 0
+IsDrawn wish bytes picture text = drawn_of wish.cut bytes ≡ Made picture
 
-abbrev pub IsUnmade : Cut → List ℕ → Unmade → List ℕ → Type 0
-IsUnmade cut bytes reason text = (drawn_of cut bytes ≡ Missing reason) × (text ≡ line_of reason)
+abbrev pub IsUnmade : Wish → List ℕ → Unmade → List ℕ → Type 0
+IsUnmade wish bytes reason text = (drawn_of wish.cut bytes ≡ Missing reason) × (text ≡ line_of reason)
 
-abbrev pub IsMisread : Cut → List ℕ → ℕ → Type 0
-IsMisread cut bytes place = drawn_of cut bytes ≡ Misread place
+abbrev pub IsMisread : Wish → List ℕ → ℕ → Type 0
+IsMisread wish bytes place = drawn_of wish.cut bytes ≡ Misread place
 
 -- the answer tells of this
 abbrev pub IsAnswerFor : Drawn → Answer Picture Unmade → Type 0

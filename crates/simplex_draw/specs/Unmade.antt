@@ -17,4 +17,4 @@ line_of (NoNode node) = pieces (codes "there is no node " ∷ decimal node.membe
 
 -- what is said of words that are not taken
 abbrev pub usage : List ℕ
-usage = codes "usage: draw | draw FROM TO | draw FROM TO NODE.., as draw 1 50 0.0 3.0\n"
+usage = codes "usage: draw [--html] | draw [--html] FROM TO | draw [--html] FROM TO NODE.., as draw 1 50 0.0 3.0\n"

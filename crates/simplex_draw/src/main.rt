@@ -1,7 +1,7 @@
 //! The program: draws a run as SVG: `simplex_draw draw < input.json > picture.svg`.
 //!
 //! It reads what `simplex_net run` reads. The words `draw FROM TO` draw these events alone, and `draw FROM TO NODE..` those
-//! of these nodes, as `1.0`; with neither at most 400 events are drawn.
+//! of these nodes, as `1.0`; with neither at most 400 events are drawn. With `--html` behind `draw` it writes a page with a slider over the events.
 //!
 //! `main` hands the process to [`draw_program`] and decides nothing. Of an exit by a fault or want of memory, for which standard
 //! output stays as it is, it says on standard error which it was, and of an input that is not of the form, what is wrong with it.

@@ -10,6 +10,15 @@ use std::alloc::{AllocError, Global};
 /// How many events are drawn where the words name none.
 pub const EVENTS: u64 = 400;
 
+/// What words ask for: which part of a run, and whether as a page with a slider.
+#[derive(Drop)]
+pub struct Wish {
+    /// The part of the run.
+    pub cut: Cut,
+    /// Whether as an HTML page, and not as an SVG file.
+    pub as_page: bool,
+}
+
 fn number(word: &str) -> Option<u64>
     ensures { result ≡ said.number_of word.now }
 {
@@ -85,16 +94,37 @@ fn cut_in(alloc: Global, words: &[String]) -> Result<Option<Cut>, AllocError>
     }
 }
 
-/// The part of a run that the words ask for, `draw`, `draw FROM TO` or `draw FROM TO NODE..`; none where they ask for
-/// something else.
-pub fn cut_of(alloc: Global, words: &[String]) -> Result<Option<Cut>, AllocError>
-    ensures { IfOk result (λ cut. cut ≡ said.cut_of (map string_bytes words.now)) }
+fn wished(as_page: bool, cut: Option<Cut>) -> Option<Wish>
+    ensures { result ≡ said.wished as_page cut }
+{
+    let cut = cut?;
+    Some(Wish { cut, as_page })
+}
+
+// What the words behind `draw` ask for.
+fn wish_in(alloc: Global, words: &[String]) -> Result<Option<Wish>, AllocError>
+    ensures { IfOk result (λ wish. wish ≡ said.wish_in (map string_bytes words.now)) }
+{
+    let [word, rest @ ..] = words else {
+        return Ok(wished(false, cut_in(alloc, words)?));
+    };
+    if word.as_str() == "--html" {
+        Ok(wished(true, cut_in(alloc, rest)?))
+    } else {
+        Ok(wished(false, cut_in(alloc, words)?))
+    }
+}
+
+/// What the words ask for, `draw`, `draw FROM TO` or `draw FROM TO NODE..`, each with `--html` behind `draw` or without; none where
+/// they ask for something else.
+pub fn wish_of(alloc: Global, words: &[String]) -> Result<Option<Wish>, AllocError>
+    ensures { IfOk result (λ wish. wish ≡ said.wish_of (map string_bytes words.now)) }
 {
     let [word, rest @ ..] = words else {
         return Ok(None);
     };
     if word.as_str() == "draw" {
-        cut_in(alloc, rest)
+        wish_in(alloc, rest)
     } else {
         Ok(None)
     }

@@ -11,18 +11,19 @@ ghost use Rattle.simplex_draw.specs.Drawing.{IsDrawn, IsUnmade, IsMisread, asked
 ghost use Rattle.simplex_draw.specs.Unmade.{usage};
 
 use crate::exit::Unmade;
-use crate::words::cut_of;
+use crate::words::{Wish, wish_of};
 use simplex_form::{Input, read_input};
 use simplex_front::{Answer, Exit, Work, program};
 use simplex_io::{Sink, Source};
 use simplex_network::run_network;
-use simplex_picture::{Cut, Picture, draw, svg};
+use simplex_picture::{Picture, draw, html, svg};
 use simplex_text::refusal_text;
 use simplex_transcript::{MemberKind, Node, Refusal, RunError, Setup};
 use std::alloc::{AllocError, Global};
 
 // What is said of words that are not taken.
-const USAGE: &str = "usage: draw | draw FROM TO | draw FROM TO NODE.., as draw 1 50 0.0 3.0\n";
+const USAGE: &str =
+    "usage: draw [--html] | draw [--html] FROM TO | draw [--html] FROM TO NODE.., as draw 1 50 0.0 3.0\n";
 
 fn has_node(setup: &Setup, node: Node) -> bool
     ensures { result ≡ drawing.has_node setup.now node }
@@ -71,9 +72,10 @@ fn refused(alloc: Global, refusal: Refusal) -> Result<Answer<Picture, Unmade>, A
 }
 
 // Runs the input, and draws the part of it.
-fn run(alloc: Global, cut: &Cut, input: &Input) -> Result<Answer<Picture, Unmade>, AllocError>
-    ensures { IfOk result (IsAnswerFor (drawn_with cut.now input.now (first_absent input.now.setup cut.now.nodes))) }
+fn run(alloc: Global, wish: &Wish, input: &Input) -> Result<Answer<Picture, Unmade>, AllocError>
+    ensures { IfOk result (IsAnswerFor (drawn_with wish.now.cut input.now (first_absent input.now.setup wish.now.cut.nodes))) }
 {
+    let cut = &wish.cut;
     if let Some(node) = first_absent(&input.setup, cut.nodes.as_slice()) {
         return absent(alloc, node);
     }
@@ -82,7 +84,11 @@ fn run(alloc: Global, cut: &Cut, input: &Input) -> Result<Answer<Picture, Unmade
         Ok(transcript) => {
             let entries = transcript.entries.as_slice();
             let done = draw(alloc, cut, &input.setup, events, entries)?;
-            let text = svg(alloc, cut, &done, events, entries)?;
+            let text = if wish.as_page {
+                html(alloc, cut, &done, events, entries)?
+            } else {
+                svg(alloc, cut, &done, events, entries)?
+            };
             Ok(Answer::Done { done, text })
         }
         Err(refusal) => {
@@ -95,19 +101,19 @@ fn run(alloc: Global, cut: &Cut, input: &Input) -> Result<Answer<Picture, Unmade
 }
 
 // What an input leads to.
-fn answer(alloc: Global, cut: &Cut, bytes: &[u8]) -> Result<Answer<Picture, Unmade>, AllocError>
-    ensures { IfOk result (IsAnswerFor (drawn_of cut.now bytes.now)) }
+fn answer(alloc: Global, wish: &Wish, bytes: &[u8]) -> Result<Answer<Picture, Unmade>, AllocError>
+    ensures { IfOk result (IsAnswerFor (drawn_of wish.now.cut bytes.now)) }
 {
     match read_input(alloc, bytes)? {
         Err(place) => Ok(Answer::BadInput { place }),
-        Ok(input) => run(alloc, cut, &input),
+        Ok(input) => run(alloc, wish, &input),
     }
 }
 
 /// Runs the events of an input, and draws them.
 pub struct DrawWork;
 
-impl Work<Cut, Picture, Unmade> for DrawWork {
+impl Work<Wish, Picture, Unmade> for DrawWork {
     ghost asked = { λ work. asked };
 
     ghost usage_line = { λ work. usage };
@@ -118,8 +124,8 @@ impl Work<Cut, Picture, Unmade> for DrawWork {
 
     ghost misreads = { λ work. IsMisread };
 
-    fn ask(&self, alloc: Global, words: &[String]) -> Result<Option<Cut>, AllocError> {
-        cut_of(alloc, words)
+    fn ask(&self, alloc: Global, words: &[String]) -> Result<Option<Wish>, AllocError> {
+        wish_of(alloc, words)
     }
 
     fn usage(&self) -> &str {
@@ -129,7 +135,7 @@ impl Work<Cut, Picture, Unmade> for DrawWork {
     fn work(
         &self,
         alloc: Global,
-        ask: Cut,
+        ask: Wish,
         bytes: Vec<u8>,
     ) -> Result<Answer<Picture, Unmade>, AllocError> {
         answer(alloc, &ask, &bytes)

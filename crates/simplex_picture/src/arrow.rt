@@ -13,7 +13,7 @@ use simplex_transcript::{Entry, Node, Packet, Ref};
 use simplex_types::Sequence;
 use std::alloc::{AllocError, Global};
 
-/// Where an arrow ends.
+/// Where an arrow ends. [ends-of-arrows]
 #[derive(Clone, Copy, Debug, PartialEq, Eq)]
 pub enum Fate {
     /// At the event that took it.

@@ -1,17 +1,20 @@
 //! A picture as SVG.
 use crate::arrow::{Arrow, Fate};
 use crate::cut::Cut;
+use crate::details::details_of;
+use crate::heading::{counts_of, heading_of};
 use crate::lane::Lane;
-use crate::legend::{HEIGHT, SHAPES, push_legend};
+use crate::legend::{SHAPES, legend_height, push_legend};
+use crate::letters::{Letters, payload_of_packet};
 use crate::mark::{Deed, Mark};
 use crate::message::Message;
 use crate::picture::Picture;
 use crate::sheet::{Row, SIGN, Sheet};
 use crate::sign::Sign;
 use crate::tell::{arrow_told, event_told, kind_word};
-use crate::text::push_title;
-use simplex_messages::Outcome;
-use simplex_transcript::{Entry, Event, MemberKind, Packet, Ref};
+use crate::text::{escaped, push_title};
+use crate::used::{Used, shape_of, shape_of_sign};
+use simplex_transcript::{Entry, Event, MemberKind, Packet, Ref, StepSource};
 use simplex_types::{CertificateKind, View};
 use std::alloc::{AllocError, Global};
 
@@ -48,58 +51,31 @@ fn packet_at(entries: &[Entry], at: Ref) -> Option<&Packet> {
     entry.packets.as_slice().get(at.place as usize)
 }
 
-// How many events there are, and which of them are drawn.
-fn push_counts(
-    out: &mut String,
-    cut: &Cut,
-    picture: &Picture,
-    all: usize,
-) -> Result<(), AllocError> {
-    let drawn = picture.marks.len();
-    let lanes = picture.lanes.len();
-    write!(
-        out,
-        "<text class=\"h\" x=\"20\" y=\"24\">Events drawn: {drawn} of {all}. Nodes: {lanes}.</text>\n"
-    )?;
-    let rest = all.saturating_sub(drawn);
-    let first = cut.first;
-    let last = cut.last;
-    let whose = if cut.nodes.is_empty() {
-        ""
-    } else {
-        " of these nodes"
-    };
-    if rest > 0 {
-        write!(
-            out,
-            "<text x=\"20\" y=\"59\">Not drawn: {rest} events. Asked for were those from {first} to {last}{whose}.</text>\n"
-        )?;
-    }
-    Ok(())
-}
-
-// What stands above all.
+// What stands above all: a title, who took part and what became final, and how to read it.
 fn push_head(
+    alloc: Global,
     out: &mut String,
-    cut: &Cut,
     sheet: &Sheet,
-    picture: &Picture,
-    events: &[Event],
+    height: u64,
+    heading: &str,
+    counts: &str,
 ) -> Result<(), AllocError> {
     let width = sheet.width();
-    let height = sheet.foot.saturating_add(HEIGHT);
     write!(
         out,
-        "<svg xmlns=\"http://www.w3.org/2000/svg\" width=\"{width}\" height=\"{height}\" viewBox=\"0 0 {width} {height}\">\n"
+        "<svg xmlns=\"http://www.w3.org/2000/svg\" width=\"{width}\" height=\"{height}\" viewBox=\"0 0 {width} {height}\">
+"
     )?;
+    push_title(out, heading)?;
     out.push_str(SHAPES)?;
+    let heading = escaped(alloc, heading)?;
+    let heading = heading.as_str();
     write!(
         out,
-        "<rect width=\"{width}\" height=\"{height}\" fill=\"#fff\"/>\n"
-    )?;
-    push_counts(out, cut, picture, events.len())?;
-    out.push_str(
-        "<text class=\"s\" x=\"20\" y=\"42\">Each event has a mark on the lane of its node. An arrow is a packet, from the event that sent it to the one that took it. Where the pointer rests, more is told.</text>\n",
+        "<rect width=\"{width}\" height=\"{height}\" fill=\"#fff\"/>
+<text class=\"h\" x=\"20\" y=\"24\">{heading}</text>
+<text class=\"s\" x=\"20\" y=\"42\">{counts} Each has a mark on the lane of its node. An arrow is a packet, from the event that sent it to the one that took it. Where the pointer rests, more is told.</text>
+"
     )
 }
 
@@ -275,7 +251,7 @@ fn spans_of(
     Ok(spans)
 }
 
-// The class of an arrow, and its head.
+// The class of an arrow that was taken, and its head.
 fn style_of(message: Message) -> (&'static str, &'static str) {
     match message {
         Message::Vote(CertificateKind::Notarization, _) => ("n", "mn"),
@@ -365,7 +341,7 @@ fn way_of(sheet: &Sheet, arrow: &Arrow, head: &'static str) -> Option<Way> {
             return Some(taken_way(sheet, arrow, (sheet.x_of(event), to_y), head));
         }
         Fate::Outside => "mo",
-        Fate::Lost => "ml",
+        Fate::Lost => "",
     };
     let (y, row) = sheet.row_of(arrow.from)?;
     let from = (sheet.x_of(arrow.packet.event), y);
@@ -377,7 +353,7 @@ fn way_of(sheet: &Sheet, arrow: &Arrow, head: &'static str) -> Option<Way> {
     })
 }
 
-// The beginning of an arrow's element.
+// The beginning of an arrow's element. A copy that nobody took has no head, and is grey.
 fn push_way(out: &mut String, class: &str, way: Way) -> Result<(), AllocError> {
     let (from_x, from_y) = way.from;
     let (to_x, to_y) = way.to;
@@ -387,6 +363,10 @@ fn push_way(out: &mut String, class: &str, way: Way) -> Result<(), AllocError> {
             out,
             "<path class=\"a {class}\" d=\"M{from_x} {from_y}Q{x} {y} {to_x} {to_y}\" marker-end=\"url(#{head})\">"
         ),
+        None if head.is_empty() => write!(
+            out,
+            "<path class=\"a l i\" d=\"M{from_x} {from_y}L{to_x} {to_y}\">"
+        ),
         None => write!(
             out,
             "<path class=\"a l {class}\" d=\"M{from_x} {from_y}L{to_x} {to_y}\" marker-end=\"url(#{head})\">"
@@ -394,10 +374,43 @@ fn push_way(out: &mut String, class: &str, way: Way) -> Result<(), AllocError> {
     }
 }
 
+// Two thirds of the way from one length to another.
+fn two_thirds(from: u64, to: u64) -> u64 {
+    let part = from.abs_diff(to) / 3;
+    if from < to {
+        to.saturating_sub(part)
+    } else {
+        to.saturating_add(part)
+    }
+}
+
+// The letter of the payload beside an arrow that was taken.
+fn push_letter(
+    alloc: Global,
+    out: &mut String,
+    letters: &Letters,
+    way: Way,
+    packet: &Packet,
+) -> Result<(), AllocError> {
+    let Some((bend_x, bend_y)) = way.bend else {
+        return Ok(());
+    };
+    let Some(payload) = payload_of_packet(alloc, packet)? else {
+        return Ok(());
+    };
+    let (to_x, to_y) = way.to;
+    let x = two_thirds(bend_x, to_x);
+    let y = two_thirds(bend_y, to_y).saturating_add(3);
+    write!(out, "<text class=\"j\" x=\"{x}\" y=\"{y}\">")?;
+    letters.push(out, &payload)?;
+    out.push_str("</text>\n")
+}
+
 fn push_arrow(
     alloc: Global,
     out: &mut String,
     sheet: &Sheet,
+    letters: &Letters,
     arrow: &Arrow,
     entries: &[Entry],
 ) -> Result<(), AllocError> {
@@ -406,41 +419,15 @@ fn push_arrow(
         return Ok(());
     };
     push_way(out, class, way)?;
-    if let Some(packet) = packet_at(entries, arrow.packet) {
+    let packet = packet_at(entries, arrow.packet);
+    if let Some(packet) = packet {
         let title = arrow_told(alloc, arrow, packet)?;
         push_title(out, title.as_str())?;
     }
-    out.push_str("</path>\n")
-}
-
-fn shape_of(mark: &Mark) -> &'static str {
-    if mark.outcome == Outcome::Idle {
-        return "idle";
-    }
-    match mark.deed {
-        Deed::Start => "start",
-        Deed::Deliver => "take",
-        Deed::Step(_) => "step",
-        Deed::Answer => "answer",
-        Deed::Crash => "stop",
-        Deed::Inject => "inject",
-        Deed::Tick(_) => "tick",
-    }
-}
-
-fn shape_of_sign(sign: &Sign) -> &'static str {
-    match sign {
-        Sign::Vote(CertificateKind::Notarization, _) => "vn",
-        Sign::Vote(CertificateKind::Nullification, _) => "vx",
-        Sign::Vote(CertificateKind::Finalization, _) => "vf",
-        Sign::Certificate(CertificateKind::Notarization, _) => "cn",
-        Sign::Certificate(CertificateKind::Nullification, _) => "cx",
-        Sign::Certificate(CertificateKind::Finalization, _) => "cf",
-        Sign::Verdict(_, true) => "yes",
-        Sign::Verdict(_, false) => "no",
-        Sign::Final(_) => "final",
-        Sign::Evidence(_, _) => "blame",
-        Sign::Block(_) => "block",
+    out.push_str("</path>\n")?;
+    match packet {
+        Some(packet) => push_letter(alloc, out, letters, way, packet),
+        None => Ok(()),
     }
 }
 
@@ -455,18 +442,46 @@ fn push_view(out: &mut String, view: View, y: u64) -> Result<(), AllocError> {
     write!(out, "<text class=\"w\" y=\"-{y}\"{squeeze}>{number}</text>")
 }
 
-// The signs above a mark, the first one lowest.
-fn push_signs(out: &mut String, signs: &[Sign]) -> Result<(), AllocError> {
-    let mut y = SIGN + 2;
-    for sign in signs {
+// What stands beside a sign.
+fn push_detail(out: &mut String, detail: &str, y: u64) -> Result<(), AllocError> {
+    if detail.is_empty() {
+        return Ok(());
+    }
+    write!(out, "<text class=\"d\" x=\"9\" y=\"-{y}\">{detail}</text>")
+}
+
+// The signs above a mark, the first one lowest, each with what stands beside it.
+fn push_signs(out: &mut String, signs: &[Sign], details: &[String]) -> Result<(), AllocError> {
+    let mut y = SIGN + 4;
+    for (place, sign) in signs.iter().enumerate() {
         let shape = shape_of_sign(sign);
         write!(out, "<use href=\"#{shape}\" y=\"-{y}\"/>")?;
+        let base = y.saturating_sub(3);
         if let Sign::Final(view) = sign {
-            push_view(out, *view, y.saturating_sub(3))?;
+            push_view(out, *view, base)?;
+        }
+        if let Some(detail) = details.get(place) {
+            push_detail(out, detail.as_str(), base)?;
         }
         y = y.saturating_add(SIGN);
     }
     Ok(())
+}
+
+// The letter of the actor that makes the step.
+fn actor_of(deed: Deed) -> Option<&'static str> {
+    match deed {
+        Deed::Step(source) => match source {
+            StepSource::Batcher => Some("b"),
+            StepSource::Voter
+            | StepSource::Timer
+            | StepSource::Propose
+            | StepSource::Verify
+            | StepSource::Certify => Some("v"),
+            StepSource::Resolver | StepSource::Handler | StepSource::Fetch => Some("r"),
+        },
+        _ => None,
+    }
 }
 
 // A tick: a line over all lanes.
@@ -492,7 +507,7 @@ fn push_tick(
     let text = text.as_str();
     write!(
         out,
-        "<g><title>event {number}: the clock goes on by {ms} ms</title><path class=\"t\" d=\"M{x} {line}V{foot}\"/><text class=\"s\" transform=\"translate({base},{top})rotate(-90)\"{squeeze}>{text}</text></g>\n"
+        "<g id=\"e{number}\"><title>event {number}: the clock goes on by {ms} ms</title><path class=\"t\" d=\"M{x} {line}V{foot}\"/><text class=\"s\" transform=\"translate({base},{top})rotate(-90)\"{squeeze}>{text}</text></g>\n"
     )
 }
 
@@ -516,6 +531,7 @@ fn push_mark(
     alloc: Global,
     out: &mut String,
     sheet: &Sheet,
+    letters: &Letters,
     mark: &Mark,
     events: &[Event],
     entries: &[Entry],
@@ -527,21 +543,61 @@ fn push_mark(
         return Ok(());
     };
     let x = sheet.x_of(mark.event);
-    write!(out, "<g transform=\"translate({x},{y})\">")?;
+    let number = mark.event;
+    write!(out, "<g id=\"e{number}\" transform=\"translate({x},{y})\">")?;
+    let mut details = Vec::new(alloc);
     if let Some((event, entry)) = entry_at(events, entries, mark.event) {
         let title = event_told(alloc, event, entry)?;
         push_title(out, title.as_str())?;
+        details = details_of(alloc, letters, entry.calls.as_slice())?;
     }
     let shape = shape_of(mark);
     write!(out, "<use href=\"#{shape}\"/>")?;
+    if let Some(actor) = actor_of(mark.deed) {
+        write!(out, "<text class=\"k\" y=\"3\">{actor}</text>")?;
+    }
     if mark.deed != Deed::Crash && mark.deed.stops(mark.outcome) {
         out.push_str("<use href=\"#stop\"/>")?;
     }
-    push_signs(out, mark.signs.as_slice())?;
+    push_signs(out, mark.signs.as_slice(), details.as_slice())?;
     out.push_str("</g>\n")
 }
 
+// The lanes, their bands, the packets between them, and the marks upon them.
+fn push_body(
+    alloc: Global,
+    out: &mut String,
+    sheet: &Sheet,
+    letters: &Letters,
+    picture: &Picture,
+    events: &[Event],
+    entries: &[Entry],
+) -> Result<(), AllocError> {
+    let marks = picture.marks.as_slice();
+    push_numbers(out, sheet)?;
+    push_ticks(alloc, out, sheet, marks)?;
+    let lanes = picture.lanes.as_slice();
+    for (lane, row) in lanes.iter().zip(sheet.rows.as_slice()) {
+        push_lane(out, sheet, *row, lane)?;
+    }
+    let spans = spans_of(alloc, sheet, lanes, marks)?;
+    for span in &spans {
+        push_span(out, *span)?;
+    }
+    for arrow in picture.arrows.as_slice() {
+        push_arrow(alloc, out, sheet, letters, arrow, entries)?;
+    }
+    for span in &spans {
+        push_view_name(alloc, out, *span)?;
+    }
+    for mark in marks {
+        push_mark(alloc, out, sheet, letters, mark, events, entries)?;
+    }
+    Ok(())
+}
+
 /// The picture as an SVG file. `events` and `entries` are those of the run, from which the titles are told.
+/// [svg-is-no-promise]
 pub fn svg(
     alloc: Global,
     cut: &Cut,
@@ -550,29 +606,22 @@ pub fn svg(
     entries: &[Entry],
 ) -> Result<String, AllocError> {
     let sheet = Sheet::new(alloc, picture)?;
-    let marks = picture.marks.as_slice();
+    let letters = Letters::new(alloc, entries)?;
+    let used = Used::new(alloc, picture)?;
     let mut out = String::new(alloc);
-    push_head(&mut out, cut, &sheet, picture, events)?;
-    push_numbers(&mut out, &sheet)?;
-    push_ticks(alloc, &mut out, &sheet, marks)?;
-    let lanes = picture.lanes.as_slice();
-    for (lane, row) in lanes.iter().zip(sheet.rows.as_slice()) {
-        push_lane(&mut out, &sheet, *row, lane)?;
-    }
-    let spans = spans_of(alloc, &sheet, lanes, marks)?;
-    for span in &spans {
-        push_span(&mut out, *span)?;
-    }
-    for arrow in picture.arrows.as_slice() {
-        push_arrow(alloc, &mut out, &sheet, arrow, entries)?;
-    }
-    for span in &spans {
-        push_view_name(alloc, &mut out, *span)?;
-    }
-    for mark in marks {
-        push_mark(alloc, &mut out, &sheet, mark, events, entries)?;
-    }
-    push_legend(&mut out, sheet.foot)?;
+    let heading = heading_of(alloc, picture, &letters, entries)?;
+    let counts = counts_of(alloc, cut, picture, events.len())?;
+    let height = sheet.foot.saturating_add(legend_height(&used));
+    push_head(
+        alloc,
+        &mut out,
+        &sheet,
+        height,
+        heading.as_str(),
+        counts.as_str(),
+    )?;
+    push_body(alloc, &mut out, &sheet, &letters, picture, events, entries)?;
+    push_legend(alloc, &mut out, sheet.foot, &used, &letters)?;
     out.push_str("</svg>\n")?;
     Ok(out)
 }

@@ -1,5 +1,8 @@
 //! The shapes of a picture, and what they mean.
-use std::alloc::AllocError;
+use crate::letters::Letters;
+use crate::tell::payload_in_short;
+use crate::used::Used;
+use std::alloc::{AllocError, Global};
 
 /// Colours, lines, and the shapes that are drawn again and again. The colours are those of Okabe and Ito, which readers
 /// who do not see all colours tell apart; each kind has a dash or a letter too.
@@ -9,6 +12,8 @@ text{font:11px sans-serif;fill:#000}
 .m{font:bold 11px sans-serif}
 .v{font-size:10px;fill:#333;paint-order:stroke;stroke:#fff;stroke-width:2.5px}
 .w{font:bold 9px sans-serif;fill:#fff;text-anchor:middle}.k{font:bold 9px sans-serif;text-anchor:middle}
+.d{font:bold 8px sans-serif;fill:#333}.j{font:bold 10px sans-serif;text-anchor:middle;paint-order:stroke;stroke:#fff;stroke-width:3px}
+.i{stroke:#999}
 .r{stroke:#000;stroke-width:1.2}.o{stroke:#888;stroke-width:1.2;stroke-dasharray:1 4}
 .t{stroke:#888;stroke-dasharray:4 3}.g{stroke:#eee}
 .b0{fill:#d6eaf6;stroke:#8ab}.b1{fill:#fff;stroke:#8ab}
@@ -22,12 +27,11 @@ text{font:11px sans-serif;fill:#000}
 <marker id="mf" viewBox="0 0 10 10" refX="15" refY="5" markerWidth="8" markerHeight="8" orient="auto" markerUnits="userSpaceOnUse"><path d="M0 0L10 5L0 10z" fill="#009e73"/></marker>
 <marker id="mq" viewBox="0 0 10 10" refX="15" refY="5" markerWidth="8" markerHeight="8" orient="auto" markerUnits="userSpaceOnUse"><path d="M0 0L10 5L0 10" fill="none" stroke="#cc79a7" stroke-width="1.5"/></marker>
 <marker id="mu" viewBox="0 0 10 10" refX="15" refY="5" markerWidth="8" markerHeight="8" orient="auto" markerUnits="userSpaceOnUse"><path d="M0 0L10 5L0 10" fill="none" stroke="#000" stroke-width="1.5"/></marker>
-<marker id="ml" viewBox="0 0 10 10" refX="5" refY="5" markerWidth="7" markerHeight="7" markerUnits="userSpaceOnUse"><path d="M1 1L9 9M9 1L1 9" stroke="#000" stroke-width="1.6"/></marker>
 <marker id="mo" viewBox="0 0 10 10" refX="5" refY="5" markerWidth="7" markerHeight="7" markerUnits="userSpaceOnUse"><circle cx="5" cy="5" r="4" fill="#fff" stroke="#000" stroke-width="1.4"/></marker>
 <path id="start" d="M-5-6L7 0L-5 6z"/>
 <circle id="take" r="4"/>
-<rect id="step" x="-4.5" y="-4.5" width="9" height="9" fill="#fff" stroke="#000" stroke-width="1.4"/>
-<rect id="idle" x="-4" y="-4" width="8" height="8" fill="#fff" stroke="#888" stroke-dasharray="2 1.5"/>
+<rect id="step" x="-6" y="-6" width="12" height="12" fill="#fff" stroke="#000" stroke-width="1.4"/>
+<rect id="idle" x="-6" y="-6" width="12" height="12" fill="#fff" stroke="#888" stroke-dasharray="2 1.5"/>
 <path id="answer" d="M0-6L6 0L0 6L-6 0z" fill="#fff" stroke="#000" stroke-width="1.4"/>
 <path id="stop" d="M-6-6L6 6M6-6L-6 6" stroke="#000" stroke-width="3" fill="none"/>
 <path id="inject" d="M-3-6H3L6 0L3 6H-3L-6 0z" fill="#f0e442" stroke="#000" stroke-width="1.4"/>
@@ -55,9 +59,10 @@ struct Item {
     text: &'static str,
 }
 
-// A line, how it ends, and what it says.
+// A line, its name, how it ends, and what it says.
 #[derive(Clone, Copy)]
 struct Line {
+    name: &'static str,
     class: &'static str,
     end: &'static str,
     text: &'static str,
@@ -75,7 +80,7 @@ const HAPPENS: [Item; 8] = [
     },
     Item {
         shape: "step",
-        text: "makes a step",
+        text: "b batcher, v voter, r resolver",
     },
     Item {
         shape: "idle",
@@ -162,46 +167,55 @@ const TELLS: [Item; 5] = [
 // Packets.
 const LINES: [Line; 9] = [
     Line {
+        name: "n",
         class: "n",
         end: "mn",
         text: "notarize; thick: notarization",
     },
     Line {
+        name: "x",
         class: "x",
         end: "mx",
         text: "nullify; thick: nullification",
     },
     Line {
+        name: "f",
         class: "f",
         end: "mf",
         text: "finalize; thick: finalization",
     },
     Line {
+        name: "q",
         class: "q",
         end: "mq",
         text: "asks for a certificate",
     },
     Line {
+        name: "p",
         class: "p",
         end: "mq",
         text: "answers with a certificate",
     },
     Line {
+        name: "z",
         class: "z",
         end: "mq",
         text: "answers that it has none",
     },
     Line {
+        name: "u",
         class: "u",
         end: "mu",
         text: "bytes that are no message",
     },
     Line {
-        class: "n l",
-        end: "ml",
-        text: "never taken",
+        name: "lost",
+        class: "l i",
+        end: "",
+        text: "a copy that nobody took",
     },
     Line {
+        name: "outside",
         class: "n l",
         end: "mo",
         text: "taken outside of this picture",
@@ -210,9 +224,38 @@ const LINES: [Line; 9] = [
 
 // How far the texts of a column stand from each other.
 const DOWN: u64 = 20;
+// How many payloads are listed.
+const PAYLOADS: usize = 9;
 
-/// The height of the legend: a heading, and nine lines.
-pub(crate) const HEIGHT: u64 = 30 + 10 * DOWN;
+// How many of the items the picture has.
+fn items_used(used: &Used, items: &[Item]) -> u64 {
+    let mut count = 0u64;
+    for item in items {
+        if used.has(item.shape) {
+            count = count.saturating_add(1);
+        }
+    }
+    count
+}
+
+fn lines_used(used: &Used) -> u64 {
+    let mut count = 0u64;
+    for line in &LINES {
+        if used.has(line.name) {
+            count = count.saturating_add(1);
+        }
+    }
+    count
+}
+
+/// The height of the legend: a heading, what the longest column tells, and the payloads.
+pub(crate) fn legend_height(used: &Used) -> u64 {
+    let happens = items_used(used, HAPPENS.as_slice());
+    let stores = items_used(used, STORES.as_slice());
+    let tells = items_used(used, TELLS.as_slice());
+    let most = happens.max(stores).max(tells).max(lines_used(used));
+    most.saturating_mul(DOWN).saturating_add(30 + 3 * DOWN)
+}
 
 // Adds the beginning of the group at this place of a column, from 0.
 fn push_place(out: &mut String, top: u64, column: u64, place: u64) -> Result<(), AllocError> {
@@ -240,42 +283,101 @@ fn push_items(
     column: u64,
     heading: &str,
     items: &[Item],
+    used: &Used,
 ) -> Result<(), AllocError> {
+    if items_used(used, items) == 0 {
+        return Ok(());
+    }
     push_heading(out, top, column, heading)?;
-    for (place, item) in items.iter().enumerate() {
-        push_place(out, top, column, (place as u64).saturating_add(1))?;
+    let mut place = 0u64;
+    for item in items {
         let shape = item.shape;
-        write!(out, "<use href=\"#{shape}\" x=\"17\"/>")?;
-        push_words(out, item.text)?;
+        if used.has(shape) {
+            place = place.saturating_add(1);
+            push_place(out, top, column, place)?;
+            write!(out, "<use href=\"#{shape}\" x=\"17\"/>")?;
+            push_words(out, item.text)?;
+        }
     }
     Ok(())
 }
 
-fn push_lines(out: &mut String, top: u64, column: u64, heading: &str) -> Result<(), AllocError> {
+fn push_line(out: &mut String, line: &Line) -> Result<(), AllocError> {
+    let class = line.class;
+    let end = line.end;
+    write!(out, "<path class=\"a {class}\" d=\"M0 0H34\"")?;
+    if !end.is_empty() {
+        write!(out, " marker-end=\"url(#{end})\"")?;
+    }
+    out.push_str("/>")?;
+    push_words(out, line.text)
+}
+
+fn push_lines(
+    out: &mut String,
+    top: u64,
+    column: u64,
+    heading: &str,
+    used: &Used,
+) -> Result<(), AllocError> {
+    if lines_used(used) == 0 {
+        return Ok(());
+    }
     push_heading(out, top, column, heading)?;
-    for (place, line) in LINES.iter().enumerate() {
-        push_place(out, top, column, (place as u64).saturating_add(1))?;
-        let class = line.class;
-        let end = line.end;
-        write!(
-            out,
-            "<path class=\"a {class}\" d=\"M0 0H34\" marker-end=\"url(#{end})\"/>"
-        )?;
-        push_words(out, line.text)?;
+    let mut place = 0u64;
+    for line in &LINES {
+        if used.has(line.name) {
+            place = place.saturating_add(1);
+            push_place(out, top, column, place)?;
+            push_line(out, line)?;
+        }
     }
     Ok(())
 }
 
-/// Adds the legend below this height.
-pub(crate) fn push_legend(out: &mut String, top: u64) -> Result<(), AllocError> {
-    push_items(out, top, 0, "What happens", HAPPENS.as_slice())?;
-    push_items(out, top, 1, "What the node stores", STORES.as_slice())?;
+// The payloads by their letters, at this height.
+fn push_payloads(
+    alloc: Global,
+    out: &mut String,
+    y: u64,
+    letters: &Letters,
+) -> Result<(), AllocError> {
+    if letters.payloads().is_empty() {
+        return Ok(());
+    }
+    write!(
+        out,
+        "<text x=\"20\" y=\"{y}\"><tspan class=\"m\">Payloads</tspan>"
+    )?;
+    for payload in letters.payloads().iter().take(PAYLOADS) {
+        out.push_str("  ")?;
+        letters.push(out, payload)?;
+        let digits = payload_in_short(alloc, payload)?;
+        let digits = digits.as_str();
+        write!(out, " {digits}")?;
+    }
+    out.push_str("</text>\n")
+}
+
+/// Adds the legend below this height: what the picture has, and its payloads.
+pub(crate) fn push_legend(
+    alloc: Global,
+    out: &mut String,
+    top: u64,
+    used: &Used,
+    letters: &Letters,
+) -> Result<(), AllocError> {
+    push_items(out, top, 0, "What happens", HAPPENS.as_slice(), used)?;
+    push_items(out, top, 1, "What the node stores", STORES.as_slice(), used)?;
     push_items(
         out,
         top,
         2,
         "What it tells, and how it stands",
         TELLS.as_slice(),
+        used,
     )?;
-    push_lines(out, top, 3, "Packets")
+    push_lines(out, top, 3, "Packets", used)?;
+    let y = top.saturating_add(legend_height(used)).saturating_sub(DOWN);
+    push_payloads(alloc, out, y, letters)
 }

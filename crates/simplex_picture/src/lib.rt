@@ -7,17 +7,22 @@
 
 mod arrow;
 mod cut;
+mod details;
 mod drawing;
+mod heading;
 mod lane;
 mod legend;
+mod letters;
 mod mark;
 mod message;
+mod page;
 mod picture;
 mod sheet;
 mod sign;
 mod taking;
 mod tell;
 mod text;
+mod used;
 
 pub use arrow::{Arrow, Fate};
 pub use cut::Cut;
@@ -25,6 +30,7 @@ pub use drawing::svg;
 pub use lane::Lane;
 pub use mark::{Deed, Mark};
 pub use message::Message;
+pub use page::html;
 pub use picture::{Picture, draw};
 pub use sign::Sign;
 pub use text::escaped;

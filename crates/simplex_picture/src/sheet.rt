@@ -5,11 +5,11 @@ use simplex_transcript::Node;
 use std::alloc::{AllocError, Global};
 
 /// How far the events stand from each other.
-const STEP: u64 = 26;
+pub(crate) const STEP: u64 = 34;
 /// How far a sign stands above the one below it.
 pub(crate) const SIGN: u64 = 16;
 /// Where the first event stands.
-const LEFT: u64 = 150;
+pub(crate) const LEFT: u64 = 150;
 /// What is left free on the right, for the names of the lanes.
 const RIGHT: u64 = 90;
 /// The least width, in which the legend has room.
@@ -19,9 +19,9 @@ const HEAD: u64 = 84;
 /// What ticks need above the lanes, for how long they are.
 const TICKS: u64 = 64;
 /// What a lane needs below its line, for the band.
-const BELOW: u64 = 34;
+const BELOW: u64 = 36;
 /// What a lane needs above its line, with no sign.
-const ABOVE: u64 = 30;
+const ABOVE: u64 = 32;
 
 /// A lane on the sheet.
 #[derive(Clone, Copy)]

@@ -55,7 +55,7 @@ fn sign_of_report(activity: &Activity) -> Option<Sign>
 }
 
 // What a call shows, if anything.
-fn sign_of(call: &Call) -> Option<Sign>
+pub(crate) fn sign_of(call: &Call) -> Option<Sign>
     ensures { result ≡ shown.sign_of call.now }
 {
     match call {

@@ -12,7 +12,7 @@ use simplex_types::{
 use std::alloc::{AllocError, Global};
 
 // The first digits of a payload.
-fn payload_in_short(alloc: Global, payload: &Digest) -> Result<String, AllocError> {
+pub(crate) fn payload_in_short(alloc: Global, payload: &Digest) -> Result<String, AllocError> {
     let digits = hex::encode(alloc, &payload.0[..4])?;
     format!(in alloc; "{digits}..")
 }

@@ -2,7 +2,7 @@
 use simplex_messages::{Outcome, Stop};
 use simplex_picture::{Arrow, Cut, Fate, Message, Picture, draw, escaped, svg};
 use simplex_transcript::{Entry, Event, MemberKind, Node, Packet, Ref, Setup, StepSource, Took};
-use simplex_types::{Channel, ForwardPolicy, Sequence, SkipPolicy};
+use simplex_types::{Channel, Sequence};
 use std::alloc::{AllocError, Global};
 use std::fmt::Debug;
 use std::process::Abort;
@@ -19,26 +19,7 @@ const TAKER: Node = Node { member: 1, half: 0 };
 
 fn setup(alloc: Global) -> Result<Setup, AllocError> {
     let members = vec![in alloc; MemberKind::Honest, MemberKind::Honest]?;
-    Ok(Setup {
-        epoch: 0,
-        key_base: 1,
-        members: Sequence::from_vec(members),
-        term: 1,
-        lookahead: 0,
-        leader_timeout: 1000,
-        certification_timeout: 2000,
-        retry: 500,
-        stall: None,
-        retention: 10,
-        skip: SkipPolicy::Disabled,
-        forward: ForwardPolicy::Disabled,
-        mailbox: 16,
-        track: false,
-        handoff: false,
-        fetch_timeout: 1000,
-        fetch_retry: 100,
-        scenario: Sequence::new(alloc),
-    })
+    Ok(Setup::usual(alloc, members))
 }
 
 /// A packet to the taker that is no message.
