@@ -1,2 +1,7 @@
 mod Running
 mod Lawful
+mod Signed
+mod Lived
+mod StoredFirst
+mod Leaving
+mod Engines

@@ -9,7 +9,10 @@ mod laws;
 mod run;
 mod start;
 
-pub use laws::{turns_send_what_is_synced, turns_vote_by_rule};
+pub use laws::{
+    stopped_voters_leave_a_life, turns_send_what_is_synced, turns_store_first, turns_vote_by_rule,
+    unbroken_engines_have_lived, unstopped_voters_have_lived,
+};
 pub use run::{Feed, ThreadRun};
 pub use simplex_mailbox::{Gate, OpenGate};
 pub use simplex_turns::{Delivery, FeedItem, Logs};
