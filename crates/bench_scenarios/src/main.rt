@@ -14,7 +14,7 @@ use crate::schedule::Schedule;
 use simplex_network::Network;
 use simplex_transcript::{MemberKind, Setup, SetupRound};
 use simplex_twins::Scenario;
-use simplex_types::{ForwardPolicy, Sequence, SkipPolicy};
+use simplex_types::Sequence;
 use std::alloc::{AllocError, Global};
 use std::io::ErrorKind;
 use std::{env, io};
@@ -58,25 +58,11 @@ fn script(alloc: Global, scenario: &Scenario) -> Result<Sequence<SetupRound>, Al
 }
 
 fn setup(alloc: Global, scenario: &Scenario) -> Result<Setup, AllocError> {
+    let members = members(alloc)?.into_vec();
+    let scenario = script(alloc, scenario)?;
     Ok(Setup {
-        epoch: 0,
-        key_base: 1,
-        members: members(alloc)?,
-        term: 1,
-        lookahead: 0,
-        leader_timeout: 1000,
-        certification_timeout: 2000,
-        retry: 500,
-        stall: None,
-        retention: 10,
-        skip: SkipPolicy::Disabled,
-        forward: ForwardPolicy::Disabled,
-        mailbox: 16,
-        track: false,
-        handoff: false,
-        fetch_timeout: 1000,
-        fetch_retry: 100,
-        scenario: script(alloc, scenario)?,
+        scenario,
+        ..Setup::usual(alloc, members)
     })
 }
 

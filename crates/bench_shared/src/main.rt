@@ -5,15 +5,13 @@
 
 ghost use Rattle.std.specs.Prelude.{◌≡◌};
 
-mod letter;
-
-use crate::letter::Letter;
 use anyhow::{Context, Result};
 use simplex_shared::{Pass, RecordedMailbox};
 use std::alloc::Global;
 use std::sync::Wait;
 use std::thread::Threads;
 use std::{env, thread};
+use test_values::Letter;
 
 /// How many letters are ready.
 const CAPACITY: u32 = 16;
@@ -30,6 +28,7 @@ fn work<R: Wait>(
 {
     let writer = pass.number();
     for number in 0..times {
+        let number = u64::from(number);
         let _told = mailbox.enqueue(rt, &mut pass, Letter { writer, number });
         let _got = mailbox.recv(rt, &mut pass);
     }

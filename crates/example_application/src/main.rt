@@ -12,7 +12,7 @@ use crate::application::Application;
 use crate::world::World;
 use anyhow::{Result, bail};
 use simplex::actors::Call;
-use simplex::types::{Activity, Digest, ForwardPolicy, Sequence, SkipPolicy, View};
+use simplex::types::{Activity, Digest, View};
 use simplex::{Entry, Event, MemberKind, Refusal, RunError, Setup, Transcript, run_network};
 use std::alloc::{AllocError, Global};
 use std::io;
@@ -32,26 +32,7 @@ fn setup(alloc: Global) -> Result<Setup, AllocError> {
         MemberKind::Honest,
         MemberKind::Silent,
     ]?;
-    Ok(Setup {
-        epoch: 0,
-        key_base: 1,
-        members: Sequence::from_vec(members),
-        term: 1,
-        lookahead: 0,
-        leader_timeout: 1000,
-        certification_timeout: 2000,
-        retry: 500,
-        stall: None,
-        retention: 10,
-        skip: SkipPolicy::Disabled,
-        forward: ForwardPolicy::Disabled,
-        mailbox: 16,
-        track: false,
-        handoff: false,
-        fetch_timeout: 1000,
-        fetch_retry: 100,
-        scenario: Sequence::new(alloc),
-    })
+    Ok(Setup::usual(alloc, members))
 }
 
 /// What happens where each packet arrives and the application answers each request: it proposes a payload of the view's number,

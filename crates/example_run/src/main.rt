@@ -11,7 +11,7 @@ mod script;
 use crate::script::Script;
 use anyhow::{Result, bail};
 use simplex::actors::Call;
-use simplex::types::{Activity, Answer, Digest, ForwardPolicy, Sequence, SkipPolicy};
+use simplex::types::{Activity, Answer, Digest};
 use simplex::{Entry, Event, MemberKind, Refusal, Setup, StepSource, Transcript, run_network};
 use std::alloc::{AllocError, Global};
 use std::io;
@@ -34,26 +34,7 @@ fn setup(alloc: Global) -> Result<Setup, AllocError> {
         MemberKind::Honest,
         MemberKind::Silent,
     ]?;
-    Ok(Setup {
-        epoch: 0,
-        key_base: 1,
-        members: Sequence::from_vec(members),
-        term: 1,
-        lookahead: 0,
-        leader_timeout: 1000,
-        certification_timeout: 2000,
-        retry: 500,
-        stall: None,
-        retention: 10,
-        skip: SkipPolicy::Disabled,
-        forward: ForwardPolicy::Disabled,
-        mailbox: 16,
-        track: false,
-        handoff: false,
-        fetch_timeout: 1000,
-        fetch_retry: 100,
-        scenario: Sequence::new(alloc),
-    })
+    Ok(Setup::usual(alloc, members))
 }
 
 /// The leader's application proposes, and the leader sends its vote in the event that is answered.

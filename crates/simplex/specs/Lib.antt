@@ -122,6 +122,7 @@ pub use Rattle.model_resolver.specs.Retirement
 pub use Rattle.model_resolver.specs.Views as ResolverViews
 -- Of entries.
 pub use Rattle.simplex_transcript.specs.Names as TranscriptNames
+pub use Rattle.simplex_transcript.specs.Usual
 -- Of the steps of actors and engines.
 pub use Rattle.model_steps.specs.Batcher
 pub use Rattle.model_steps.specs.Desk
@@ -365,7 +366,10 @@ pub use Rattle.law_audit.specs.Recording as AuditRecording
 pub use Rattle.law_audit.specs.Taken as AuditTaken
 -- Of a run told line by line.
 pub use Rattle.simplex_trace.specs.Trace
+pub use Rattle.simplex_lab.specs.About as LabAbout
+pub use Rattle.simplex_lab.specs.Reasons as LabReasons
 pub use Rattle.simplex_lab.specs.Says as LabSays
+pub use Rattle.simplex_lab.specs.Words as LabWords
 -- Of what all programs share.
 pub use Rattle.simplex_front.specs.Answer as FrontAnswer
 pub use Rattle.simplex_front.specs.Cause as FrontCause

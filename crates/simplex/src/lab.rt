@@ -1,3 +1,3 @@
-//! A run told line by line, and the program that tells it, also where it is refused.
-pub use simplex_lab::{LabWork, lab_program};
+//! A run told line by line, also where it is refused, and the program that tells it, makes runs of its own, and makes inputs shorter.
+pub use simplex_lab::{LabReason, LabWork, Order, Told, Word, lab_program};
 pub use simplex_trace::{line, lines};

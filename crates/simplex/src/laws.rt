@@ -25,7 +25,10 @@ pub use model_log::{
 
 // Of runs whose members are stepped at once, and of engines on threads.
 pub use model_run::{groups_change_nothing, steps_of_a_group_stand_apart};
-pub use simplex_threads::{turns_send_what_is_synced, turns_vote_by_rule};
+pub use simplex_threads::{
+    stopped_voters_leave_a_life, turns_send_what_is_synced, turns_store_first, turns_vote_by_rule,
+    unbroken_engines_have_lived, unstopped_voters_have_lived,
+};
 
 // Of rules, of what a member asks for, and of what is handed on inside it.
 pub use model_resolver::{

@@ -3,7 +3,7 @@
 //!
 //! | I want to | Call | Example |
 //! |---|---|---|
-//! | run members under a list of events, and rest a promise on the run | [`run_network`] | `crates/example_run` |
+//! | run members under a list of events, and rest a promise on the run | [`Setup::usual`], [`run_network`] | `crates/example_run` |
 //! | look at the network between two events | [`Network::new`], [`Network::apply`] | `crates/test_network` |
 //! | run the same by several threads, or from another genesis digest | [`run_network_par`], [`run_network_from`] | `crates/test_par` |
 //! | step the engine of one member | [`Engine::new`], [`Engine::start`], [`Engine::poll`] | `crates/test_engine` |
@@ -16,6 +16,7 @@
 //! | keep the finalized log, or get those of a run | [`log::FinalizedLog`], [`log::logs`], [`log::log_program`] | `crates/simplex_log_cli` |
 //! | apply the blocks of a log to accounts | [`ledger::Ledger`], [`ledger::ledger_program`] | `crates/simplex_ledger_cli` |
 //! | run one network behind another | [`epochs::run_epochs`], [`epochs::chain`] | `crates/simplex_epochs_cli` |
+//! | keep the record of a run, by which it can be judged without an engine | [`audit::record_of`], [`laws::audits`] | `crates/simplex_audit_cli` |
 //! | be told what each event did, also up to a refusal | [`lab::lines`], [`lab::lab_program`] | `crates/simplex_lab_cli` |
 //! | rest on evidence: whoever is named is faulty | [`run_network`], [`laws::runs::transcripts_blame_no_honest_member`] | `crates/example_monitor` |
 //! | make an input from a number | [`gen_run`] | `crates/test_program` |
@@ -36,7 +37,7 @@
 //! - [`form`] (`read_run`, `read_setup`, `read_event`, `read_value`, ..), [`text`] and [`program`]: such a run as JSON, its
 //!   lines, and both behind one call;
 //! - [`log`]: the finalized log, and the logs of a run; [`ledger`]: accounts over it; [`epochs`]: one network per epoch;
-//!   [`lab`]: a run told line by line; [`front`]: what programs share, from words to exit;
+//!   [`audit`]: the record of a run; [`lab`]: a run told line by line; [`front`]: what programs share, from words to exit;
 //! - [`mocks`], [`twins`]: members that break the rules, an application and a relay to try engines with, a reporter that
 //!   records, and scripts for twins;
 //! - [`report`]: two reporters in one, and reports of schemes whose signatures prove nothing; [`hand_reports`] gives them what
@@ -51,6 +52,7 @@
 #![tactic(auto)]
 
 pub mod actors;
+pub mod audit;
 pub mod epochs;
 pub mod journal;
 pub mod lab;

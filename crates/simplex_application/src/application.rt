@@ -206,7 +206,7 @@ impl Application {
         self.verify_observer = Some(VerifyObserver::new(observer));
     }
 
-    /// The answer to a request for a payload of the next term, unless it is left open.
+    /// The answer to a request for a payload of the next term, unless it is left open. [flags-when-answered]
     fn decide(&self, round: Round, prepared: Prepared) -> Option<Answer>
         ensures { MayAnswer (λ by. Control.post by.decide) self.now.handoff_controller round prepared result }
     {

@@ -1,26 +1,13 @@
 //! Payloads by their texts.
 ghost use Rattle.std.specs.Prelude.{◌≡◌, ◌++◌, IfOk, OnOk};
 ghost use Rattle.sha2.specs.Sha256.{sha256};
-ghost use Rattle.simplex_wire.specs.Number.{varint};
 ghost use Rattle.model_faults.specs.Payload.{payload_text};
 ghost use Rattle.simplex_application.specs.Application.{is_asked};
 
 use sha2::{Digest as Hash, Sha256};
 use simplex_types::{Bytes, Context, Digest, Round};
+use simplex_wire::push_number;
 use std::alloc::{AllocError, Global};
-
-/// Puts the number's bytes last.
-fn push_number(bytes: &mut Vec<u8>, number: u64) -> Result<(), AllocError>
-    ensures { OnOk result (bytes.new.items ≡ bytes.old.items ++ varint number) }
-{
-    let mut rest = number;
-    while rest >= 128 {
-        bytes.push((rest % 128) as u8 + 128)?;
-        rest /= 128;
-    }
-    bytes.push(rest as u8)?;
-    Ok(())
-}
 
 /// The text of a payload: its round, the digest of its parent, and a word.
 #[tactic(auto, using(simplex_types::proofs::Spellings::round_spelling))]

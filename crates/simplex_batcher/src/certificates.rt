@@ -10,19 +10,8 @@ use crate::actor::Actor;
 use crate::marks::Marked;
 use crate::work::{block, hand};
 use simplex_messages::{StepOut, voter};
-use simplex_types::{BlockCause, Certificate, Participant, Scheme, Signatures};
+use simplex_types::{BlockCause, Certificate, Participant, Scheme};
 use std::alloc::AllocError;
-
-/// The signatures of the certificate.
-fn signatures_of(certificate: &Certificate) -> &Signatures
-    ensures { result.now ≡ certificate_signatures certificate.now }
-{
-    match certificate {
-        Certificate::Notarization(it) => &it.certificate,
-        Certificate::Nullification(it) => &it.certificate,
-        Certificate::Finalization(it) => &it.certificate,
-    }
-}
 
 impl<S: Scheme + Drop> Actor<S> {
     /// Whether a certificate of the kind is held for the view.
@@ -42,7 +31,7 @@ impl<S: Scheme + Drop> Actor<S> {
         let subject = certificate.subject();
         self.config
             .scheme
-            .verify_certificate(&subject, signatures_of(certificate))
+            .verify_certificate(&subject, certificate.signatures())
     }
 
     /// The certificate, by the round of its view.

@@ -96,7 +96,7 @@ impl<S: Scheme + Drop> Actor<S> {
         Ok(())
     }
 
-    /// The hint that an update gives, where views are skipped.
+    /// The hint that an update gives, where views are skipped. [own-nullify-is-told]
     #[tactic(auto, unfolding(crate::specs::Stands::batcher_made, model_steps::specs::Batcher::hinted_at_update))]
     pub(crate) fn hint_at_update(
         &mut self,

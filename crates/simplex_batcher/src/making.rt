@@ -112,6 +112,7 @@ impl<S: Scheme + Drop> Actor<S> {
     }
 
     /// The view has a round from now on, with the leader where the view is current or in the admission window.
+    /// [rounds-are-made]
     pub(crate) fn make_round(&mut self, view: View) -> Result<(), AllocError>
         ensures { OnOk result (Moves S.verifies S.recovers S.members S.member self.old self.new (λ made standing. put view (round_for made standing view) standing)) }
     {

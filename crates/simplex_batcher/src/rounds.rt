@@ -18,7 +18,7 @@ use std::alloc::{AllocError, Global};
 use std::collections::BTreeMap;
 use std::mem::replace;
 
-/// The rounds by view. That of the current view lies apart, since most votes are for it.
+/// The rounds by view. That of the current view lies apart, since most votes are for it. [current-round-apart]
 #[derive(Drop)]
 pub(crate) struct Rounds {
     /// The view that the voter is in.

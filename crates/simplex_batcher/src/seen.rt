@@ -8,7 +8,7 @@ use simplex_types::Participant;
 use std::alloc::{AllocError, Global};
 use std::collections::BTreeMap;
 
-/// When each member was seen last.
+/// When each member was seen last. [seen-by-member]
 #[derive(Drop)]
 pub(crate) struct Seen {
     /// By member.

@@ -42,7 +42,7 @@ impl<S: Scheme + Drop> Actor<S> {
         Ok(views)
     }
 
-    /// The rounds of these views are given the leader.
+    /// The rounds of these views are given the leader. [round-keeps-its-leader]
     fn lead_each(&mut self, views: &[u64])
         ensures { Moves S.verifies S.recovers S.members S.member self.old self.new (λ made. with_leads made views.now) }
     {

@@ -51,7 +51,7 @@ pub(crate) fn publish(alloc: Global, work: &mut StepOut, out: RoundOut) -> Resul
     Ok(())
 }
 
-/// The vote is reported.
+/// The vote is reported. [reported-where-it-lies]
 fn report_vote(work: &mut StepOut, vote: &Vote) -> Result<(), AllocError>
     ensures { OnOk result (work.new ≡ record work.old { calls = work.old.calls ++ Report (vote_activity vote.now) ∷ [] }) }
 {

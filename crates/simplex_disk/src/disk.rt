@@ -7,7 +7,7 @@ use crate::error::DiskError;
 use std::alloc::Global;
 
 /// Files by number. Until a sync, a crash may leave any bytes in the ranges that were written, and may or may not have
-/// cut or removed what was cut or removed.
+/// cut or removed what was cut or removed. [disk-by-its-calls]
 pub trait Disk {
     // what a read gives of each file
     ghost contents: { Self → ℕ → Option (List ℕ) };
@@ -86,7 +86,7 @@ pub trait Disk {
     ghost stays: { (disk : Self) (calls : List Call) → StandsFor disk calls → (n : ℕ) → MayLeave n calls (content n calls) };
 }
 
-/// A disk that can be left in a named image, and whose calls can be ordered to fail.
+/// A disk that can be left in a named image, and whose calls can be ordered to fail. [crash-may-leave-it]
 pub trait StopDisk: Disk {
     /// Every file counts as synced as it reads. Takes no memory.
     fn settle(&mut self)

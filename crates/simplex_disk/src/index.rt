@@ -39,7 +39,7 @@ pub(crate) fn put(index: &mut Index, number: u64, segment: Segment) -> Result<()
     Ok(())
 }
 
-/// Makes the file of a section with its first record.
+/// Makes the file of a section with its first record. [first-append]
 fn first_record<D: Disk>(
     disk: &mut D,
     alloc: Global,
@@ -59,7 +59,7 @@ fn first_record<D: Disk>(
     Ok(segment)
 }
 
-/// Removes the file that is leaving.
+/// Removes the file that is leaving. [files-of-no-section]
 pub(crate) fn finish_removal<D: Disk>(
     disk: &mut D,
     leaving: &mut Option<u64>,

@@ -90,7 +90,7 @@ impl<D: Disk> DiskJournal<D> {
     }
 
     /// A crash right now leaves a journal with all synced records, and a first part of the pending ones: that is said, and nothing
-    /// done.
+    /// done. [clauses-of-the-disk]
     pub fn outlasts_a_crash(&self)
         ensures left { (calls : List Call) → IsOf D.StandsFor self.now calls → LeavesJournal (sections_kept D.contents self.now) self.now.leaving calls calls }
         // Of a section that was dropped and whose removal failed it leaves that section, with all that was synced, or nothing. The

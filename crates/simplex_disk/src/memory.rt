@@ -13,7 +13,7 @@ use std::alloc::Global;
 use std::collections::BTreeMap;
 use std::marker::Model;
 
-/// A disk in memory. It keeps its files as they read, and fails only where it is told to.
+/// A disk in memory. It keeps its files as they read, and fails only where it is told to. [clauses-of-the-disk]
 #[derive(Drop)]
 pub struct MemoryDisk {
     files: Files,
@@ -56,7 +56,7 @@ impl MemoryDisk {
         ensures { (calls : List Call) × IsLeftBy self.now.kept calls × IsSettled calls }
     {}
 
-    // Counts a call that ended well.
+    // Counts a call that ended well. [faults-only-rise]
     fn count_call(&mut self)
         ensures { self.new ≡ counted self.old self.old.faults }
     {

@@ -8,6 +8,7 @@ use crate::error::DiskError;
 use simplex_journal::JournalError;
 
 /// Before a call of the journal: has the disk call of this number fail, if the call is the one that is to fail.
+/// [orders-go-to-the-disk]
 pub(crate) fn begin_call<D: StopDisk>(disk: &mut D, failing_call: u64, number: u64)
     ensures stands { (calls : List Call) → D.StandsFor disk.old calls → D.StandsFor disk.new calls }
     ensures faults { D.fault_count disk.new ≡ D.fault_count disk.old }

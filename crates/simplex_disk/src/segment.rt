@@ -48,7 +48,7 @@ impl Segment {
     }
 }
 
-/// Makes the file anew, in which no record is read. It is one closed gate then, on the disk.
+/// Makes the file anew, in which no record is read. It is one closed gate then, on the disk. [new-file]
 pub(crate) fn make_file<D: Disk>(disk: &mut D, file: u64) -> Result<(), DiskError>
     ensures stands { (calls : List Call) → D.StandsFor disk.old calls → IsShut file calls
         → Then (D.StandsFor disk.new) (AlwaysOf file (IsShut file) calls) (λ now. OnOk result (Stands file [] [] now)) }

@@ -17,7 +17,7 @@ use crate::index::Index;
 use crate::segment::open_segment;
 use std::alloc::Global;
 
-/// Opens the gates of the pending records of each section. They still count as pending.
+/// Opens the gates of the pending records of each section. They still count as pending. [gates-first]
 fn open_each<D: Disk>(disk: &mut D, index: &Index) -> Result<(), DiskError>
     requires { (calls : List Call) × D.StandsFor disk.old calls × ((leaving : Option ℕ) × IsIndexed index.now.entries leaving calls) }
     ensures stands { (calls : List Call) → D.StandsFor disk.old calls → (leaving : Option ℕ) → IsIndexed index.now.entries leaving calls
@@ -46,6 +46,7 @@ fn count_each(index: &mut Index)
 }
 
 /// Syncs the pending records of all sections, which count as synced once all of them are on the disk.
+/// [each-call-a-disk-call]
 pub(crate) fn sync_each<D: Disk>(
     disk: &mut D,
     index: &mut Index,

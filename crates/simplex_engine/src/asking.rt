@@ -71,7 +71,7 @@ impl<S: Scheme + Drop, L: Elector + Drop, J: Journal + Drop> Crew<S, L, J> {
         Ok(polled(outcome, Some(taken)))
     }
 
-    /// The front of the mailbox of the resolver's handler goes to the resolver.
+    /// The front of the mailbox of the resolver's handler goes to the resolver. [taken-before-the-step]
     pub(crate) fn step_on_handler_mail(
         &mut self,
         now: u64,

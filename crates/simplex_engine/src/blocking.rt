@@ -10,6 +10,7 @@ ghost use Rattle.simplex_engine.specs.Parts.{shutting, telling};
 ghost use Rattle.simplex_engine.specs.Stands.{WorksAs, TellsAs};
 
 use crate::crew::Crew;
+use simplex_fetch::is_among;
 use simplex_journal::Journal;
 use simplex_messages::Call;
 use simplex_types::elector::Elector;
@@ -18,14 +19,14 @@ use std::alloc::{AllocError, Global};
 use std::collections::BTreeSet;
 
 impl<S: Scheme + Drop, L: Elector + Drop, J: Journal + Drop> Crew<S, L, J> {
-    /// Whether a call blocked the member since the start.
+    /// Whether a call blocked the member since the start. [may-block-itself]
     pub(crate) fn is_blocked(&self, member: Participant) -> bool
         ensures { (told : Bool) → TellsAs told self.now (λ parts. holds_member parts.blocked member) result }
     {
-        is_among(&self.blocked, member)
+        is_among(&self.blocked, &member)
     }
 
-    /// The members that these calls of the resolver block are let in no more.
+    /// The members that these calls of the resolver block are let in no more. [blocked-from-the-next-event]
     pub(crate) fn note_blocks(&mut self, calls: &[Call]) -> Result<(), AllocError>
         ensures works { OnOk result ((told : Bool) → WorksAs told self.old self.new (shutting calls.now)) }
         ensures voter { OnOk result (self.new.voter ≡ self.old.voter) }
@@ -47,13 +48,6 @@ impl<S: Scheme + Drop, L: Elector + Drop, J: Journal + Drop> Crew<S, L, J> {
         tell_each(&mut self.resolver, listed)?;
         Ok(())
     }
-}
-
-/// Whether the member is among the blocked.
-fn is_among(blocked: &BTreeSet<u32>, member: Participant) -> bool
-    ensures { result ≡ holds_member blocked.now.keys member }
-{
-    blocked.contains(&member.0)
 }
 
 /// The members that these calls block, in their order.

@@ -59,7 +59,7 @@ pub struct EngineConfig<S, L> {
     pub handoff: bool,
 }
 
-/// An item of a configuration, in the order in which they are tested.
+/// An item of a configuration, in the order in which they are tested. [nine-items]
 #[derive(Clone, Copy, Debug, PartialEq, Eq)]
 pub enum EngineField {
     /// At most 2^64 - 2.

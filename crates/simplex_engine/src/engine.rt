@@ -215,7 +215,7 @@ impl<S: Scheme + Drop, L: Elector + Drop, J: Journal + Drop> Engine<S, L, J> {
         }
     }
 
-    /// A step was broken off.
+    /// A step was broken off. [actors-stay]
     #[cold]
     #[inline(never)]
     fn halt(&mut self)
@@ -229,7 +229,7 @@ impl<S: Scheme + Drop, L: Elector + Drop, J: Journal + Drop> Engine<S, L, J> {
         }
     }
 
-    /// There was no memory for a call.
+    /// There was no memory for a call. [broken-is-dropped]
     #[cold]
     #[inline(never)]
     fn fail(&mut self)
@@ -243,6 +243,7 @@ impl<S: Scheme + Drop, L: Elector + Drop, J: Journal + Drop> Engine<S, L, J> {
     }
 
     /// Whether there was no memory for an earlier call. Such an engine refuses all, and has no journal.
+    /// [failed-engines-refuse]
     pub fn has_failed(&self) -> bool
         ensures { result ≡ has_failed self.now }
     {
@@ -280,6 +281,7 @@ impl<S: Scheme + Drop, L: Elector + Drop, J: Journal + Drop> Engine<S, L, J> {
     }
 
     /// The actors of an engine that runs, and the mail between them, for whoever steps each of them itself.
+    /// [threads-above-the-engine]
     pub fn into_crew(mut self) -> Result<Crew<S, L, J>, PollError>
         ensures stands { IfOk result (λ crew. (made : EngineMade) (past : List Did) → StandsFor self made past → CrewStands true crew made past) }
         ensures over { IfOk result (λ crew. (made : EngineMade) (past : List Did) → StandsOver self made past → CrewStands false crew made past) }

@@ -32,7 +32,7 @@ pub enum TakenInside {
     Deadline,
 }
 
-/// What a poll did.
+/// What a poll did. [polled]
 #[derive(Debug, PartialEq, Eq, Drop)]
 pub struct Polled {
     /// How it ended.

@@ -83,7 +83,7 @@ impl<S: Scheme + Drop, L: Elector + Drop, J: Journal + Drop> Crew<S, L, J> {
         Ok(given)
     }
 
-    /// A packet of a member that is not blocked goes to the actor of its channel.
+    /// A packet of a member that is not blocked goes to the actor of its channel. [refused-is-delivered]
     fn let_in(
         &mut self,
         sender: Participant,

@@ -115,6 +115,7 @@ impl<S: Scheme + Drop, L: Elector + Drop, J: Journal + Drop> Crew<S, L, J> {
 
     /// A step of the batcher on this input, with its calls from the stop's on cut off. Whom it blocks the resolver is
     /// told. What it hands on is put into the voter's mailbox once the step is known to be whole.
+    /// [handed-on-when-whole]
     pub(crate) fn step_batcher(
         &mut self,
         input: BatcherInput,

@@ -9,7 +9,8 @@ ghost use Rattle.simplex_epochs.specs.Runs.{inputs_of, rans_of};
 use crate::chains::chain_of_member;
 use crate::epoch::{EpochInput, EpochRun};
 use model_epochs::ChainEntry;
-use simplex_transcript::{MemberKind, Setup};
+use simplex_records::is_honest;
+use simplex_transcript::Setup;
 use std::alloc::{AllocError, Global};
 
 fn genesis_text(alloc: Global, epoch: u64, genesis: &str) -> Result<String, AllocError>
@@ -116,16 +117,6 @@ fn write_chain(
         text.push_str(line.as_str())?;
     }
     Ok(())
-}
-
-// Whether the setup has the member, and it is honest.
-fn is_honest(setup: &Setup, member: u64) -> bool
-    ensures { result ≡ is_honest setup.now member }
-{
-    match setup.members.as_slice().get(member as usize) {
-        Some(kind) => matches!(kind, MemberKind::Honest),
-        None => false,
-    }
 }
 
 // Whether it exists and is honest in each epoch.

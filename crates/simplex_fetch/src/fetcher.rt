@@ -23,7 +23,7 @@ const ROOM: u64 = 1 << 62;
 
 /// What a member asks its peers for, and what they ask it for.
 ///
-/// After an answer other than Ok a fetcher may only be dropped.
+/// After an answer other than Ok a fetcher may only be dropped. [fetcher-is-a-machine]
 #[derive(Drop)]
 pub struct Fetcher {
     config: FetchConfig,
@@ -64,7 +64,7 @@ impl Fetcher {
         }
     }
 
-    /// The member is asked nothing from now on.
+    /// The member is asked nothing from now on. [asked-until-the-deadline]
     #[tactic(auto, unfolding(model_resolver::specs::Fetcher::blocking))]
     pub fn block(&mut self, member: Participant) -> Result<(), AllocError>
         ensures { OnOk result (self.new ≡ blocking member self.old) }
@@ -80,7 +80,7 @@ impl Fetcher {
         is_among(&self.blocked, &member)
     }
 
-    /// Whether numbers are left for each call.
+    /// Whether numbers are left for each call. [few-requests]
     pub fn has_room(&self) -> bool
         ensures { result ≡ (nat_lt self.now.next_id (2 ^ 62) && nat_lt self.now.next_serve (2 ^ 62)) }
     {
@@ -144,6 +144,7 @@ impl Fetcher {
     }
 
     /// The next attempt of the view, with this entry, which was taken out, finds nobody to ask.
+    /// [attempts-without-peers]
     #[tactic(auto, unfolding(model_resolver::specs::Fetcher::asking))]
     fn ask_nobody(&mut self, view: u64, entry: Entry, now: u64) -> Result<(), AllocError>
         requires absent { entry_at self.old.views view ≡ None }
@@ -237,7 +238,7 @@ impl Fetcher {
         self.views.put(view, entry)
     }
 
-    /// The view, with this entry, which was taken out, waits the retry delay.
+    /// The view, with this entry, which was taken out, waits the retry delay. [delay-of-none]
     #[tactic(auto, unfolding(model_resolver::specs::Fetcher::retrying))]
     fn retry(&mut self, view: u64, entry: Entry, now: u64) -> Result<(), AllocError>
         requires absent { entry_at self.old.views view ≡ None }
@@ -307,7 +308,7 @@ impl Fetcher {
         self.start(alloc, new, now)
     }
 
-    /// Asks for what is wanted of the view, this member alone.
+    /// Asks for what is wanted of the view, this member alone. [targets-of-a-view]
     #[tactic(auto, unfolding(model_resolver::specs::Fetcher::fetched_beside))]
     pub fn fetch_targeted(
         &mut self,
@@ -554,7 +555,7 @@ impl Fetcher {
         Ok(())
     }
 
-    /// The answer to a peer's request: a certificate's bytes, or that there is none.
+    /// The answer to a peer's request: a certificate's bytes, or that there is none. [served-once]
     #[tactic(auto, unfolding(model_resolver::specs::Fetcher::served, model_resolver::specs::Fetcher::served_as))]
     pub fn serve(
         &mut self,

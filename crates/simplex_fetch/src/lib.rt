@@ -18,3 +18,4 @@ pub use laws::{
     untargeted_asks_go_round,
 };
 pub use model_resolver::{Fetch, FetchConfig, Out, Retire};
+pub use peers::is_among;

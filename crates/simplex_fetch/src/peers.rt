@@ -9,7 +9,7 @@ use simplex_types::Participant;
 use std::collections::BTreeSet;
 
 /// Whether the member is among the blocked.
-pub(crate) fn is_among(blocked: &BTreeSet<u32>, member: &Participant) -> bool
+pub fn is_among(blocked: &BTreeSet<u32>, member: &Participant) -> bool
     ensures { result ≡ holds_member blocked.now.keys member.now }
 {
     blocked.contains(&member.0)

@@ -17,6 +17,7 @@ fn finalization_in(certificate: Certificate) -> Option<Finalization>
     }
 }
 
+// [hex-and-floors]
 fn decode_finalization(alloc: Global, bytes: &[u8]) -> Result<Option<Finalization>, AllocError>
     ensures { IfOk result (λ o. o ≡ finalization_of bytes.now) }
 {

@@ -10,7 +10,7 @@ use serde_json::Value;
 use simplex_types::{Bytes, Digest, Sequence};
 use std::alloc::{AllocError, Global};
 
-// Whether some letter of the text is in upper case.
+// Whether some letter of the text is in upper case. [hex-and-floors]
 fn has_upper_case(text: &str) -> bool
     ensures { result ≡ list_any is_ascii_uppercase text.now }
 {

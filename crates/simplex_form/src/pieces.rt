@@ -26,7 +26,7 @@ impl FromData for u64 {
     }
 }
 
-/// Whether it is an object of exactly so many members.
+/// Whether it is an object of exactly so many members. [exact-members]
 #[tactic(auto, using(crate::proofs::Objects::has_members_of))]
 pub fn has_members(value: &Value, n: usize) -> bool
     ensures { result ≡ has_members n (view value.now) }

@@ -22,7 +22,7 @@ use std::alloc::{AllocError, Global};
 /// How deep a value under the top object may nest.
 const DEPTH: usize = 126;
 
-/// What the bytes say, where they spell it in the usual way. `None` says nothing.
+/// What the bytes say, where they spell it in the usual way. `None` says nothing. [events-one-by-one]
 pub(crate) fn read_usual(alloc: Global, bytes: &[u8]) -> Result<Option<Input>, AllocError>
     ensures { IfOk result (λ found. IfSome found (λ input. input_of bytes.now ≡ Ok input)) }
 {

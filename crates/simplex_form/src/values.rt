@@ -101,7 +101,7 @@ fn next_members(
     Ok(found)
 }
 
-/// The number that a numeral writes, where it is whole, from 0 and below 2^64.
+/// The number that a numeral writes, where it is whole, from 0 and below 2^64. [whole-numbers]
 #[tactic(auto, using(crate::proofs::Numbers::whole_number))]
 fn read_number(text: &str) -> Option<Number>
     ensures { IfSome result (λ number. number_of text.now ≡ Some (number_view number)) }

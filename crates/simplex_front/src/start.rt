@@ -10,6 +10,7 @@ use std::env::Env;
 use std::io::ErrorKind;
 
 /// The words behind the program's own name. Where one of them is no text there are none. An error is want of memory.
+/// [words-without-text]
 pub fn words_of(rt: &(impl Env + AllocGlobal)) -> Result<Vec<String>, AllocError> {
     let mut words = Vec::new(rt.alloc());
     let all = match env::args(rt) {
@@ -47,6 +48,7 @@ pub fn fault_of<D: Drop, R: Drop>(exit: &Exit<D, R>) -> Option<&'static str>
 }
 
 /// Says the fault on standard error, if there was one, behind the program's name. Where that fails too, the status alone tells it.
+/// [faults-on-standard-error]
 pub fn say_fault<D: Drop, R: Drop>(rt: &impl Eprint, name: &str, exit: &Exit<D, R>) {
     if let Some(fault) = fault_of(exit) {
         let _said = eprintln!(rt; "{name}: {fault}");

@@ -10,7 +10,7 @@ use simplex_network::Network;
 use simplex_transcript::{Event, RunError, Setup};
 use std::alloc::{AllocError, Global};
 
-/// A network that is given drawn events, and what they are drawn from.
+/// A network that is given drawn events, and what they are drawn from. [gen-runs-twice]
 #[derive(Drop)]
 pub(crate) struct Generator {
     alloc: Global,

@@ -6,7 +6,7 @@ use std::alloc::Global;
 use std::io::{Read, Stdin};
 
 /// A reader as a source. It tells the bytes that the reader tells; of standard input nothing is known. Each
-/// error counts as a fault, an interrupted read too, and no read that failed is tried again.
+/// error counts as a fault, an interrupted read too, and no read that failed is tried again. [streams-tell-no-bytes]
 #[derive(Drop)]
 pub struct ReaderSource<R: Read + Drop> {
     alloc: Global,

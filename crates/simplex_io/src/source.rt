@@ -15,7 +15,7 @@ pub enum SourceError {
     Failed,
 }
 
-/// Where bytes come from. An empty read is the end.
+/// Where bytes come from. An empty read is the end. [bytes-untold]
 pub trait Source {
     /// The bytes that are still to come, if the source tells them.
     ghost left: { Self → Option (List ℕ) };

@@ -18,7 +18,7 @@ fn first_piece(bytes: &[u8]) -> &[u8]
 
 /// A writer as a sink. It tells the bytes that the writer tells; of standard output nothing is known. Each error
 /// counts as a fault, an interrupted write too, and so does a write that takes nothing. No write that failed is
-/// tried again.
+/// tried again. [streams-tell-no-bytes]
 #[derive(Drop)]
 pub struct WriterSink<W: Write + Drop> {
     writer: W,

@@ -74,7 +74,7 @@ pub trait Journal {
         ensures faults { fault_count self.new ≡ fault_count self.old };
 
     /// Orders that the call of this number fails, counted from now on and from 1, and that a prune that fails
-    /// so drops that many sections. The number 0 takes the order back. Takes no memory.
+    /// so drops that many sections. The number 0 takes the order back. Takes no memory. [journals-tell-or-not]
     fn fail_next(&mut self, call: u64, dropped: u64)
         ensures order { IfSome (order self.old) (λ _. order self.new ≡ Some (record { call = call; sections = dropped })) }
         ensures stays { sections self.new ≡ sections self.old }

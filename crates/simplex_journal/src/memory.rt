@@ -137,6 +137,7 @@ impl Journal for MemoryJournal {
         Ok(records)
     }
 
+    // [faults-only-rise]
     fn faults(&self) -> u64 {
         self.faults
     }

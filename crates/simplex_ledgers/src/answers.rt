@@ -10,16 +10,9 @@ ghost use Rattle.model_ledger.specs.Failing.{FailsBy};
 
 use model_rules::Asked;
 use simplex_ledger::{Blocks, LedgerError};
-use simplex_transcript::{Entry, Event, MemberKind, Ref, Setup};
+use simplex_records::is_honest;
+use simplex_transcript::{Entry, Event, Ref, Setup};
 use simplex_types::{Answer, Digest, Handoff};
-
-/// Whether the member is honest. Behind the last member none is.
-fn is_honest(setup: &Setup, member: u64) -> bool
-    ensures { result ≡ is_honest setup.now member }
-{
-    let kind = setup.members.as_slice().get(member as usize).copied();
-    matches!(kind, Some(MemberKind::Honest))
-}
 
 /// The request that stands at this place of a transcript.
 #[tactic(auto, unfolding(law_ledger::specs::Answers::request_at))]

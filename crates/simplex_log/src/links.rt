@@ -45,7 +45,7 @@ fn falls(link: &Link, view: u64) -> bool
     link.down < view && parent_of(&link.proposal) < view
 }
 
-/// Lets the link of the view point further down.
+/// Lets the link of the view point further down. [walks-are-shortened]
 fn shorten(views: &mut BTreeMap<u64, Link>, view: u64, down: u64)
     ensures { (q : ℕ) → found views.new q ≡ (if view == q then pointing down (found views.old q) else found views.old q) }
 {

@@ -6,7 +6,7 @@ use crate::requested::Requested;
 use std::alloc::Global;
 
 /// What waits for room: a place for one message that goes before all others, then the rest in order of
-/// arrival.
+/// arrival. [pop-for-drain]
 pub trait Overflow<M: Requested>: Drop {
     ghost waiting: { Self → Waiting M };
 

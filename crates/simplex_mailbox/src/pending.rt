@@ -8,7 +8,7 @@ use crate::requested::{Requested, leave_each};
 use std::alloc::{AllocError, Global};
 use std::collections::VecDeque;
 
-/// A place for one message that goes before all others, and the rest in order of arrival.
+/// A place for one message that goes before all others, and the rest in order of arrival. [pending-by-kind]
 #[derive(Drop)]
 pub struct Pending<M> {
     /// The message that goes first.

@@ -35,7 +35,7 @@ pub(crate) fn kind_of(setup: &Setup, member: Participant) -> MemberKind
     kind.copied().unwrap_or(MemberKind::Honest)
 }
 
-/// The scheme of the member's key.
+/// The scheme of the member's key. [one-type-of-engine]
 #[tactic(auto, using(crate::proofs::Good::good))]
 pub(crate) fn scheme_of(
     alloc: Global,

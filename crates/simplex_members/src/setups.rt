@@ -14,6 +14,7 @@ const LONGEST: u64 = 1 << 62;
 const MOST_VIEWS: u64 = 1 << 32;
 
 /// Whether there are no more events than may be: at most 2^20, and at most 2^25 events times members.
+/// [limits-of-a-run]
 pub fn are_few(setup: &Setup, events: &[Event]) -> bool
     ensures { result ≡ runs.are_few setup.now events.now }
 {

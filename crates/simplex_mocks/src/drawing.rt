@@ -7,7 +7,7 @@ ghost use Rattle.model_faults.specs.Conflicter.{drawn_payload};
 use rand_core::Rng;
 use simplex_types::Digest;
 
-/// The next word.
+/// The next word. [random-words-by-place]
 #[tactic(auto, using(model_faults::proofs::Drawing::drawn_word, model_faults::proofs::Drawing::drawn_later))]
 pub(crate) fn draw<R: Rng>(random: &mut R) -> u64
     ensures word { (words : Words) (from : ℕ) → Draws (R.stream random.old) words from → result ≡ words from }

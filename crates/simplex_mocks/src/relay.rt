@@ -61,6 +61,7 @@ fn take_back_each(slots: &mut [Slot], given: usize, sender: Participant, recipie
 }
 
 /// Gives the payload to each. Want of memory leaves all as they were: those that have it already give it back.
+/// [all-or-nothing]
 #[tactic(auto, unfolding(crate::specs::Relay::broadcast), using(crate::proofs::Slots::all_changed))]
 fn give_each(
     alloc: Global,

@@ -10,8 +10,8 @@ ghost use Rattle.model_run.specs.Groups.{joined, joins};
 ghost use Rattle.simplex_records.specs.Stands.{RecordsStand};
 ghost use Rattle.simplex_network.specs.Cuts.{IsLendable, IsLendableAt, AreSeats};
 
-use crate::nodes::{is_honest, is_node};
-use simplex_records::{Records, seat_of};
+use crate::nodes::is_node;
+use simplex_records::{Records, is_honest, seat_of};
 use simplex_transcript::{Event, Node, Setup};
 use simplex_values::maps::{add, contains, empty_set};
 use std::alloc::{AllocError, Global};
@@ -41,7 +41,7 @@ pub(crate) fn group_size(
     Ok(size)
 }
 
-// The node that the event steps, where it may be stepped beside the nodes of these seats.
+// The node that the event steps, where it may be stepped beside the nodes of these seats. [honest-nodes-at-once]
 fn joining(setup: &Setup, records: &Records, named: &BTreeSet<u64>, event: &Event) -> Option<Node>
     requires { IsNone (first_bad setup.now) }
     ensures lendable { IfSome result (IsLendableAt setup.now event.now) }

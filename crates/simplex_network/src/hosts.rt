@@ -93,7 +93,7 @@ impl Hosts {
         }
     }
 
-    /// Lends the host of a node, which is away then.
+    /// Lends the host of a node, which is away then. [lent-host]
     pub(crate) fn lend(&mut self, node: Node) -> Host
         requires { HasSeat self.old.list.items node }
         ensures count { length self.new.list.items ≡ length self.old.list.items }

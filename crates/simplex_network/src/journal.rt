@@ -10,7 +10,7 @@ use std::alloc::{AllocError, Global};
 /// The journal of a node: segment files on a disk of its own, which is in memory.
 pub type NodeJournal = DiskJournal<MemoryDisk>;
 
-/// A journal with no record, on a disk with no file that fails no call.
+/// A journal with no record, on a disk with no file that fails no call. [disk-of-a-node]
 pub(crate) fn new_journal(alloc: Global) -> Result<NodeJournal, AllocError>
     ensures { IfOk result (λ journal. JournalStands journal []) }
 {

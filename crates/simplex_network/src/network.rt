@@ -10,7 +10,7 @@ use crate::cut::{group_size, node_stepped};
 use crate::host::NodeEngine;
 use crate::hosts::Hosts;
 use crate::inputs::{enter, heard, run_error};
-use crate::nodes::{exist, genesis_at, is_at_end, is_honest, is_node, member_of};
+use crate::nodes::{exist, genesis_at, is_at_end, is_node, member_of};
 use crate::sending::{one_packet, packets_of};
 use crate::status::Status;
 use crate::task::{Given, Made, Stage, Task};
@@ -19,7 +19,7 @@ use law_run::only_impersonators_and_injected_bytes_forge;
 use simplex_engine::Input;
 use simplex_members::{config_of, first_bad};
 use simplex_messages::{Outcome, StepOut, Stop};
-use simplex_records::Records;
+use simplex_records::{Records, is_honest};
 use simplex_transcript::{Entry, Event, Node, Ref, RunError, Setup, Took};
 use simplex_typed::entry_is_typed;
 use simplex_types::{Bytes, Channel, Digest, Finalization, Keep, Sequence, View};
@@ -321,7 +321,7 @@ impl Network {
         }
     }
 
-    // The same of a node of a faulty member without an engine, which only hears.
+    // The same of a node of a faulty member without an engine, which only hears. [faulty-always-runs]
     fn act_without_engine(&mut self, node: Node, event: &Event) -> Result<Entry, RunError>
         requires steps { node_stepped event.now ≡ Some node }
         requires exists { Exists self.old node }

@@ -65,13 +65,6 @@ pub(crate) fn is_impersonator(setup: &Setup, member: u64) -> bool
     matches!(kind(setup, member), Some(MemberKind::Impersonator))
 }
 
-/// Whether the member is honest. Behind the last member none is.
-pub(crate) fn is_honest(setup: &Setup, member: u64) -> bool
-    ensures { result ≡ kinds.is_honest setup.now member }
-{
-    matches!(kind(setup, member), Some(MemberKind::Honest))
-}
-
 fn halves_of(setup: &Setup, member: u64) -> u64
     ensures { result ≡ kinds.halves_of setup.now member }
 {

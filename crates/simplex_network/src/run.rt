@@ -24,7 +24,7 @@ use simplex_typed::entries_are_typed;
 use simplex_types::{Digest, Sequence};
 use std::alloc::Global;
 
-/// The entries of a run, one for each event, and the network on which it was made.
+/// The entries of a run, one for each event, and the network on which it was made. [transcripts]
 #[derive(Drop)]
 pub struct Transcript {
     pub entries: Sequence<Entry>,

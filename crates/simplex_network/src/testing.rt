@@ -10,7 +10,7 @@ use simplex_records::{Forgery, Records};
 use simplex_transcript::{Node, Packet, RunError, Setup};
 use std::alloc::Global;
 
-/// Refuses packets of faulty members in which an attestation is forged.
+/// Refuses packets of faulty members in which an attestation is forged. [forgeries-in-two-places]
 pub(crate) fn test(
     alloc: Global,
     setup: &Setup,

@@ -58,7 +58,7 @@ pub(crate) fn empty_lanes(alloc: Global, workers: usize) -> Result<Vec<Lane>, Al
     Ok(lanes)
 }
 
-/// All lanes step at once, each in a thread of its own.
+/// All lanes step at once, each in a thread of its own. [workers]
 pub(crate) fn step_all<G: Gate, R: Threads + Sync>(rt: &R, lanes: &mut [Lane], gate: &G, turn: u64)
     ensures { LanesStep lanes.old lanes.new }
 {

@@ -32,7 +32,7 @@ impl Certificates {
         }
     }
 
-    /// Makes room for certificates of the view.
+    /// Makes room for certificates of the view. [room-before-change]
     pub(crate) fn make_room(&mut self, view: View) -> Result<(), AllocError>
         ensures room { OnOk result (is_some (found self.new.views view) ≡ true) }
         ensures same { (q : ℕ) → kept_at self.new.views q ≡ kept_at self.old.views q }

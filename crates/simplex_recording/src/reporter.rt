@@ -30,6 +30,7 @@ pub struct Config<S, L> {
 /// A reporter that verifies what it is told, and records it. What fails to verify is counted and recorded nowhere.
 ///
 /// All is recorded by view, whatever the epoch. What it answers an error to counts as not reported.
+/// [recorded-by-view]
 #[derive(Debug, Drop)]
 pub struct Reporter<S, L> {
     alloc: Global,

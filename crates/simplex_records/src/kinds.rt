@@ -14,7 +14,7 @@ pub(crate) fn are_honest(setup: &Setup) -> bool
 }
 
 /// Whether there is such a member, and it is honest.
-pub(crate) fn is_honest(setup: &Setup, member: u64) -> bool
+pub fn is_honest(setup: &Setup, member: u64) -> bool
     ensures { result ≡ kinds.is_honest setup.now member }
 {
     match kind_at(setup, member) {

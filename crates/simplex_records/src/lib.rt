@@ -16,6 +16,7 @@ mod sent_votes;
 mod subjects;
 
 pub use forgery::Forgery;
+pub use kinds::is_honest;
 pub use packets::packets_of;
 pub use records::Records;
 pub use routing::packet_for_send;

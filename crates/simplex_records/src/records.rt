@@ -34,7 +34,7 @@ use std::alloc::{AllocError, Global};
 /// member is faulty, the votes that honest members sent.
 ///
 /// Nothing is looked up by going over the entries. Where a call wants memory, nothing is told of what the records keep
-/// after it.
+/// after it. [looked-up]
 #[derive(Drop)]
 pub struct Records {
     packets: Vec<Sequence<Packet>>,

@@ -15,7 +15,7 @@ use simplex_types::{Activity, Finalization, Keep, Sequence};
 use std::alloc::{AllocError, Global};
 use std::collections::BTreeMap;
 
-/// The finalizations that were reported, by view, each once.
+/// The finalizations that were reported, by view, each once. [own-floors]
 #[derive(Drop)]
 pub(crate) struct Reported {
     pub(crate) by_view: BTreeMap<u64, Sequence<Finalization>>,

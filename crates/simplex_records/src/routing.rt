@@ -101,7 +101,7 @@ fn body_view(alloc: Global, body: &ResolverBody) -> Result<u64, AllocError>
     }
 }
 
-// The nodes that a send goes to, at the view.
+// The nodes that a send goes to, at the view. [in-the-order-named]
 fn nodes_for(
     alloc: Global,
     setup: &Setup,
@@ -187,7 +187,7 @@ fn add_routed(
     Ok(())
 }
 
-// Whether it goes from the one node to the other at the view.
+// Whether it goes from the one node to the other at the view. [scripts-are-one-test]
 fn is_routed(setup: &Setup, view: u64, from: Node, to: Node) -> bool
     ensures { result ≡ routing.is_routed setup.now view from to }
 {

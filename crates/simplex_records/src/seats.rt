@@ -4,7 +4,7 @@ ghost use Rattle.simplex_records.specs.Seats as seats;
 
 use simplex_transcript::Node;
 
-/// Where the node sits: both halves of a member side by side, member by member.
+/// Where the node sits: both halves of a member side by side, member by member. [two-seats]
 pub fn seat_of(node: Node) -> usize
     requires half { node.half < 2 }
     requires member { node.member < 2 ^ 63 }

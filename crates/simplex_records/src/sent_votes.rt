@@ -7,7 +7,6 @@ ghost use Rattle.simplex_values.specs.declared.proposal.Subject.{Subject};
 ghost use Rattle.simplex_wire.specs.Format.{whole};
 ghost use Rattle.simplex_wire.specs.Message as format;
 ghost use Rattle.simplex_wire.specs.ResolverMessage.{resolver_message};
-ghost use Rattle.simplex_wire.specs.Fields.{certificate_signatures};
 ghost use Rattle.model_run.specs.Kinds.{are_honest};
 ghost use Rattle.model_run.specs.Forged as forged;
 ghost use Rattle.model_run.specs.Forged.{signed};
@@ -19,12 +18,11 @@ use crate::kinds::{is_faulty_member, is_honest};
 use crate::reading::{certificate_in, message_in, vote_in};
 use crate::subjects::Subjects;
 use simplex_transcript::{Packet, Setup};
-use simplex_types::{
-    Attestation, Certificate, Channel, Keyed, ResolverBody, Scheme, Signatures, Subject,
-};
+use simplex_types::{Attestation, Certificate, Channel, Keyed, ResolverBody, Scheme, Subject};
 use std::alloc::{AllocError, Global};
 
 /// For each member the subjects that it voted for, where it is honest, and how its signatures are verified.
+/// [sent-votes-where-needed]
 #[derive(Drop)]
 pub(crate) struct SentVotes {
     pub(crate) scheme: Keyed,
@@ -65,7 +63,7 @@ impl SentVotes {
         Ok(())
     }
 
-    /// The first attestation in packets of faulty members that is forged.
+    /// The first attestation in packets of faulty members that is forged. [forged]
     pub(crate) fn first_forged(
         &self,
         alloc: Global,
@@ -134,7 +132,7 @@ impl SentVotes {
             Some(certificate) => Ok(self.forged_among(
                 setup,
                 &certificate.subject(),
-                signatures_of(&certificate).as_slice(),
+                certificate.signatures().as_slice(),
             )),
         }
     }
@@ -243,15 +241,4 @@ fn blank_members(alloc: Global, count: usize) -> Result<Vec<Subjects>, AllocErro
         members.push(Subjects::new(alloc))?;
     }
     Ok(members)
-}
-
-// The signatures of the certificate.
-fn signatures_of(certificate: &Certificate) -> &Signatures
-    ensures { result.now ≡ certificate_signatures certificate.now }
-{
-    match certificate {
-        Certificate::Notarization(it) => &it.certificate,
-        Certificate::Nullification(it) => &it.certificate,
-        Certificate::Finalization(it) => &it.certificate,
-    }
 }

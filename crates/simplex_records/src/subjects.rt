@@ -11,6 +11,7 @@ ghost use Rattle.simplex_round.specs.Votes as votes;
 ghost use Rattle.simplex_records.specs.Votes.{vote_in, is_on, subject_view, has_subject};
 
 use crate::reading::vote_in;
+use simplex_round::is_same_subject;
 use simplex_transcript::Packet;
 use simplex_types::{Channel, Sequence, Subject, Vote};
 use std::alloc::{AllocError, Global};
@@ -101,19 +102,7 @@ fn view_of(subject: &Subject) -> u64
 fn holds(subjects: &[Subject], subject: &Subject) -> bool
     ensures { result ≡ list_any (λ other. votes.is_same_subject other subject.now) subjects.now }
 {
-    subjects.iter().any(|other| is_same(other, subject))
-}
-
-// Whether both are one.
-fn is_same(a: &Subject, b: &Subject) -> bool
-    ensures { result ≡ votes.is_same_subject a.now b.now }
-{
-    match (a, b) {
-        (Subject::Notarize(p), Subject::Notarize(q)) => p.is_same(q),
-        (Subject::Nullify(r), Subject::Nullify(s)) => r == s,
-        (Subject::Finalize(p), Subject::Finalize(q)) => p.is_same(q),
-        _ => false,
-    }
+    subjects.iter().any(|other| is_same_subject(other, subject))
 }
 
 // Puts the subject behind those of its view.

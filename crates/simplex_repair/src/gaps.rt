@@ -16,7 +16,7 @@ use simplex_values::{TermLength, View};
 use std::alloc::AllocError;
 
 impl RepairState {
-    /// Asks for the gaps behind one view and up to another, in rising order.
+    /// Asks for the gaps behind one view and up to another, in rising order. [asked-once-lacking]
     pub(crate) fn fetch(
         &self,
         behind: View,

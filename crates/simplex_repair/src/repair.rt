@@ -19,7 +19,7 @@ use std::collections::{BTreeMap, BTreeSet};
 
 /// What a member holds for others, and which nullifications it lacks.
 ///
-/// After an answer other than Ok a repair state may only be dropped.
+/// After an answer other than Ok a repair state may only be dropped. [fields-within-the-crate]
 #[derive(Drop)]
 pub struct RepairState {
     pub(crate) alloc: Global,
@@ -115,7 +115,7 @@ impl RepairState {
         }
     }
 
-    /// The certificate for one who asks for the view.
+    /// The certificate for one who asks for the view. [smallest-nullification]
     #[tactic(auto, unfolding(crate::specs::Stands::StandsFor, model_rules::specs::Repair::produced), using(crate::proofs::Held::above_open))]
     fn certificate_for(&self, view: View) -> Result<Option<Certificate>, AllocError>
         ensures { IfOk result (λ it. Answers self.now (λ length calls. produced length calls view) it) }

@@ -65,7 +65,7 @@ impl<R1, R2> From<(R1, R2)> for Pair<R1, R2> {
 /// is not told, and where both are all is well.
 ///
 /// Where both are there the first is told of a copy. Where memory is wanting for it, neither was told; where
-/// it is wanting in the second, the first was.
+/// it is wanting in the second, the first was. [reporters-copy]
 #[derive(Drop)]
 pub struct Reporters<R1, R2> {
     alloc: Global,

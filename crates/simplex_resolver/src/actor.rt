@@ -135,7 +135,7 @@ impl<S: Scheme + Drop> Actor<S> {
     }
 }
 
-/// How the fetcher is set up. That of no member asks as member 0.
+/// How the fetcher is set up. That of no member asks as member 0. [no-member-asks-as-0]
 #[tactic(auto, unfolding(crate::specs::Stands::resolver_made))]
 fn fetch_config<S: Scheme>(config: &Config<S>) -> FetchConfig
     requires timeout { config.now.fetch_timeout ≤ 2 ^ 62 }

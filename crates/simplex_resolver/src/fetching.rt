@@ -11,7 +11,7 @@ use simplex_types::{Ask, Kind, Outcome, Participant, Scheme, View};
 use std::alloc::AllocError;
 
 impl<S: Scheme + Drop> Actor<S> {
-    /// Nothing is done where the fetcher has no numbers left.
+    /// Nothing is done where the fetcher has no numbers left. [resolver-runs-out]
     fn want_room(&self) -> Result<(), AllocError>
         ensures { OnOk result ((self.now.fetcher.next_id < 2 ^ 62) × (self.now.fetcher.next_serve < 2 ^ 62)) }
     {
@@ -80,7 +80,7 @@ impl<S: Scheme + Drop> Actor<S> {
         Ok(())
     }
 
-    /// These are asked for, of any member.
+    /// These are asked for, of any member. [gaps-in-order]
     #[tactic(auto, unfolding(model_resolver::specs::Resolver::fetching))]
     pub(crate) fn fetch_all(
         &mut self,

@@ -9,19 +9,8 @@ ghost use Rattle.simplex_resolver.specs.Stands.{Does, Reads};
 use crate::actor::Actor;
 use crate::work::Work;
 use simplex_messages::{Handed, voter};
-use simplex_types::{Ask, Certificate, DecodeError, Outcome, Resolution, Scheme, Signatures, View};
+use simplex_types::{Ask, Certificate, DecodeError, Outcome, Resolution, Scheme, View};
 use std::alloc::AllocError;
-
-/// The signatures of the certificate.
-fn signatures_of(certificate: &Certificate) -> &Signatures
-    ensures { result.now ≡ certificate_signatures certificate.now }
-{
-    match certificate {
-        Certificate::Notarization(it) => &it.certificate,
-        Certificate::Nullification(it) => &it.certificate,
-        Certificate::Finalization(it) => &it.certificate,
-    }
-}
 
 /// The verdict where so many of all asks were settled before, and so many are after.
 #[tactic(auto, unfolding(model_resolver::specs::Resolver::verdict_of))]
@@ -61,7 +50,7 @@ impl<S: Scheme + Drop> Actor<S> {
         let subject = certificate.subject();
         self.config
             .scheme
-            .verify_certificate(&subject, signatures_of(certificate))
+            .verify_certificate(&subject, certificate.signatures())
     }
 
     /// Whether the certificate is an answer for the view.
@@ -188,7 +177,7 @@ impl<S: Scheme + Drop> Actor<S> {
         self.accept(id, view, asks, certificate, now, work)
     }
 
-    /// An answer's bytes, which are not read where nothing is left to settle.
+    /// An answer's bytes, which are not read where nothing is left to settle. [verdict-first]
     #[tactic(auto, unfolding(model_resolver::specs::Resolver::delivered))]
     pub(crate) fn deliver(
         &mut self,

@@ -7,7 +7,7 @@ use crate::votes::is_same_subject;
 use simplex_values::Subject;
 use simplex_wire::Vote;
 
-/// An accepted vote, and what checking its signature found.
+/// An accepted vote, and what checking its signature found. [invalid-stays-accepted]
 #[derive(Clone, Copy, Debug, PartialEq, Eq)]
 pub struct Ballot {
     /// The vote.

@@ -77,7 +77,7 @@ impl Round {
         Ok(Round::empty(alloc, round, n, q, false))
     }
 
-    /// A round of `n` members that never assembles a certificate.
+    /// A round of `n` members that never assembles a certificate. [skipped-rounds]
     pub fn skipped(alloc: Global, round: ViewRound, n: u32) -> Result<Round, AllocError>
         ensures { IfOk result (λ made. StandsFor made (record { round = round; members = n; quorum = 0; skipped = true }) []) }
     {
@@ -127,7 +127,7 @@ impl Round {
     }
 
     /// Takes an own vote, which has no sender. For want of memory the round stays as it was, and `out` may have
-    /// what was to be reported or blocked.
+    /// what was to be reported or blocked. [round-stays]
     pub fn accept_vote(&mut self, vote: Vote, out: &mut RoundOut) -> Result<(), AllocError>
         ensures stands { OnOk result (Takes self.old self.new (AcceptVote vote)) }
         ensures reports { OnOk result (AddsReports self.old out.old out.new (λ known. heard known vote)) }
@@ -221,7 +221,7 @@ impl Round {
         }
     }
 
-    /// Gives evidence against the signer and blocks it, once for each kind.
+    /// Gives evidence against the signer and blocks it, once for each kind. [evidence-once-a-round]
     #[tactic(auto, unfolding(crate::specs::Acceptance::accused))]
     fn accuse(
         &mut self,
@@ -247,7 +247,7 @@ impl Round {
     // ---- certificates and the proposal
 
     /// Takes a certificate: whether it gives the round its first proposal, or another than before. Where one of
-    /// its kind is held nothing changes.
+    /// its kind is held nothing changes. [held-certificate-stays]
     #[tactic(auto, unfolding(crate::specs::Stands::StandsFor, crate::specs::Calls::known_after, crate::specs::Calls::after_call, crate::specs::Forwarding::gives_proposal))]
     pub fn record_certificate(
         &mut self,

@@ -17,7 +17,7 @@ use std::sync::Wait;
 const LOOKS: u32 = 500;
 
 /// A value that threads use in turns: word 0 of the table is the length of its history, word 1 counts the tickets
-/// drawn, word 2 those served, and the slot has the value.
+/// drawn, word 2 those served, and the slot has the value. [tickets]
 #[derive(Drop)]
 pub struct Lock<D: Logged<E>, E> {
     /// The words, the slot, and what each seat knows.

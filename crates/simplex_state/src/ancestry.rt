@@ -95,6 +95,7 @@ impl<S: Scheme + Drop, L: Elector + Drop> State<S, L> {
     }
 
     /// Whether the parent is the view just before, and the member voted for it and did not give it up.
+    /// [met-by-own-vote]
     #[tactic(auto, unfolding(crate::specs::Stands::StandsFor, crate::specs::Rounds::round_of, crate::specs::Rounds::slot_in, model_rules::specs::Slot::slot_of, model_rules::specs::Ancestry::is_met))]
     pub(crate) fn is_met(&self, parent: View, view: View) -> bool
         ensures { (made : Made) (known : List Fact) → Keeps S.attests L.elects self.now made known
@@ -106,7 +107,7 @@ impl<S: Scheme + Drop, L: Elector + Drop> State<S, L> {
             && !self.has_given_up(parent)
     }
 
-    /// The least view strictly between that no known nullification covers.
+    /// The least view strictly between that no known nullification covers. [runs-of-terms]
     pub(crate) fn gap_between(&self, parent: View, view: View) -> Option<View>
         ensures { (made : Made) (known : List Fact) → Keeps S.attests L.elects self.now made known
             → (progress_of made known).pruned ≤ parent → result ≡ gap_between made known parent view }

@@ -103,7 +103,7 @@ impl<S: Scheme + Drop, L: Elector + Drop> State<S, L> {
         self.admits_certificate(view) && round_at(&self.rounds, view.0).finalized.is_none()
     }
 
-    /// The leader of the proposal's view, where its slot names another proposal.
+    /// The leader of the proposal's view, where its slot names another proposal. [leader-is-told]
     pub(crate) fn contradicted_leader(&self, proposal: &Proposal) -> Option<Participant>
         ensures { (made : Made) (calls : List Call) → StandsFor S.attests L.elects self.now made calls
             → (progress_of made (known_of made calls)).pruned ≤ proposal.now.round.view

@@ -152,7 +152,7 @@ impl<S: Scheme + Drop, L: Elector + Drop> State<S, L> {
         self.progress.current < view && is_failure(reason)
     }
 
-    /// The view expires now.
+    /// The view expires now. [first-expiry]
     fn expire(&mut self, view: View, reason: TimeoutReason, now: u64) -> Result<(), AllocError>
         ensures { OnOk result ((made : Made) (known : List Fact) → Keeps S.attests L.elects self.old made known
             → expires made known view reason ≡ true

@@ -41,6 +41,7 @@ impl<S: Scheme + Drop, L: Elector + Drop> State<S, L> {
     }
 
     /// Forgets the views below the least active one, which it answers where that rose since the last prune.
+    /// [states-forget]
     pub fn prune(&mut self) -> Option<View>
         ensures stands { Takes S.attests L.elects self.old self.new Prune }
         ensures answer { Answers S.attests L.elects self.old (λ made known. prune_answer made known) result }
@@ -66,7 +67,7 @@ impl<S: Scheme + Drop, L: Elector + Drop> State<S, L> {
         self.keep_finalization(finalization, now)
     }
 
-    /// Takes the view's payload for final.
+    /// Takes the view's payload for final. [floor-is-final]
     fn know_floor(&mut self, view: View, payload: &Digest) -> Result<(), AllocError>
         ensures { OnOk result ((made : Made) (known : List Fact) → Keeps S.attests L.elects self.old made known
             → Keeps S.attests L.elects self.new made (FloorAt view payload.now ∷ known)) }

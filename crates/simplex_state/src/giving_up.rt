@@ -21,6 +21,7 @@ use std::alloc::AllocError;
 
 impl<S: Scheme + Drop, L: Elector + Drop> State<S, L> {
     /// Gives the current view up, where the scheme signs it. The answer tells whether that is a repeat.
+    /// [unsigned-nullify]
     #[tactic(auto, unfolding(crate::specs::Stands::StandsFor, model_rules::specs::Calls::known_of, model_rules::specs::Calls::facts_of, model_rules::specs::Calls::construct_nullify_answer))]
     pub fn construct_nullify(
         &mut self,
@@ -110,6 +111,7 @@ impl<S: Scheme + Drop, L: Elector + Drop> State<S, L> {
     }
 
     /// Puts the current view to those given up before, where it is given up: another may become current.
+    /// [given-up-for-good]
     pub(crate) fn put_away(&mut self) -> Result<(), AllocError>
         ensures kept { OnOk result ((made : Made) (known : List Fact) → Keeps S.attests L.elects self.old made known → Keeps S.attests L.elects self.new made known) }
         ensures away { OnOk result (self.new.gave_up ≡ false) }

@@ -10,7 +10,7 @@ use simplex_values::{Kind, View};
 use std::alloc::{AllocError, Global};
 use std::collections::BTreeSet;
 
-/// What was asked for: the views of proposals, each with the view of a missing certificate.
+/// What was asked for: the views of proposals, each with the view of a missing certificate. [asked-as-missing]
 #[derive(Debug, Drop)]
 pub(crate) struct Missing {
     notarizations: BTreeSet<(u64, u64)>,

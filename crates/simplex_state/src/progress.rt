@@ -39,7 +39,7 @@ impl Progress {
         }
     }
 
-    /// Moves on to the view, where it is later than the current one.
+    /// Moves on to the view, where it is later than the current one. [entered-in-a-step]
     #[tactic(auto, unfolding(crate::specs::Progress::opens))]
     pub(crate) fn open(&mut self, view: View, length: TermLength, now: u64)
         ensures { self.new ≡ opens length view now self.old }

@@ -50,7 +50,7 @@ impl<S: Scheme + Drop, L: Elector + Drop> State<S, L> {
         Ok(true)
     }
 
-    /// Takes it that the application verified the proposal that it was asked to verify.
+    /// Takes it that the application verified the proposal that it was asked to verify. [checked-as-asked]
     pub fn verified(&mut self, view: View) -> Result<(), AllocError>
         ensures { OnOk result (Takes S.attests L.elects self.old self.new (Verified view)) }
     {

@@ -19,7 +19,7 @@ use std::alloc::AllocError;
 impl<S: Scheme + Drop, L: Elector + Drop> State<S, L> {
     /// Takes a record of the journal for known: own votes as own, certificates as sent, and a verdict with the
     /// failure that a false one is. The answer is the leader to block: where the slot named another proposal
-    /// than the certificate, and its view was not forgotten.
+    /// than the certificate, and its view was not forgotten. [old-records]
     pub fn replay(
         &mut self,
         artifact: Artifact,
@@ -156,7 +156,7 @@ impl<S: Scheme + Drop, L: Elector + Drop> State<S, L> {
         Ok(())
     }
 
-    /// Takes a verdict, where one on its view is taken.
+    /// Takes a verdict, where one on its view is taken. [kept-verdicts]
     fn replay_verdict(&mut self, view: View, good: bool, now: u64) -> Result<(), AllocError>
         requires clock { now < 2 ^ 63 }
         ensures { OnOk result ((made : Made) (calls : List Call) → StandsFor S.attests L.elects self.old made calls

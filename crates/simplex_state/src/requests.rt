@@ -55,7 +55,7 @@ impl<S: Scheme + Drop, L: Elector + Drop> State<S, L> {
         None
     }
 
-    /// What to ask the application to propose.
+    /// What to ask the application to propose. [no-handoff-no-candidate]
     #[tactic(auto, using(crate::proofs::Walking::parent_above), unfolding(crate::specs::Stands::StandsFor, model_rules::specs::Views::least_active, model_rules::specs::Requests::proposal_request, model_rules::specs::Requests::request_at, model_rules::specs::Requests::request_on))]
     fn proposal_request(&self) -> Option<ProposalRequest>
         ensures { Answers S.attests L.elects self.now (λ made known. proposal_request made known) result }
@@ -92,6 +92,7 @@ impl<S: Scheme + Drop, L: Elector + Drop> State<S, L> {
 
     /// The first admitted view in which the member may propose. Ahead of the current view only a view whose
     /// parent has the member's vote can be it, so the walk goes over the views of which something is known.
+    /// [own-parent-ahead]
     #[tactic(auto, unfolding(crate::specs::Stands::StandsFor, crate::specs::Progress::progress_of, model_rules::specs::Views::least_active, model_rules::specs::Requests::admitted_views))]
     fn first_admitted(&self) -> Option<View>
         ensures { Answers S.attests L.elects self.now (λ made known. find (may_propose made known) (admitted_views made known)) result }

@@ -20,7 +20,7 @@ use simplex_wire::{Finalization, Notarization, Nullification, Scheme};
 use std::alloc::{AllocError, Global};
 use std::collections::{BTreeMap, BTreeSet};
 
-/// What one member knows.
+/// What one member knows. [fields-within-the-crate]
 #[derive(Drop)]
 pub struct State<S, L> {
     pub(crate) alloc: Global,

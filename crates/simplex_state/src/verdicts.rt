@@ -39,7 +39,7 @@ impl<S: Scheme + Drop, L: Elector + Drop> State<S, L> {
         Ok(notarization)
     }
 
-    /// Whether the parent's view is the last final one, or a later one with a true verdict.
+    /// Whether the parent's view is the last final one, or a later one with a true verdict. [parent-by-view]
     pub fn parent_certified(&self, parent: Parent) -> bool
         ensures answer { Answers S.attests L.elects self.now (λ made known. is_certified known parent.view) result }
     {
@@ -91,7 +91,7 @@ impl<S: Scheme + Drop, L: Elector + Drop> State<S, L> {
         Ok(())
     }
 
-    /// Takes a false verdict.
+    /// Takes a false verdict. [replayed-failures]
     fn reject(&mut self, view: View, now: u64) -> Result<(), AllocError>
         requires clock { now < 2 ^ 63 }
         ensures { OnOk result ((made : Made) (known : List Fact) → Keeps S.attests L.elects self.old made known

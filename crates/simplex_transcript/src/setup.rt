@@ -1,4 +1,7 @@
 //! What a run is set up with.
+ghost use Rattle.std.specs.Prelude.{◌≡◌};
+ghost use Rattle.simplex_transcript.specs.Usual.{usual};
+
 use simplex_types::{ForwardPolicy, Keep, Sequence, SkipPolicy};
 use std::alloc::{AllocError, Global};
 
@@ -93,6 +96,36 @@ pub struct Setup {
     pub fetch_retry: u64,
     /// The scripted rounds of twins, for the first terms; none: nothing is scripted.
     pub scenario: Sequence<SetupRound>,
+}
+
+impl Setup {
+    /// A setup of these members with what suits most tries: terms of one view, in which nobody works ahead; a leader has a second,
+    /// a view two, and a nullify is sent again after half a second; ten views are kept below the last final one, and a peer has a
+    /// second for an answer. No view is skipped, nothing forwarded, and nothing scripted.
+    pub fn usual(alloc: Global, members: Vec<MemberKind>) -> Setup
+        ensures { result ≡ usual members.items }
+    {
+        Setup {
+            epoch: 0,
+            key_base: 1,
+            members: Sequence::from_vec(members),
+            term: 1,
+            lookahead: 0,
+            leader_timeout: 1000,
+            certification_timeout: 2000,
+            retry: 500,
+            stall: None,
+            retention: 10,
+            skip: SkipPolicy::Disabled,
+            forward: ForwardPolicy::Disabled,
+            mailbox: 16,
+            track: false,
+            handoff: false,
+            fetch_timeout: 1000,
+            fetch_retry: 100,
+            scenario: Sequence::new(alloc),
+        }
+    }
 }
 
 impl Keep for Setup {

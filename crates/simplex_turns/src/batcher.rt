@@ -12,11 +12,12 @@ ghost use Rattle.simplex_batcher.specs.Stands.{Takes, Answers};
 ghost use Rattle.simplex_turns.specs.Batching.{batcher_input, heard_on};
 ghost use Rattle.simplex_turns.specs.Handing.{PutsBehind};
 
-use crate::blocking::{is_among, note_blocks};
+use crate::blocking::note_blocks;
 use crate::feed::Delivery;
 use crate::handing::put_all;
 use crate::mailboxes::Mailboxes;
 use simplex_batcher::Actor;
+use simplex_fetch::is_among;
 use simplex_mailbox::{Gate, Held};
 use simplex_messages::{BatcherInput, StepOut, batcher, voter};
 use simplex_shared::Pass;
@@ -25,7 +26,7 @@ use std::alloc::{AllocError, Global};
 use std::collections::{BTreeSet, VecDeque};
 use std::sync::Wait;
 
-/// A batcher between two of its turns.
+/// A batcher between two of its turns. [time-stands-still]
 #[derive(Drop)]
 pub struct BatcherThread<S: Scheme> {
     /// Where it takes memory.
@@ -135,7 +136,7 @@ impl<S: Scheme + Drop> BatcherThread<S> {
 fn heard(blocked: &BTreeSet<u32>, delivery: Delivery) -> Option<BatcherInput>
     ensures { result ≡ batcher_input blocked.now.keys delivery }
 {
-    if is_among(blocked, delivery.sender) {
+    if is_among(blocked, &delivery.sender) {
         return None;
     }
     input_of(delivery)

@@ -8,13 +8,6 @@ use simplex_types::Participant;
 use std::alloc::AllocError;
 use std::collections::BTreeSet;
 
-/// Whether the member is among the blocked.
-pub(crate) fn is_among(blocked: &BTreeSet<u32>, member: Participant) -> bool
-    ensures { result ≡ holds_member blocked.now.keys member }
-{
-    blocked.contains(&member.0)
-}
-
 /// The members that these calls block are among the blocked.
 pub(crate) fn note_blocks(blocked: &mut BTreeSet<u32>, calls: &[Call]) -> Result<(), AllocError>
     ensures { OnOk result ((q : ℕ) → holds_member blocked.new.keys q ≡ holds_member (blocked_by_calls calls.now ++ blocked.old.keys) q) }

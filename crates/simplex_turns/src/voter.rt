@@ -75,7 +75,7 @@ impl<S: Scheme + Drop, L: Elector + Drop, J: Journal + Drop> VoterThread<S, L, J
     }
 
     /// Takes a message, else a held payload whose parent is certified, else the next item of its feed, and makes a step on
-    /// it. May wait.
+    /// it. May wait. [turns-take-once]
     fn turn<R: Wait>(&mut self, rt: &R, boxes: &Mailboxes) -> Result<(Outcome, StepOut), AllocError>
         requires clock { (self.old.now < 2 ^ 63) × All IsInTime self.old.feed.items }
         requires own { (self.old.own.mailbox ≡ boxes.now.voter) × (self.old.batcher.mailbox ≡ boxes.now.batcher) × (self.old.resolver.mailbox ≡ boxes.now.resolver) }
@@ -140,6 +140,7 @@ impl<S: Scheme + Drop, L: Elector + Drop, J: Journal + Drop> VoterThread<S, L, J
     }
 
     // Answers the oldest open request of this kind that has no answer, and tells the source of the step that takes it.
+    // [oldest-open-request]
     fn reply(&mut self, kind: AskKind, answer: Answer) -> Option<VoterInput>
         ensures clock { (self.new.now ≡ self.old.now) × (self.new.feed ≡ self.old.feed) }
         ensures keeps { KeepsVoter self.old self.new }

@@ -1,6 +1,6 @@
 //! Why members are blocked.
 
-/// Why a member is blocked.
+/// Why a member is blocked. [cause-numbers]
 #[derive(Clone, Copy, Debug, PartialEq, Eq)]
 pub enum BlockCause {
     /// Its bytes do not decode.

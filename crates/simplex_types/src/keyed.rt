@@ -11,7 +11,7 @@ use std::alloc::{AllocError, Global};
 
 /// The scheme of a member, or of one who only verifies. A member's key is the SHA-256 digest of a common
 /// base and its number, and its signature that of the key and the subject's bytes. So it is no secret: the
-/// scheme is for runs on a test bench, where whoever makes the run holds all keys.
+/// scheme is for runs on a test bench, where whoever makes the run holds all keys. [keys-made-once]
 #[derive(Debug, Drop)]
 pub struct Keyed {
     /// What all keys are made from.

@@ -68,6 +68,7 @@ impl Elector for RoundRobinElector {
         self.terms
     }
 
+    // [leaders-in-turn]
     #[tactic(auto, unfolding(crate::specs::RoundRobin::leader_of))]
     fn elect(&self, round: Round) -> Participant {
         let n = u128::from(self.members);

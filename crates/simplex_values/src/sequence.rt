@@ -9,7 +9,7 @@ use crate::member::Participant;
 use std::alloc::{AllocError, AllocFailed, Global};
 use std::marker::Model;
 
-/// A list that is a part of a message or a record. Contracts see the items alone.
+/// A list that is a part of a message or a record. Contracts see the items alone. [sequences]
 #[derive(Debug, Drop)]
 pub struct Sequence<T> {
     items: Vec<T>,

@@ -55,7 +55,7 @@ impl fmt::Display for View {
 }
 
 impl View {
-    /// The view behind this one.
+    /// The view behind this one. [views-end]
     #[tactic(auto, unfolding(crate::specs::Terms::next_of))]
     pub fn next(self) -> View
         ensures { result ≡ next_of self }
@@ -110,7 +110,7 @@ impl View {
         View(self.term_index(length).saturating_mul(length.get()))
     }
 
-    /// The first view of the next term.
+    /// The first view of the next term. [views-end]
     #[tactic(auto, unfolding(crate::specs::Terms::next_term_start))]
     pub fn next_term_start(self, length: TermLength) -> View
         ensures { result ≡ next_term_start length self }

@@ -58,7 +58,7 @@ fn make_calls<J: Journal>(
     Ok(None)
 }
 
-// A call of the journal at this place failed, if one did.
+// A call of the journal at this place failed, if one did. [calls-before-the-stop]
 fn broken_off(failed: Option<usize>) -> Option<Break>
     ensures { result ≡ option_map (λ place. record { place = place; outcome = outcomes.Journal }) failed }
 {
@@ -180,7 +180,7 @@ fn list_made(out: &mut StepOut, planned: StepOut, count: usize)
     out.calls = Sequence::from_vec(calls);
 }
 
-/// Performs what was planned, up to where the stop ends it, and lists what was done.
+/// Performs what was planned, up to where the stop ends it, and lists what was done. [stops-by-the-journal]
 pub(crate) fn settle<J: Journal>(
     journal: &mut J,
     alloc: Global,

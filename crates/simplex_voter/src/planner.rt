@@ -185,7 +185,7 @@ impl<S: Scheme + Drop, L: Elector + Drop> Planner<S, L> {
         Ok(())
     }
 
-    /// The leader whose proposal a certificate contradicts is blocked, if there is one.
+    /// The leader whose proposal a certificate contradicts is blocked, if there is one. [leader-is-blocked]
     pub(crate) fn block(&mut self, leader: Option<Participant>) -> Result<(), AllocError>
         ensures { OnOk result (Does S.attests L.elects self.old self.new (λ made. block_for leader)) }
     {

@@ -88,7 +88,7 @@ impl<S: Scheme + Drop, L: Elector + Drop> Planner<S, L> {
         Ok(())
     }
 
-    // The own nullify is sent, and behind it, where it is a repeat, the best certificate.
+    // The own nullify is sent, and behind it, where it is a repeat, the best certificate. [repeated-is-published]
     #[tactic(auto, unfolding(crate::specs::Stands::doing_of, model_steps::specs::Voter::publish_nullify))]
     fn publish_nullify(&mut self) -> Result<(), AllocError>
         ensures { OnOk result (Does S.attests L.elects self.old self.new (λ made. publish_nullify)) }

@@ -17,7 +17,7 @@ use std::alloc::AllocError;
 
 #[tactic(auto, unfolding(crate::specs::Stands::doing_of))]
 impl<S: Scheme + Drop, L: Elector + Drop> Planner<S, L> {
-    // The request of this number is listed as dropped.
+    // The request of this number is listed as dropped. [dropped-were-open]
     fn drop_number(&mut self, number: u64) -> Result<(), AllocError>
         ensures { OnOk result (Does S.attests L.elects self.old self.new (λ made. on_desk (λ desk. drop_number desk number))) }
     {
@@ -46,7 +46,7 @@ impl<S: Scheme + Drop, L: Elector + Drop> Planner<S, L> {
             || self.state.supersede_proposal_request(&pending.context)
     }
 
-    // A pending proposal that is stale is dropped.
+    // A pending proposal that is stale is dropped. [superseded-stays-asked]
     #[tactic(auto, unfolding(crate::specs::Stands::doing_of, model_rules::specs::Pending::drop_proposal))]
     fn drop_proposal(&mut self) -> Result<(), AllocError>
         ensures { OnOk result (Does S.attests L.elects self.old self.new (λ made. on_desk (drop_proposal made))) }
@@ -128,7 +128,7 @@ impl<S: Scheme + Drop, L: Elector + Drop> Planner<S, L> {
         Ok(())
     }
 
-    // The number of the next request; they run out as memory does.
+    // The number of the next request; they run out as memory does. [numbers-run-out]
     fn next_number(&self) -> Result<u64, AllocError>
         ensures { IfOk result (λ next. next ≡ self.now.opened + 1) }
     {
@@ -220,7 +220,7 @@ impl<S: Scheme + Drop, L: Elector + Drop> Planner<S, L> {
         Ok(())
     }
 
-    // A proposal is given to verify, or what it lacks is sought.
+    // A proposal is given to verify, or what it lacks is sought. [one-verification]
     fn follow_verify(&mut self, request: &Verify) -> Result<(), AllocError>
         requires none { self.old.verify ≡ None }
         ensures { OnOk result (Does S.attests L.elects self.old self.new (λ made. on_desk (with_verify request.now))) }
@@ -256,7 +256,7 @@ impl<S: Scheme + Drop, L: Elector + Drop> Planner<S, L> {
         Ok(())
     }
 
-    /// The proposal and the Verify are brought up to date.
+    /// The proposal and the Verify are brought up to date. [requests-as-a-whole]
     #[tactic(auto, unfolding(model_rules::specs::Pending::reconciled))]
     pub(crate) fn reconcile(&mut self, now: u64) -> Result<(), AllocError>
         requires clock { now < 2 ^ 63 }

@@ -14,7 +14,7 @@ use std::alloc::{AllocError, Global};
 
 #[tactic(auto, unfolding(crate::specs::Stands::doing_of))]
 impl<S: Scheme + Drop, L: Elector + Drop> Planner<S, L> {
-    // The floor is told to the resolver and the reporter.
+    // The floor is told to the resolver and the reporter. [floor-before-journal]
     fn tell_floor(&mut self, floor: &Floor) -> Result<(), AllocError>
         ensures { OnOk result (Does S.attests L.elects self.old self.new (λ made. tell_floor floor.now)) }
     {
@@ -102,7 +102,7 @@ impl<S: Scheme + Drop, L: Elector + Drop> Planner<S, L> {
         Ok(())
     }
 
-    // A kept record is known again.
+    // A kept record is known again. [first-record-counts]
     fn replay_record(&mut self, artifact: &Artifact, now: u64) -> Result<(), AllocError>
         requires clock { now < 2 ^ 63 }
         ensures { OnOk result (Restores S.attests L.elects self.old self.new (λ made doing. replay_record made now doing artifact.now)) }

@@ -154,7 +154,7 @@ impl<S: Scheme + Drop, L: Elector + Drop> Planner<S, L> {
         }
     }
 
-    // What its source holds is taken; none where that is nothing.
+    // What its source holds is taken; none where that is nothing. [early-end-skips-the-end]
     fn act(&mut self, input: VoterInput, now: u64) -> Result<Option<Touched>, AllocError>
         requires clock { now < 2 ^ 63 }
         ensures { IfOk result (Acts S.attests L.elects self.old self.new (λ made s. acted made now s input)) }

@@ -23,7 +23,7 @@ use std::alloc::{AllocError, Global};
 
 /// The room that is taken before anything is written: the most bytes that a vote or its record may need, which is
 /// also more than stands in a certificate before its signatures. A tag, three numbers of 64 bits, a payload, a
-/// signer's number and a signature.
+/// signer's number and a signature. [room-at-once]
 const ROOM: usize = 1 + 3 * 10 + 32 + 5 + 32;
 
 fn whole_vote(bytes: &[u8]) -> Result<Vote, DecodeError>

@@ -103,6 +103,7 @@ impl<'a> Reader<'a> {
     }
 
     /// The number at the front, if it has one byte or two, as most numbers have: what `number_at` would read.
+    /// [one-spelling]
     #[tactic(auto, unfolding(crate::specs::Number::number_from))]
     fn short_number(&mut self) -> Option<u64>
         ensures read { IfSome result (λ n. (place most : ℕ) → 2 ^ 14 ≤ most → number_from place most self.old.bytes ≡ Ok (n, self.new.bytes)) }
@@ -150,7 +151,7 @@ impl<'a> Reader<'a> {
         Ok(value as u32)
     }
 
-    /// The 32 bytes at the front, where they lie.
+    /// The 32 bytes at the front, where they lie. [lent-digests]
     fn bytes32(&mut self) -> Result<&'a [u8; 32], DecodeError>
         ensures { GivesBy (λ x. (x.now, self.new)) result ((raw 32).reading self.old) }
     {
@@ -249,7 +250,7 @@ impl<'a> Reader<'a> {
         }
     }
 
-    /// The attestation at the front, whose signer is to be at least this.
+    /// The attestation at the front, whose signer is to be at least this. [one-spelling]
     #[tactic(auto, unfolding(crate::specs::Message::attestation_from))]
     fn attestation_from(&mut self, least: u64) -> Result<Attestation, DecodeError>
         ensures { Gives self.new result (attestation_from least self.old) }
@@ -366,7 +367,7 @@ impl<'a> Reader<'a> {
         }
     }
 
-    /// Eight bytes, the highest first.
+    /// Eight bytes, the highest first. [long-responses]
     fn wide(&mut self) -> Result<u64, DecodeError>
         ensures { Gives self.new result (wide.reading self.old) }
     {

@@ -254,7 +254,7 @@ fn push_counted(out: &mut Vec<u8>, bytes: &[u8]) -> Result<(), AllocError>
     out.extend_from_slice(bytes)
 }
 
-/// Writes eight bytes, the highest first.
+/// Writes eight bytes, the highest first. [long-responses]
 fn push_wide(out: &mut Vec<u8>, number: u64) -> Result<(), AllocError>
     ensures { OnOk result (out.new.items ≡ out.old.items ++ wide.spelling number) }
 {

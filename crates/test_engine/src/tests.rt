@@ -4,7 +4,5 @@ mod behind;
 mod blocks;
 mod failures;
 mod limits;
-mod papers;
 mod peers;
 mod seat;
-mod untold;

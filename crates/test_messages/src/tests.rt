@@ -13,6 +13,7 @@ use std::fmt::Debug;
 use std::process::Abort;
 use std::test::Fail;
 
+mod copies;
 mod pairs;
 
 fn round(view: u64) -> Round {

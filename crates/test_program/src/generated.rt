@@ -4,8 +4,8 @@ use simplex_generator::gen_run;
 use simplex_io::{MemorySink, MemorySource};
 use simplex_network::run_network;
 use simplex_program::{Exit, program};
-use simplex_transcript::{Event, Node, Ref, RunError, StepSource};
-use simplex_types::{Answer, Digest, Handoff, Sequence};
+use simplex_transcript::{Event, Node, Ref, RunError, Setup};
+use simplex_writer::write_input;
 use std::alloc::{AllocError, Global};
 use std::process::Abort;
 use std::thread::Threads;
@@ -15,98 +15,9 @@ const NUMBER: u64 = 7;
 // What `gen 7 2000` says.
 const SUMMARY: &str = "events 2000 finalized 0 greatest 0 evidence 10 stops 3\n";
 
-// The setup of number 7.
-const SETUP: &str =
-    r#"{"epoch":0,"key_base":7,"members":["honest","honest","honest","honest","honest","nuller","twin"],"term":3,"lookahead":2,"leader_timeout":1000,"certification_timeout":2000,"retry":500,"stall":null,"retention":10,"skip":null,"forward":"disabled","mailbox":64,"track":false,"handoff":true,"fetch_timeout":1000,"fetch_retry":100,"scenario":[]}"#;
-
-fn node_text(alloc: Global, node: Node) -> Result<String, AllocError> {
-    format!(in alloc; "[{},{}]", node.member, node.half)
-}
-
-fn ref_text(alloc: Global, at: Ref) -> Result<String, AllocError> {
-    format!(in alloc; "[{},{}]", at.event, at.place)
-}
-
-fn source_text(source: StepSource) -> &'static str {
-    match source {
-        StepSource::Batcher => "batcher",
-        StepSource::Voter => "voter",
-        StepSource::Timer => "timer",
-        StepSource::Propose => "propose",
-        StepSource::Verify => "verify",
-        StepSource::Certify => "certify",
-        StepSource::Resolver => "resolver",
-        StepSource::Handler => "handler",
-        StepSource::Fetch => "fetch",
-    }
-}
-
-fn payload_text(alloc: Global, name: &str, payload: &Digest) -> Result<String, AllocError> {
-    let hex = hex::encode(alloc, &payload.0)?;
-    format!(in alloc; "{{\"{name}\":\"{hex}\"}}")
-}
-
-// An answer that the number makes.
-fn answer_text(alloc: Global, answer: &Answer) -> Result<String, AllocError> {
-    match answer {
-        Answer::Payload(payload) => payload_text(alloc, "payload", payload),
-        Answer::Handoff(Handoff::Stage(payload)) => payload_text(alloc, "stage", payload),
-        Answer::Verdict(verdict) => format!(in alloc; "{{\"verdict\":{verdict}}}"),
-        _ => String::from_str(alloc, "null"),
-    }
-}
-
-// An event that the number makes.
-fn event_text(alloc: Global, event: &Event) -> Result<String, AllocError> {
-    match event {
-        Event::Start { node, .. } => {
-            let node = node_text(alloc, *node)?;
-            format!(in alloc; "{{\"do\":\"start\",\"node\":{node},\"floor\":null,\"stop\":null}}")
-        }
-        Event::Tick { ms } => format!(in alloc; "{{\"do\":\"tick\",\"ms\":{ms}}}"),
-        Event::Deliver { node, packet } => {
-            let node = node_text(alloc, *node)?;
-            let packet = ref_text(alloc, *packet)?;
-            format!(in alloc; "{{\"do\":\"deliver\",\"node\":{node},\"packet\":{packet}}}")
-        }
-        Event::Step { node, source, .. } => {
-            let node = node_text(alloc, *node)?;
-            let source = source_text(*source);
-            format!(in alloc;
-                "{{\"do\":\"step\",\"node\":{node},\"source\":\"{source}\",\"stop\":null}}"
-            )
-        }
-        Event::Answer {
-            node,
-            request,
-            answer,
-        } => {
-            let node = node_text(alloc, *node)?;
-            let request = ref_text(alloc, *request)?;
-            let answer = answer_text(alloc, answer)?;
-            format!(in alloc;
-                "{{\"do\":\"answer\",\"node\":{node},\"request\":{request},\"answer\":{answer}}}"
-            )
-        }
-        Event::Crash { node } => {
-            let node = node_text(alloc, *node)?;
-            format!(in alloc; "{{\"do\":\"crash\",\"node\":{node}}}")
-        }
-        Event::Inject { .. } => String::from_str(alloc, "null"),
-    }
-}
-
 // The input that has these events.
-fn input_of(alloc: Global, events: &[Event]) -> Result<Vec<u8>, AllocError> {
-    let mut text = format!(in alloc; "{{\"setup\":{SETUP},\"events\":[")?;
-    let mut between = "";
-    for event in events {
-        let event = event_text(alloc, event)?;
-        text.push_str(between)?;
-        text.push_str(event.as_str())?;
-        between = ",";
-    }
-    text.push_str("]}")?;
+fn input_of(alloc: Global, setup: &Setup, events: &[Event]) -> Result<Vec<u8>, AllocError> {
+    let text = write_input(alloc, setup, events)?;
     text.as_bytes().to_vec(alloc)
 }
 
@@ -128,8 +39,8 @@ fn ended<R: Abort + Threads + Sync>(
 #[test]
 fn the_input_that_has_the_events_of_a_number_has_the_same_entries(rt: HostRuntime) {
     let alloc = rt.alloc();
-    let (_setup, events) = gen_run(alloc, NUMBER, 700).expect(&rt, "room");
-    let input = input_of(alloc, &events).expect(&rt, "room");
+    let (setup, events) = gen_run(alloc, NUMBER, 700).expect(&rt, "room");
+    let input = input_of(alloc, &setup, &events).expect(&rt, "room");
     let (made, _summary) = ended(&rt, alloc, &["gen", "7", "700"], Vec::new(alloc));
     let (read, _lines) = ended(&rt, alloc, &["run"], input);
     match (made, read) {
@@ -150,8 +61,8 @@ fn told<R: Abort + Threads + Sync>(
     words: &[&str],
     count: u64,
 ) -> (Vec<u8>, u8) {
-    let (_setup, events) = gen_run(alloc, NUMBER, count).expect(rt, "room");
-    let input = input_of(alloc, &events).expect(rt, "room");
+    let (setup, events) = gen_run(alloc, NUMBER, count).expect(rt, "room");
+    let input = input_of(alloc, &setup, &events).expect(rt, "room");
     let (exit, written) = ended(rt, alloc, words, input);
     (written, exit.status())
 }

@@ -4,7 +4,7 @@ ghost use Rattle.std.specs.Prelude.{◌<◌};
 mod script;
 
 use model_rules::Effect;
-use script::{Call, nullification, run, start};
+use script::{Call, nullified, run, start};
 use std::alloc::{AllocError, Global};
 use std::process::Abort;
 use std::test::Fail;
@@ -182,11 +182,11 @@ fn opens(rt: &impl Abort, alloc: Global, length: u64, view: u64) -> Result<(), F
 {
     let mut repair = start(alloc, length)?;
     let _none = repair.replayed()?;
-    let effects = repair.updated(&nullification(alloc, view))?;
+    let effects = repair.updated(&nullified(alloc, view))?;
     let views = asked(alloc, &effects)?;
     let wanted = every(alloc, length, view - 1)?;
     assert!(rt; views == wanted, "{view} with terms of {length}");
-    let again = repair.updated(&nullification(alloc, view))?;
+    let again = repair.updated(&nullified(alloc, view))?;
     assert!(rt; again.is_empty(), "{view} again with terms of {length}");
     Ok(())
 }

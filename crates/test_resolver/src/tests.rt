@@ -1,6 +1,5 @@
 //! Scripts with what each step of a resolver does, worked out by hand from the rules.
 mod gaps;
-mod papers;
 mod peers;
 mod script;
 mod serving;

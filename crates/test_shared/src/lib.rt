@@ -6,8 +6,6 @@ mod calls;
 #[cfg(test)]
 mod gate;
 #[cfg(test)]
-mod letter;
-#[cfg(test)]
 mod replay;
 #[cfg(test)]
 mod sharing;

@@ -1,11 +1,11 @@
 //! What a history is to be: one thread makes it again, and each pass made its calls in its order.
 ghost use Rattle.std.specs.Prelude.{◌<◌};
 
-use crate::letter::Letter;
 use simplex_mailbox::Mailbox;
 use simplex_shared::{Log, Op};
 use std::alloc::Global;
 use std::process::Abort;
+use test_values::Letter;
 
 /// The test ends here where the mailbox of one thread answers a call otherwise.
 pub fn replay(rt: &impl Abort, alloc: Global, log: &Log<Letter>, capacity: u32)

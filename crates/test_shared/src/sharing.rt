@@ -2,11 +2,11 @@
 ghost use Rattle.std.specs.Prelude.{◌≡◌};
 
 use crate::calls::{pair, same};
-use crate::letter::Letter;
 use simplex_mailbox::Policy;
 use simplex_shared::{Log, Pass, RecordedMailbox};
 use simplex_values::Keep;
 use std::test::Fail;
+use test_values::Letter;
 
 /// What threads may share.
 fn lend<T: Sync>(_shared: &T) {}

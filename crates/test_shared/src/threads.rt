@@ -3,7 +3,6 @@ ghost use Rattle.std.specs.Prelude.{◌≡◌, ◌<◌};
 
 use crate::calls::pair;
 use crate::gate::Gate;
-use crate::letter::Letter;
 use crate::replay::{assert_calls, replay};
 use simplex_shared::{Log, Op, Pass, RecordedMailbox};
 use std::alloc::Global;
@@ -12,6 +11,7 @@ use std::sync::Wait;
 use std::test::Fail;
 use std::thread;
 use std::thread::Threads;
+use test_values::Letter;
 
 /// So many calls each pass makes.
 const CALLS: u64 = 10_000;

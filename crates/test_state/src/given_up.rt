@@ -1,10 +1,11 @@
 //! Views that are given up, one after another and twice.
 ghost use Rattle.std.specs.Prelude.{◌<◌, ◌^◌};
 
-use crate::tests::{Member, nullification, start};
+use crate::tests::{Member, start};
 use simplex_values::{TimeoutReason, View};
 use std::alloc::Global;
 use std::test::Fail;
+use test_values::unsigned::nullification;
 
 /// A view is given up again, and its nullify goes out again later.
 #[test]

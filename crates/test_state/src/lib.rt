@@ -6,6 +6,8 @@ mod given_up;
 #[cfg(test)]
 mod greatest;
 #[cfg(test)]
+mod readers;
+#[cfg(test)]
 mod terms;
 #[cfg(test)]
 mod tests;

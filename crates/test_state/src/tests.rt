@@ -5,14 +5,13 @@ use simplex_state::*;
 use simplex_types::elector::Config;
 use simplex_types::{Floor, Keyed, RoundRobin, RoundRobinElector};
 use simplex_values::{
-    Context, Digest, Epoch, Kind, Parent, Participant, Proposal, Round, TermLength, Terms,
-    TimeoutReason, View, ViewDelta,
+    Context, Digest, Epoch, Kind, Parent, Participant, TermLength, Terms, TimeoutReason, View,
+    ViewDelta,
 };
-use simplex_wire::{
-    Artifact, CertificateKind, Finalization, Notarization, Nullification, Signatures,
-};
+use simplex_wire::{Artifact, CertificateKind};
 use std::alloc::{AllocError, Global};
 use std::test::Fail;
+use test_values::unsigned::{block, finalization, notarization, nullification, round};
 
 pub(crate) type Member = State<Keyed, RoundRobinElector>;
 
@@ -42,44 +41,8 @@ pub(crate) fn start(alloc: Global, members: u32, lookahead: u64) -> Result<Membe
     Ok(State::new(alloc, config, 100)?)
 }
 
-fn round(view: u64) -> Round {
-    Round {
-        epoch: Epoch(0),
-        view: View(view),
-    }
-}
-
-fn block(view: u64, parent: u64) -> Proposal {
-    Proposal {
-        round: round(view),
-        parent: View(parent),
-        payload: Digest([9; 32]),
-    }
-}
-
-fn notarization(alloc: Global, view: u64, parent: u64) -> Notarization {
-    Notarization {
-        proposal: block(view, parent),
-        certificate: Signatures::new(Vec::new(alloc)),
-    }
-}
-
-pub(crate) fn nullification(alloc: Global, view: u64) -> Nullification {
-    Nullification {
-        round: round(view),
-        certificate: Signatures::new(Vec::new(alloc)),
-    }
-}
-
-fn finalization(alloc: Global, view: u64, parent: u64) -> Finalization {
-    Finalization {
-        proposal: block(view, parent),
-        certificate: Signatures::new(Vec::new(alloc)),
-    }
-}
-
 /// The view is notarized, and the application certifies it.
-fn certify(
+pub(crate) fn certify(
     alloc: Global,
     member: &mut Member,
     view: u64,

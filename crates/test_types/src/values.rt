@@ -1,8 +1,10 @@
 //! Terms at both ends of the numbers, and what is printed and copied of plain values.
 use crate::tests::same;
 use simplex_values::{
-    Digest, Epoch, Handoff, Keep, Members, Participant, Recipients, Round, TermLength, Terms, View,
+    Digest, Epoch, ForwardPolicy, Handoff, Keep, Lookahead, Members, Participant, Plan, Recipients,
+    Round, TermLength, Terms, View, ViewDelta, Viewport,
 };
+use simplex_wire::Attestation;
 use std::alloc::{AllocError, Global};
 use std::test::Fail;
 
@@ -70,7 +72,92 @@ fn values_are_kept(rt: HostRuntime) -> Result<(), Fail> {
     let recipients = Recipients::Some(members(alloc)?);
     let kept = recipients.keep(alloc)?;
     same(&rt, "recipients", &kept, &recipients);
+    same(&rt, "a byte", &7u8.keep(alloc)?, &7);
+    same(
+        &rt,
+        "a member",
+        &Participant(4).keep(alloc)?,
+        &Participant(4),
+    );
+    let digest = Digest([9; 32]);
+    same(&rt, "a digest", &digest.keep(alloc)?, &digest);
+    let attestation = Attestation {
+        signer: Participant(3),
+        signature: [5; 32],
+    };
+    let kept = attestation.keep(alloc)?;
+    same(&rt, "an attestation", &kept, &attestation);
     let halved = Handoff::Stage(2u32).map(half);
     same(&rt, "a handoff", &halved, &Handoff::Stage(1));
     Ok(())
+}
+
+#[test]
+fn plans_are_kept(rt: HostRuntime) -> Result<(), Fail> {
+    let alloc = rt.alloc();
+    let round = Round {
+        epoch: Epoch(3),
+        view: View(14),
+    };
+    let forward = Plan::Forward {
+        round,
+        recipients: Recipients::Some(members(alloc)?),
+    };
+    for (case, plan) in [
+        ("of the next term", Plan::Prepare { round }),
+        ("of a proposal", Plan::Propose { round }),
+        ("to members", forward),
+    ] {
+        let kept = plan.keep(alloc)?;
+        same(&rt, case, &kept, &plan);
+    }
+    Ok(())
+}
+
+/// View 15 is final and ten views below it are kept; the member is in view 17 of terms of five, and works two views ahead.
+#[test]
+fn a_viewport_keeps_and_admits(rt: HostRuntime) -> Result<(), Fail> {
+    let port = Viewport {
+        finalized: View(15),
+        current: View(17),
+        view_retention: ViewDelta(10),
+        lookahead: Lookahead {
+            length: TermLength::new(5).ok_or("five views are a term")?,
+            views: 2,
+        },
+    };
+    for (view, kept, voted) in [
+        (4, false, false),
+        (5, true, true),
+        (17, true, true),
+        (19, true, true),
+        (20, true, false),
+        (u64::MAX, true, false),
+    ] {
+        let view = View(view);
+        same(&rt, "kept", &(view, port.retains(view)), &(view, kept));
+        let certified = port.admits_certificate(view);
+        same(&rt, "a certificate", &(view, certified), &(view, kept));
+        let admitted = port.admits_vote(view);
+        same(&rt, "a vote", &(view, admitted), &(view, voted));
+    }
+    Ok(())
+}
+
+#[test]
+fn policies_and_handoffs_are_told_apart(rt: HostRuntime) {
+    for (policy, enabled) in [
+        (ForwardPolicy::Disabled, false),
+        (ForwardPolicy::SilentVoters, true),
+        (ForwardPolicy::SilentLeader, true),
+    ] {
+        same(&rt, "forwards", &policy.is_enabled(), &enabled);
+    }
+    for (handoff, waits) in [
+        (Handoff::Wait, true),
+        (Handoff::Stage(1u32), false),
+        (Handoff::Vote(1), false),
+    ] {
+        same(&rt, "waits", &handoff.is_wait(), &waits);
+    }
 }

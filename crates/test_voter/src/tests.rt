@@ -9,5 +9,4 @@ mod readers;
 mod restarts;
 mod script;
 mod terms;
-mod untold;
 mod words;

@@ -1,13 +1,13 @@
 //! A member that is far behind catches up by what it asks of a peer, over lost and repeated packets.
 ghost use Rattle.std.specs.Prelude.{◌<◌, ◌^◌};
 
-use super::papers::{Paper, bytes_of};
 use super::seat::Seat;
 use simplex_transcript::StepSource;
 use simplex_types::{Channel, Participant, View};
 use std::alloc::Global;
 use std::process::Abort;
 use std::test::Fail;
+use test_values::papers::{Paper, bytes_of};
 
 /// How many terms were given up while the member heard nothing.
 const MISSED: u64 = 12;

@@ -1,7 +1,6 @@
 //! Whom an engine blocked it hears no more, and asks for nothing.
 ghost use Rattle.std.specs.Prelude.{◌<◌, ◌^◌};
 
-use super::papers::{Paper, bytes_of, message, noise, round};
 use super::peers::{asking, last_asked};
 use super::seat::{Kind, Seat};
 use simplex_messages::Outcome;
@@ -13,6 +12,7 @@ use simplex_types::{
 use std::alloc::Global;
 use std::process::Abort;
 use std::test::Fail;
+use test_values::papers::{Paper, bytes_of, message, noise, round};
 
 const CHANNELS: [Channel; 3] = [Channel::Vote, Channel::Certificate, Channel::Resolver];
 

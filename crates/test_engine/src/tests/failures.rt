@@ -1,5 +1,4 @@
 //! A journal fails a call that it did not announce: the engine stops there, and nothing goes out that was not stored.
-use super::untold::Untold;
 use simplex_engine::{Engine, EngineConfig, Input, PollError};
 use simplex_journal::Journal;
 use simplex_messages::{Call, Outcome, StepOut, Stop};
@@ -12,6 +11,7 @@ use simplex_types::{
 use std::alloc::{AllocError, Global};
 use std::process::Abort;
 use std::test::Fail;
+use test_values::Untold;
 
 type Alone = Engine<Keyed, RoundRobinElector, Untold>;
 

@@ -1,5 +1,4 @@
 //! A member that lacks one nullification, and what its peers answer.
-use super::papers::{Paper, bytes_of, message, noise};
 use super::seat::Seat;
 use simplex_messages::Outcome;
 use simplex_transcript::StepSource;
@@ -7,6 +6,7 @@ use simplex_types::{BlockCause, Bytes, Channel, Participant, ResolverBody, Resol
 use std::alloc::Global;
 use std::process::Abort;
 use std::test::Fail;
+use test_values::papers::{Paper, bytes_of, message, noise};
 
 /// What the peer that was asked answers.
 #[derive(Clone, Copy)]

@@ -8,13 +8,21 @@ use simplex_types::{
 use std::alloc::Global;
 use std::process::Abort;
 
-/// The first byte of each payload that the inbox gives, until it is empty.
+/// The oldest payload of the inbox, which stays there.
+fn front(relay: &Relay, inbox: Inbox) -> Option<Digest> {
+    let relayed = relay.front(inbox)?;
+    Some(relayed.payload)
+}
+
+/// The first byte of each payload that the inbox shows and gives, until it is empty.
 fn assert_gives(rt: &impl Abort, relay: &mut Relay, inbox: Inbox, case: &str, wanted: &[u8]) {
     for first in wanted {
+        assert_eq!(rt; front(relay, inbox), Some(Digest([*first; 32])), "{case}");
         let (payload, contents) = relay.take(inbox).expect(rt, "a payload");
         assert_eq!(rt; payload, Digest([*first; 32]), "{case}");
         assert_eq!(rt; contents.as_slice(), [*first; 3].as_slice(), "{case}");
     }
+    assert_eq!(rt; front(relay, inbox), None, "{case}");
     assert_eq!(rt; relay.take(inbox), None, "{case}");
 }
 

@@ -4,9 +4,7 @@ use super::words::told;
 use simplex_messages::{Call, Stop};
 use simplex_network::Network;
 use simplex_transcript::{Entry, Event, MemberKind, Node, Ref, RunError, Setup, StepSource};
-use simplex_types::{
-    Activity, Answer, Digest, Finalization, ForwardPolicy, Keep, Sequence, SkipPolicy,
-};
+use simplex_types::{Activity, Answer, Digest, Finalization, Keep};
 use std::alloc::{AllocError, Global};
 use std::process::Abort;
 use std::test::Fail;
@@ -15,28 +13,8 @@ use std::test::Fail;
 pub(super) const NODE: Node = Node { member: 0, half: 0 };
 
 pub(super) fn setup(alloc: Global) -> Result<Setup, AllocError> {
-    let mut members = Sequence::new(alloc);
-    members.push(MemberKind::Honest)?;
-    Ok(Setup {
-        epoch: 0,
-        key_base: 1,
-        members,
-        term: 1,
-        lookahead: 0,
-        leader_timeout: 1000,
-        certification_timeout: 2000,
-        retry: 500,
-        stall: None,
-        retention: 10,
-        skip: SkipPolicy::Disabled,
-        forward: ForwardPolicy::Disabled,
-        mailbox: 16,
-        track: false,
-        handoff: false,
-        fetch_timeout: 1000,
-        fetch_retry: 100,
-        scenario: Sequence::new(alloc),
-    })
+    let members = vec![in alloc; MemberKind::Honest]?;
+    Ok(Setup::usual(alloc, members))
 }
 
 fn start(floor: Option<Finalization>) -> Event {

@@ -6,8 +6,8 @@ use simplex_messages::{Call, Outcome, StepOut};
 use simplex_records::Records;
 use simplex_transcript::{Entry, MemberKind, Node, Packet, Setup, SetupRound};
 use simplex_types::{
-    Attestation, Bytes, Channel, Digest, Epoch, ForwardPolicy, Keyed, Participant, Proposal, Round,
-    Scheme, Sequence, Signatures, SkipPolicy, Subject, View,
+    Attestation, Bytes, Channel, Digest, Epoch, Keyed, Participant, Proposal, Round, Scheme,
+    Sequence, Signatures, Subject, View,
 };
 use std::alloc::Global;
 use std::fmt::Debug;
@@ -32,24 +32,8 @@ pub(super) fn setup(rt: &impl Abort, alloc: Global, kind: MemberKind) -> Setup
     };
     let scenario = Vec::from_array(alloc, [scripted]).expect(rt, "memory");
     Setup {
-        epoch: 0,
-        key_base: 1,
-        members: Sequence::from_vec(members),
-        term: 1,
-        lookahead: 0,
-        leader_timeout: 1000,
-        certification_timeout: 2000,
-        retry: 500,
-        stall: None,
-        retention: 10,
-        skip: SkipPolicy::Disabled,
-        forward: ForwardPolicy::Disabled,
-        mailbox: 16,
-        track: false,
-        handoff: false,
-        fetch_timeout: 1000,
-        fetch_retry: 100,
         scenario: Sequence::from_vec(scenario),
+        ..Setup::usual(alloc, members)
     }
 }
 

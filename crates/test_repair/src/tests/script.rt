@@ -1,11 +1,12 @@
 //! A script: calls of one repair state, each with what it leads to or shows.
 use model_rules::Effect;
 use simplex_repair::RepairState;
-use simplex_values::{Digest, Epoch, Kind, Proposal, Round, TermLength, View};
-use simplex_wire::{Certificate, Finalization, Notarization, Nullification, Signatures};
+use simplex_values::{Kind, TermLength, View};
+use simplex_wire::Certificate;
 use std::alloc::{AllocError, Global};
 use std::process::Abort;
 use std::test::Fail;
+use test_values::unsigned::{finalization, notarization, nullification};
 
 /// A call of a repair state, or a question to it. Views stand in it as they are.
 #[derive(Clone, Copy)]
@@ -28,40 +29,12 @@ pub(super) enum Call {
 /// A call, and what it leads to or shows.
 pub(super) type Step = (Call, &'static str);
 
-fn round(view: u64) -> Round {
-    Round {
-        epoch: Epoch(0),
-        view: View(view),
-    }
+pub(super) fn nullified(alloc: Global, view: u64) -> Certificate {
+    Certificate::Nullification(nullification(alloc, view))
 }
 
-fn block(view: u64, parent: u64) -> Proposal {
-    Proposal {
-        round: round(view),
-        parent: View(parent),
-        payload: Digest([9; 32]),
-    }
-}
-
-fn notarization(alloc: Global, view: u64, parent: u64) -> Notarization {
-    Notarization {
-        proposal: block(view, parent),
-        certificate: Signatures::new(Vec::new(alloc)),
-    }
-}
-
-pub(super) fn nullification(alloc: Global, view: u64) -> Certificate {
-    Certificate::Nullification(Nullification {
-        round: round(view),
-        certificate: Signatures::new(Vec::new(alloc)),
-    })
-}
-
-fn finalization(alloc: Global, view: u64) -> Certificate {
-    Certificate::Finalization(Finalization {
-        proposal: block(view, 0),
-        certificate: Signatures::new(Vec::new(alloc)),
-    })
+fn finalized(alloc: Global, view: u64) -> Certificate {
+    Certificate::Finalization(finalization(alloc, view, 0))
 }
 
 /// Nothing is held, and a term has so many views.
@@ -81,8 +54,8 @@ fn effects(
             let it = Certificate::Notarization(notarization(alloc, *view, *parent));
             repair.updated(&it)
         }
-        Call::Nullified(view) => repair.updated(&nullification(alloc, *view)),
-        Call::Finalized(view) => repair.updated(&finalization(alloc, *view)),
+        Call::Nullified(view) => repair.updated(&nullified(alloc, *view)),
+        Call::Finalized(view) => repair.updated(&finalized(alloc, *view)),
         Call::Good(view, parent) => repair.certified(notarization(alloc, *view, *parent), true),
         Call::Failed(view) => repair.certified(notarization(alloc, *view, 0), false),
         Call::Replayed => repair.replayed(),
@@ -170,6 +143,7 @@ fn said(alloc: Global, repair: &mut RepairState, call: &Call) -> Result<String, 
 /// Makes the calls, where a term has so many views, and compares what they lead to or show.
 pub(super) fn run(rt: &impl Abort, alloc: Global, length: u64, steps: &[Step]) -> Result<(), Fail> {
     let mut repair = start(alloc, length)?;
+    assert_eq!(rt; Some(repair.term_length()), TermLength::new(length));
     for (call, wanted) in steps {
         let told = said(alloc, &mut repair, call)?;
         assert_eq!(rt; told.as_str(), *wanted, "with terms of {length}");

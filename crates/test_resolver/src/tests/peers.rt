@@ -1,8 +1,8 @@
 //! Which peers are asked, and those that give no answer.
-use super::papers::Paper;
 use super::script::{FOUR, Member, Move, Step, run};
 use simplex_types::Kind;
 use std::test::Fail;
+use test_values::papers::Paper;
 
 /// Nothing is asked for where the proposal is not later, or the certificate is known. The target alone is asked, and
 /// again once it was silent, until the same is missing with no target.

@@ -1,7 +1,6 @@
 //! A script: what one member is given, step by step, and what its resolver does.
 ghost use Rattle.std.specs.Prelude.{◌<◌, ◌^◌};
 
-use super::papers::{Paper, bytes_of, certificate, message, noise, notarization, packet};
 use super::words::told;
 use simplex_mailbox::Mailbox;
 use simplex_messages::resolver::{HandlerMessage, MailboxMessage};
@@ -11,6 +10,7 @@ use simplex_types::{Bytes, Epoch, Keyed, Kind, Participant, ResolverBody, TermLe
 use std::alloc::Global;
 use std::process::Abort;
 use std::test::Fail;
+use test_values::papers::{Paper, bytes_of, certificate, message, noise, notarization};
 
 /// Member 0 of so many, with terms of so many views, whose handler's mailbox holds so many messages.
 #[derive(Clone, Copy)]
@@ -75,6 +75,14 @@ struct Resolver {
     alloc: Global,
     actor: Actor<Keyed>,
     taken: Option<HandlerMessage>,
+}
+
+/// Bytes of the member.
+fn packet(sender: u32, bytes: Bytes) -> ResolverInput {
+    ResolverInput::Packet {
+        sender: Participant(sender),
+        bytes,
+    }
 }
 
 fn made(alloc: Global, member: Member) -> Result<Resolver, Fail> {
@@ -173,17 +181,27 @@ impl Resolver {
         }
     }
 
+    /// The handler's first message, which its mailbox held before.
+    fn take(&mut self) -> Result<Option<HandlerMessage>, Fail> {
+        let held = self.actor.holds_handler();
+        let message = self.actor.take_handler();
+        if held != message.is_some() {
+            return Err("the mailbox tells whether it holds a message".into());
+        }
+        Ok(message)
+    }
+
     /// What comes of the move.
     fn said(&mut self, next: Move, now: u64) -> Result<String, Fail>
         requires { now < 2 ^ 63 }
     {
         match next {
             Move::Handle => {
-                let message = self.actor.take_handler();
+                let message = self.take()?;
                 self.handle(message, now)
             }
             Move::Take => {
-                self.taken = self.actor.take_handler();
+                self.taken = self.take()?;
                 Ok(format!(in self.alloc; "taken")?)
             }
             Move::Blocked(member) => self.block(member),

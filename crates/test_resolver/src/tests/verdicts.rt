@@ -1,8 +1,8 @@
 //! How answers are judged, and what is asked for then.
-use super::papers::Paper;
 use super::script::{FOUR, Move, Step, run};
 use simplex_types::Kind;
 use std::test::Fail;
+use test_values::papers::Paper;
 
 /// Views 1 and 2 lack a nullification.
 const LACKING: [Step; 2] = [

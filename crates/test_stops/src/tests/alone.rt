@@ -5,7 +5,7 @@ use super::world::{Answers, World, start, step, stopped};
 use simplex_messages::{Outcome, Stop};
 use simplex_network::run_network;
 use simplex_transcript::{Event, MemberKind, Node, Ref, Setup, StepSource};
-use simplex_types::{Answer, Digest, ForwardPolicy, Sequence, SkipPolicy, View};
+use simplex_types::{Answer, Digest, View};
 use std::alloc::{AllocError, Global};
 use std::process::Abort;
 use std::test::Fail;
@@ -25,27 +25,10 @@ const ANSWERS: Answers = Answers {
 };
 
 fn setup(alloc: Global, mailbox: u64) -> Result<Setup, AllocError> {
-    let mut members = Sequence::new(alloc);
-    members.push(MemberKind::Honest)?;
+    let members = vec![in alloc; MemberKind::Honest]?;
     Ok(Setup {
-        epoch: 0,
-        key_base: 1,
-        members,
-        term: 1,
-        lookahead: 0,
-        leader_timeout: 1000,
-        certification_timeout: 2000,
-        retry: 500,
-        stall: None,
-        retention: 10,
-        skip: SkipPolicy::Disabled,
-        forward: ForwardPolicy::Disabled,
         mailbox,
-        track: false,
-        handoff: false,
-        fetch_timeout: 1000,
-        fetch_retry: 100,
-        scenario: Sequence::new(alloc),
+        ..Setup::usual(alloc, members)
     })
 }
 

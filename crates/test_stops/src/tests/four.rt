@@ -5,7 +5,7 @@ use super::world::{Answers, World, start, stopped};
 use simplex_messages::{Outcome, Stop};
 use simplex_network::run_network;
 use simplex_transcript::{Event, MemberKind, Node, Setup};
-use simplex_types::{ForwardPolicy, Keep, Sequence, SkipPolicy, View};
+use simplex_types::{Keep, View};
 use std::alloc::{AllocError, Global};
 use std::process::Abort;
 use std::test::Fail;
@@ -41,24 +41,9 @@ fn setup(alloc: Global) -> Result<Setup, AllocError> {
         MemberKind::Silent,
     ]?;
     Ok(Setup {
-        epoch: 0,
-        key_base: 1,
-        members: Sequence::from_vec(members),
         term: 3,
         lookahead: 1,
-        leader_timeout: 1000,
-        certification_timeout: 2000,
-        retry: 500,
-        stall: None,
-        retention: 10,
-        skip: SkipPolicy::Disabled,
-        forward: ForwardPolicy::Disabled,
-        mailbox: 16,
-        track: false,
-        handoff: false,
-        fetch_timeout: 1000,
-        fetch_retry: 100,
-        scenario: Sequence::new(alloc),
+        ..Setup::usual(alloc, members)
     })
 }
 

@@ -1,12 +1,12 @@
 //! A journal fails a call that it did not announce: nothing goes out behind it, and what was written stands.
 use super::alone::VIEW;
 use super::script::{ALONE, floor, go, made, said};
-use super::untold::Untold;
 use simplex_journal::Journal;
 use simplex_messages::Stop;
 use std::alloc::Global;
 use std::process::Abort;
 use std::test::Fail;
+use test_values::Untold;
 
 /// Which call of the journal fails, how many moves come before the step that makes it, what that step did, and how
 /// many records are left.

@@ -1,4 +1,4 @@
-//! The messages of the tests: where there is no room a letter waits behind the others.
+//! Letters: where there is no room one waits behind the others.
 ghost use Rattle.std.specs.Prelude.{false};
 ghost use Rattle.simplex_mailbox.specs.Waiting.{put_last};
 
@@ -9,7 +9,9 @@ use std::alloc::{AllocError, Global};
 /// A letter of a writer, who numbers them.
 #[derive(Clone, Copy, Debug, PartialEq, Eq)]
 pub struct Letter {
+    /// Who wrote it.
     pub writer: u32,
+    /// Which of the writer's it is.
     pub number: u64,
 }
 

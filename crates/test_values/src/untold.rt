@@ -1,5 +1,5 @@
 //! A journal that does not tell which of its calls fail.
-ghost use Rattle.std.specs.Prelude.{None};
+ghost use Rattle.std.specs.Prelude.{◌≡◌, None};
 
 use simplex_journal::{Journal, JournalError, MemoryJournal};
 use simplex_wire::Artifact;
@@ -7,13 +7,13 @@ use std::alloc::Global;
 
 /// A journal that fails a call where the test wants it, and tells nobody: it heeds no order of `fail_next`.
 #[derive(Drop)]
-pub(super) struct Untold {
+pub struct Untold {
     inner: MemoryJournal,
 }
 
 impl Untold {
     /// No section, and the call of this number fails, counted from 1. Number 0: none.
-    pub(super) fn failing(alloc: Global, call: u64) -> Untold {
+    pub fn failing(alloc: Global, call: u64) -> Untold {
         let mut inner = MemoryJournal::new(alloc);
         inner.fail_next(call, 0);
         Untold { inner }

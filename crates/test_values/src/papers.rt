@@ -1,4 +1,4 @@
-//! What members of four are given: certificates, and messages of the resolver channel.
+//! What members of four are given: certificates that three or two of them signed, and messages of the resolver channel.
 ghost use Rattle.std.specs.Prelude.{◌≡◌, ◌<◌, IfOk};
 
 use simplex_types::{
@@ -11,9 +11,12 @@ use std::test::Fail;
 
 /// A certificate of a view.
 #[derive(Clone, Copy, Debug)]
-pub(super) enum Paper {
+pub enum Paper {
+    /// A notarization.
     Notarized(u64),
+    /// A nullification.
     Nullified(u64),
+    /// A finalization.
     Finalized(u64),
     /// A nullification of another epoch.
     Foreign(u64),
@@ -52,7 +55,8 @@ fn two(alloc: Global, subject: &Subject) -> Result<Signatures, Fail> {
     Ok(Signatures::new(attestations))
 }
 
-pub(super) fn round(epoch: u64, view: u64) -> Round {
+/// A round.
+pub fn round(epoch: u64, view: u64) -> Round {
     Round {
         epoch: Epoch(epoch),
         view: View(view),
@@ -67,7 +71,8 @@ fn block(view: u64) -> Proposal {
     }
 }
 
-pub(super) fn notarization(alloc: Global, view: u64) -> Result<Notarization, Fail> {
+/// A notarization of the view, on genesis.
+pub fn notarization(alloc: Global, view: u64) -> Result<Notarization, Fail> {
     Ok(Notarization {
         proposal: block(view),
         certificate: three(alloc, &Subject::Notarize(block(view)))?,
@@ -95,7 +100,8 @@ fn thin(alloc: Global, view: u64) -> Result<Nullification, Fail> {
     })
 }
 
-pub(super) fn certificate(alloc: Global, paper: Paper) -> Result<Certificate, Fail> {
+/// The certificate.
+pub fn certificate(alloc: Global, paper: Paper) -> Result<Certificate, Fail> {
     match paper {
         Paper::Notarized(view) => Ok(Certificate::Notarization(notarization(alloc, view)?)),
         Paper::Nullified(view) => Ok(Certificate::Nullification(nullification(alloc, 0, view)?)),
@@ -106,19 +112,19 @@ pub(super) fn certificate(alloc: Global, paper: Paper) -> Result<Certificate, Fa
 }
 
 /// The bytes of the certificate.
-pub(super) fn bytes_of(alloc: Global, paper: Paper) -> Result<Bytes, Fail> {
+pub fn bytes_of(alloc: Global, paper: Paper) -> Result<Bytes, Fail> {
     let bytes = certificate(alloc, paper)?.encode(alloc)?;
     Ok(Sequence::from_vec(bytes))
 }
 
 /// Bytes that are no message, and no certificate.
-pub(super) fn noise(alloc: Global) -> Result<Bytes, Fail> {
+pub fn noise(alloc: Global) -> Result<Bytes, Fail> {
     let bytes = vec![in alloc; 9u8]?;
     Ok(Sequence::from_vec(bytes))
 }
 
 /// The bytes of a message of this number.
-pub(super) fn message(alloc: Global, id: u64, body: ResolverBody) -> Result<Bytes, Fail> {
+pub fn message(alloc: Global, id: u64, body: ResolverBody) -> Result<Bytes, Fail> {
     let bytes = ResolverMessage { id, body }.encode(alloc)?;
     Ok(Sequence::from_vec(bytes))
 }
