@@ -5,7 +5,7 @@ ghost use Rattle.simplex_values.specs.Covers.{covers};
 ghost use Rattle.law_agreement.specs.Terms.{Covers};
 
 /// Terms follow one another, and a view covers itself and what is left of its term.
-#[tactic(auto, unfolding(simplex_values::specs::Terms::term_index, simplex_values::specs::Terms::term_start, simplex_values::specs::Terms::term_end, simplex_values::specs::Terms::next_term_start, simplex_values::specs::Terms::next_of, simplex_values::specs::Covers::covers))]
+#[tactic(auto, unfolding(crate::specs::Opened::terms))]
 pub fn terms_hold()
     ensures genesis { (length : ℕ) → 0 < length
         → (term_index length 0 ≡ 0) × (term_start length 0 ≡ 0) × (term_end length 0 ≡ 0) × (next_term_start length 0 ≡ 1) }

@@ -33,7 +33,7 @@ pub fn certificates_stay()
 {}
 
 /// Where a certificate of the view and kind is known, no other is added.
-#[tactic(auto, unfolding(model_rules::specs::Calls::facts_of, model_rules::specs::Calls::adds_notarization, model_rules::specs::Calls::adds_nullification, model_rules::specs::Calls::adds_finalization))]
+#[tactic(auto, unfolding(crate::specs::Opened::added))]
 pub fn certificates_are_added_once()
     ensures notarization { (made : Made) (known : List Fact) (n : Notarization) (now : ℕ)
         → is_some (notarization_of known (view_of n.proposal)) ≡ true → facts_of made known (AddNotarization n now) ≡ [] }

@@ -10,7 +10,7 @@ ghost use Rattle.law_member.specs.Journal.{Append, Sync, Prune, Stop, after};
 ghost use Rattle.law_member.specs.StepSamples.{settled_by_an_answer, left_by_an_answer};
 
 /// A stop may lose a record that was not synced, and a prune drops one that was.
-#[tactic(auto, unfolding(crate::specs::Journal::after, crate::specs::Journal::after_call, simplex_journal::specs::Journal::appended, simplex_journal::specs::Journal::opened_section, simplex_journal::specs::Journal::synced_at, simplex_journal::specs::Journal::synced_section, simplex_journal::specs::Journal::pruned, simplex_journal::specs::Journal::crashed, simplex_journal::specs::Journal::crashed_section, simplex_journal::specs::Journal::replayed))]
+#[tactic(auto, unfolding(simplex_journal::specs::Computed::sections, crate::specs::Journal::after, crate::specs::Journal::after_call, simplex_journal::specs::Journal::pruned))]
 pub fn what_was_not_synced_may_be_lost()
     ensures is_lost { (artifact : Artifact) → replayed (after [] (Stop 0 ∷ Append 1 artifact ∷ [])) ≡ [] }
     ensures is_kept { (artifact : Artifact) → replayed (after [] (Stop 1 ∷ Append 1 artifact ∷ [])) ≡ artifact ∷ [] }

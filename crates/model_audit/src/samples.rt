@@ -1,5 +1,5 @@
 //! Cases that come out as the definitions mean them. Each clause is computed.
-#![tactic(auto, unfolding(crate::specs::Record::record_of, crate::specs::Record::record_entry, crate::specs::Rebuilt::rebuilt_entry, crate::specs::Running::runs_at, crate::specs::Reading::read, crate::specs::Fitting::fits, crate::specs::Conditions::is_allowed, crate::specs::Order::are_in_order, crate::specs::VotesDue::sends_due, crate::specs::Conflicts::standing_good, crate::specs::Conflicts::all_standing, crate::specs::Conflicts::has_conflict, crate::specs::Audit::fault_in, crate::specs::Audit::judged_from, crate::specs::Audit::audited, model_run::specs::Life::clock_of, model_run::specs::Setups::first_bad, model_run::specs::Forged::first_forged))]
+#![tactic(auto, unfolding(crate::specs::Computed::verdicts))]
 
 ghost use Rattle.std.specs.Prelude.{◌≡◌, [], ◌∷◌, Some, None};
 ghost use Rattle.model_run.specs.Samples.{alone, cramped, at, other};

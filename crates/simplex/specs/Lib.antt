@@ -148,6 +148,7 @@ pub use Rattle.model_run.specs.Setting
 pub use Rattle.model_run.specs.Setups
 -- Of a voter's state.
 pub use Rattle.simplex_state.specs.Floor as StateFloor
+pub use Rattle.simplex_state.specs.Ranges as StateRanges
 pub use Rattle.simplex_state.specs.Stands as StateStands
 -- Of what is held for others.
 pub use Rattle.simplex_repair.specs.Laws as RepairLaws

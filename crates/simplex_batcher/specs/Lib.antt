@@ -1,6 +1,7 @@
-pub mod Rounds
 pub mod Activity
-pub mod Working
-pub mod Stands
-pub mod Holding
 pub mod Hearing
+pub mod Holding
+pub mod Opened
+pub mod Rounds
+pub mod Stands
+pub mod Working

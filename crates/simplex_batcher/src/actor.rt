@@ -35,7 +35,7 @@ pub struct Actor<S> {
 
 impl<S: Scheme + Drop> Actor<S> {
     /// A batcher that was given nothing yet.
-    #[tactic(auto, unfolding(crate::specs::Stands::StandsFor, crate::specs::Stands::batcher_made, crate::specs::Rounds::found, model_steps::specs::Batcher::standing_after, model_steps::specs::Batcher::at_first))]
+    #[tactic(auto, unfolding(crate::specs::Opened::beginning))]
     pub fn new(alloc: Global, config: Config<S>) -> Result<Actor<S>, AllocError>
         ensures { IfOk result (λ actor. StandsFor S.verifies S.recovers S.members S.member actor (batcher_made S.verifies S.recovers S.members S.member config) []) }
     {

@@ -1,9 +1,10 @@
-pub mod Setup
-pub mod Undelivered
-pub mod Unanswered
-pub mod Summary
+pub mod Computed
 pub mod Drawing
 pub mod Draws
 pub mod Generated
 pub mod Samples
+pub mod Setup
 pub mod Stands
+pub mod Summary
+pub mod Unanswered
+pub mod Undelivered

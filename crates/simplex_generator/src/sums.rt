@@ -1,5 +1,5 @@
 //! The line that sums up a run.
-#![tactic(auto, unfolding(crate::specs::Summary::summary, crate::specs::Summary::finalized_in, crate::specs::Summary::greatest_in, crate::specs::Summary::evidence_in, crate::specs::Summary::stops_in))]
+#![tactic(auto, unfolding(crate::specs::Computed::summaries))]
 
 ghost use Rattle.std.specs.Prelude.{◌≡◌, ◌+◌, max, length, filter, IfOk, string_bytes};
 ghost use Rattle.std.specs.List.{fold};

@@ -1,3 +1,4 @@
+pub mod Computed
 pub mod Contents
 pub mod Faults
 pub mod Journal

@@ -1,3 +1,4 @@
+pub mod Computed
 pub mod Mail
 pub mod Pending
 pub mod Post

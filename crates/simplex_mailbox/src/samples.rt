@@ -1,5 +1,5 @@
 //! What goes and what waits on, for numbers as messages. Each clause is computed.
-#![tactic(auto, unfolding(crate::specs::Waiting::in_turn, crate::specs::Waiting::drained, crate::specs::Waiting::behind, crate::specs::Waiting::undrained_at, crate::specs::Waiting::undrained, crate::specs::Mail::feedback_of, crate::specs::Mail::enqueued, crate::specs::Mail::all_enqueued, crate::specs::Mail::taken_from, crate::specs::Mail::after_recv))]
+#![tactic(auto, unfolding(crate::specs::Computed::mail))]
 
 ghost use Rattle.std.specs.Prelude.{◌≡◌, ℕ, ◌==◌, [], ◌∷◌, false, Some};
 ghost use Rattle.simplex_values.specs.declared.feedback.Feedback.TheVariants as feedback;

@@ -1,5 +1,5 @@
 //! What goes when messages came for which there was no room. Each clause is computed.
-#![tactic(auto, unfolding(crate::specs::Policies::handled_by_view, crate::specs::Policies::voter_handled, crate::specs::Policies::resolver_handled, crate::specs::Policies::batcher_handled, crate::specs::Policies::handler_handled, simplex_mailbox::specs::Waiting::in_turn))]
+#![tactic(auto, unfolding(crate::specs::Computed::policies))]
 
 ghost use Rattle.std.specs.Prelude.{◌≡◌, [], ◌∷◌, true, Some, None};
 ghost use Rattle.simplex_values.specs.declared.ask.Kind.TheVariants as kind;

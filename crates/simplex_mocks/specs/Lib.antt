@@ -1,8 +1,9 @@
-pub mod WrappedLaws
-pub mod Drawing
-pub mod Conflicting
-pub mod Remembering
-pub mod Equivocating
-pub mod Relay
-pub mod Queue
 pub mod Certifier
+pub mod Conflicting
+pub mod Drawing
+pub mod Equivocating
+pub mod Opened
+pub mod Queue
+pub mod Relay
+pub mod Remembering
+pub mod WrappedLaws

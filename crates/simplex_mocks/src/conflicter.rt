@@ -74,7 +74,7 @@ impl<S: Scheme> Conflicter<S> {
     }
 
     /// What it sends on hearing the bytes.
-    #[tactic(auto, unfolding(crate::specs::Conflicting::StandsFor, model_faults::specs::Conflicter::conflicter_drew, model_faults::specs::Conflicter::conflicter_sends), using(crate::proofs::VotesToAll::votes_none))]
+    #[tactic(auto, unfolding(crate::specs::Opened::conflicts), using(crate::proofs::VotesToAll::votes_none))]
     pub fn hear(
         &mut self,
         alloc: Global,

@@ -41,7 +41,7 @@ pub struct Equivocator<S, L> {
 
 impl<S: Scheme, L: Elector> Equivocator<S, L> {
     /// An equivocator that heard nothing.
-    #[tactic(auto, unfolding(crate::specs::Equivocating::StandsFor, model_faults::specs::Equivocator::equivocator_drew, model_faults::specs::Equivocator::was_heard), using(crate::proofs::Words::left_draws))]
+    #[tactic(auto, unfolding(crate::specs::Opened::equivocations), using(crate::proofs::Words::left_draws))]
     pub fn new(alloc: Global, config: Config<S, L>) -> Equivocator<S, L>
         ensures { StandsFor S.attests S.member S.members L.elects result
             (made_of S.attests S.member S.members L.elects config.scheme config.elector config.epoch (words_left config.random)) [] }

@@ -2,6 +2,7 @@ pub mod Answer
 pub mod Cuts
 pub mod Lending
 pub mod NodeEngine
+pub mod Opened
 pub mod Parts
 pub mod Polls
 pub mod Stages

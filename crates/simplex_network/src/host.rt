@@ -1,5 +1,5 @@
 //! A node's place in the network: its engine, or its journal while it is stopped, or a faulty member without an engine.
-#![tactic(auto, unfolding(crate::specs::Stands::HostStands, crate::specs::Parts::goes_on, crate::specs::Parts::status_of, crate::specs::Parts::refusal_in, crate::specs::Parts::after_poll, crate::specs::Parts::IsPolled, crate::specs::Parts::after_start, crate::specs::Parts::IsStarted))]
+#![tactic(auto, unfolding(crate::specs::Opened::hosts))]
 
 ghost use Rattle.std.specs.Prelude.{◌≡◌, ◌<◌, ◌≤◌, ◌^◌, ◌∷◌, ℕ, List, true, false, IfOk, IfErr, IfSome, OnOk, None, Some};
 ghost use Rattle.std.specs.Option.{option_map};

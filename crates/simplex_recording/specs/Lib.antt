@@ -1,3 +1,4 @@
-pub mod Recording
 pub mod Kept
+pub mod Opened
+pub mod Recording
 pub mod Stands

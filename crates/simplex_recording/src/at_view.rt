@@ -1,5 +1,5 @@
 //! The certificates of one view.
-#![tactic(auto, unfolding(crate::specs::Recording::has_certificate, crate::specs::Recording::notarization_at, crate::specs::Recording::certification_at, crate::specs::Recording::nullification_at, crate::specs::Recording::finalization_at, crate::specs::Recording::finalizations_at))]
+#![tactic(auto, unfolding(crate::specs::Opened::views))]
 
 ghost use Rattle.std.specs.Prelude.{◌≡◌, ◌∷◌, ℕ, List, Some, None, true, MatchOption};
 ghost use Rattle.std.specs.Option.{option_copied};

@@ -1,5 +1,5 @@
 //! The reporter.
-#![tactic(auto, unfolding(crate::specs::Stands::StandsFor, crate::specs::Recording::notarizes_of, crate::specs::Recording::nullifies_of, crate::specs::Recording::finalizes_of, crate::specs::Recording::recorded, crate::specs::Recording::invalid_votes_of, crate::specs::Recording::invalid_certificates_of))]
+#![tactic(auto, unfolding(crate::specs::Opened::counts))]
 
 ghost use Rattle.std.specs.Prelude.{◌≡◌, ◌∷◌, [], ◌==◌, ◌&&◌, not, drop, List, Option, Some, None, IfOk, OnOk, OnErr, MatchOption};
 ghost use Rattle.std.specs.Option.{option_copied};

@@ -19,5 +19,8 @@ pub use forgery::Forgery;
 pub use kinds::is_honest;
 pub use packets::packets_of;
 pub use records::Records;
+pub use reported::Reported;
+pub use requests::Requests;
 pub use routing::packet_for_send;
 pub use seats::seat_of;
+pub use sent_votes::SentVotes;

@@ -17,13 +17,13 @@ use std::collections::BTreeMap;
 
 /// The finalizations that were reported, by view, each once. [own-floors]
 #[derive(Drop)]
-pub(crate) struct Reported {
+pub struct Reported {
     pub(crate) by_view: BTreeMap<u64, Sequence<Finalization>>,
 }
 
 impl Reported {
     /// None.
-    pub(crate) fn new(alloc: Global) -> Reported
+    pub fn new(alloc: Global) -> Reported
         ensures { (f : Finalization) → reporting.has_reported result f ≡ false }
     {
         Reported {
@@ -32,7 +32,7 @@ impl Reported {
     }
 
     /// Whether the finalization was reported.
-    pub(crate) fn contains(&self, finalization: &Finalization) -> bool
+    pub fn contains(&self, finalization: &Finalization) -> bool
         ensures { result ≡ reporting.has_reported self.now finalization.now }
     {
         match self.by_view.get(&finalization.view().0) {
@@ -42,7 +42,7 @@ impl Reported {
     }
 
     /// Takes in what the calls report.
-    pub(crate) fn add(&mut self, alloc: Global, calls: &[Call]) -> Result<(), AllocError>
+    pub fn add(&mut self, alloc: Global, calls: &[Call]) -> Result<(), AllocError>
         ensures { OnOk result ((f : Finalization) → reporting.has_reported self.new f
             ≡ (list_any (reports f) calls.now || reporting.has_reported self.old f)) }
     {
@@ -65,7 +65,8 @@ impl Reported {
         }
     }
 
-    fn add_finalization(
+    /// Takes in that the finalization was reported.
+    pub fn add_finalization(
         &mut self,
         alloc: Global,
         finalization: &Finalization,

@@ -24,14 +24,14 @@ pub(crate) struct Span {
 
 /// Where each request stands, by its number, and which numbers each event gave.
 #[derive(Drop)]
-pub(crate) struct Requests {
+pub struct Requests {
     pub(crate) places: Vec<Ref>,
     pub(crate) spans: BTreeMap<u64, Span>,
 }
 
 impl Requests {
     /// None.
-    pub(crate) fn new(alloc: Global) -> Requests
+    pub fn new(alloc: Global) -> Requests
         ensures places { result.places.items ≡ [] }
         ensures numbers { (at : Ref) → number_in result at ≡ None }
     {
@@ -42,7 +42,7 @@ impl Requests {
     }
 
     /// The number of the request at this place.
-    pub(crate) fn number(&self, at: Ref) -> Option<u64>
+    pub fn number(&self, at: Ref) -> Option<u64>
         ensures { result ≡ number_in self.now at }
     {
         let span = self.spans.get(&at.event).copied()?;
@@ -54,14 +54,14 @@ impl Requests {
     }
 
     /// The place of the request of this number.
-    pub(crate) fn place(&self, number: u64) -> Option<Ref>
+    pub fn place(&self, number: u64) -> Option<Ref>
         ensures { result ≡ slice_get self.now.places.items number }
     {
         self.places.get(number as usize).copied()
     }
 
     /// An event of the node asked so many requests, and is its start or not.
-    pub(crate) fn enter(
+    pub fn enter(
         &mut self,
         alloc: Global,
         starts: bool,

@@ -24,14 +24,14 @@ use std::alloc::{AllocError, Global};
 /// For each member the subjects that it voted for, where it is honest, and how its signatures are verified.
 /// [sent-votes-where-needed]
 #[derive(Drop)]
-pub(crate) struct SentVotes {
+pub struct SentVotes {
     pub(crate) scheme: Keyed,
     pub(crate) members: Vec<Subjects>,
 }
 
 impl SentVotes {
     /// None, of the members of the setup.
-    pub(crate) fn new(alloc: Global, setup: &Setup) -> Result<SentVotes, AllocError>
+    pub fn new(alloc: Global, setup: &Setup) -> Result<SentVotes, AllocError>
         requires some { are_honest setup.now ≡ false }
         requires few { length setup.now.members < 2 ^ 32 }
         ensures { IfOk result (λ votes. IndexStands votes setup.now []) }
@@ -44,12 +44,7 @@ impl SentVotes {
     }
 
     /// Takes in the votes among the packets of a member.
-    pub(crate) fn add(
-        &mut self,
-        alloc: Global,
-        member: u64,
-        packets: &[Packet],
-    ) -> Result<(), AllocError>
+    pub fn add(&mut self, alloc: Global, member: u64, packets: &[Packet]) -> Result<(), AllocError>
         ensures scheme { self.new.scheme ≡ self.old.scheme }
         ensures count { length self.new.members.items ≡ length self.old.members.items }
         ensures votes { OnOk result (member < length self.old.members.items → (at : ℕ) (s : Subject) → has_vote self.new.members.items at s
@@ -64,7 +59,7 @@ impl SentVotes {
     }
 
     /// The first attestation in packets of faulty members that is forged. [forged]
-    pub(crate) fn first_forged(
+    pub fn first_forged(
         &self,
         alloc: Global,
         setup: &Setup,

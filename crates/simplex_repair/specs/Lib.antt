@@ -1,5 +1,6 @@
-pub mod Maps
-pub mod Taken
 pub mod Gaps
-pub mod Stands
 pub mod Laws
+pub mod Maps
+pub mod Opened
+pub mod Stands
+pub mod Taken

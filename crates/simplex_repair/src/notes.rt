@@ -1,5 +1,5 @@
 //! What a call adds to what is held.
-#![tactic(auto, unfolding(crate::specs::Stands::StandsFor, model_rules::specs::Lists::first_of, model_rules::specs::Lists::greatest_of, model_rules::specs::Repair::notarization_held, model_rules::specs::Repair::nullification_held, model_rules::specs::Repair::finalization_held, model_rules::specs::Repair::is_good, model_rules::specs::Repair::is_failed, model_rules::specs::Repair::final_view, model_rules::specs::Repair::repair_floor, model_rules::specs::Repair::is_final, model_rules::specs::Repair::covering_nullification, model_rules::specs::Repair::top_of))]
+#![tactic(auto, unfolding(crate::specs::Opened::held))]
 
 ghost use Rattle.std.specs.Prelude.{◌≡◌, max, nat_lt, true, false, OnOk};
 ghost use Rattle.std.specs.Option.{option_map_or};

@@ -47,7 +47,7 @@ pub struct RepairState {
 
 impl RepairState {
     /// Nothing is held yet.
-    #[tactic(auto, unfolding(crate::specs::Stands::StandsFor, crate::specs::Maps::reaching, model_rules::specs::Lists::first_of, model_rules::specs::Lists::greatest_of, model_rules::specs::Repair::notarization_held, model_rules::specs::Repair::nullification_held, model_rules::specs::Repair::finalization_held, model_rules::specs::Repair::is_good, model_rules::specs::Repair::is_failed, model_rules::specs::Repair::final_view, model_rules::specs::Repair::repair_floor, model_rules::specs::Repair::is_final, model_rules::specs::Repair::covering_nullification, model_rules::specs::Repair::top_of))]
+    #[tactic(auto, unfolding(crate::specs::Opened::held, crate::specs::Maps::reaching))]
     pub fn new(alloc: Global, length: TermLength) -> RepairState
         ensures { StandsFor result length [] }
     {

@@ -64,7 +64,7 @@ impl<S: Scheme + Drop> Actor<S> {
     }
 
     /// Takes the first message of the handler's mailbox, for a step.
-    #[tactic(auto, unfolding(crate::specs::Stands::StandsFor, model_resolver::specs::Resolver::standing_after, model_resolver::specs::Resolver::after_taking, model_resolver::specs::Resolver::handler_message, model_resolver::specs::Resolver::holds_handled))]
+    #[tactic(auto, unfolding(crate::specs::Opened::takings))]
     pub fn take_handler(&mut self) -> Option<HandlerMessage>
         ensures stands { Takes S.verifies S.members S.member self.old self.new HandlerTaken }
         ensures message { Answers S.verifies S.members S.member self.old (λ made past. handler_message made past) result }

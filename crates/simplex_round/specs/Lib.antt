@@ -2,10 +2,12 @@ pub mod Acceptance
 pub mod Assembly
 pub mod Ballots
 pub mod Calls
+pub mod Computed
 pub mod Forwarding
 pub mod Known
-pub mod Votes
-pub mod Stands
 pub mod Laws
+pub mod Opened
 pub mod Samples
+pub mod Stands
 pub mod Verifier
+pub mod Votes

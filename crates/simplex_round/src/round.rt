@@ -313,7 +313,7 @@ impl Round {
 
     /// Checks the votes of the first kind for which there is something to do, and assembles their certificate
     /// if they make one: the round holds it then.
-    #[tactic(auto, unfolding(crate::specs::Stands::StandsFor, crate::specs::Calls::known_after, crate::specs::Calls::after_call, crate::specs::Assembly::first_work, crate::specs::Assembly::constructed, crate::specs::Assembly::after_work))]
+    #[tactic(auto, unfolding(crate::specs::Opened::calls))]
     pub fn try_construct<S: Scheme>(
         &mut self,
         alloc: Global,
@@ -358,7 +358,7 @@ impl Round {
     }
 
     /// Checks the votes of a kind on its subject, and assembles their certificate.
-    #[tactic(auto, unfolding(crate::specs::Assembly::work_if_any, crate::specs::Assembly::work_on, crate::specs::Assembly::assembled_on, crate::specs::Assembly::after_work), using(crate::proofs::Marks::marked_checked))]
+    #[tactic(auto, unfolding(crate::specs::Opened::assembly), using(crate::proofs::Marks::marked_checked))]
     fn construct_on<S: Scheme>(
         &mut self,
         alloc: Global,

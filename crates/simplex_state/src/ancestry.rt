@@ -1,5 +1,5 @@
 //! Which view a proposal may stand on.
-#![tactic(auto, unfolding(crate::specs::Stands::StandsFor, crate::specs::Rounds::round_of, crate::specs::Rounds::slot_in, model_rules::specs::Slot::slot_of, crate::specs::Progress::progress_of, model_rules::specs::Views::least_active))]
+#![tactic(auto, unfolding(crate::specs::Opened::slots, model_rules::specs::Views::least_active))]
 
 ghost use Rattle.std.specs.Prelude.{◌≡◌, ◌≤◌, ◌<◌, ◌==◌, ◌||◌, ◌^◌, ◌-◌, ℕ, not, true, false, find, List};
 ghost use Rattle.std.specs.List.{range_with_len};

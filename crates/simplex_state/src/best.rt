@@ -1,5 +1,5 @@
 //! The certificate that shows why the member is in its view.
-#![tactic(auto, unfolding(crate::specs::Stands::StandsFor, crate::specs::Progress::progress_of, crate::specs::Certificates::held_notarization, crate::specs::Certificates::held_nullification, crate::specs::Certificates::held_finalization, model_rules::specs::Views::least_active))]
+#![tactic(auto, unfolding(crate::specs::Opened::held, crate::specs::Opened::progress, model_rules::specs::Views::least_active))]
 
 ghost use Rattle.std.specs.Prelude.{◌≡◌, ◌≤◌, ◌<◌, ◌-◌, ◌⊎◌, ℕ, true, None, List, IfSome, IfNone, IfOk, if◌then◌else◌};
 ghost use Rattle.std.specs.Option.{is_some};

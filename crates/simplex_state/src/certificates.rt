@@ -1,5 +1,5 @@
 //! Certificates that are added, and the verdicts on them.
-#![tactic(auto, unfolding(crate::specs::Stands::StandsFor, crate::specs::Stands::covered_in, simplex_values::specs::Maps::found, crate::specs::Rounds::round_of, crate::specs::Rounds::slot_in, crate::specs::Rounds::learn_round, crate::specs::Progress::progress_of, crate::specs::Certificates::held_notarization, crate::specs::Certificates::held_nullification, crate::specs::Certificates::held_finalization, model_rules::specs::Slot::slot_of, model_rules::specs::Slot::is_contradicted, model_rules::specs::Views::admits_certificate, model_rules::specs::Views::least_active, model_rules::specs::Calls::known_of, model_rules::specs::Calls::facts_of, model_rules::specs::Calls::adds_notarization, model_rules::specs::Calls::adds_nullification, model_rules::specs::Calls::adds_finalization, model_rules::specs::Calls::contradicted_leader, model_rules::specs::Calls::add_notarization_answer, model_rules::specs::Calls::add_finalization_answer, simplex_values::specs::Covers::covers))]
+#![tactic(auto, unfolding(crate::specs::Opened::certificates))]
 
 ghost use Rattle.std.specs.Prelude.{◌≡◌, ◌≤◌, ◌<◌, ◌^◌, ◌∷◌, ℕ, ◌||◌, false, true, List, Some, OnOk, IfOk};
 ghost use Rattle.simplex_wire.specs.declared.certificate.Certificate.TheVariants as certificates;

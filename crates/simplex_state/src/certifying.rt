@@ -1,5 +1,5 @@
 //! Which notarizations the application is asked to certify.
-#![tactic(auto, unfolding(crate::specs::Stands::StandsFor, crate::specs::Rounds::round_of, crate::specs::Rounds::is_open, crate::specs::Progress::progress_of, model_rules::specs::Views::least_active, model_rules::specs::Requests::is_unjudged, crate::specs::Certifying::open_at, crate::specs::Certifying::is_lacking))]
+#![tactic(auto, unfolding(crate::specs::Opened::uncertified))]
 
 ghost use Rattle.std.specs.Prelude.{◌≡◌, ◌≤◌, ◌∷◌, ◌++◌, ◌&&◌, ℕ, nat_lt, true, List, map, option_to_list, OnOk, IfOk};
 ghost use Rattle.std.specs.Option.{is_some};

@@ -1,5 +1,5 @@
 //! When the current view expires, and what makes a view expire.
-#![tactic(auto, unfolding(crate::specs::Stands::StandsFor, crate::specs::Rounds::round_of, crate::specs::Rounds::slot_in, crate::specs::Progress::progress_of, model_rules::specs::Slot::slot_of, model_rules::specs::Deadline::expiry_of, model_rules::specs::Deadline::may_skip, model_rules::specs::Deadline::expires, model_rules::specs::Deadline::fails))]
+#![tactic(auto, unfolding(crate::specs::Opened::expiries))]
 
 ghost use Rattle.std.specs.Option.{option_map_or};
 ghost use Rattle.std.specs.Prelude.{◌≡◌, ◌<◌, ◌^◌, ◌∷◌, ◌++◌, true, List, OnOk};
@@ -48,7 +48,7 @@ impl<S: Scheme + Drop, L: Elector + Drop> State<S, L> {
 
     /// When the current view expires or its nullify is repeated, and why. Sums stop at the greatest u64,
     /// which the limits keep away.
-    #[tactic(auto, unfolding(crate::specs::Stands::StandsFor, crate::specs::Progress::progress_of, crate::specs::Rounds::round_of, crate::specs::Rounds::slot_in, model_rules::specs::Slot::slot_of, model_rules::specs::Deadline::deadline_of, model_rules::specs::Deadline::first_deadline))]
+    #[tactic(auto, unfolding(crate::specs::Opened::slots, model_rules::specs::Deadline::deadline_of, model_rules::specs::Deadline::first_deadline))]
     pub fn next_timeout(&self) -> (u64, TimeoutReason)
         ensures answer { Answers S.attests L.elects self.now (λ made known. deadline_of made known) result }
     {
@@ -67,7 +67,7 @@ impl<S: Scheme + Drop, L: Elector + Drop> State<S, L> {
     }
 
     /// The moment when the view expires in time: for want of a proposal, a certificate or a final view.
-    #[tactic(auto, unfolding(crate::specs::Stands::StandsFor, crate::specs::Progress::progress_of, crate::specs::Rounds::round_of, crate::specs::Rounds::slot_in, model_rules::specs::Slot::slot_of, model_rules::specs::Deadline::own_moment, model_rules::specs::Deadline::stall_moment))]
+    #[tactic(auto, unfolding(crate::specs::Opened::slots, model_rules::specs::Deadline::own_moment, model_rules::specs::Deadline::stall_moment))]
     fn timely(&self, round: &RoundRecord) -> (u64, TimeoutReason)
         ensures { (made : Made) (known : List Fact) → Keeps S.attests L.elects self.now made known
             → round.now ≡ round_of known (current_of made known)
@@ -97,7 +97,7 @@ impl<S: Scheme + Drop, L: Elector + Drop> State<S, L> {
     }
 
     /// The expiry of the current view: as it happened, or on entry where the view had failed before.
-    #[tactic(auto, unfolding(crate::specs::Stands::StandsFor, crate::specs::Progress::progress_of, crate::specs::Rounds::round_of, crate::specs::Rounds::slot_in, model_rules::specs::Slot::slot_of, model_rules::specs::Deadline::expiry_of))]
+    #[tactic(auto, unfolding(crate::specs::Opened::slots, model_rules::specs::Deadline::expiry_of))]
     fn expiry(&self, round: &RoundRecord) -> Option<(u64, TimeoutReason)>
         ensures { (made : Made) (known : List Fact) → Keeps S.attests L.elects self.now made known
             → round.now ≡ round_of known (current_of made known) → result ≡ expiry_of made known }

@@ -1,5 +1,5 @@
 //! Where a member starts, and what it forgets.
-#![tactic(auto, unfolding(crate::specs::Stands::StandsFor, crate::specs::Progress::progress_of, model_rules::specs::Calls::known_of, model_rules::specs::Calls::facts_of, model_rules::specs::Calls::prune_answer))]
+#![tactic(auto, unfolding(crate::specs::Opened::progress, crate::specs::Opened::facts, model_rules::specs::Calls::prune_answer))]
 
 ghost use Rattle.std.specs.Prelude.{◌≡◌, ◌≤◌, ◌<◌, ◌^◌, ◌∷◌, List, OnOk, IfOk};
 ghost use Rattle.simplex_wire.specs.declared.certificate.Certificate.TheVariants as certificates;

@@ -26,4 +26,5 @@ mod votes;
 
 pub use config::StateConfig;
 pub use model_rules::{CertificateFetch, ProposalRequest, Verify};
+pub use ranges::Ranges;
 pub use state::State;

@@ -1,5 +1,5 @@
 //! Proposals that the batcher or the application gives.
-#![tactic(auto, unfolding(crate::specs::Rounds::round_of, crate::specs::Rounds::slot_in, crate::specs::Rounds::learn_round, crate::specs::Progress::learn_progress, model_rules::specs::Slot::slot_of, crate::specs::Stands::StandsFor, crate::specs::Progress::progress_of, model_rules::specs::Calls::known_of, model_rules::specs::Calls::facts_of, model_rules::specs::Slot::records_proposal, model_rules::specs::Slot::records_answer, model_rules::specs::Known::has_nullified, model_rules::specs::Views::admits_vote, model_rules::specs::Views::admits_certificate, model_rules::specs::Views::least_active))]
+#![tactic(auto, unfolding(crate::specs::Opened::proposals))]
 
 ghost use Rattle.std.specs.Prelude.{◌≡◌, ◌≤◌, ◌∷◌, true, List, OnOk, IfOk};
 ghost use Rattle.std.specs.Option.{is_none};
@@ -87,7 +87,7 @@ impl<S: Scheme + Drop, L: Elector + Drop> State<S, L> {
     }
 
     /// Whether the application's proposal for the view is recorded.
-    #[tactic(auto, unfolding(crate::specs::Stands::StandsFor, crate::specs::Rounds::round_of, crate::specs::Rounds::slot_in, model_rules::specs::Slot::slot_of, crate::specs::Progress::progress_of, model_rules::specs::Slot::records_answer))]
+    #[tactic(auto, unfolding(crate::specs::Opened::slots, model_rules::specs::Slot::records_answer))]
     fn records_answer(&self, view: View) -> bool
         ensures { Answers S.attests L.elects self.now (λ made known. records_answer made known view) result }
     {

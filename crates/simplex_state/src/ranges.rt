@@ -12,14 +12,14 @@ use std::collections::BTreeMap;
 
 /// A set of numbers, as of views, which takes little where they follow one another.
 #[derive(Debug, Drop)]
-pub(crate) struct Ranges {
+pub struct Ranges {
     /// Where each run starts, and how many more numbers follow. The last start up to a number decides on it.
     runs: BTreeMap<u64, u64>,
 }
 
 impl Ranges {
     /// The empty set.
-    pub(crate) fn new(alloc: Global) -> Ranges
+    pub fn new(alloc: Global) -> Ranges
         ensures { (q : ℕ) → holds result q ≡ false }
     {
         Ranges {
@@ -28,7 +28,7 @@ impl Ranges {
     }
 
     /// Whether the number is in the set.
-    pub(crate) fn contains(&self, number: u64) -> bool
+    pub fn contains(&self, number: u64) -> bool
         ensures { result ≡ holds self.now number }
     {
         match self.run_at(number) {
@@ -38,7 +38,7 @@ impl Ranges {
     }
 
     /// Puts the number into the set.
-    pub(crate) fn insert(&mut self, number: u64) -> Result<(), AllocError>
+    pub fn insert(&mut self, number: u64) -> Result<(), AllocError>
         ensures { OnOk result ((q : ℕ) → holds self.new q ≡ (number == q || holds self.old q)) }
     {
         if self.contains(number) {
@@ -50,7 +50,7 @@ impl Ranges {
     }
 
     /// The greatest number of the set up to this one.
-    pub(crate) fn last_up_to(&self, number: u64) -> Option<u64>
+    pub fn last_up_to(&self, number: u64) -> Option<u64>
         ensures member { IfSome result (λ u. holds self.now u ≡ true) }
         ensures bound { IfSome result (λ u. u ≤ number) }
         ensures greatest { IfSome result (λ u. (q : ℕ) → q ≤ number → holds self.now q ≡ true → q ≤ u) }
@@ -63,7 +63,7 @@ impl Ranges {
     }
 
     /// A number up to which each one from this one on is in the set.
-    pub(crate) fn run_end(&self, number: u64) -> Option<u64>
+    pub fn run_end(&self, number: u64) -> Option<u64>
         ensures bound { IfSome result (λ last. number ≤ last) }
         ensures held { IfSome result (λ last. (q : ℕ) → number ≤ q → q ≤ last → holds self.now q ≡ true) }
     {

@@ -1,5 +1,5 @@
 //! Records of a journal, which tell what the member knew before it started.
-#![tactic(auto, unfolding(crate::specs::Stands::StandsFor, crate::specs::Progress::progress_of, model_rules::specs::Calls::known_of, model_rules::specs::Calls::facts_of, model_rules::specs::Calls::judged))]
+#![tactic(auto, unfolding(crate::specs::Opened::progress, crate::specs::Opened::facts, model_rules::specs::Calls::judged))]
 
 ghost use Rattle.std.specs.Prelude.{◌≡◌, ◌<◌, ◌^◌, ◌++◌, ℕ, true, false, List, None, if◌then◌else◌, OnOk, IfOk};
 ghost use Rattle.model_rules.specs.Known.{Made, Fact, view_of};

@@ -1,5 +1,5 @@
 //! What the application is asked to propose.
-#![tactic(auto, unfolding(crate::specs::Stands::StandsFor, crate::specs::Rounds::round_of, crate::specs::Rounds::slot_in, model_rules::specs::Slot::slot_of, crate::specs::Progress::progress_of, model_rules::specs::Views::least_active))]
+#![tactic(auto, unfolding(crate::specs::Opened::slots, model_rules::specs::Views::least_active))]
 
 ghost use Rattle.std.specs.Prelude.{◌≡◌, ◌≤◌, ◌<◌, ◌∷◌, true, not, ◌&&◌, List, find, OnOk, IfOk};
 ghost use Rattle.std.specs.Option.{is_none};
@@ -43,7 +43,7 @@ impl<S: Scheme + Drop, L: Elector + Drop> State<S, L> {
     }
 
     /// The proposal of the view, where it was notarized and the member checked it.
-    #[tactic(auto, using(crate::proofs::Checking::forwardable_is), unfolding(crate::specs::Stands::StandsFor, crate::specs::Progress::progress_of, model_rules::specs::Views::least_active, model_rules::specs::Views::admits_certificate))]
+    #[tactic(auto, using(crate::proofs::Checking::forwardable_is), unfolding(crate::specs::Opened::progress, model_rules::specs::Views::least_active, model_rules::specs::Views::admits_certificate))]
     pub fn forwardable_proposal(&self, view: View) -> Option<Proposal>
         requires active { Answers S.attests L.elects self.now (λ made known. admits_certificate made known view) true }
         ensures answer { Answers S.attests L.elects self.now (λ made known. forwardable_at known view) result }
@@ -56,7 +56,7 @@ impl<S: Scheme + Drop, L: Elector + Drop> State<S, L> {
     }
 
     /// What to ask the application to propose. [no-handoff-no-candidate]
-    #[tactic(auto, using(crate::proofs::Walking::parent_above), unfolding(crate::specs::Stands::StandsFor, model_rules::specs::Views::least_active, model_rules::specs::Requests::proposal_request, model_rules::specs::Requests::request_at, model_rules::specs::Requests::request_on))]
+    #[tactic(auto, using(crate::proofs::Walking::parent_above), unfolding(crate::specs::Opened::requested))]
     fn proposal_request(&self) -> Option<ProposalRequest>
         ensures { Answers S.attests L.elects self.now (λ made known. proposal_request made known) result }
     {
@@ -115,7 +115,7 @@ impl<S: Scheme + Drop, L: Elector + Drop> State<S, L> {
     }
 
     /// Whether the member may propose in the view: it leads it, and nothing is proposed, given up or asked for yet.
-    #[tactic(auto, using(crate::proofs::Walking::parent_some), unfolding(crate::specs::Stands::StandsFor, model_rules::specs::Views::least_active, model_rules::specs::Requests::may_propose, model_rules::specs::Requests::leader_of))]
+    #[tactic(auto, using(crate::proofs::Walking::parent_some), unfolding(crate::specs::Opened::proposing))]
     fn may_propose(&self, view: View) -> bool
         ensures { Answers S.attests L.elects self.now (λ made known. may_propose made known view) result }
     {

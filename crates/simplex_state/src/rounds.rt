@@ -1,5 +1,5 @@
 //! What a member keeps of each view.
-#![tactic(auto, unfolding(crate::specs::Rounds::round_in, simplex_values::specs::Maps::found, crate::specs::Rounds::slot_in, crate::specs::Rounds::is_vouched_in, crate::specs::Rounds::is_checked_in, crate::specs::Rounds::own_slot_in, crate::specs::Rounds::is_open, crate::specs::Verifying::wants_in))]
+#![tactic(auto, unfolding(crate::specs::Opened::rounds))]
 
 ghost use Rattle.std.specs.Prelude.{◌≡◌, ◌≤◌, ◌<◌, ℕ, ◌==◌, IfSome, IfNone, false, if◌then◌else◌, OnOk};
 ghost use Rattle.simplex_state.specs.Rounds.{round_in, blank, slot_in, is_vouched_in, is_checked_in, is_named, own_slot_in, is_open};

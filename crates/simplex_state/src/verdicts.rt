@@ -1,5 +1,5 @@
 //! Verdicts on notarizations.
-#![tactic(auto, unfolding(crate::specs::Stands::StandsFor, crate::specs::Rounds::round_of, crate::specs::Progress::progress_of, crate::specs::Certificates::held_notarization, model_rules::specs::Views::least_active, model_rules::specs::Calls::takes_verdict, model_rules::specs::Calls::certified_answer))]
+#![tactic(auto, unfolding(crate::specs::Opened::verdicts))]
 
 ghost use Rattle.std.specs.Prelude.{◌≡◌, ◌<◌, ◌^◌, ◌∷◌, ◌++◌, [], true, false, List, None, if◌then◌else◌, OnOk, IfOk};
 ghost use Rattle.simplex_values.specs.declared.timeout.TimeoutReason.TheVariants.{FailedCertification};

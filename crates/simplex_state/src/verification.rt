@@ -1,5 +1,5 @@
 //! What the application is asked to verify, and what is missing for it.
-#![tactic(auto, unfolding(crate::specs::Stands::StandsFor, crate::specs::Rounds::round_of, crate::specs::Rounds::slot_in, model_rules::specs::Slot::slot_of, crate::specs::Progress::progress_of, model_rules::specs::Views::least_active))]
+#![tactic(auto, unfolding(crate::specs::Opened::slots, model_rules::specs::Views::least_active))]
 
 ghost use Rattle.std.specs.Prelude.{◌≡◌, ◌≤◌, ◌+◌, ◌-◌, ◌&&◌, ◌++◌, ◌∷◌, true, not, List, None, find, unwrap_or, IfSome, OnOk, IfOk};
 ghost use Rattle.std.specs.Option.{is_none, option_map, option_and_then};
@@ -113,7 +113,7 @@ impl<S: Scheme + Drop, L: Elector + Drop> State<S, L> {
     }
 
     /// The slot of the view, to be verified.
-    #[tactic(auto, using(crate::proofs::Wanting::founded_above), unfolding(crate::specs::Stands::StandsFor, crate::specs::Rounds::round_of, crate::specs::Rounds::slot_in, crate::specs::Progress::progress_of, model_rules::specs::Views::least_active, model_rules::specs::Slot::slot_of, model_rules::specs::Requests::verify_of))]
+    #[tactic(auto, using(crate::proofs::Wanting::founded_above), unfolding(crate::specs::Opened::slots, model_rules::specs::Views::least_active, model_rules::specs::Requests::verify_of))]
     fn ready_verify(&self, view: View) -> Verify
         ensures answer { (made : Made) (calls : List Call) → StandsFor S.attests L.elects self.now made calls
             → (progress_of made (known_of made calls)).pruned ≤ view
@@ -161,7 +161,7 @@ impl<S: Scheme + Drop, L: Elector + Drop> State<S, L> {
     }
 
     /// The least missing view below the slot of the view, and what is missing of it.
-    #[tactic(auto, unfolding(crate::specs::Stands::StandsFor, crate::specs::Rounds::round_of, crate::specs::Rounds::slot_in, crate::specs::Progress::progress_of, model_rules::specs::Views::least_active, model_rules::specs::Slot::slot_of, model_rules::specs::Requests::missing_below))]
+    #[tactic(auto, unfolding(crate::specs::Opened::slots, model_rules::specs::Views::least_active, model_rules::specs::Requests::missing_below))]
     fn missing_below(&self, view: View) -> Option<(View, Kind)>
         ensures { (made : Made) (calls : List Call) → StandsFor S.attests L.elects self.now made calls
             → (progress_of made (known_of made calls)).pruned ≤ view

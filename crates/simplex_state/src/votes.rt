@@ -1,5 +1,5 @@
 //! The member's own votes.
-#![tactic(auto, unfolding(crate::specs::Stands::StandsFor, crate::specs::Rounds::round_of, crate::specs::Rounds::slot_in, crate::specs::Progress::progress_of, model_rules::specs::Slot::slot_of, model_rules::specs::Views::least_active, model_rules::specs::Calls::known_of, model_rules::specs::Calls::facts_of))]
+#![tactic(auto, unfolding(crate::specs::Opened::votes))]
 
 ghost use Rattle.std.specs.Prelude.{◌≡◌, ◌≤◌, ◌∷◌, true, List, OnOk, IfOk};
 ghost use Rattle.simplex_wire.specs.declared.vote.Vote.TheVariants as votes;
@@ -43,7 +43,7 @@ impl<S: Scheme + Drop, L: Elector + Drop> State<S, L> {
     }
 
     /// The member's vote for the view's proposal.
-    #[tactic(auto, using(crate::proofs::Checking::notarize_by, crate::proofs::Checking::notarize_none, crate::proofs::Checking::notarize_unvotable, crate::proofs::Proposing::slot_is), unfolding(crate::specs::Stands::StandsFor, crate::specs::Rounds::slot_in, model_rules::specs::Votes::signed_notarize))]
+    #[tactic(auto, using(crate::proofs::Checking::notarize_by, crate::proofs::Checking::notarize_none, crate::proofs::Checking::notarize_unvotable, crate::proofs::Proposing::slot_is), unfolding(crate::specs::Opened::signing))]
     fn notarize_at(&self, view: View) -> Option<Notarize>
         ensures { Answers S.attests L.elects self.now (λ made known. notarize_at made known view) result }
     {
@@ -65,7 +65,7 @@ impl<S: Scheme + Drop, L: Elector + Drop> State<S, L> {
     }
 
     /// Whether the member votes in the view now: the current one, one ahead of it, or its own first of the next term.
-    #[tactic(auto, using(crate::proofs::Checking::unvotable, crate::proofs::Checking::own_slot_is), unfolding(crate::specs::Stands::StandsFor, crate::specs::Progress::progress_of, model_rules::specs::Views::least_active, model_rules::specs::Votes::is_votable, model_rules::specs::Views::is_ahead))]
+    #[tactic(auto, using(crate::proofs::Checking::unvotable, crate::proofs::Checking::own_slot_is), unfolding(crate::specs::Opened::votable))]
     fn is_votable(&self, view: View) -> bool
         ensures above { (made : Made) (known : List Fact) → Keeps S.attests L.elects self.now made known → result ≡ true → (progress_of made known).pruned ≤ view }
         ensures answer { Answers S.attests L.elects self.now (λ made known. is_votable made known view) result }
@@ -92,7 +92,7 @@ impl<S: Scheme + Drop, L: Elector + Drop> State<S, L> {
     }
 
     /// The member's vote that the view's proposal is final.
-    #[tactic(auto, unfolding(crate::specs::Stands::StandsFor, crate::specs::Rounds::round_of, crate::specs::Rounds::slot_in, crate::specs::Progress::progress_of, model_rules::specs::Slot::slot_of, model_rules::specs::Views::least_active, model_rules::specs::Calls::known_of, model_rules::specs::Calls::facts_of, model_rules::specs::Votes::finalize_at, model_rules::specs::Votes::signed_finalize))]
+    #[tactic(auto, unfolding(crate::specs::Opened::votes, model_rules::specs::Votes::finalize_at, model_rules::specs::Votes::signed_finalize))]
     fn finalize_at(&self, view: View) -> Option<Finalize>
         ensures { Answers S.attests L.elects self.now (λ made known. finalize_at made known view) result }
     {
@@ -104,7 +104,7 @@ impl<S: Scheme + Drop, L: Elector + Drop> State<S, L> {
     }
 
     /// Whether the member votes for the finality of the view's slot.
-    #[tactic(auto, unfolding(crate::specs::Stands::StandsFor, crate::specs::Rounds::round_of, crate::specs::Rounds::slot_in, crate::specs::Progress::progress_of, model_rules::specs::Slot::slot_of, model_rules::specs::Views::least_active, model_rules::specs::Calls::known_of, model_rules::specs::Calls::facts_of, model_rules::specs::Votes::finalizes))]
+    #[tactic(auto, unfolding(crate::specs::Opened::votes, model_rules::specs::Votes::finalizes))]
     fn finalizes(&self, view: View) -> bool
         ensures above { (made : Made) (known : List Fact) → Keeps S.attests L.elects self.now made known → result ≡ true → (progress_of made known).pruned ≤ view }
         ensures answer { Answers S.attests L.elects self.now (λ made known. finalizes made known view) result }

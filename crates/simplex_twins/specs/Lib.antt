@@ -1,9 +1,10 @@
-pub mod Masks
-pub mod Script
+pub mod Computed
+pub mod Every
 pub mod Faults
+pub mod LeaderLaws
+pub mod Leaders
+pub mod Masks
 pub mod Partitions
 pub mod Routes
-pub mod Leaders
-pub mod LeaderLaws
-pub mod Every
 pub mod Samples
+pub mod Script

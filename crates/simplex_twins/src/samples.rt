@@ -1,5 +1,5 @@
 //! Scripts that come out as they are meant to. Each clause is computed.
-#![tactic(auto, unfolding(crate::specs::Masks::has, crate::specs::Masks::reaches, crate::specs::Script::round_index, crate::specs::Script::round_at, crate::specs::Faults::fault_of, crate::specs::Faults::has_bad_leader, crate::specs::Partitions::partitions, crate::specs::Partitions::cut_at, crate::specs::Partitions::view_partitions, crate::specs::Routes::route, crate::specs::Routes::view_route, crate::specs::Leaders::scripted_leader, crate::specs::Every::with_primary, crate::specs::Every::with_leader, crate::specs::Every::with_leaders, crate::specs::Every::every_round, crate::specs::Every::every_script, simplex_values::specs::Terms::term_index, simplex_values::specs::Terms::term_start))]
+#![tactic(auto, unfolding(crate::specs::Computed::scripts))]
 
 ghost use Rattle.std.specs.Prelude.{◌≡◌, [], ◌∷◌, Some, None, true, false, map, length};
 ghost use Rattle.simplex_values.specs.declared.plan.SplitTarget.TheVariants as targets;

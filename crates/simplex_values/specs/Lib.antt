@@ -1,6 +1,7 @@
 pub mod Covers
 pub mod Handoff
 pub mod Maps
+pub mod Opened
 pub mod Policy
 pub mod Proposal
 pub mod Quorum

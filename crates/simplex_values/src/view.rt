@@ -91,7 +91,7 @@ impl View {
     }
 
     /// The first view of the view's term.
-    #[tactic(auto, unfolding(crate::specs::Terms::term_start, crate::specs::Terms::term_index), using(crate::proofs::TermCounts::rounded_up, crate::proofs::TermCounts::rounded_up_zero, crate::proofs::TermCounts::product_fits))]
+    #[tactic(auto, unfolding(crate::specs::Opened::terms), using(crate::proofs::TermCounts::rounded_up, crate::proofs::TermCounts::rounded_up_zero, crate::proofs::TermCounts::product_fits))]
     pub fn term_start(self, length: TermLength) -> View
         ensures { result ≡ term_start length self }
     {

@@ -1,5 +1,6 @@
 pub mod Actor
 pub mod Arrivals
+pub mod Opened
 pub mod Performing
 pub mod Stands
 pub mod Turned

@@ -55,7 +55,7 @@ pub(crate) struct Planner<S, L> {
 #[tactic(auto, unfolding(crate::specs::Stands::doing_of))]
 impl<S: Scheme + Drop, L: Elector + Drop> Planner<S, L> {
     /// Nothing is known and nothing is open.
-    #[tactic(auto, unfolding(crate::specs::Stands::doing_of, simplex_state::specs::Stands::made_of, model_rules::specs::Calls::known_of, crate::specs::Arrivals::AllKept, crate::specs::Arrivals::AllBelow))]
+    #[tactic(auto, unfolding(crate::specs::Opened::plans))]
     pub(crate) fn new(
         alloc: Global,
         config: StateConfig<S, L>,

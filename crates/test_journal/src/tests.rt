@@ -16,7 +16,7 @@ fn same<T: PartialEq + Debug>(rt: &impl Abort, case: &str, got: &T, wanted: &T) 
 }
 
 /// Appends two records, syncs the first, and stops: the first alone is replayed.
-#[tactic(auto, unfolding(simplex_journal::specs::Journal::appended, simplex_journal::specs::Journal::opened_section, simplex_journal::specs::Journal::synced_at, simplex_journal::specs::Journal::synced_section, simplex_journal::specs::Journal::crashed, simplex_journal::specs::Journal::crashed_section, simplex_journal::specs::Journal::replayed))]
+#[tactic(auto, unfolding(simplex_journal::specs::Computed::sections))]
 fn replay_after_stop<J: Journal>(
     journal: &mut J,
     alloc: Global,
