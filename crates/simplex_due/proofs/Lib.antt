@@ -1,0 +1,4 @@
+pub mod Adding
+pub mod Voting
+pub mod Giving
+pub mod Stepping

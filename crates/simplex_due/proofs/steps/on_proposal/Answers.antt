@@ -1,0 +1,9 @@
+use Rattle.simplex_messages.specs.declared.voter.Message.TheVariants as mail
+use Rattle.simplex_due.proofs.Stepping.{if_ok, steps_mail}
+use Rattle.simplex_due.proofs.steps.on_proposal.Goals as goal
+
+pub returns : goal.returns
+returns g c =
+    if_ok c.step.result
+    (λ due step. steps_mail _ _ _ _ c.read_proposal-reading.result due (mail.Proposal c.args.proposal.now) c.read_proposal-reading.ensures step)
+    c.step.ensures

@@ -1,0 +1,22 @@
+use Rattle.std.proofs.Common.{arith, refl}
+use Rattle.std.proofs.lemmas.Grind.{common_steps}
+use Rattle.simplex_wire.specs.declared.certificate.Certificate.TheVariants as certificates
+use Rattle.model_rules.specs.Known.{Added}
+use Rattle.simplex_known.proofs.Facts.{learn_round}
+use Rattle.simplex_known.proofs.Growing.{grows, covers_same}
+use Rattle.simplex_known.proofs.known.Known.add_nullification.Goals as goal
+
+pub returns : goal.returns
+unfolding learn_round
+returns c = λ now.
+    grows _ _ (Added (certificates.Nullification c.args.nullification.now) now) (record {
+      rules = refl;
+      length = c.in_ok-add.ensures.length;
+      final = omega arith;
+      current = grind (arith, common_steps);
+      rounds = λ q. grind (arith, common_steps, c.in_ok-put_round.ensures q);
+      given_up = λ q. refl;
+      covers = λ covered stands. covers_same _ _ _ (λ q. grind (arith, common_steps)) (c.in_ok-add.ensures.stands covered stands);
+      answered = λ p. refl;
+      approved = λ p. refl;
+    })

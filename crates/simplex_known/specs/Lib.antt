@@ -1,0 +1,5 @@
+pub mod Covers
+pub mod Knows
+pub mod Opened
+pub mod Proposals
+pub mod Rounds
