@@ -121,7 +121,7 @@ fn note_on(alloc: Global, refusal: &Refusal) -> Result<String, AllocError> {
     format!(in alloc; "{refusal}: {reason}")
 }
 
-// The events before the refused one, if they have a run, and else the refusal alone.
+// The events before the refused one, if they have a run, and else the refusal alone. [refused-runs-are-drawn]
 fn before(
     alloc: Global,
     wish: &Wish,

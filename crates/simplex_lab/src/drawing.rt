@@ -19,14 +19,22 @@ pub(crate) fn drawn(
     ensures { IfOk result (AnswersOn (asks.Draw wish.now) input.now) }
 {
     let Drawing { drawn, text } = draw_input(alloc, wish, input)?;
-    let reason = match drawn {
-        Drawn::Whole(picture) => {
-            let done = Told::Picture(picture);
-            return Ok(Answer::Done { done, text });
-        }
-        Drawn::Before { refusal, picture } => LabReason::DrawnBefore { refusal, picture },
-        Drawn::Refused(refusal) => LabReason::Refused(refusal),
-        Drawn::NoNode(node) => LabReason::NoNode(node),
-    };
-    Ok(Answer::Refused { reason, text })
+    match drawn {
+        Drawn::Whole(picture) => Ok(Answer::Done {
+            done: Told::Picture(picture),
+            text,
+        }),
+        Drawn::Before { refusal, picture } => Ok(Answer::Refused {
+            reason: LabReason::DrawnBefore { refusal, picture },
+            text,
+        }),
+        Drawn::Refused(refusal) => Ok(Answer::Refused {
+            reason: LabReason::Refused(refusal),
+            text,
+        }),
+        Drawn::NoNode(node) => Ok(Answer::Refused {
+            reason: LabReason::NoNode(node),
+            text,
+        }),
+    }
 }
