@@ -11,6 +11,7 @@ use simplex_front::Answer;
 use std::alloc::{AllocError, Global};
 
 /// What the picture of an input comes to.
+#[tactic(auto, using(crate::proofs::Pictured::told_refused, crate::proofs::Pictured::told_absent))]
 pub(crate) fn drawn(
     alloc: Global,
     wish: &Wish,
