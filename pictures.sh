@@ -1,10 +1,11 @@
 #!/usr/bin/env bash
 # Draws the runs of docs/TOUR.md anew, as docs/pictures/NAME.svg, or those of the inputs that are named, as pictures/NAME.svg: by the
-# program that rt ci or rt run proved and built, and where there is none by rt try, which proves nothing and takes some minutes.
+# program that rt ci or rt run proved and built; where there is none by that of make fast, which is not proved; and where there is
+# none of these by rt try, which proves nothing and takes some minutes. A refused run is drawn as far as it went.
 # Usage: pictures.sh [INPUT.json..]
 set -euo pipefail
 here=$(cd "$(dirname "$0")" && pwd)
-program=$here/crates/simplex_draw/out/simplex_draw
+program=$here/crates/simplex_lab_cli/out/simplex_lab_cli
 inputs=("$@")
 to=$here/pictures
 if [[ $# -eq 0 ]]; then
@@ -17,16 +18,18 @@ if [[ $# -eq 0 ]]; then
 fi
 mkdir -p "$to"
 
-proved() {
-    local input name
+# Draws by the program that is there. A refused run has status 1, and a picture all the same.
+draw() {
+    local input name status
     for input in "${inputs[@]}"; do
-        name=$(basename "$input" .json)
-        "$program" draw <"$input" >"$to/$name.svg"
+        name=$(basename "$input" .json) status=0
+        "$program" draw <"$input" >"$to/$name.svg" || status=$?
+        if ((status > 1)); then return "$status"; fi
     done
 }
 
 # Each input is a case of rt try, which builds the program once, and writes what a case wrote behind a line with its name.
-unproved() {
+try() {
     local input name
     cases=$(mktemp -d)
     trap 'rm -rf "$cases"' EXIT
@@ -35,14 +38,17 @@ unproved() {
         cp "$input" "$cases/$name"
         echo draw >"$cases/$name.args"
     done
-    (cd "$here/crates/simplex_draw" && rt try --cases "$cases") |
-        awk -v to="$to" '/^== / { file = to "/" $2 ".svg"; printf "" >file; next } file { print >file }'
-    echo "These runs were not proved (rt try). To prove the program first: cd crates/simplex_draw && rt run -- draw < stdin"
+    (cd "$here/crates/simplex_lab_cli" && rt try --cases "$cases") |
+        awk -v to="$to" '/^== / { file = to "/" $2 ".svg"; printf "" >file; next } { print >file }'
 }
 
 if [[ -x $program ]]; then
-    proved
+    draw
+elif program=$("$here/unproved.sh" kept simplex_lab); then
+    draw
+    echo "These runs were not proved (make fast). To prove the program first: cd crates/simplex_lab_cli && rt run -- trace < stdin"
 else
-    unproved
+    try
+    echo "These runs were not proved (rt try). To prove the program first: cd crates/simplex_lab_cli && rt run -- trace < stdin"
 fi
 echo "Drawn: ${#inputs[@]} runs, in ${to#"$here"/}/"

@@ -1,3 +1,4 @@
 pub mod Opened
 pub mod Traced
 pub mod Saying
+pub mod Pictured

@@ -12,11 +12,12 @@ use Rattle.model_run.specs.Run.{Run, run}
 use Rattle.simplex_network.specs.declared.run.Transcript.{Transcript}
 use Rattle.simplex_network.specs.WholeRuns.{WholeRunFrom}
 use Rattle.simplex_simulator.specs.Going.{IsRunnable}
+use Rattle.simplex_drawing.specs.Before.{earlier, entries_of}
 use Rattle.simplex_lab.specs.Lines.{makes_as_written, read_makes_line}
 use Rattle.simplex_lab.specs.Refusals.{reason_line}
 use Rattle.simplex_lab.specs.declared.words.Order.{Order}
 use Rattle.simplex_lab.specs.Says.{IsMadeFor, IsRefusedBehind, IsShrunk, IsSimulated, IsUnread, simulated_text, unread_line}
-use Rattle.simplex_lab.specs.Says.{TellsOpenIf, TellsRefusal, earlier, entries_of, lines_if, node_at}
+use Rattle.simplex_lab.specs.Says.{TellsOpenIf, TellsRefusal, lines_if, node_at}
 
 -- whether what was written and read makes the line
 pub as_written : (setup : Setup) (line : List ℕ) (events : List Event) (written : List ℕ) (made : Result Input ℕ) (makes : Bool)

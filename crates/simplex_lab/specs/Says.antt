@@ -1,8 +1,7 @@
 -- What the words make of an input.
 use Rattle.std.specs.Prelude.{ℕ, ◌≡◌, ◌≢◌, ◌≤◌, ◌==◌, ◌⊎◌, ◌-◌, ◌++◌, true, false, List, [], ◌∷◌, Option, None, Some, Ok, Err, codes, decimal, length}
-use Rattle.std.specs.Prelude.{option_and_then, take, if◌then◌else◌}
+use Rattle.std.specs.Prelude.{option_and_then, if◌then◌else◌}
 use Rattle.std.specs.List.{slice_get}
-use Rattle.std.specs.Result.{result_ok}
 use Rattle.simplex_transcript.specs.declared.node.Node.{Node}
 use Rattle.simplex_generator.specs.Unanswered.{node_in}
 use Rattle.simplex_lab.specs.Opening.{TellsOpen}
@@ -24,6 +23,9 @@ use Rattle.model_run.specs.Run.{Run}
 use Rattle.simplex_network.specs.declared.run.Transcript.{Transcript}
 use Rattle.simplex_network.specs.WholeRuns.{WholeRunFrom}
 use Rattle.simplex_simulator.specs.Going.{IsRunnable}
+use Rattle.simplex_drawing.specs.Before.{earlier, entries_of}
+use Rattle.simplex_drawing.specs.Drawings.{absent_line, drawn_of}
+use Rattle.simplex_drawing.specs.declared.drawing.Drawn.TheVariants as drawns
 use Rattle.simplex_lab.specs.Lines.{makes_as_written}
 use Rattle.simplex_lab.specs.declared.reason.LabReason.{LabReason}
 use Rattle.simplex_lab.specs.declared.reason.LabReason.TheVariants as reasons
@@ -40,10 +42,6 @@ pub record IsTraced (input : Input) (done : Transcript) (text : List ℕ) : Type
   pub whole : WholeRunFrom (at_epoch_genesis input.setup) input.events done
   pub told : text ≡ lines_of input.events done.entries
 
--- the entries of a run, if it is whole
-unfoldable pub entries_of : Setup → List Event → Option (List Entry)
-entries_of setup events = result_ok (Run setup events)
-
 -- the lines of a run, if there is one
 abbrev pub lines_if : List Event → Option (List Entry) → List ℕ
 lines_if events None = []
@@ -58,10 +56,6 @@ abbrev pub TellsOpenIf : List Event → Option (List Entry) → Option Node → 
 TellsOpenIf events None _ text = text ≡ []
 TellsOpenIf events (Some entries) None text = text ≡ []
 TellsOpenIf events (Some entries) (Some node) text = TellsOpen events entries node text
-
--- the events before the one that is refused
-abbrev pub earlier : Input → Refusal → List Event
-earlier input refusal = take (refusal.event - 1) input.events
 
 -- the text tells the events before the one that is refused, the refusal and its reason, and what was open then for the node of this event
 pub record TellsRefusal (input : Input) (refusal : Refusal) (text : List ℕ) : Type 0 where
@@ -127,9 +121,10 @@ pub record IsShrunk (line : List ℕ) (input : Input) (left : List Event) (text 
 
 -- ---- each word
 
--- the whole work of a word on an input, and its text
+-- the whole work of a word on an input, and its text. How a picture is written is not said
 abbrev pub DoneOn : Word → Input → Told → List ℕ → Type 0
 DoneOn asks.Trace input (tells.Run done) text = IsTraced input done text
+DoneOn (asks.Draw wish) input (tells.Picture picture) text = drawn_of wish.cut input ≡ drawns.Whole picture
 DoneOn (asks.Simulate order) input (tells.Run done) text = IsSimulated order input done text
 DoneOn (asks.Shrink line) input (tells.Shrunk left) text = IsShrunk line input left text
 DoneOn _ input _ text = ⊥
@@ -137,6 +132,9 @@ DoneOn _ input _ text = ⊥
 -- why it ends before, and its text
 abbrev pub RefusedOn : Word → Input → LabReason → List ℕ → Type 0
 RefusedOn asks.Trace input (reasons.Refused refusal) text = IsRefused input refusal text
+RefusedOn (asks.Draw wish) input (reasons.Refused refusal) text = (drawn_of wish.cut input ≡ drawns.Refused refusal) × (text ≡ refusal_text refusal)
+RefusedOn (asks.Draw wish) input (reasons.DrawnBefore refusal picture) text = drawn_of wish.cut input ≡ drawns.Before refusal picture
+RefusedOn (asks.Draw wish) input (reasons.NoNode node) text = (drawn_of wish.cut input ≡ drawns.NoNode node) × (text ≡ absent_line node)
 RefusedOn (asks.Simulate order) input (reasons.Refused refusal) text = IsRefusedBehind order input refusal text
 RefusedOn (asks.Simulate order) input (reasons.Unread place) text = IsUnread order input place text
 RefusedOn (asks.Shrink line) input reasons.NotMade text = (makes_as_written input.setup line input.events ≡ false) × (text ≡ codes "not made\n")
@@ -145,6 +143,7 @@ RefusedOn _ input _ text = ⊥
 -- the input is not what the word takes: a simulation wants no events
 abbrev pub MisreadOn : Word → Input → ℕ → Type 0
 MisreadOn asks.Trace input place = ⊥
+MisreadOn (asks.Draw wish) input place = ⊥
 MisreadOn (asks.Simulate order) input place = (place ≡ 2) × (input.events ≢ [])
 MisreadOn (asks.Shrink line) input place = ⊥
 

@@ -1,5 +1,6 @@
 //! What whole work made.
 use simplex_network::Transcript;
+use simplex_picture::Picture;
 use simplex_transcript::Event;
 use simplex_types::Sequence;
 
@@ -8,6 +9,8 @@ use simplex_types::Sequence;
 pub enum Told {
     /// A run.
     Run(Transcript),
+    /// The picture of a run.
+    Picture(Picture),
     /// The events that are left.
     Shrunk(Sequence<Event>),
     /// Nothing but words on the program.

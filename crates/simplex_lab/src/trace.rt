@@ -1,22 +1,24 @@
 //! Tells a run line by line.
-ghost use Rattle.std.specs.Prelude.{◌≡◌, ◌-◌, Err, IfOk, option_map, string_bytes, take};
+ghost use Rattle.std.specs.Prelude.{◌≡◌, Err, IfOk, option_map, string_bytes};
 ghost use Rattle.model_run.specs.Setting.{at_epoch_genesis};
 ghost use Rattle.model_run.specs.Run.{Run};
 ghost use Rattle.simplex_network.specs.WholeRuns.{WholeRunFrom};
 ghost use Rattle.simplex_generator.specs.Unanswered.{node_in};
+ghost use Rattle.simplex_drawing.specs.Before.{earlier, entries_of};
 ghost use Rattle.simplex_lab.specs.declared.words.Word.TheVariants as asks;
-ghost use Rattle.simplex_lab.specs.Says.{AnswersOn, TellsOpenIf, TellsRefusal, earlier, entries_of, lines_if, node_at};
+ghost use Rattle.simplex_lab.specs.Says.{AnswersOn, TellsOpenIf, TellsRefusal, lines_if, node_at};
 
 use crate::opening::open_lines;
 use crate::reason::LabReason;
 use crate::reasons::reason_line;
 use crate::told::Told;
+use simplex_drawing::{events_before, whole_run};
 use simplex_form::Input;
 use simplex_front::Answer;
 use simplex_network::{Transcript, run_network};
 use simplex_text::refusal_text;
 use simplex_trace::lines;
-use simplex_transcript::{Event, Node, Refusal, RunError, Setup};
+use simplex_transcript::{Event, Node, Refusal, RunError};
 use std::alloc::{AllocError, Global};
 
 // The lines of a whole run of the input.
@@ -37,14 +39,6 @@ fn tell(
         done: Told::Run(transcript),
         text,
     })
-}
-
-// The events before the one of this number, which is counted from 1; all, where there are not so many.
-fn events_before(events: &[Event], number: u64) -> &[Event]
-    ensures { result.now ≡ take (number - 1) events.now }
-{
-    let before = events.len().min(number.saturating_sub(1) as usize);
-    &events[..before]
 }
 
 // The node of an event, where it has one of its own.
@@ -68,26 +62,6 @@ fn node_at(events: &[Event], number: u64) -> Option<Node>
 {
     let place = number.checked_sub(1)?;
     node_of(events.get(place as usize)?)
-}
-
-// The run of the events, if it is whole.
-#[tactic(auto, unfolding(crate::specs::Says::entries_of))]
-fn whole_run(
-    alloc: Global,
-    setup: &Setup,
-    events: &[Event],
-) -> Result<Option<Transcript>, AllocError>
-    ensures { IfOk result (λ whole. option_map (λ transcript. transcript.entries) whole ≡ entries_of setup.now events.now) }
-{
-    match run_network(alloc, setup, events) {
-        Ok(transcript) => Ok(Some(transcript)),
-        Err(refusal) => {
-            if matches!(refusal.error, RunError::Memory) {
-                return Err(AllocError);
-            }
-            Ok(None)
-        }
-    }
 }
 
 // The lines of a run, if there is one.

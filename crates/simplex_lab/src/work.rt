@@ -12,6 +12,7 @@ ghost use Rattle.simplex_lab.specs.Words.{asked, usage};
 ghost use Rattle.simplex_lab.specs.Says.{AnswersOn, Does, Misreads, Refuses};
 
 use crate::about::{about, say};
+use crate::drawing::drawn;
 use crate::reason::LabReason;
 use crate::shrinking::shrunk;
 use crate::simulating::simulated;
@@ -24,7 +25,7 @@ use simplex_io::{Sink, Source};
 use std::alloc::{AllocError, Global};
 
 const USAGE: &str =
-    "usage: trace | simulate SEED STEPS [--drop P] [--repeat P] [--crash P] [--delay P] [--events] | shrink LINE | --help | --version\n";
+    "usage: trace | draw [--html] [FROM TO [NODE ..]] | simulate SEED STEPS [--drop P] [--repeat P] [--crash P] [--delay P] [--events] | shrink LINE | --help | --version\n";
 
 /// Does what the words ask for with an input.
 pub struct LabWork;
@@ -35,6 +36,7 @@ fn answer(alloc: Global, word: &Word, input: Input) -> Result<Answer<Told, LabRe
 {
     match word {
         Word::Trace => trace(alloc, &input),
+        Word::Draw(wish) => drawn(alloc, wish, &input),
         Word::Simulate(order) => simulated(alloc, order, &input),
         Word::Shrink(line) => shrunk(alloc, line.as_slice(), input),
     }

@@ -18,6 +18,8 @@ use simplex_transcript::{Entry, Event, MemberKind, Packet, Ref, StepSource};
 use simplex_types::{CertificateKind, View};
 use std::alloc::{AllocError, Global};
 
+// The height of the line of text under what stands above all.
+const NOTE: u64 = 62;
 // How many events stand between two that are numbered above the lanes.
 const NUMBERED: u64 = 5;
 // How wide a digit or a letter is in a band, at most.
@@ -76,6 +78,16 @@ fn push_head(
 <text class=\"h\" x=\"20\" y=\"24\">{heading}</text>
 <text class=\"s\" x=\"20\" y=\"42\">{counts} Each has a mark on the lane of its node. An arrow is a packet, from the event that sent it to the one that took it. Where the pointer rests, more is told.</text>
 "
+    )
+}
+
+// Adds a line of text under what stands above all.
+fn push_note(alloc: Global, out: &mut String, note: &str) -> Result<(), AllocError> {
+    let note = escaped(alloc, note)?;
+    let note = note.as_str();
+    write!(
+        out,
+        "<text class=\"m\" style=\"fill:#d55e00\" x=\"20\" y=\"{NOTE}\">{note}</text>\n"
     )
 }
 
@@ -596,14 +608,15 @@ fn push_body(
     Ok(())
 }
 
-/// The picture as an SVG file. `events` and `entries` are those of the run, from which the titles are told.
-/// [svg-is-no-promise]
+/// The picture as an SVG file. `events` and `entries` are those of the run, from which the titles are told; the note, if there is
+/// one, stands under the heading. [svg-is-no-promise]
 pub fn svg(
     alloc: Global,
     cut: &Cut,
     picture: &Picture,
     events: &[Event],
     entries: &[Entry],
+    note: Option<&str>,
 ) -> Result<String, AllocError> {
     let sheet = Sheet::new(alloc, picture)?;
     let letters = Letters::new(alloc, entries)?;
@@ -620,6 +633,9 @@ pub fn svg(
         heading.as_str(),
         counts.as_str(),
     )?;
+    if let Some(note) = note {
+        push_note(alloc, &mut out, note)?;
+    }
     push_body(alloc, &mut out, &sheet, &letters, picture, events, entries)?;
     push_legend(alloc, &mut out, sheet.foot, &used, &letters)?;
     out.push_str("</svg>\n")?;

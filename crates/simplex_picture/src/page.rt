@@ -6,6 +6,11 @@ use crate::sheet::{LEFT, STEP, Sheet};
 use simplex_transcript::{Entry, Event};
 use std::alloc::{AllocError, Global};
 
+// Where what is later begins to be dimmed.
+const UNDER_HEADING: u64 = 56;
+
+const UNDER_NOTE: u64 = 68;
+
 // What stands before the slider.
 const HEAD: &str = r##"<!doctype html>
 <html lang="en"><head><meta charset="utf-8"><title>A run, event by event</title>
@@ -15,12 +20,13 @@ const HEAD: &str = r##"<!doctype html>
 "##;
 
 // What stands behind the picture: later events are dimmed, and the event at the slider is told.
-const SCRIPT: &str = r##"
+const LATER: &str = r##"
 const at = document.getElementById('at'), svg = document.querySelector('svg');
 const later = document.createElementNS('http://www.w3.org/2000/svg', 'rect');
-later.setAttribute('fill', '#fff'); later.setAttribute('fill-opacity', '.88'); later.setAttribute('y', '56');
-later.setAttribute('height', String(FOOT - 56)); later.setAttribute('pointer-events', 'none');
-svg.appendChild(later);
+"##;
+
+// What it shows, and when.
+const SHOW: &str = r##"svg.appendChild(later);
 function show() {
     const event = Number(at.value), x = LEFT + (event - FIRST) * STEP + STEP / 2, mark = document.getElementById('e' + event);
     later.setAttribute('x', String(x)); later.setAttribute('width', String(Math.max(0, svg.width.baseVal.value - x)));
@@ -32,6 +38,17 @@ at.addEventListener('input', show); show();
 </script></body></html>
 "##;
 
+// Adds the part of the script that dims what is later, from under the heading on, and under the note if there is one.
+fn push_dimming(out: &mut String, has_note: bool) -> Result<(), AllocError> {
+    let top = if has_note { UNDER_NOTE } else { UNDER_HEADING };
+    write!(
+        out,
+        "later.setAttribute('fill', '#fff'); later.setAttribute('fill-opacity', '.88'); later.setAttribute('y', '{top}');
+later.setAttribute('height', String(FOOT - {top})); later.setAttribute('pointer-events', 'none');
+"
+    )
+}
+
 // The lower end of the lanes.
 fn foot_of(alloc: Global, picture: &Picture) -> Result<u64, AllocError> {
     let sheet = Sheet::new(alloc, picture)?;
@@ -39,13 +56,15 @@ fn foot_of(alloc: Global, picture: &Picture) -> Result<u64, AllocError> {
 }
 
 /// The picture as an HTML page that needs nothing else: a slider stands above it, events behind the one at the slider are
-/// dimmed, and what that event did is told. `events` and `entries` are those of the run.
+/// dimmed, and what that event did is told. `events` and `entries` are those of the run; the note, if there is one, stands under
+/// the heading.
 pub fn html(
     alloc: Global,
     cut: &Cut,
     picture: &Picture,
     events: &[Event],
     entries: &[Entry],
+    note: Option<&str>,
 ) -> Result<String, AllocError> {
     let marks = picture.marks.as_slice();
     let (first, last) = match (marks.first(), marks.last()) {
@@ -58,13 +77,15 @@ pub fn html(
         out,
         "<input id=\"at\" type=\"range\" min=\"{first}\" max=\"{last}\" value=\"{last}\"><div id=\"told\"></div></div>\n"
     )?;
-    let image = svg(alloc, cut, picture, events, entries)?;
+    let image = svg(alloc, cut, picture, events, entries, note)?;
     out.push_str(image.as_str())?;
     let foot = foot_of(alloc, picture)?;
     write!(
         out,
         "<script>const FIRST = {first}, LEFT = {LEFT}, STEP = {STEP}, FOOT = {foot};"
     )?;
-    out.push_str(SCRIPT)?;
+    out.push_str(LATER)?;
+    push_dimming(&mut out, note.is_some())?;
+    out.push_str(SHOW)?;
     Ok(out)
 }

@@ -146,7 +146,7 @@ fn text_is_escaped(rt: HostRuntime) -> Result<(), Fail> {
 }
 
 #[test]
-fn titles_tell_what_became_of_packets(rt: HostRuntime) -> Result<(), Fail> {
+fn titles_and_the_note_are_told(rt: HostRuntime) -> Result<(), Fail> {
     let cut = Cut {
         first: 1,
         last: 3,
@@ -157,11 +157,12 @@ fn titles_tell_what_became_of_packets(rt: HostRuntime) -> Result<(), Fail> {
     let setup = setup(rt.alloc())?;
     let (events, entries) = (events.as_slice(), entries.as_slice());
     let picture = draw(rt.alloc(), &cut, &setup, events, entries)?;
-    let text = svg(rt.alloc(), &cut, &picture, events, entries)?;
+    let text = svg(rt.alloc(), &cut, &picture, events, entries, Some("a < b"))?;
     for told in [
         "event 2: node 1.0 takes packet 0 of event 1",
         "from 0.0 at event 1, packet 0, to 1.0 at event 3",
         "from 0.0 at event 1, packet 1, to 1.0, never taken",
+        ">a &lt; b</text>",
     ] {
         same(&rt, told, &text.as_str().contains(told), &true);
     }

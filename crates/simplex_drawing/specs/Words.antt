@@ -1,4 +1,4 @@
--- What words ask for.
+-- What the words behind `draw` ask for.
 use Rattle.std.specs.Prelude.{ℕ, ◌^◌, ◌==◌, ◌&&◌, nat_lt, nat_le, Bool, true, false, List, [], ◌∷◌, length, codes, Option, Some, None, if◌then◌else◌}
 use Rattle.std.specs.List.{list_all, before_first, after_first, position_or_len}
 use Rattle.std.specs.Char.{digit_value}
@@ -7,8 +7,8 @@ use Rattle.std.specs.Str.Parse.{digits_value, without_leading_plus}
 use Rattle.simplex_transcript.specs.declared.node.Node.{Node}
 use Rattle.simplex_picture.specs.declared.cut.Cut.{Cut}
 use Rattle.std.specs.Option.{option_map}
-use Rattle.simplex_draw.specs.declared.words.TheConstants.{EVENTS}
-use Rattle.simplex_draw.specs.declared.words.Wish.{Wish}
+use Rattle.simplex_drawing.specs.declared.words.TheConstants.{EVENTS}
+use Rattle.simplex_drawing.specs.declared.words.Wish.{Wish}
 
 -- one digit or more, and nothing else
 abbrev pub is_numeral : List ℕ → Bool
@@ -61,12 +61,7 @@ cut_in (first ∷ last ∷ nodes) = cut_between (number_of first) (number_of las
 abbrev pub wished : Bool → Option Cut → Option Wish
 wished as_page cut = option_map (λ (c : Cut). record { cut = c; as_page = as_page }) cut
 
--- as a page where `--html` stands first
-abbrev pub wish_in : List (List ℕ) → Option Wish
-wish_in [] = wished false (cut_in [])
-wish_in (word ∷ words) = if bytes_eq word (codes "--html") then wished true (cut_in words) else wished false (cut_in (word ∷ words))
-
--- behind the word `draw`
+-- behind the word `draw`: as a page where `--html` stands first
 abbrev pub wish_of : List (List ℕ) → Option Wish
-wish_of [] = None
-wish_of (word ∷ words) = if bytes_eq word (codes "draw") then wish_in words else None
+wish_of [] = wished false (cut_in [])
+wish_of (word ∷ words) = if bytes_eq word (codes "--html") then wished true (cut_in words) else wished false (cut_in (word ∷ words))

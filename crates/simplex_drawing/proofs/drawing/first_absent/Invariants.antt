@@ -1,6 +1,6 @@
 use Rattle.std.proofs.Common.{◌≡◌, length}
-use Rattle.simplex_draw.specs.Drawing as drawing
-use Rattle.simplex_draw.proofs.work.first_absent.Given as goal
+use Rattle.simplex_drawing.specs.Drawings as drawing
+use Rattle.simplex_drawing.proofs.drawing.first_absent.Given as goal
 
 abbrev pub invariant-loop-rest : goal.invariant-loop-rest
 invariant-loop-rest l = drawing.first_absent l.setup l.rest ≡ drawing.first_absent l.setup l.nodes

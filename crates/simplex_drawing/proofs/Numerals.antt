@@ -5,7 +5,7 @@ use Rattle.std.specs.List.{list_all}
 use Rattle.std.specs.Result.{result_ok}
 use Rattle.std.specs.Str.Parse.{AllDigits, IsNumeral, digits_value}
 use Rattle.std.proofs.lemmas.Bool.{ltb-true, lt-ltb, and_parts, and_from}
-use Rattle.simplex_draw.specs.Words.{is_numeral, number_in}
+use Rattle.simplex_drawing.specs.Words.{is_numeral, number_in}
 
 abbrev is_digit : ℕ → Bool
 is_digit c = nat_lt (digit_value c) 10

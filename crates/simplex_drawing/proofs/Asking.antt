@@ -2,7 +2,7 @@
 use Rattle.std.proofs.Common.{◌≡◌, List, [], ◌∷◌, ◌++◌, refl, ap, append_assoc}
 use Rattle.std.specs.Prelude.{Option, Some, None}
 use Rattle.simplex_transcript.specs.declared.node.Node.{Node}
-use Rattle.simplex_draw.specs.Words.{with_node}
+use Rattle.simplex_drawing.specs.Words.{with_node}
 
 -- these nodes before those, if there are some
 abbrev pub behind : List Node → Option (List Node) → Option (List Node)

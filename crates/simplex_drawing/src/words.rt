@@ -1,6 +1,6 @@
-//! What words ask for.
+//! What the words behind `draw` ask for.
 ghost use Rattle.std.specs.Prelude.{◌≡◌, IfOk, map, string_bytes};
-ghost use Rattle.simplex_draw.specs.Words as said;
+ghost use Rattle.simplex_drawing.specs.Words as said;
 
 use simplex_picture::Cut;
 use simplex_transcript::Node;
@@ -11,7 +11,7 @@ use std::alloc::{AllocError, Global};
 pub const EVENTS: u64 = 400;
 
 /// What words ask for: which part of a run, and whether as a page with a slider.
-#[derive(Drop)]
+#[derive(Debug, PartialEq, Eq, Drop)]
 pub struct Wish {
     /// The part of the run.
     pub cut: Cut,
@@ -101,9 +101,10 @@ fn wished(as_page: bool, cut: Option<Cut>) -> Option<Wish>
     Some(Wish { cut, as_page })
 }
 
-// What the words behind `draw` ask for.
-fn wish_in(alloc: Global, words: &[String]) -> Result<Option<Wish>, AllocError>
-    ensures { IfOk result (λ wish. wish ≡ said.wish_in (map string_bytes words.now)) }
+/// What the words behind `draw` ask for, which are none, `FROM TO` or `FROM TO NODE..`, with `--html` before them or without; none
+/// where they ask for something else.
+pub fn wish_of(alloc: Global, words: &[String]) -> Result<Option<Wish>, AllocError>
+    ensures { IfOk result (λ wish. wish ≡ said.wish_of (map string_bytes words.now)) }
 {
     let [word, rest @ ..] = words else {
         return Ok(wished(false, cut_in(alloc, words)?));
@@ -112,20 +113,5 @@ fn wish_in(alloc: Global, words: &[String]) -> Result<Option<Wish>, AllocError>
         Ok(wished(true, cut_in(alloc, rest)?))
     } else {
         Ok(wished(false, cut_in(alloc, words)?))
-    }
-}
-
-/// What the words ask for, `draw`, `draw FROM TO` or `draw FROM TO NODE..`, each with `--html` behind `draw` or without; none where
-/// they ask for something else.
-pub fn wish_of(alloc: Global, words: &[String]) -> Result<Option<Wish>, AllocError>
-    ensures { IfOk result (λ wish. wish ≡ said.wish_of (map string_bytes words.now)) }
-{
-    let [word, rest @ ..] = words else {
-        return Ok(None);
-    };
-    if word.as_str() == "draw" {
-        wish_in(alloc, rest)
-    } else {
-        Ok(None)
     }
 }

@@ -1,0 +1,4 @@
+pub mod Before
+pub mod Drawings
+pub mod Reasons
+pub mod Words
