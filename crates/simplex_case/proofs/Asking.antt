@@ -1,14 +1,11 @@
 -- Requests of nodes, and whether they were answered.
-use Rattle.std.proofs.Common.{◌≡◌, ◌≢◌, ℕ, ◌+◌, ◌-◌, ◌<◌, ◌≤◌, List, [], ◌∷◌, ◌++◌, Bool, true, false, arith, refl, sym, ap, ◌∙◌, length, Option, Some, None, if◌then◌else◌, eqb-true}
-use Rattle.std.specs.Prelude.{◌==◌, ◌&&◌, ◌||◌, nat_lt, not, IfSome, slice_get, All}
-use Rattle.std.specs.List.{list_any}
-use Rattle.std.specs.Option.{is_some, option_map_or}
+use Rattle.std.proofs.Common.{◌≡◌, ℕ, ◌+◌, ◌<◌, ◌≤◌, List, [], ◌∷◌, Bool, true, false, arith, refl, sym, ap, ◌∙◌, length, Option, Some, None, if◌then◌else◌, eqb-true}
+use Rattle.std.specs.Prelude.{◌==◌, ◌&&◌, ◌||◌, nat_lt, IfSome}
+use Rattle.std.specs.Option.{is_some}
 use Rattle.std.specs.BTreeSet.{BTreeSet}
 use Rattle.std.proofs.lemmas.Grind.{common_steps}
 use Rattle.std.proofs.lemmas.Bool.{and_parts}
 use Rattle.std.proofs.lemmas.List.Elements.{All-head, All-tail}
-use Rattle.simplex_values.specs.declared.answer.Answer.{Answer}
-use Rattle.simplex_values.specs.Maps.{has}
 use Rattle.simplex_transcript.specs.declared.event.Event.{Event}
 use Rattle.simplex_transcript.specs.declared.event.Event.TheVariants as events
 use Rattle.simplex_transcript.specs.declared.node.Node.{Node}
@@ -19,7 +16,6 @@ use Rattle.model_run.specs.Kinds.{is_node, is_same_node}
 use Rattle.model_run.specs.Life.{Noted, is_of}
 use Rattle.model_run.specs.Requests.{is_start, first_number, request_number}
 use Rattle.simplex_records.proofs.Asked.{none-ahead}
-use Rattle.simplex_records.proofs.Lists.{slice_get-push}
 use Rattle.model_audit.specs.Conditions.{answers_it, was_answered}
 use Rattle.model_audit.specs.declared.record.AuditEntry.{AuditEntry}
 use Rattle.model_audit.specs.Rebuilt.{rebuilt}

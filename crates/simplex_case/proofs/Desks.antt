@@ -1,5 +1,5 @@
 -- What is kept of a node, of one event more.
-use Rattle.std.proofs.Common.{◌≡◌, ℕ, ◌+◌, ◌*◌, ◌<◌, ◌≤◌, List, [], ◌∷◌, ◌++◌, ◌≢◌, Bool, true, false, arith, refl, sym, ap, ◌∙◌, length, get_or, set, subst, if◌then◌else◌, Option, Some, None, ltb-true, leb-true, le-leb, eqb-true}
+use Rattle.std.proofs.Common.{◌≡◌, ℕ, ◌+◌, ◌*◌, ◌<◌, ◌≤◌, List, [], ◌∷◌, ◌++◌, ◌≢◌, Bool, true, false, arith, refl, sym, ap, ◌∙◌, length, get_or, set, subst, if◌then◌else◌, Option, Some, None, ltb-true, le-leb, eqb-true}
 use Rattle.std.specs.Prelude.{◌==◌, ◌&&◌, ◌||◌, nat_lt, nat_le, not, IfSome, slice_get}
 use Rattle.std.specs.List.{list_any}
 use Rattle.std.specs.Option.{option_map_or}
@@ -14,7 +14,6 @@ use Rattle.simplex_transcript.specs.declared.node.Ref.{Ref}
 use Rattle.simplex_transcript.specs.declared.setup.Setup.{Setup}
 use Rattle.model_run.specs.Kinds.{is_node, is_same_node, members_of, is_twin, halves_of}
 use Rattle.model_run.specs.Life.{Noted, is_of}
-use Rattle.model_run.specs.Requests.{is_start, asked_since, request_number, request_place}
 use Rattle.std.specs.BTreeMap.{BTreeMap}
 use Rattle.simplex_records.specs.declared.requests.Requests.{Requests}
 use Rattle.simplex_records.specs.Requests.{RequestsStand, number_in}
@@ -24,7 +23,7 @@ use Rattle.simplex_records.proofs.Asked.{desk-other as requests-other, desk-new 
 use Rattle.simplex_records.proofs.Lists.{slice_get-set, slice_get-set_other, slice_get-push}
 use Rattle.simplex_records.proofs.Seating.{seated, same-seat}
 use Rattle.model_audit.specs.Conditions.{was_dropped}
-use Rattle.model_audit.specs.Running.{runs_at, is_done, is_broken, is_crash}
+use Rattle.model_audit.specs.Running.{runs_at}
 use Rattle.simplex_case.specs.declared.desk.Desk.{Desk}
 use Rattle.simplex_case.specs.Desk.{DeskStands, drops_since, runs_behind}
 use Rattle.simplex_case.specs.Stands.{DesksStand, IsOfNode}

@@ -1,6 +1,6 @@
 -- The votes that honest members sent, of one packet and of one entry more.
-use Rattle.std.proofs.Common.{◌≡◌, ℕ, ◌+◌, ◌<◌, ◌≤◌, List, [], ◌∷◌, ◌++◌, Bool, true, false, arith, refl, sym, ap, ◌∙◌, length, take, get_or, if◌then◌else◌, eqb-true, subst}
-use Rattle.std.specs.Prelude.{OnOk, Result, Ok, Err, Option, Some, None, find, is_none, ◌==◌, ◌&&◌, ◌||◌, filter_map}
+use Rattle.std.proofs.Common.{◌≡◌, ℕ, ◌+◌, ◌<◌, ◌≤◌, List, [], ◌∷◌, ◌++◌, Bool, true, false, arith, refl, sym, ap, ◌∙◌, length, take, get_or, if◌then◌else◌}
+use Rattle.std.specs.Prelude.{OnOk, Result, Ok, Err, Option, Some, None, find, is_none, ◌==◌, ◌||◌, filter_map}
 use Rattle.std.specs.List.{list_any}
 use Rattle.std.specs.Option.{option_map}
 use Rattle.std.proofs.lemmas.Grind.{common_steps}
@@ -9,10 +9,9 @@ use Rattle.std.proofs.lemmas.List.Elements.{All-nil, All-cons, filter_map-append
 use Rattle.std.proofs.lemmas.List.Folds.{list_any-append}
 use Rattle.simplex_values.specs.declared.proposal.Subject.{Subject}
 use Rattle.simplex_transcript.specs.declared.entry.Packet.{Packet}
-use Rattle.simplex_transcript.specs.declared.node.Node.{Node}
 use Rattle.simplex_transcript.specs.declared.setup.Setup.{Setup}
 use Rattle.simplex_types.specs.declared.keyed.Keyed.{Keyed}
-use Rattle.model_run.specs.Kinds.{is_honest, is_same_node, members_of, node_of}
+use Rattle.model_run.specs.Kinds.{is_honest, is_same_node, node_of}
 use Rattle.model_run.specs.Life.{Noted}
 use Rattle.model_run.specs.SentVotes.{vote_sent, has_sent}
 use Rattle.simplex_records.specs.declared.sent_votes.SentVotes.{SentVotes}

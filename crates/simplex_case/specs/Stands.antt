@@ -5,7 +5,6 @@ use Rattle.simplex_wire.specs.declared.certificate.Finalization.{Finalization}
 use Rattle.simplex_transcript.specs.declared.event.Event.{Event}
 use Rattle.simplex_transcript.specs.declared.node.Node.{Node}
 use Rattle.simplex_transcript.specs.declared.setup.Setup.{Setup}
-use Rattle.law_run.specs.Complete.{node_named}
 use Rattle.model_run.specs.Entries.{was_reported}
 use Rattle.model_run.specs.Kinds.{is_node, members_of}
 use Rattle.model_run.specs.Life.{Noted, clock_of}

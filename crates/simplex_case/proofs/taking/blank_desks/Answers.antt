@@ -1,4 +1,4 @@
-use Rattle.std.proofs.Common.{◌≡◌, ℕ, ◌+◌, refl, ap, ◌∙◌, arith, length}
+use Rattle.std.proofs.Common.{◌+◌, refl, ap, ◌∙◌, length}
 use Rattle.std.proofs.lemmas.List.{length_push}
 use Rattle.simplex_case.proofs.Desks.{no-desks, desks-grown, desks-new}
 use Rattle.simplex_case.proofs.taking.blank_desks.Goals as goal

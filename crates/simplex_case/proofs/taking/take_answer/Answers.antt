@@ -1,6 +1,6 @@
 use Rattle.std.proofs.Common.{sym, ◌∙◌}
 use Rattle.simplex_case.proofs.Asking.{answered-at, answered-not}
-use Rattle.simplex_case.proofs.Sending.{on-ok, on-ok-two}
+use Rattle.simplex_case.proofs.Sending.{on-ok-two}
 use Rattle.simplex_case.proofs.taking.take_answer.Goals as goal
 
 pub returns-in-None : goal.returns-in-None

@@ -1,4 +1,4 @@
-use Rattle.std.proofs.Common.{subst, sym, ap, ◌∙◌, arith, List, length}
+use Rattle.std.proofs.Common.{subst, ◌∙◌, List}
 use Rattle.simplex_transcript.specs.declared.entry.Packet.{Packet}
 use Rattle.simplex_case.specs.Taking.{VotesAlong}
 use Rattle.simplex_case.proofs.Sending.{along-first, along-last, take-next, take-done}

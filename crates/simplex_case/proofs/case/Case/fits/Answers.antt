@@ -1,4 +1,4 @@
-use Rattle.std.proofs.Common.{◌≡◌, ◌+◌, arith, length}
+use Rattle.std.proofs.Common.{◌+◌, arith, length}
 use Rattle.simplex_case.proofs.Casing.{fits-is}
 use Rattle.simplex_case.proofs.case.Case.fits.Goals as goal
 

@@ -1,4 +1,4 @@
-use Rattle.std.proofs.Common.{sym, ◌∙◌}
+use Rattle.std.proofs.Common.{sym}
 use Rattle.simplex_case.proofs.Casing.{pending-none, pending-some}
 use Rattle.simplex_case.proofs.case.Case.is_pending.Goals as goal
 

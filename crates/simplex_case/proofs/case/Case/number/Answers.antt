@@ -1,4 +1,4 @@
-use Rattle.std.proofs.Common.{◌∙◌, ap, sym}
+use Rattle.std.proofs.Common.{◌∙◌}
 use Rattle.simplex_case.proofs.Casing.{number-none, number-some}
 use Rattle.simplex_case.proofs.case.Case.number.Goals as goal
 

@@ -1,4 +1,4 @@
-use Rattle.simplex_case.proofs.Casing.{desk-found, desk-there}
+use Rattle.simplex_case.proofs.Casing.{desk-found}
 use Rattle.simplex_case.proofs.case.Case.runs.Goals as goal
 
 pub returns-in-Some : goal.returns-in-Some

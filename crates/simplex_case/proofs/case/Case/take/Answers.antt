@@ -1,4 +1,4 @@
-use Rattle.std.proofs.Common.{◌≡◌, ◌+◌, ap, sym, ◌∙◌, arith, length}
+use Rattle.std.proofs.Common.{◌+◌, ap, sym, ◌∙◌}
 use Rattle.model_audit.specs.Rebuilt.{rebuilt}
 use Rattle.simplex_case.proofs.Casing.{case-more, packets-of}
 use Rattle.simplex_case.proofs.Sending.{on-ok}

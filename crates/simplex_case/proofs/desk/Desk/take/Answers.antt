@@ -1,4 +1,4 @@
-use Rattle.std.proofs.Common.{sym, ap, ◌∙◌, refl, length, ◌+◌}
+use Rattle.std.proofs.Common.{sym}
 use Rattle.model_audit.specs.Rebuilt.{rebuilt, rebuilt_entry}
 use Rattle.simplex_case.proofs.Desks.{desk-own}
 use Rattle.simplex_case.proofs.desk.Desk.take.Goals as goal
