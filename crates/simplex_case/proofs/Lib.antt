@@ -1,0 +1,4 @@
+pub mod Asking
+pub mod Casing
+pub mod Desks
+pub mod Sending

@@ -1,0 +1,6 @@
+pub mod Answered
+pub mod Desk
+pub mod Items
+pub mod Sources
+pub mod Stands
+pub mod Taking
