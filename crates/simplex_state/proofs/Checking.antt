@@ -57,23 +57,23 @@ pub unvotable : (made : Made) (known : List Fact) (view : ℕ) → 0 < made.term
 unvotable made known view some past = unvotable_by made known view _ some past refl
 
 -- the member's vote, by the record of the view
-pub notarize_by : (made : Made) (known : List Fact) (view : ℕ) (p : Proposal) → IsSound known → slot_of known view ≡ Some p
+pub signed : (made : Made) (known : List Fact) (view : ℕ) (p : Proposal) → IsSound known → slot_of known view ≡ Some p
     → notarize_at made known view
     ≡ (if is_votable made known view && is_checked_in (round_of known view) && has_ancestry made known p.parent view && is_none (round_of known view).voted && not (has_nullified known view)
     then signed_notarize made p else None)
 unfolding notarize_at notarizes round_of
-notarize_by made known view p s e =
+signed made known view p s e =
     (let v = slot_view known view p e in
     grind (arith, common_steps, e, v, checked_is known view s))
 
-pub notarize_none : (made : Made) (known : List Fact) (view : ℕ) → slot_of known view ≡ None → notarize_at made known view ≡ None
+pub slotless : (made : Made) (known : List Fact) (view : ℕ) → slot_of known view ≡ None → notarize_at made known view ≡ None
 unfolding notarize_at
-notarize_none made known view e = grind (arith, common_steps, e)
+slotless made known view e = grind (arith, common_steps, e)
 
-pub notarize_unvotable : (made : Made) (known : List Fact) (view : ℕ) (slot : Option Proposal) → slot_of known view ≡ slot → is_votable made known view ≡ false → notarize_at made known view ≡ None
+pub early : (made : Made) (known : List Fact) (view : ℕ) (slot : Option Proposal) → slot_of known view ≡ slot → is_votable made known view ≡ false → notarize_at made known view ≡ None
 unfolding notarize_at notarizes
-notarize_unvotable made known view None e votable = grind (arith, common_steps, e)
-notarize_unvotable made known view (Some p) e votable =
+early made known view None e votable = grind (arith, common_steps, e)
+early made known view (Some p) e votable =
     (let v = slot_view known view p e in grind (arith, common_steps, e, v, votable))
 
 pub forwardable_is : (known : List Fact) (view : ℕ) → IsSound known

@@ -43,7 +43,7 @@ impl<S: Scheme + Drop, L: Elector + Drop> State<S, L> {
     }
 
     /// The member's vote for the view's proposal.
-    #[tactic(auto, using(crate::proofs::Checking::notarize_by, crate::proofs::Checking::notarize_none, crate::proofs::Checking::notarize_unvotable, crate::proofs::Proposing::slot_is), unfolding(crate::specs::Opened::signing))]
+    #[tactic(auto, using(crate::proofs::Checking::signed, crate::proofs::Checking::slotless, crate::proofs::Checking::early, crate::proofs::Proposing::slot_is), unfolding(crate::specs::Opened::signing))]
     fn notarize_at(&self, view: View) -> Option<Notarize>
         ensures { Answers S.attests L.elects self.now (λ made known. notarize_at made known view) result }
     {
