@@ -9,4 +9,5 @@ mod sections;
 
 pub use error::JournalError;
 pub use journal::Journal;
+pub use lists::SectionLists;
 pub use memory::MemoryJournal;

@@ -9,7 +9,7 @@ use std::marker::Model;
 
 /// Records in the order of their appends, the first of them synced.
 #[derive(Drop)]
-pub(crate) struct SectionLists {
+pub struct SectionLists {
     records: Vec<Artifact>,
     synced: usize,
 }
@@ -23,6 +23,13 @@ impl Model for SectionLists {
 }
 
 impl SectionLists {
+    /// Its synced records, in the order of their appends.
+    pub fn synced(&self) -> &[Artifact]
+        ensures { result.now ≡ self.now.synced }
+    {
+        &self.records[..self.synced]
+    }
+
     /// No records.
     pub(crate) fn new(alloc: Global) -> SectionLists
         ensures { result ≡ record { synced = []; pending = [] } }

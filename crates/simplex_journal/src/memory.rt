@@ -6,12 +6,14 @@ ghost use Rattle.simplex_journal.specs.Order.{no_order, names_next, counted};
 
 use crate::error::JournalError;
 use crate::journal::Journal;
+use crate::lists::SectionLists;
 use crate::sections::{
     Sections, append_to, copies_of, crash_each, drop_below, drop_first, sync_at, sync_each,
 };
 use simplex_values::Keep;
 use simplex_wire::Artifact;
 use std::alloc::Global;
+use std::collections::BTreeMap;
 use std::marker::Model;
 
 /// A journal in memory. It tells its order, and fails only where it is ordered to.
@@ -43,6 +45,13 @@ impl MemoryJournal {
             failing_call: 0,
             failing_sections: 0,
         }
+    }
+
+    /// Its sections, by number.
+    pub fn sections(&self) -> &BTreeMap<u64, SectionLists>
+        ensures { sections_of result.now.entries ≡ self.now.sections }
+    {
+        &self.sections
     }
 }
 
