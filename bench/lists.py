@@ -4,6 +4,7 @@
     bench/lists.py rounds MEMBERS EVENTS      members finalize view after view, and nothing is lost
     bench/lists.py abreast MEMBERS EVENTS     the same, and each member takes a step before any takes the next
     bench/lists.py ticks MEMBERS EVENTS       each member takes eight steps between two ticks, abreast of the others, in one view
+    bench/lists.py shown MEMBERS EVENTS       members give up view after view, and each verifies the certificate that one makes of it
     bench/lists.py behind VIEWS               three members give up so many views and one more, and a fourth catches up
     bench/lists.py given_up VIEWS             the same without the fourth
 """
@@ -173,6 +174,33 @@ class Ticks(Events):
                 self.deliver(member, votes[(member + behind) % len(self.members)])
 
 
+class Shown(Events):
+    """Members give up view after view, and one of them hears the votes. It shows the certificate that it makes to all others, of
+    which each verifies it, abreast of the others: some 0.7 microseconds for each signature of a quorum."""
+
+    def __init__(self, members):
+        super().__init__(members)
+        for member in self.members:
+            self.add("start", member, floor=None, stop=None)
+        self.abreast(self.members, "resolver", "batcher")
+        self.quorum = members - (members - 1) // 3
+
+    def abreast(self, members, *sources):
+        for source in sources:
+            for member in members:
+                self.step(member, source)
+
+    def give_up_view(self):
+        """Each member's time runs out, the first hears a quorum, and all others are shown the certificate."""
+        self.events.append({"do": "tick", "ms": 1000})
+        votes = [(it, self.step(it, "timer")) for it in self.members]
+        self.deliver_all(votes[: self.quorum], [0])
+        self.step(0, "batcher")
+        self.deliver_all([(0, self.step(0, "voter"))])
+        self.abreast(self.members[1:], "voter")
+        self.abreast(self.members, "resolver", "batcher")
+
+
 def first_events(made, add, count):
     """The first `count` events of the list that grows by this."""
     while len(made.events) < count:
@@ -194,6 +222,11 @@ def abreast(members, count):
 def ticks(members, count):
     made = Ticks(members)
     return first_events(made, made.tick, count)
+
+
+def shown(members, count):
+    made = Shown(members)
+    return first_events(made, made.give_up_view, count)
 
 
 class Behind(Events):
@@ -251,6 +284,8 @@ def main():
             made = abreast(int(members), int(events))
         case ["ticks", members, events]:
             made = ticks(int(members), int(events))
+        case ["shown", members, events]:
+            made = shown(int(members), int(events))
         case ["behind", views]:
             made = behind(int(views), True)
         case ["given_up", views]:
