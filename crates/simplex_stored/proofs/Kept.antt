@@ -58,9 +58,9 @@ kept-more p e es = list_any-append p e.1.synced (kept (sections_of es))
 
 pub kept-found : (p : Artifact → Bool) (es rest : List (ℕ × Lists)) (e : ℕ × Lists) (records : List Artifact) (have whole : Bool)
     → es ≡ e ∷ rest → have ≡ list_any p records → records ≡ e.1.synced → have ≡ true → list_any p (kept (sections_of es)) ≡ whole → true ≡ whole
-kept-found p es rest e records have whole first is same yes so_far =
+kept-found p es rest e records have whole first is same found so_far =
     sym (ap (λ l. list_any p (kept (sections_of l))) first ∙ kept-more p e rest
-    ∙ ap (λ b. b || list_any p (kept (sections_of rest))) (ap (list_any p) (sym same) ∙ sym is ∙ yes)) ∙ so_far
+    ∙ ap (λ b. b || list_any p (kept (sections_of rest))) (ap (list_any p) (sym same) ∙ sym is ∙ found)) ∙ so_far
 
 pub kept-next : (p : Artifact → Bool) (es rest : List (ℕ × Lists)) (e : ℕ × Lists) (records : List Artifact) (have whole : Bool)
     → es ≡ e ∷ rest → have ≡ list_any p records → records ≡ e.1.synced → have ≡ false → list_any p (kept (sections_of es)) ≡ whole
