@@ -1,0 +1,5 @@
+pub mod Failing
+pub mod Follows
+pub mod Starting
+pub mod Taking
+pub mod Votes

@@ -1,0 +1,60 @@
+//! What comes of a step.
+ghost use Rattle.std.specs.Prelude.{◌≡◌, true, false, IfOk};
+ghost use Rattle.std.specs.Option.{option_map};
+ghost use Rattle.simplex_reader.specs.Failing.{is_failed};
+ghost use Rattle.simplex_reader.specs.Follows.{TakesStep};
+
+use crate::reader::Reader;
+use crate::sections::take_calls;
+use crate::taking::take_in;
+use crate::votes::take_votes;
+use model_audit::AuditEntry;
+use model_rules::Asked;
+use simplex_due::Due;
+use simplex_messages::{Outcome, Stop};
+use simplex_transcript::StepSource;
+use simplex_wire::Scheme;
+use std::alloc::{AllocError, Global};
+
+impl Reader {
+    /// Takes in the entry of a step of the node, which runs and signs by this scheme, and gives the votes that were due in it.
+    /// Where it took an answer to a request, this is the request.
+    pub fn take_step<S: Scheme>(
+        &mut self,
+        alloc: Global,
+        scheme: &S,
+        source: StepSource,
+        stop: Stop,
+        entry: &AuditEntry,
+        asked: Option<&Asked>,
+    ) -> Result<Due, AllocError>
+        ensures { IfOk result (λ due. TakesStep self.old self.new (S.attests scheme.now) source stop entry.now (option_map (λ asked. asked.now) asked) due) }
+    {
+        match entry.outcome {
+            Outcome::Journal => Err(AllocError),
+            Outcome::Done | Outcome::Idle | Outcome::Cut | Outcome::Refused => {
+                self.take_made(alloc, scheme, source, stop, entry, asked)
+            }
+        }
+    }
+
+    // Takes in a step in which no call of the journal failed.
+    fn take_made<S: Scheme>(
+        &mut self,
+        alloc: Global,
+        scheme: &S,
+        source: StepSource,
+        stop: Stop,
+        entry: &AuditEntry,
+        asked: Option<&Asked>,
+    ) -> Result<Due, AllocError>
+        ensures { IfOk result (λ due. is_failed entry.now.outcome ≡ false
+            → TakesStep self.old self.new (S.attests scheme.now) source stop entry.now (option_map (λ asked. asked.now) asked) due) }
+    {
+        let added = entry.added.as_slice();
+        let due = take_in(&mut self.known, scheme, added, source, &entry.took, asked)?;
+        take_votes(&mut self.known, entry.calls.as_slice())?;
+        take_calls(&mut self.stored, alloc, entry, stop, None)?;
+        Ok(due)
+    }
+}
