@@ -46,13 +46,17 @@ abbrev pub request_listed : List AuditEntry → AuditTook → Option Asked
 request_listed prior (taken.Request at answer) = asked_listed prior at
 request_listed prior took = None
 
--- the entry fits the event of a node with an engine, which could be taken behind these entries
-pub record IsTaken (setting : Setting) (prior : List AuditEntry) (before : List Noted) (event : Event) (e : AuditEntry) (node : Node) : Type 0 where
+-- the entry fits the event, which could be taken behind these entries
+pub record IsNext (setting : Setting) (prior : List AuditEntry) (before : List Noted) (event : Event) (e : AuditEntry) : Type 0 where
   pub items : AreItems prior before
-  pub named : own_node event ≡ Some node
-  pub engine : runs_engine setting.setup node.member ≡ true
   pub fitting : fits before event e ≡ true
   pub allowed : is_allowed setting before event ≡ true
+
+-- and it is the event of a node with an engine
+pub record IsTaken (setting : Setting) (prior : List AuditEntry) (before : List Noted) (event : Event) (e : AuditEntry) (node : Node) : Type 0 where
+  pub next : IsNext setting prior before event e
+  pub named : own_node event ≡ Some node
+  pub engine : runs_engine setting.setup node.member ≡ true
 
 -- whichever node was followed, it is followed behind the entry; and this is whether the entry sends the votes that are due
 pub record GoesOn (old new : Follower) (prior : List AuditEntry) (event : Event) (e : AuditEntry) (due : Bool) : Type 0 where

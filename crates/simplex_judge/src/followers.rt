@@ -11,7 +11,7 @@ ghost use Rattle.model_audit.specs.Conditions.{is_allowed};
 ghost use Rattle.model_audit.specs.Rebuilt.{rebuilt_entry};
 ghost use Rattle.law_run.specs.Complete.{node_named};
 ghost use Rattle.simplex_case.specs.Stands.{IsEndOf};
-ghost use Rattle.simplex_judge.specs.Followers.{FollowersStand, FollowOn, at_seat};
+ghost use Rattle.simplex_judge.specs.Followers.{FollowersStand, FollowAt, FollowOn, IsSeatOf, at_seat};
 
 use crate::follower::Follower;
 use model_audit::AuditEntry;
@@ -34,9 +34,8 @@ impl Followers {
         ensures { IfOk result (λ followers. (setting : Setting) → setting.setup ≡ setup.now → FollowersStand followers.seats.items setting []) }
     {
         let mut seats = Vec::new(alloc);
-        for member in 0..setup.members.len() as u32 {
-            seats.push(follower_of(alloc, setup, Participant(member))?)?;
-            seats.push(follower_of(alloc, setup, Participant(member))?)?;
+        for seat in 0..2 * setup.members.len() as u32 {
+            seats.push(follower_of(alloc, setup, Participant(seat / 2))?)?;
         }
         Ok(Followers { seats })
     }
@@ -125,6 +124,7 @@ impl Followers {
         entry: &AuditEntry,
     ) -> Result<bool, AllocError>
         requires few { length setup.now.members < 2 ^ 32 }
+        ensures { IfOk result (λ due. FollowAt self.old.seats.items self.new.seats.items setup.now node prior.now event.now entry.now due) }
     {
         if !is_node(setup, node) {
             return Ok(true);
@@ -148,6 +148,7 @@ fn follower_of(
 ) -> Result<Option<Follower>, AllocError>
     requires good { IsNone (setups.first_bad setup.now) }
     requires below { member < length setup.now.members }
+    ensures { IfOk result (λ seat. IsSeatOf seat setup.now member) }
 {
     if !runs_engine(setup, member.0 as u64) {
         return Ok(None);
