@@ -81,7 +81,7 @@ pub sends-other : (due : Due) (sent : List (List ℕ)) (count least : ℕ) → c
 sends-other due sent count least is due_is apart =
     sym (ap (λ b. b && list_all (λ bytes. list_any (bytes_eq bytes) sent) (map format.vote.spelling (votes_in due)))
     (unlike (length (map format.vote.spelling (votes_in due))) (length sent)
-    (λ same. apart (is ∙ sym same ∙ length-map format.vote.spelling (votes_in due) ∙ sym due_is))))
+    (λ same. apart (is ∙ sym same ∙ length-map (votes_in due) format.vote.spelling ∙ sym due_is))))
 
 pub sends-those : (due : Due) (sent : List (List ℕ)) (count least : ℕ) (all : Bool) → count ≡ length sent → least ≡ length (votes_in due) → count ≡ least
     → all ≡ (option_map_or (is_sent sent) (option_map votes.Nullify due.nullify) true && option_map_or (is_sent sent) (option_map votes.Notarize due.notarize) true
@@ -91,4 +91,4 @@ sends-those due sent count least all is due_is same each =
     each ∙ sym (all-due due sent)
     ∙ sym (ap (λ b. b && list_all (λ bytes. list_any (bytes_eq bytes) sent) (map format.vote.spelling (votes_in due)))
     (alike (length (map format.vote.spelling (votes_in due))) (length sent)
-    (length-map format.vote.spelling (votes_in due) ∙ sym due_is ∙ sym same ∙ is)))
+    (length-map (votes_in due) format.vote.spelling ∙ sym due_is ∙ sym same ∙ is)))
