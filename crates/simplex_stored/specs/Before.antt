@@ -1,5 +1,5 @@
 -- Which votes a step appended and synced, by their spellings.
-use Rattle.std.specs.Prelude.{ℕ, ◌≡◌, ◌==◌, ◌||◌, ◌&&◌, Bool, true, false, List, [], ◌∷◌, Option, Some, None}
+use Rattle.std.specs.Prelude.{ℕ, ◌≡◌, ◌||◌, ◌&&◌, Bool, true, false, List, [], ◌∷◌, Option, Some, None}
 use Rattle.std.specs.BTreeMap.{BTreeMap}
 use Rattle.std.specs.BTreeSet as set
 use Rattle.std.specs.Cmp.Lexicographic.{slice_cmp}
@@ -16,7 +16,7 @@ use Rattle.simplex_wire.specs.Message as format
 use Rattle.simplex_messages.specs.declared.call.Call.{Call}
 use Rattle.simplex_messages.specs.declared.call.Call.TheVariants as calls
 use Rattle.model_audit.specs.declared.record.AuditCall.{AuditCall}
-use Rattle.model_audit.specs.Order.{is_sync_of}
+use Rattle.model_audit.specs.Order.{is_sync_of, may_call}
 use Rattle.model_audit.specs.Rebuilt.{call_for}
 use Rattle.simplex_stored.specs.declared.spellings.Spellings.{Spellings}
 use Rattle.simplex_stored.specs.declared.before.Before.{Before}
@@ -34,25 +34,34 @@ vote_of _ = None
 abbrev pub is_spelled : List ℕ → Artifact → Bool
 is_spelled bytes artifact = option_map_or (λ v. bytes_eq bytes (format.vote.spelling v)) (vote_of artifact) false
 
+-- it is the nullify that these bytes spell
+abbrev pub is_nullify : List ℕ → Artifact → Bool
+is_nullify bytes (artifacts.Nullify v) = bytes_eq bytes (format.vote.spelling (votes.Nullify v))
+is_nullify bytes _ = false
+
 -- ---- calls
 
 -- a call of a record as one of a run, if it is told
 abbrev pub made : AuditCall → List Call
 made call = filter_map call_for (call ∷ [])
 
--- the record of this vote was appended to the section
-abbrev pub is_append_of : ℕ → List ℕ → Call → Bool
-is_append_of section bytes (calls.Append other artifact) = other == section && is_spelled bytes artifact
-is_append_of section bytes call = false
+-- the call may be made behind these
+abbrev pub may_make : List Artifact → List Call → AuditCall → Bool
+may_make held before call = option_map_or (may_call held before) (call_for call) true
 
+-- the record of this vote was appended to a section that the later call syncs
+abbrev pub is_synced_by : List ℕ → Call → Call → Bool
+is_synced_by bytes later (calls.Append section artifact) = is_sync_of section later && is_spelled bytes artifact
+is_synced_by bytes later call = false
+
+-- it was appended to the section
 abbrev pub was_appended : ℕ → List ℕ → List Call → Bool
-was_appended section bytes before = list_any (is_append_of section bytes) before
+was_appended section bytes before = list_any (is_synced_by bytes (calls.Sync section)) before
 
 -- it was appended, and its section synced behind that
 unfoldable pub is_stored : List ℕ → List Call → Bool
 is_stored bytes [] = false
-is_stored bytes (calls.Append section artifact ∷ rest) = (is_spelled bytes artifact && list_any (is_sync_of section) rest) || is_stored bytes rest
-is_stored bytes (call ∷ rest) = is_stored bytes rest
+is_stored bytes (call ∷ rest) = list_any (λ later. is_synced_by bytes later call) rest || is_stored bytes rest
 
 -- ---- what is kept
 

@@ -1,5 +1,5 @@
 //! The votes that a step appended and synced so far.
-#![tactic(auto, unfolding(crate::specs::Before::waits))]
+#![tactic(auto, unfolding(crate::specs::Before::waits, simplex_values::specs::Maps::found))]
 
 ghost use Rattle.std.specs.Prelude.{◌≡◌, ◌||◌, ◌&&◌, ◌==◌, ◌++◌, ◌∷◌, [], List, ℕ, false, OnOk, IfOk, if◌then◌else◌};
 ghost use Rattle.std.specs.List.{filter_map, list_any};

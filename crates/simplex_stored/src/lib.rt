@@ -2,6 +2,7 @@
 #![tactic(auto)]
 
 mod before;
+mod journal;
 mod spellings;
 mod stored;
 mod votes;

@@ -10,14 +10,15 @@ ghost use Rattle.simplex_wire.specs.Format.{whole};
 ghost use Rattle.simplex_wire.specs.Message.{vote};
 ghost use Rattle.model_audit.specs.Order as order;
 ghost use Rattle.model_audit.specs.Rebuilt.{call_for};
-ghost use Rattle.simplex_stored.specs.Before.{BeforeStands, made};
+ghost use Rattle.simplex_stored.specs.Before.{BeforeStands, made, may_make, is_nullify};
 
 use crate::before::Before;
-use crate::votes::are_some_of;
+use crate::journal::{append, prune, prune_first, replay, sync};
+use crate::votes::keep_nullify;
 use model_audit::AuditCall;
-use simplex_journal::{Journal, JournalError, MemoryJournal};
+use simplex_journal::{Journal, MemoryJournal};
 use simplex_types::{Artifact, Channel, Vote};
-use std::alloc::{AllocError, AllocFailed, Global};
+use std::alloc::{AllocError, Global};
 use std::marker::Model;
 
 /// What the journal of a node holds. None of its calls fails but for want of memory.
@@ -27,7 +28,7 @@ pub struct Stored {
 }
 
 impl Model for Stored {
-    ghost use Rattle.std.specs.Prelude.{List};
+    ghost use Rattle.std.specs.Prelude.{◌≡◌, List};
     ghost use Rattle.simplex_journal.specs.Journal.{Section};
 
     ghost Value = { List Section };
@@ -35,16 +36,6 @@ impl Model for Stored {
     ghost view = { λ stored. stored.journal.sections };
 
     ghost invariant = { λ stored. stored.journal.order.call ≡ 0 };
-}
-
-// A call that does not fail, since no order stands.
-fn unless_failed(answer: Result<(), JournalError>) -> Result<(), AllocError>
-    ensures { is_ok result ≡ is_ok answer }
-{
-    match answer {
-        Ok(()) => Ok(()),
-        Err(_) => Err(AllocError),
-    }
 }
 
 impl Stored {
@@ -73,20 +64,20 @@ impl Stored {
     {
         match call {
             AuditCall::Append(section, artifact) => {
-                unless_failed(self.journal.append(alloc, *section, artifact))
+                append(&mut self.journal, alloc, *section, artifact)?;
             }
-            AuditCall::Sync(section) => unless_failed(self.journal.sync(*section)),
-            AuditCall::Prune(least) => unless_failed(self.journal.prune(*least)),
-            _ => Ok(()),
+            AuditCall::Sync(section) => sync(&mut self.journal, *section),
+            AuditCall::Prune(least) => prune(&mut self.journal, *least),
+            _ => {}
         }
+        Ok(())
     }
 
     /// What a prune leaves that fails: it drops so many of the first sections below the least.
     pub fn prune_first(&mut self, count: u64, least: u64)
         ensures { self.new ≡ pruned_first count least self.old }
     {
-        self.journal.fail_next(1, count);
-        let _failed = self.journal.prune(least);
+        prune_first(&mut self.journal, count, least);
     }
 
     /// What a stop leaves, which keeps so many of the pending records of each section.
@@ -101,10 +92,7 @@ impl Stored {
         ensures records { IfOk result (λ records. records.items ≡ replayed self.old) }
         ensures stays { self.new ≡ self.old }
     {
-        match self.journal.replay(alloc) {
-            Ok(records) => Ok(records),
-            Err(_) => Err(AllocError),
-        }
+        replay(&mut self.journal, alloc)
     }
 
     /// Whether a step that makes these calls stores its votes before it sends them.
@@ -113,7 +101,7 @@ impl Stored {
     {
         let mut before = Before::new(alloc);
         for call in calls {
-            if !self.may_call(&before, call) {
+            if !self.may_call(alloc, &before, call)? {
                 return Ok(false);
             }
             before.take(alloc, call)?;
@@ -122,39 +110,45 @@ impl Stored {
     }
 
     // Whether the call may be made behind these.
-    fn may_call(&self, before: &Before, call: &AuditCall) -> bool
-        ensures { (calls : List Call) → BeforeStands before.now calls → result ≡ order.are_in_order (kept self.now) calls (made call.now) }
+    fn may_call(
+        &self,
+        alloc: Global,
+        before: &Before,
+        call: &AuditCall,
+    ) -> Result<bool, AllocError>
+        ensures { IfOk result (λ may. (calls : List Call) → BeforeStands before.now calls → may ≡ may_make (kept self.now) calls call.now) }
     {
         match call {
-            AuditCall::Send(Channel::Vote, bytes) => self.may_send(before, bytes.as_slice()),
-            _ => true,
+            AuditCall::Send(Channel::Vote, bytes) => self.may_send(alloc, before, bytes.as_slice()),
+            _ => Ok(true),
         }
     }
 
     // Whether a vote of these bytes may be sent.
-    fn may_send(&self, before: &Before, bytes: &[u8]) -> bool
-        ensures { (calls : List Call) → BeforeStands before.now calls → result ≡ order.may_send (kept self.now) calls (whole vote bytes.now) }
+    fn may_send(
+        &self,
+        alloc: Global,
+        before: &Before,
+        bytes: &[u8],
+    ) -> Result<bool, AllocError>
+        ensures { IfOk result (λ may. (calls : List Call) → BeforeStands before.now calls → may ≡ order.may_send (kept self.now) calls (whole vote bytes.now)) }
     {
-        match Vote::decode(bytes) {
-            Err(_) => true,
-            Ok(vote) => before.is_stored(bytes) || self.is_again(&vote),
+        let Ok(vote) = Vote::decode(bytes) else {
+            return Ok(true);
+        };
+        if before.is_stored(bytes) {
+            return Ok(true);
+        }
+        match vote {
+            Vote::Nullify(_) => self.holds(alloc, bytes),
+            _ => Ok(false),
         }
     }
 
-    // Whether it is a nullify whose record is synced.
-    fn is_again(&self, vote: &Vote) -> bool
-        ensures { result ≡ order.is_again (kept self.now) vote.now }
+    // Whether the record of this nullify is synced.
+    fn holds(&self, alloc: Global, bytes: &[u8]) -> Result<bool, AllocError>
+        ensures { IfOk result (λ held. held ≡ list_any (is_nullify bytes.now) (kept self.now)) }
     {
-        matches!(vote, Vote::Nullify(_)) && self.holds(vote)
-    }
-
-    // Whether the vote's record is synced.
-    fn holds(&self, vote: &Vote) -> bool
-        ensures { result ≡ list_any (order.is_record_of vote.now) (kept self.now) }
-    {
-        self.journal
-            .sections()
-            .iter()
-            .any(|(_, lists)| are_some_of(vote, lists.synced()))
+        keep_nullify(alloc, bytes, self.journal.sections())
     }
 }

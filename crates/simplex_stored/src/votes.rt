@@ -1,12 +1,15 @@
 //! Records of votes.
-ghost use Rattle.std.specs.Prelude.{◌≡◌};
-ghost use Rattle.std.specs.Option.{option_map};
+ghost use Rattle.std.specs.Prelude.{◌≡◌, IfOk};
 ghost use Rattle.std.specs.List.{list_any};
-ghost use Rattle.simplex_wire.specs.Fits.{FitsVote};
-ghost use Rattle.model_audit.specs.Order.{is_record_of};
+ghost use Rattle.std.specs.Str.{bytes_eq};
+ghost use Rattle.simplex_journal.specs.Contents.{kept};
+ghost use Rattle.simplex_journal.specs.Memory.{sections_of};
 ghost use Rattle.simplex_stored.specs.Before as before;
 
+use simplex_journal::SectionLists;
 use simplex_types::{Artifact, Vote};
+use std::alloc::{AllocError, Global};
+use std::collections::BTreeMap;
 
 /// The vote that the record is.
 pub(crate) fn vote_of(artifact: &Artifact) -> Option<Vote>
@@ -20,19 +23,44 @@ pub(crate) fn vote_of(artifact: &Artifact) -> Option<Vote>
     }
 }
 
-/// Whether the record is this very vote's.
-pub(crate) fn is_record_of(vote: &Vote, artifact: &Artifact) -> bool
-    ensures { result ≡ is_record_of vote.now artifact.now }
+// Whether the record is the nullify that these bytes spell.
+fn is_nullify(alloc: Global, bytes: &[u8], artifact: &Artifact) -> Result<bool, AllocError>
+    ensures { IfOk result (λ is. is ≡ before.is_nullify bytes.now artifact.now) }
 {
-    match vote_of(artifact) {
-        None => false,
-        Some(other) => *vote == other,
+    match artifact {
+        Artifact::Nullify(vote) => Ok(bytes == Vote::Nullify(*vote).encode(alloc)?.as_slice()),
+        _ => Ok(false),
     }
 }
 
-/// Whether one of the records is this very vote's.
-pub(crate) fn are_some_of(vote: &Vote, records: &[Artifact]) -> bool
-    ensures { result ≡ list_any (is_record_of vote.now) records.now }
+// Whether one of the records is the nullify that these bytes spell.
+fn have_nullify(
+    alloc: Global,
+    bytes: &[u8],
+    records: &[Artifact],
+) -> Result<bool, AllocError>
+    ensures { IfOk result (λ have. have ≡ list_any (before.is_nullify bytes.now) records.now) }
 {
-    records.iter().any(|record| is_record_of(vote, record))
+    for record in records {
+        if is_nullify(alloc, bytes, record)? {
+            return Ok(true);
+        }
+    }
+    Ok(false)
+}
+
+/// Whether a synced record of the sections is the nullify that these bytes spell.
+pub(crate) fn keep_nullify(
+    alloc: Global,
+    bytes: &[u8],
+    sections: &BTreeMap<u64, SectionLists>,
+) -> Result<bool, AllocError>
+    ensures { IfOk result (λ held. held ≡ list_any (before.is_nullify bytes.now) (kept (sections_of sections.now.entries))) }
+{
+    for (_, lists) in sections {
+        if have_nullify(alloc, bytes, lists.synced())? {
+            return Ok(true);
+        }
+    }
+    Ok(false)
 }
