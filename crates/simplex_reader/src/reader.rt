@@ -52,7 +52,8 @@ impl Reader {
             .saturating_sub(term)
             .saturating_sub(term)
             .saturating_sub(self.rules.lookahead.views);
-        last < self.known.current().0
+        let current = self.known.current();
+        last < current.0
     }
 
     /// Whether the entry's votes were stored before they were sent.
@@ -73,7 +74,7 @@ impl Reader {
 }
 
 // What a node of such a run is made with.
-#[tactic(auto, using(crate::proofs::Good::some_term))]
+#[tactic(auto, using(crate::proofs::Good::good))]
 fn rules_of(setup: &Setup) -> Rules
     requires good { IsNone (setups.first_bad setup.now) }
     ensures epoch { result.epoch ≡ setup.now.epoch }
