@@ -29,7 +29,8 @@ impl Reader {
         entry: &AuditEntry,
         asked: Option<&Asked>,
     ) -> Result<Due, AllocError>
-        ensures { IfOk result (λ due. TakesStep self.old self.new (S.attests scheme.now) source stop entry.now (option_map (λ asked. asked.now) asked.entry) due) }
+        ensures { IfOk result (λ due. TakesStep self.old self.new (S.attests scheme.now) source stop entry.now
+            (option_map (λ asked. asked.now) asked.entry) due) }
     {
         if is_failed(entry.outcome) {
             self.take_failed(alloc, scheme, source, stop, entry, asked)
