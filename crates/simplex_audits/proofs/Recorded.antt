@@ -26,8 +26,8 @@ use Rattle.model_audit.specs.declared.record.Verdict.TheVariants.{Sound}
 use Rattle.model_audit.specs.Audit.{audited}
 use Rattle.model_audit.specs.Record.{record_of}
 use Rattle.simplex_audit_form.specs.Document.{document_data}
-use Rattle.simplex_audits.specs.declared.work.Parts.{Parts}
-use Rattle.simplex_audits.specs.declared.work.RecordDone.{RecordDone}
+use Rattle.simplex_audits.specs.declared.recording.Parts.{Parts}
+use Rattle.simplex_audits.specs.declared.recording.RecordDone.{RecordDone}
 use Rattle.simplex_audits.specs.Parts.{PartsIn}
 use Rattle.simplex_audits.specs.Says.{IsWritten, IsDocument, IsRecorded}
 

@@ -1,2 +1,4 @@
-pub mod Says
+pub mod Asking
+pub mod Checks
 pub mod Parts
+pub mod Says

@@ -4,7 +4,7 @@ use Rattle.serde_json.specs.Data.{Data}
 use Rattle.serde_json.specs.Find.{get}
 use Rattle.serde_json.specs.View.{view}
 use Rattle.simplex_form.specs.Input.{document_of}
-use Rattle.simplex_audits.specs.declared.work.Parts.{Parts}
+use Rattle.simplex_audits.specs.declared.recording.Parts.{Parts}
 
 -- these are they, or this is the place of what is not of the form
 abbrev pub PartsIn : Option Data → Result Parts ℕ → Type 0

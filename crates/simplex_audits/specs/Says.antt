@@ -1,10 +1,8 @@
 -- What the words and the bytes of an input say of a record.
-use Rattle.std.specs.Prelude.{ℕ, ◌≡◌, false, List, Option, Some, None, Ok, Err, String, codes, map, string_bytes, if◌then◌else◌}
-use Rattle.std.specs.declared.alloc.Global.{Global}
+use Rattle.std.specs.Prelude.{ℕ, ◌≡◌, false, List, Option, Some, Ok, Err, codes}
 use Rattle.serde_json.specs.Data.{Data}
 use Rattle.serde_json.specs.Find.{get}
 use Rattle.serde_json.specs.Written.{has_float, compact_text, IsInOrder}
-use Rattle.simplex_front.specs.Words.{is_alone}
 use Rattle.simplex_transcript.specs.declared.refusal.Refusal.{Refusal}
 use Rattle.simplex_form.specs.declared.input.Input.{Input}
 use Rattle.simplex_form.specs.Input.{json_of, input_of}
@@ -16,15 +14,7 @@ use Rattle.model_audit.specs.declared.record.Verdict.TheVariants.{Sound}
 use Rattle.model_audit.specs.Audit.{audited}
 use Rattle.model_audit.specs.Record.{record_of}
 use Rattle.simplex_audit_form.specs.Document.{document_data}
-use Rattle.simplex_audits.specs.declared.work.RecordDone.{RecordDone}
-
--- the word is `record` alone
-abbrev pub asks_for_record : List (String Global) → Option (Unit {0})
-asks_for_record words = if is_alone (codes "record") (map string_bytes words) then Some tt else None
-
--- what is said of other words
-abbrev pub usage : List ℕ
-usage = codes "usage: record\n"
+use Rattle.simplex_audits.specs.declared.recording.RecordDone.{RecordDone}
 
 -- the bytes are not of the form: this is the first place
 abbrev pub IsMisread : List ℕ → ℕ → Type 0

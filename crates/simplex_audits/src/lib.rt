@@ -1,6 +1,9 @@
-//! Records of runs: the program that makes one.
+//! Records of runs: the program that makes one, and judges one.
 #![tactic(auto)]
 
+mod checking;
+mod recording;
 mod work;
 
-pub use work::{RecordDone, RecordWork, audit_program};
+pub use recording::RecordDone;
+pub use work::{AuditDone, AuditTask, AuditWork, audit_program};

@@ -1,177 +1,98 @@
-//! The program that makes the record of a run.
-ghost use Rattle.std.specs.Prelude.{◌≡◌, ◌⊎◌, ℕ, List, IfOk, Ok, Err, string_bytes};
-ghost use Rattle.serde_json.specs.View.{view};
+//! The program that makes the record of a run, or judges one.
+ghost use Rattle.std.specs.Prelude.{◌≡◌, ◌⊎◌, ℕ, List, IfOk};
 ghost use Rattle.simplex_transcript.specs.declared.refusal.Refusal.{Refusal};
-ghost use Rattle.simplex_text.specs.Refusals.{refusal_text};
-ghost use Rattle.simplex_form.specs.Input.{json_of};
-ghost use Rattle.model_run.specs.Setting.{at_epoch_genesis};
-ghost use Rattle.model_run.specs.Run.{Run};
-ghost use Rattle.simplex_network.specs.WholeRuns.{WholeRunFrom};
 ghost use Rattle.simplex_io.specs.Io.{Adds, AddsPart, Rose};
 ghost use Rattle.simplex_front.specs.Answer.{IsAnswer};
 ghost use Rattle.simplex_front.specs.Cause.{Cause, IsCut};
 ghost use Rattle.simplex_front.specs.declared.exit.Exit.{Exit};
 ghost use Rattle.simplex_front.specs.declared.exit.Exit.TheVariants as exits;
-ghost use Rattle.simplex_audit_form.specs.Document.{document_data};
-ghost use Rattle.simplex_audits.specs.declared.work.RecordDone.{RecordDone};
-ghost use Rattle.simplex_audits.specs.Says.{IsMisread, IsRecorded, IsRefused, IsWritten, RecordSays, RefusalSays, Told, asks_for_record, usage};
-ghost use Rattle.simplex_audits.specs.Parts.{PartsIn};
+ghost use Rattle.simplex_audits.specs.declared.work.AuditDone.{AuditDone};
+ghost use Rattle.simplex_audits.specs.declared.work.AuditTask.TheVariants as tasks;
+ghost use Rattle.simplex_audits.specs.Asking.{DoneSays, MisreadSays, RefusedSays, asks_for, usage};
+ghost use Rattle.simplex_audits.specs.Checks.{CheckSays, IsNoDocument, NothingRefused};
+ghost use Rattle.simplex_audits.specs.Says.{IsMisread, RecordSays, RefusalSays};
 
-use model_audit::AuditEntry;
-use serde_json::Value;
-use simplex_audit::record_of;
-use simplex_audit_form::document_value;
-use simplex_form::{Input, InputFault, read_input, read_value};
+use crate::checking::check;
+use crate::recording::{RecordDone, record};
+use model_audit::Verdict;
 use simplex_front::{Answer, Exit, Work, is_word, program};
 use simplex_io::{Sink, Source};
-use simplex_network::{Transcript, run_network};
-use simplex_text::refusal_text;
-use simplex_transcript::{Refusal, RunError};
-use simplex_types::Sequence;
+use simplex_transcript::Refusal;
 use std::alloc::{AllocError, Global};
 
-const USAGE: &str = "usage: record\n";
+const USAGE: &str = "usage: record | check\n";
 
-/// What comes of a whole run.
+/// What words ask for.
+#[derive(Clone, Copy, Debug, PartialEq, Eq)]
+pub enum AuditTask {
+    /// The record of a run.
+    Record,
+    /// The verdict on a record.
+    Check,
+}
+
+/// What comes of it.
 #[derive(Drop)]
-pub struct RecordDone {
-    /// The run.
-    pub transcript: Transcript,
-    /// Its record.
-    pub entries: Sequence<AuditEntry>,
+pub enum AuditDone {
+    /// A whole run, and its record.
+    Recorded(RecordDone),
+    /// The verdict on a record.
+    Checked(Verdict),
 }
 
-/// Runs the events of an input, and writes the record of what came of them.
-pub struct RecordWork;
+/// Runs the events of an input and writes the record of what came of them, or judges a record.
+pub struct AuditWork;
 
-// A setup and events as they were read.
-#[derive(Drop)]
-struct Parts {
-    setup: Value,
-    events: Value,
-}
-
-// The parts of the value that the bytes are, or the place of what is not of the form.
-#[tactic(auto, using(crate::proofs::Recorded::no_setup, crate::proofs::Recorded::no_events, crate::proofs::Recorded::parts_are))]
-fn parts_in(alloc: Global, bytes: &[u8]) -> Result<Result<Parts, u64>, AllocError>
-    ensures { IfOk result (PartsIn (json_of bytes.now)) }
+// What a record comes to.
+fn as_recorded(answer: Answer<RecordDone, Refusal>) -> Answer<AuditDone, Refusal>
+    ensures { (bytes : List ℕ) → IsAnswer (RecordSays bytes) (RefusalSays bytes) (IsMisread bytes) answer
+        → IsAnswer (DoneSays tasks.Record bytes) (RefusedSays tasks.Record bytes) (MisreadSays tasks.Record bytes) result }
 {
-    let value = match read_value(alloc, bytes) {
-        Ok(value) => value,
-        Err(InputFault::At(place)) => return Ok(Err(place)),
-        Err(InputFault::Memory) => return Err(AllocError),
-    };
-    let Some(setup) = value.get("setup") else {
-        return Ok(Err(1));
-    };
-    let Some(events) = value.get("events") else {
-        return Ok(Err(1));
-    };
-    Ok(Ok(Parts {
-        setup: setup.clone()?,
-        events: events.clone()?,
-    }))
-}
-
-// The text of a record over the setup and the events.
-#[tactic(auto, using(crate::proofs::Recorded::is_written))]
-fn write(alloc: Global, parts: Parts, record: &[AuditEntry]) -> Result<String, AllocError>
-    ensures { IfOk result (λ text. IsWritten (document_data (view parts.setup) (view parts.events) record.now) (string_bytes text)) }
-{
-    let value = document_value(alloc, parts.setup, parts.events, record)?;
-    value.to_string(alloc)
-}
-
-// The record of a whole run of the input.
-#[tactic(auto, using(crate::proofs::Recorded::is_recorded))]
-fn recorded(alloc: Global, input: &Input, transcript: Transcript) -> Result<RecordDone, AllocError>
-    requires { WholeRunFrom (at_epoch_genesis input.now.setup) input.now.events transcript }
-    ensures { IfOk result (IsRecorded input.now) }
-{
-    let record = record_of(alloc, transcript.entries.as_slice())?;
-    Ok(RecordDone {
-        transcript,
-        entries: Sequence::from_vec(record),
-    })
-}
-
-// The record of a whole run of the input that the bytes say, and its text.
-#[tactic(auto, using(crate::proofs::Recorded::is_told))]
-fn tell(
-    alloc: Global,
-    bytes: &[u8],
-    input: &Input,
-    transcript: Transcript,
-) -> Result<Answer<RecordDone, Refusal>, AllocError>
-    requires { WholeRunFrom (at_epoch_genesis input.now.setup) input.now.events transcript }
-    ensures { IfOk result (IsAnswer (Told bytes.now input.now) (IsRefused input.now) (IsMisread bytes.now)) }
-{
-    match parts_in(alloc, bytes)? {
-        Err(place) => Ok(Answer::BadInput { place }),
-        Ok(parts) => {
-            let done = recorded(alloc, input, transcript)?;
-            let text = write(alloc, parts, done.entries.as_slice())?;
-            Ok(Answer::Done { done, text })
-        }
+    match answer {
+        Answer::Done { done, text } => Answer::Done {
+            done: AuditDone::Recorded(done),
+            text,
+        },
+        Answer::Refused { reason, text } => Answer::Refused { reason, text },
+        Answer::BadInput { place } => Answer::BadInput { place },
     }
 }
 
-// The line on a refusal, which is not want of memory.
-fn refuse(
-    alloc: Global,
-    bytes: &[u8],
-    input: &Input,
-    refusal: Refusal,
-) -> Result<Answer<RecordDone, Refusal>, AllocError>
-    requires { Run input.now.setup input.now.events ≡ Err refusal }
-    ensures { IfOk result (IsAnswer (Told bytes.now input.now) (IsRefused input.now) (IsMisread bytes.now)) }
+// What a verdict comes to.
+fn as_checked(answer: Answer<Verdict, Refusal>) -> Answer<AuditDone, Refusal>
+    ensures { (bytes : List ℕ) → IsAnswer (CheckSays bytes) NothingRefused (IsNoDocument bytes) answer
+        → IsAnswer (DoneSays tasks.Check bytes) (RefusedSays tasks.Check bytes) (MisreadSays tasks.Check bytes) result }
 {
-    let _bytes = bytes;
-    let text = refusal_text(alloc, &refusal)?;
-    Ok(Answer::Refused {
-        reason: refusal,
-        text,
-    })
-}
-
-// What the run of the input comes to that the bytes say.
-#[tactic(auto, using(crate::proofs::Recorded::made_whole))]
-fn answer(
-    alloc: Global,
-    bytes: &[u8],
-    input: &Input,
-) -> Result<Answer<RecordDone, Refusal>, AllocError>
-    ensures { IfOk result (IsAnswer (Told bytes.now input.now) (IsRefused input.now) (IsMisread bytes.now)) }
-{
-    match run_network(alloc, &input.setup, input.events.as_slice()) {
-        Ok(transcript) => tell(alloc, bytes, input, transcript),
-        Err(refusal) => {
-            if matches!(refusal.error, RunError::Memory) {
-                return Err(AllocError);
-            }
-            refuse(alloc, bytes, input, refusal)
-        }
+    match answer {
+        Answer::Done { done, text } => Answer::Done {
+            done: AuditDone::Checked(done),
+            text,
+        },
+        Answer::Refused { reason, text } => Answer::Refused { reason, text },
+        Answer::BadInput { place } => Answer::BadInput { place },
     }
 }
 
-impl Work<(), RecordDone, Refusal> for RecordWork {
-    ghost asked = { λ work. asks_for_record };
+impl Work<AuditTask, AuditDone, Refusal> for AuditWork {
+    ghost asked = { λ work. asks_for };
 
     ghost usage_line = { λ work. usage };
 
-    ghost does = { λ work ask. RecordSays };
+    ghost does = { λ work task. DoneSays task };
 
-    ghost refuses = { λ work ask. RefusalSays };
+    ghost refuses = { λ work task. RefusedSays task };
 
-    ghost misreads = { λ work ask. IsMisread };
+    ghost misreads = { λ work task. MisreadSays task };
 
-    fn ask(&self, alloc: Global, words: &[String]) -> Result<Option<()>, AllocError> {
+    fn ask(&self, alloc: Global, words: &[String]) -> Result<Option<AuditTask>, AllocError> {
         let _alloc = alloc;
-        Ok(if is_word(words, "record") {
-            Some(())
-        } else {
-            None
-        })
+        if is_word(words, "record") {
+            return Ok(Some(AuditTask::Record));
+        }
+        if is_word(words, "check") {
+            return Ok(Some(AuditTask::Check));
+        }
+        Ok(None)
     }
 
     fn usage(&self) -> &str {
@@ -181,35 +102,35 @@ impl Work<(), RecordDone, Refusal> for RecordWork {
     fn work(
         &self,
         alloc: Global,
-        ask: (),
+        ask: AuditTask,
         bytes: Vec<u8>,
-    ) -> Result<Answer<RecordDone, Refusal>, AllocError> {
-        let () = ask;
-        match read_input(alloc, &bytes)? {
-            Err(place) => Ok(Answer::BadInput { place }),
-            Ok(input) => answer(alloc, &bytes, &input),
+    ) -> Result<Answer<AuditDone, Refusal>, AllocError> {
+        match ask {
+            AuditTask::Record => Ok(as_recorded(record(alloc, &bytes)?)),
+            AuditTask::Check => Ok(as_checked(check(alloc, &bytes)?)),
         }
     }
 }
 
-/// Where the words are `record` alone, reads the source to its end, runs the events that it says, and writes one JSON object: the
-/// setup and the events as they were read, and the record of the transcript.
+/// Where the word is `record` alone, reads the source to its end, runs the events that it says, and writes one JSON object: the
+/// setup and the events as they were read, and the record of the transcript. Where it is `check` alone, reads such an object, and
+/// writes one line, the verdict on its record.
 pub fn audit_program<S: Source, K: Sink>(
     alloc: Global,
     words: &[String],
     source: &mut S,
     sink: &mut K,
-) -> Exit<RecordDone, Refusal>
+) -> Exit<AuditDone, Refusal>
     // A write fault comes only where a count of faults rose.
     ensures write_fault { result ≡ exits.WriteFault → Rose (K.fault_count sink.old) (K.fault_count sink.new) }
 
     // What is written is the text of the exit, or where writing or memory failed the first part of the text of an exit that
-    // had its cause. Of a whole run this is its record, in which no fault is found.
-    ensures part { (exit : Exit RecordDone Refusal) × ((text : List ℕ)
-        × (Cause usage (λ ask. RecordSays) (λ ask. RefusalSays) (λ ask. IsMisread) (asks_for_record words.now)
+    // had its cause. Of a whole run this is its record, in which no fault is found, and of a record the verdict on it.
+    ensures part { (exit : Exit AuditDone Refusal) × ((text : List ℕ)
+        × (Cause usage DoneSays RefusedSays MisreadSays (asks_for words.now)
         (S.left source.old) (S.left source.new) (S.fault_count source.old) (S.fault_count source.new) exit text
         × AddsPart (K.written sink.old) text (K.written sink.new)
         × (((result ≡ exit) × Adds (K.written sink.old) text (K.written sink.new)) ⊎ IsCut result))) }
 {
-    program(alloc, &RecordWork, words, source, sink)
+    program(alloc, &AuditWork, words, source, sink)
 }

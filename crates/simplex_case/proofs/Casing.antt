@@ -33,7 +33,7 @@ use Rattle.simplex_records.proofs.Told.{told-entry}
 use Rattle.model_audit.specs.declared.record.AuditCall.{AuditCall}
 use Rattle.model_audit.specs.declared.record.AuditEntry.{AuditEntry}
 use Rattle.model_audit.specs.Answers.{answer_fits}
-use Rattle.model_audit.specs.Conditions.{is_allowed, is_pending, was_answered, was_dropped}
+use Rattle.model_audit.specs.Conditions.{is_allowed, is_at_end, is_pending, was_answered, was_dropped}
 use Rattle.model_audit.specs.Fitting.{fits, outcome_fits, took_or_idle}
 use Rattle.model_audit.specs.Rebuilt.{call_for, rebuilt, rebuilt_entry}
 use Rattle.law_run.specs.Asked.{asked_at}
@@ -43,7 +43,7 @@ use Rattle.simplex_case.specs.declared.desk.Desk.{Desk}
 use Rattle.simplex_case.specs.Answered.{is_marked, AnswersStand, IsOfRequest}
 use Rattle.simplex_case.specs.Desk.{DeskStands}
 use Rattle.simplex_case.specs.Items.{listed_at, AreItems}
-use Rattle.simplex_case.specs.Stands.{AreOfNodes, CaseStands, DesksStand, IsOfNode, ends_at}
+use Rattle.simplex_case.specs.Stands.{AreOfNodes, CaseStands, DesksStand, IsOfNode, IsEndOf}
 use Rattle.simplex_case.specs.Taking.{clock_behind, tells}
 use Rattle.simplex_case.proofs.Asking.{asked-counted, asked-within, strangers-ask-nothing}
 use Rattle.simplex_case.proofs.Desks.{desk-of, node-seat}
@@ -245,8 +245,20 @@ allow-start setting setup before node floor stop a b c r event same is all there
     ∙ ap (λ s. is_node s node && not (not (runs_engine s node.member) || runs_at before node) && is_own_floor s before floor) (sym same)
     ∙ ap (λ (e : Event). is_allowed setting before e) (sym is)
 
+ended : (n e r x y : Bool) → (n ≡ true → e ≡ true → r ≡ true → x ≡ y) → (n && (not e || r) && (not e || not x)) ≡ (n && (not e || r) && (not e || not y))
+ended false e r x y same = refl
+ended true false r x y same = refl
+ended true true false x y same = refl
+ended true true true x y same = ap not (same refl refl refl)
+
+ended-of : (n e r p x y : Bool) → (n ≡ true → e ≡ true → r ≡ true → x ≡ y) → (n && (not e || r) && p && (not e || not x)) ≡ (n && (not e || r) && p && (not e || not y))
+ended-of false e r p x y same = refl
+ended-of true false r p x y same = refl
+ended-of true true false p x y same = refl
+ended-of true true true p x y same = ap (λ z. p && not z) (same refl refl refl)
+
 pub allow-deliver : (setting : Setting) (setup : Setup) (before : List Noted) (node : Node) (at : Ref) (at_end a b c d r : Bool) (event : Event)
-    → setting.setup ≡ setup → event ≡ events.Deliver node at → at_end ≡ ends_at setting before (node_named event) → r ≡ (a && b && c && d)
+    → setting.setup ≡ setup → event ≡ events.Deliver node at → IsEndOf setting before at_end (node_named event) → r ≡ (a && b && c && d)
     → a ≡ is_node setup node → Goes setup before node b → c ≡ is_some (packet_for before node at)
     → d ≡ (not (runs_engine setup node.member) || not at_end) → r ≡ is_allowed setting before event
 unfolding is_allowed
@@ -256,12 +268,12 @@ allow-deliver setting setup before node at at_end a b c d r event same is ends a
     ∙ ap (λ x. is_node setup node && (not (runs_engine setup node.member) || runs_at before node) && x && d) packet
     ∙ ap (λ x. is_node setup node && (not (runs_engine setup node.member) || runs_at before node) && is_some (packet_for before node at) && x) on
     ∙ ap (λ s. is_node s node && (not (runs_engine s node.member) || runs_at before node) && is_some (packet_for before node at) && (not (runs_engine s node.member) || not at_end)) (sym same)
-    ∙ ap (λ x. is_node setting.setup node && (not (runs_engine setting.setup node.member) || runs_at before node) && is_some (packet_for before node at) && (not (runs_engine setting.setup node.member) || not x))
-    (ends ∙ ap (λ (e : Event). ends_at setting before (node_named e)) is)
+    ∙ ended-of (is_node setting.setup node) (runs_engine setting.setup node.member) (runs_at before node) (is_some (packet_for before node at)) at_end (is_at_end setting before node)
+    (subst (λ (e : Event). IsEndOf setting before at_end (node_named e)) is ends)
     ∙ ap (λ (e : Event). is_allowed setting before e) (sym is)
 
 pub allow-step : (setting : Setting) (setup : Setup) (before : List Noted) (node : Node) (source : StepSource) (stop : Stop) (at_end a b d r : Bool) (event : Event)
-    → setting.setup ≡ setup → event ≡ events.Step node source stop → at_end ≡ ends_at setting before (node_named event) → r ≡ (a && b && d)
+    → setting.setup ≡ setup → event ≡ events.Step node source stop → IsEndOf setting before at_end (node_named event) → r ≡ (a && b && d)
     → a ≡ is_node setup node → Goes setup before node b
     → d ≡ (not (runs_engine setup node.member) || not at_end) → r ≡ is_allowed setting before event
 unfolding is_allowed
@@ -270,8 +282,8 @@ allow-step setting setup before node source stop at_end a b d r event same is en
     ∙ guarded (is_node setup node) b (not (runs_engine setup node.member) || runs_at before node) d goes
     ∙ ap (λ x. is_node setup node && (not (runs_engine setup node.member) || runs_at before node) && x) on
     ∙ ap (λ s. is_node s node && (not (runs_engine s node.member) || runs_at before node) && (not (runs_engine s node.member) || not at_end)) (sym same)
-    ∙ ap (λ x. is_node setting.setup node && (not (runs_engine setting.setup node.member) || runs_at before node) && (not (runs_engine setting.setup node.member) || not x))
-    (ends ∙ ap (λ (e : Event). ends_at setting before (node_named e)) is)
+    ∙ ended (is_node setting.setup node) (runs_engine setting.setup node.member) (runs_at before node) at_end (is_at_end setting before node)
+    (subst (λ (e : Event). IsEndOf setting before at_end (node_named e)) is ends)
     ∙ ap (λ (e : Event). is_allowed setting before e) (sym is)
 
 pub allow-answer : (setting : Setting) (setup : Setup) (before : List Noted) (node : Node) (at : Ref) (answer : Answer) (a b c d r : Bool) (event : Event)

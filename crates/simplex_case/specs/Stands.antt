@@ -1,12 +1,12 @@
 -- Which entries of a record a case stands for.
-use Rattle.std.specs.Prelude.{◌≡◌, ◌*◌, ◌-◌, ◌^◌, ◌≤◌, ℕ, All, Bool, true, false, IfSome, List, length, Option, None, Some}
+use Rattle.std.specs.Prelude.{◌≡◌, ◌*◌, ◌-◌, ◌^◌, ◌≤◌, ℕ, All, Bool, true, IfSome, List, length, Option, None, Some}
 use Rattle.std.specs.List.{slice_get}
 use Rattle.simplex_wire.specs.declared.certificate.Finalization.{Finalization}
 use Rattle.simplex_transcript.specs.declared.event.Event.{Event}
 use Rattle.simplex_transcript.specs.declared.node.Node.{Node}
 use Rattle.simplex_transcript.specs.declared.setup.Setup.{Setup}
 use Rattle.model_run.specs.Entries.{was_reported}
-use Rattle.model_run.specs.Kinds.{is_node, members_of}
+use Rattle.model_run.specs.Kinds.{is_node, members_of, runs_engine}
 use Rattle.model_run.specs.Life.{Noted, clock_of}
 use Rattle.model_run.specs.Setting.{Setting}
 use Rattle.simplex_records.specs.Reported.{has_reported}
@@ -14,6 +14,7 @@ use Rattle.simplex_records.specs.Seats.{node_at}
 use Rattle.simplex_records.specs.Votes.{VotesStand}
 use Rattle.model_audit.specs.declared.record.AuditEntry.{AuditEntry}
 use Rattle.model_audit.specs.Conditions.{is_at_end}
+use Rattle.model_audit.specs.Running.{runs_at}
 use Rattle.simplex_case.specs.Answered.{AnswersStand}
 use Rattle.simplex_case.specs.Desk.{DeskStands}
 use Rattle.simplex_case.specs.Items.{AreItems}
@@ -49,7 +50,8 @@ pub record CaseStands (case : Case) (setup : Setup) (prior : List AuditEntry) (b
 abbrev pub Answers : {A : Type 0} → Case → Setup → List AuditEntry → (List Noted → A) → A → Type 0
 Answers case setup prior rule answer = (before : List Noted) → CaseStands case setup prior before → answer ≡ rule before
 
--- whether the node that the event names is at its end
-abbrev pub ends_at : Setting → List Noted → Option Node → Bool
-ends_at setting before None = false
-ends_at setting before (Some node) = is_at_end setting before node
+-- of a node that exists, runs an engine and runs, this is whether it is at its end
+abbrev pub IsEndOf : Setting → List Noted → Bool → Option Node → Type 0
+IsEndOf setting before at_end None = Unit {0}
+IsEndOf setting before at_end (Some node) =
+    is_node setting.setup node ≡ true → runs_engine setting.setup node.member ≡ true → runs_at before node ≡ true → at_end ≡ is_at_end setting before node

@@ -19,7 +19,7 @@ ghost use Rattle.model_audit.specs.Fitting as fitting;
 ghost use Rattle.model_audit.specs.Rebuilt.{rebuilt, rebuilt_entry};
 ghost use Rattle.law_run.specs.Complete.{node_named};
 ghost use Rattle.simplex_case.specs.Sources as sources;
-ghost use Rattle.simplex_case.specs.Stands.{Answers, CaseStands, ends_at};
+ghost use Rattle.simplex_case.specs.Stands.{Answers, CaseStands, IsEndOf};
 
 use crate::all::{both, four, three};
 use crate::answered::Answered;
@@ -181,11 +181,11 @@ impl Case {
         }
     }
 
-    /// Whether the event could be taken behind these entries, where `at_end` is whether its node is at its end.
+    /// Whether the event could be taken behind these entries, where `at_end` is whether its node is at its end, if it runs.
     pub fn allows(&self, setup: &Setup, prior: &[AuditEntry], event: &Event, at_end: bool) -> bool
         requires few { length setup.now.members < 2 ^ 32 }
         ensures { (setting : Setting) (before : List Noted) → setting.setup ≡ setup.now → CaseStands self.now setup.now prior.now before
-            → at_end ≡ ends_at setting before (node_named event.now) → result ≡ conditions.is_allowed setting before event.now }
+            → IsEndOf setting before at_end (node_named event.now) → result ≡ conditions.is_allowed setting before event.now }
     {
         match event {
             Event::Tick { ms } => *ms <= LAST_CLOCK.saturating_sub(self.clock),

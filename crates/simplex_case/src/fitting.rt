@@ -14,7 +14,7 @@ use simplex_transcript::{Event, Node, StepSource};
 use simplex_types::Answer;
 
 /// The node that an event names.
-pub(crate) fn node_named(event: &Event) -> Option<Node>
+pub fn node_named(event: &Event) -> Option<Node>
     ensures { result ≡ complete.node_named event.now }
 {
     match event {

@@ -38,8 +38,8 @@ pub(crate) fn has_packet_for(prior: &[AuditEntry], node: Node, at: Ref) -> bool
     }
 }
 
-/// The request at this place.
-pub(crate) fn asked_at(prior: &[AuditEntry], at: Ref) -> Option<&Asked>
+/// The request at this place of the entries.
+pub fn asked_at(prior: &[AuditEntry], at: Ref) -> Option<&Asked>
     ensures { option_map (λ asked. asked.now) result ≡ asked_listed prior.now at }
 {
     let entry = entry_at(prior, at.event)?;

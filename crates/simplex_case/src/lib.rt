@@ -12,3 +12,7 @@ mod members;
 mod taking;
 
 pub use case::Case;
+pub use fitting::node_named;
+pub use items::asked_at;
+pub use members::{is_node, runs_engine};
+pub use taking::own_node;

@@ -29,7 +29,7 @@ fn is_honest(kind: &MemberKind) -> bool
 }
 
 /// Whether the member runs an engine.
-pub(crate) fn runs_engine(setup: &Setup, member: u64) -> bool
+pub fn runs_engine(setup: &Setup, member: u64) -> bool
     ensures { result ≡ kinds.runs_engine setup.now member }
 {
     match kind_at(setup, member) {
@@ -66,7 +66,7 @@ fn halves_of(setup: &Setup, member: u64) -> u64
 }
 
 /// Whether the node exists: the first half of a member, or the second of a twin.
-pub(crate) fn is_node(setup: &Setup, node: Node) -> bool
+pub fn is_node(setup: &Setup, node: Node) -> bool
     ensures { result ≡ kinds.is_node setup.now node }
 {
     node.member < setup.members.len() as u64 && node.half < halves_of(setup, node.member)

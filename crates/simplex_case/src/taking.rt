@@ -118,8 +118,8 @@ pub(crate) fn take_at_desk(
     }
 }
 
-// The node whose event it is.
-fn own_node(event: &Event) -> Option<Node>
+/// The node whose event it is.
+pub fn own_node(event: &Event) -> Option<Node>
     ensures { result ≡ taking.own_node event.now }
 {
     match event {

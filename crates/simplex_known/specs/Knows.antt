@@ -1,12 +1,14 @@
 -- Which facts are kept.
-use Rattle.std.specs.Prelude.{◌≡◌, ℕ, Bool, true, List, ◌∷◌, Option}
+use Rattle.std.specs.Prelude.{◌≡◌, ℕ, Bool, true, List, ◌∷◌, ◌++◌, Option}
 use Rattle.std.specs.Option.{option_map_or}
 use Rattle.simplex_values.specs.declared.proposal.Proposal.{Proposal}
 use Rattle.simplex_values.specs.Proposal.{is_same_proposal}
+use Rattle.simplex_wire.specs.declared.artifact.Artifact.{Artifact}
 use Rattle.simplex_state.specs.Ranges.{holds}
 use Rattle.model_rules.specs.Known.{Made, Fact, was_answered, was_approved, has_nullified}
 use Rattle.model_rules.specs.Views.{last_finalized, current_of}
 use Rattle.model_rules.specs.Ancestry.{is_covered}
+use Rattle.model_rules.specs.Calls.{replay_facts}
 use Rattle.simplex_known.specs.declared.known.Known.{Known}
 use Rattle.simplex_known.specs.declared.rules.Rules.{Rules}
 use Rattle.simplex_known.specs.Covers.{CoversStand}
@@ -35,6 +37,11 @@ pub record Knows (kept : Known) (made : Made) (known : List Fact) : Type 0 where
 -- whatever facts were kept, this one is kept with them
 abbrev pub Learns : Known → Known → Fact → Type 0
 Learns old new fact = (made : Made) (known : List Fact) → Knows old made known → Knows new made (fact ∷ known)
+
+-- whatever facts were kept, those that a record of the journal tells are kept with them
+abbrev pub Relearns : Known → Known → Artifact → Type 0
+Relearns old new artifact =
+    (made : Made) (known : List Fact) (now : ℕ) → Knows old made known → Knows new made (replay_facts made known artifact now ++ known)
 
 -- whatever facts are kept, the answer is the rule's at them
 abbrev pub Answers : {R : Type 0} → Known → (Made → List Fact → R) → R → Type 0

@@ -82,7 +82,7 @@ impl Known {
     }
 
     /// A notarization was added.
-    fn add_notarization(&mut self, notarization: &Notarization) -> Result<(), AllocError>
+    pub(crate) fn add_notarization(&mut self, notarization: &Notarization) -> Result<(), AllocError>
         ensures { OnOk result ((now : ℕ) → Learns self.old self.new (Added (certificates.Notarization notarization.now) now)) }
     {
         let view = notarization.view().0;
@@ -92,7 +92,10 @@ impl Known {
     }
 
     /// A nullification was added.
-    fn add_nullification(&mut self, nullification: &Nullification) -> Result<(), AllocError>
+    pub(crate) fn add_nullification(
+        &mut self,
+        nullification: &Nullification,
+    ) -> Result<(), AllocError>
         ensures { OnOk result ((now : ℕ) → Learns self.old self.new (Added (certificates.Nullification nullification.now) now)) }
     {
         let view = nullification.view();
@@ -106,7 +109,7 @@ impl Known {
     }
 
     /// A finalization was added.
-    fn add_finalization(&mut self, finalization: &Finalization) -> Result<(), AllocError>
+    pub(crate) fn add_finalization(&mut self, finalization: &Finalization) -> Result<(), AllocError>
         ensures { OnOk result ((now : ℕ) → Learns self.old self.new (Added (certificates.Finalization finalization.now) now)) }
     {
         let view = finalization.view();
@@ -119,7 +122,7 @@ impl Known {
     }
 
     /// The node voted for a proposal.
-    fn vote_notarize(&mut self, vote: &Notarize) -> Result<(), AllocError>
+    pub(crate) fn vote_notarize(&mut self, vote: &Notarize) -> Result<(), AllocError>
         ensures { OnOk result (Learns self.old self.new (Voted (votes.Notarize vote.now))) }
     {
         let view = vote.view().0;
@@ -129,7 +132,7 @@ impl Known {
     }
 
     /// The node gave a view up.
-    fn vote_nullify(&mut self, vote: &Nullify) -> Result<(), AllocError>
+    pub(crate) fn vote_nullify(&mut self, vote: &Nullify) -> Result<(), AllocError>
         ensures { OnOk result (Learns self.old self.new (Voted (votes.Nullify vote.now))) }
     {
         let view = vote.view().0;
@@ -137,7 +140,7 @@ impl Known {
     }
 
     /// The node voted for finality.
-    fn vote_final(&mut self, vote: &Finalize) -> Result<(), AllocError>
+    pub(crate) fn vote_final(&mut self, vote: &Finalize) -> Result<(), AllocError>
         ensures { OnOk result (Learns self.old self.new (Voted (votes.Finalize vote.now))) }
     {
         let view = vote.view().0;

@@ -9,6 +9,7 @@ mod covers;
 mod known;
 mod learning;
 mod proposals;
+mod replaying;
 mod rounds;
 mod rules;
 mod slots;

@@ -1,0 +1,4 @@
+pub mod Followed
+pub mod Followers
+pub mod Judging
+pub mod Sending
