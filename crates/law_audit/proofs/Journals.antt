@@ -129,7 +129,7 @@ cut_fails_none call keep (c ∷ made) place sections = at (place == 0) (cut_fail
     at true same = refl
     at false same = same
 
-same_failure : (stop : Stop) (ruled made : List Call) (sections : List Section) → shape_of ruled ≡ shape_of made → after_failure stop ruled sections ≡ after_failure stop made sections
+pub same_failure : (stop : Stop) (ruled made : List Call) (sections : List Section) → shape_of ruled ≡ shape_of made → after_failure stop ruled sections ≡ after_failure stop made sections
 unfolding stop_place failed
 same_failure stops.None ruled made sections e = refl
 same_failure (stops.Cut call keep) ruled made sections e =

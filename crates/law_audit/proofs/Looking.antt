@@ -241,24 +241,24 @@ module _ (a b : List Fact) (alike : AreAlike a b) where
   unfolding has_nullified
   same_nullified view = any_vote (is_nullify_in view) (λ f e. (no_vote f e).1 view)
 
-  same_finalize : (view : ℕ) → has_finalized a view ≡ has_finalized b view
+  pub same_finalize : (view : ℕ) → has_finalized a view ≡ has_finalized b view
   unfolding has_finalized
   same_finalize view = any_vote (is_finalize_in view) (λ f e. (no_vote f e).2 view)
 
   any_proposal : (test : Fact → Bool) → ((f : Fact) → is_of_proposal f ≡ false → test f ≡ false) → list_any test a ≡ list_any test b
   any_proposal test none = sym (any_counts is_of_proposal test none a) ∙ ap (list_any test) alike.proposals ∙ any_counts is_of_proposal test none b
 
-  same_proposal : (view : ℕ) → proposal_of a view ≡ proposal_of b view
+  pub same_proposal : (view : ℕ) → proposal_of a view ≡ proposal_of b view
   unfolding proposal_of
   same_proposal view =
       let none : (f : Fact) → is_of_proposal f ≡ false → proposal_in view f ≡ None = (λ f e. (no_proposal f e).0 view) in
       sym (first_counts is_of_proposal (proposal_in view) none a) ∙ ap (first_of (proposal_in view)) alike.proposals ∙ first_counts is_of_proposal (proposal_in view) none b
 
-  same_answered : (p : Proposal) → was_answered a p ≡ was_answered b p
+  pub same_answered : (p : Proposal) → was_answered a p ≡ was_answered b p
   unfolding was_answered
   same_answered p = any_proposal (is_answer_in p) (λ f e. (no_proposal f e).1 p)
 
-  same_approved : (p : Proposal) → was_approved a p ≡ was_approved b p
+  pub same_approved : (p : Proposal) → was_approved a p ≡ was_approved b p
   unfolding was_approved
   same_approved p = any_proposal (is_approval_in p) (λ f e. (no_proposal f e).2 p)
 

@@ -73,6 +73,7 @@ impl Reader {
 }
 
 // What a node of such a run is made with.
+#[tactic(auto, using(crate::proofs::Good::some_term))]
 fn rules_of(setup: &Setup) -> Rules
     requires good { IsNone (setups.first_bad setup.now) }
     ensures epoch { result.epoch ≡ setup.now.epoch }

@@ -28,7 +28,7 @@ impl Reader {
         entry: &AuditEntry,
         asked: Option<&Asked>,
     ) -> Result<Due, AllocError>
-        ensures { IfOk result (λ due. TakesStep self.old self.new (S.attests scheme.now) source stop entry.now (option_map (λ asked. asked.now) asked) due) }
+        ensures { IfOk result (λ due. TakesStep self.old self.new (S.attests scheme.now) source stop entry.now (option_map (λ asked. asked.now) asked.entry) due) }
     {
         match entry.outcome {
             Outcome::Journal => Err(AllocError),
@@ -49,7 +49,7 @@ impl Reader {
         asked: Option<&Asked>,
     ) -> Result<Due, AllocError>
         ensures { IfOk result (λ due. is_failed entry.now.outcome ≡ false
-            → TakesStep self.old self.new (S.attests scheme.now) source stop entry.now (option_map (λ asked. asked.now) asked) due) }
+            → TakesStep self.old self.new (S.attests scheme.now) source stop entry.now (option_map (λ asked. asked.now) asked.entry) due) }
     {
         let added = entry.added.as_slice();
         let due = take_in(&mut self.known, scheme, added, source, &entry.took, asked)?;

@@ -28,7 +28,7 @@ pub(crate) fn take_in<S: Scheme>(
     asked: Option<&Asked>,
 ) -> Result<Due, AllocError>
     ensures { IfOk result (λ due. Acts known.old known.new (S.attests scheme.now) added.now
-        (taking_by source took.now (option_map (λ asked. asked.now) asked)) due) }
+        (taking_by source took.now (option_map (λ asked. asked.now) asked.entry)) due) }
 {
     match took {
         AuditTook::Timer => take_deadline(known, scheme, added, source),
@@ -119,7 +119,7 @@ fn take_answer<S: Scheme>(
     answer: &Answer,
 ) -> Result<Due, AllocError>
     ensures { IfOk result (λ due. Acts known.old known.new (S.attests scheme.now) added.now
-        (option_map (reply answer.now) (option_map (λ asked. asked.now) asked)) due) }
+        (option_map (reply answer.now) (option_map (λ asked. asked.now) asked.entry)) due) }
 {
     match asked {
         None => Ok(nothing_due()),

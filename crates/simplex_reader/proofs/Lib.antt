@@ -1,0 +1,9 @@
+pub mod Acting
+pub mod Alike
+pub mod Failing
+pub mod Following
+pub mod Good
+pub mod Listing
+pub mod Started
+pub mod Stepped
+pub mod Voting

@@ -1,0 +1,14 @@
+use Rattle.std.proofs.Common.{arith}
+use Rattle.std.proofs.lemmas.Grind.{common_steps}
+use Rattle.simplex_reader.proofs.Acting.{acts_unless, acts_if}
+use Rattle.simplex_reader.proofs.Listing.{if-ok}
+use Rattle.simplex_reader.proofs.taking.take_proposal.Goals as goal
+
+pub returns-then-not-is_voter : goal.returns-then-not-is_voter
+returns-then-not-is_voter g c = acts_unless _ _ _ _ _ _ (grind (arith, common_steps, c.is_voter.ensures)) c.nothing_due.ensures
+
+pub returns : goal.returns
+returns g c =
+    if-ok c.on_proposal.result
+    (λ due steps. acts_if _ _ _ _ _ due _ (grind (arith, common_steps, c.is_voter.ensures)) steps)
+    c.on_proposal.ensures
