@@ -29,6 +29,7 @@ pub(crate) struct Followers {
 
 impl Followers {
     /// Of no entry.
+    #[tactic(auto, using(simplex_members::proofs::Good::good))]
     pub(crate) fn new(alloc: Global, setup: &Setup) -> Result<Followers, AllocError>
         requires good { IsNone (setups.first_bad setup.now) }
         ensures { IfOk result (λ followers. (setting : Setting) → setting.setup ≡ setup.now → FollowersStand followers.seats.items setting []) }
