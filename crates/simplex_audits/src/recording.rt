@@ -144,10 +144,7 @@ fn answer(
 }
 
 /// What the run comes to of the input that the bytes say.
-pub(crate) fn record(
-    alloc: Global,
-    bytes: &[u8],
-) -> Result<Answer<RecordDone, Refusal>, AllocError>
+pub(crate) fn record(alloc: Global, bytes: &[u8]) -> Result<Answer<RecordDone, Refusal>, AllocError>
     ensures { IfOk result (IsAnswer (RecordSays bytes.now) (RefusalSays bytes.now) (IsMisread bytes.now)) }
 {
     match read_input(alloc, bytes)? {

@@ -16,7 +16,7 @@ use Rattle.model_run.specs.Life.{Noted, is_of}
 use Rattle.model_run.specs.Setting.{Setting}
 use Rattle.model_audit.specs.declared.record.AuditEntry.{AuditEntry}
 use Rattle.model_audit.specs.declared.record.AuditTook.{AuditTook}
-use Rattle.model_audit.specs.declared.record.AuditTook.TheVariants as taken
+use Rattle.model_audit.specs.declared.record.AuditTook.TheVariants as tooks
 use Rattle.model_audit.specs.Conditions.{is_allowed, goes_on}
 use Rattle.model_audit.specs.Fitting.{fits, outcome_fits, took_or_idle}
 use Rattle.model_audit.specs.Reading.{Read, read, rules_at}
@@ -205,15 +205,15 @@ step-runs setting before node source stop engine allowed =
     second false g r o e h = absurd cc
 
 request-is : (prior : List AuditEntry) (before : List Noted) (took : AuditTook) → AreItems prior before → request_listed prior took ≡ request_of before took
-request-is prior before taken.Nothing items = refl
-request-is prior before (taken.Packet at) items = refl
-request-is prior before (taken.Proposal proposal) items = refl
-request-is prior before (taken.Timeout round reason) items = refl
-request-is prior before (taken.Certificate certificate) items = refl
-request-is prior before taken.OtherMail items = refl
-request-is prior before (taken.Request at answer) items = items.asked at
-request-is prior before taken.Timer items = refl
-request-is prior before taken.Floor items = refl
+request-is prior before tooks.Nothing items = refl
+request-is prior before (tooks.Packet at) items = refl
+request-is prior before (tooks.Proposal proposal) items = refl
+request-is prior before (tooks.Timeout round reason) items = refl
+request-is prior before (tooks.Certificate certificate) items = refl
+request-is prior before tooks.OtherMail items = refl
+request-is prior before (tooks.Request at answer) items = items.asked at
+request-is prior before tooks.Timer items = refl
+request-is prior before tooks.Floor items = refl
 
 made-by : (follower : Follower) (setting : Setting) (prior : List AuditEntry) (before : List Noted) (at node : Node) (source : StepSource) (stop : Stop) (e : AuditEntry) (asked : Option Asked)
     → at ≡ node → asked ≡ request_listed prior e.took → IsFollowed follower setting before node → IsTaken setting prior before (events.Step at source stop) e node

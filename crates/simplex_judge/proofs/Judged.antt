@@ -73,35 +73,42 @@ module _ (old new : Judge) (setting : Setting) (prior : List AuditEntry) (event 
   abbrev pub Clashes : Bool → Type 0
   Clashes answer = Told old setting prior (λ before. has_conflict setting.setup before (rebuilt_entry e)) answer
 
-  faulty : (fault : AuditFault) → ((before : List Noted) → JudgeStands old setting prior before → fault_in setting before event e ≡ Some fault) → Judges old new setting prior event e (Some fault)
-  faulty fault is = record { answers = λ before stand. sym (is before stand); stands = λ before stand none. absurd cc }
+  -- the first fault, by the rules
+  abbrev pub found : List Noted → Option AuditFault
+  found before =
+      fault_of (fits before event e) (is_allowed setting before event) (is_none (first_forged setting.setup before (rebuilt_entry e)))
+      (if_honest setting (node_named event) (stores_first setting before (rebuilt_entry e)))
+      (if_honest setting (node_named event) (λ node. sends_due setting before (rebuilt_entry e) node event))
+      (not (has_conflict setting.setup before (rebuilt_entry e)))
+
+  faulty : (fault : AuditFault) → ((before : List Noted) → JudgeStands old setting prior before → found before ≡ Some fault) → Judges old new setting prior event e (Some fault)
+  faulty fault is = record { answers = λ before stand. sym (fault-is setting before event e ∙ is before stand); stands = λ before stand none. absurd cc }
 
   pub entry-fault : Fits false → Judges old new setting prior event e (Some faults.Entry)
-  entry-fault a = faulty faults.Entry (λ before stand. fault-is setting before event e ∙ rw (a before stand) refl)
+  entry-fault a = faulty faults.Entry (λ before stand. rw (a before stand) refl)
 
   pub condition-fault : Fits true → Allows false → Judges old new setting prior event e (Some faults.Condition)
-  condition-fault a b = faulty faults.Condition (λ before stand. fault-is setting before event e ∙ rw (a before stand, b before stand) refl)
+  condition-fault a b = faulty faults.Condition (λ before stand. rw (a before stand, b before stand) refl)
 
   pub forged-fault : Fits true → Allows true → Genuine false → Judges old new setting prior event e (Some faults.Forged)
-  forged-fault a b c = faulty faults.Forged (λ before stand. fault-is setting before event e ∙ rw (a before stand, b before stand, c before stand) refl)
+  forged-fault a b c = faulty faults.Forged (λ before stand. rw (a before stand, b before stand, c before stand) refl)
 
   pub order-fault : Fits true → Allows true → Genuine true → Stores false → Judges old new setting prior event e (Some faults.Order)
-  order-fault a b c d = faulty faults.Order (λ before stand. fault-is setting before event e ∙ rw (a before stand, b before stand, c before stand, d before stand) refl)
+  order-fault a b c d = faulty faults.Order (λ before stand. rw (a before stand, b before stand, c before stand, d before stand) refl)
 
   pub votes-fault : Fits true → Allows true → Genuine true → Stores true → Sends false → Judges old new setting prior event e (Some faults.Votes)
-  votes-fault a b c d f =
-      faulty faults.Votes (λ before stand. fault-is setting before event e ∙ rw (a before stand, b before stand, c before stand, d before stand, f before stand) refl)
+  votes-fault a b c d f = faulty faults.Votes (λ before stand. rw (a before stand, b before stand, c before stand, d before stand, f before stand) refl)
 
   pub conflict-fault : Fits true → Allows true → Genuine true → Stores true → Sends true → Clashes true → Judges old new setting prior event e (Some faults.Conflict)
   conflict-fault a b c d f g =
-      faulty faults.Conflict (λ before stand. fault-is setting before event e
-      ∙ rw (a before stand, b before stand, c before stand, d before stand, f before stand, g before stand) refl)
+      faulty faults.Conflict (λ before stand. rw (a before stand, b before stand, c before stand, d before stand, f before stand, g before stand) refl)
 
   pub no-fault : Fits true → Allows true → Genuine true → Stores true → Sends true → Clashes false
       → ((before : List Noted) → JudgeStands old setting prior before → JudgeStands new setting (prior ++ e ∷ []) (rebuilt event e ∷ before)) → Judges old new setting prior event e None
   no-fault a b c d f g goes =
       record {
-        answers = λ before stand. sym (fault-is setting before event e
-            ∙ rw (a before stand, b before stand, c before stand, d before stand, f before stand, g before stand) refl);
+        answers = λ before stand.
+            let none : found before ≡ None = rw (a before stand, b before stand, c before stand, d before stand, f before stand, g before stand) refl in
+            sym (fault-is setting before event e ∙ none);
         stands = λ before stand none. goes before stand;
       }

@@ -1,5 +1,5 @@
 -- What is followed of all nodes, by where they sit.
-use Rattle.std.proofs.Common.{◌≡◌, ◌≢◌, ℕ, ◌*◌, ◌<◌, ◌≤◌, List, [], ◌∷◌, Bool, true, false, refl, sym, ap, subst, ◌∙◌, if◌then◌else◌, Option, Some, None, length, set, get_or, arith, eqb-true}
+use Rattle.std.proofs.Common.{◌≡◌, ◌≢◌, ℕ, ◌*◌, ◌<◌, ◌≤◌, List, [], ◌∷◌, ◌++◌, ◌/◌, Bool, true, false, refl, sym, ap, subst, ◌∙◌, if◌then◌else◌, Option, Some, None, length, set, get_or, arith, eqb-true}
 use Rattle.std.specs.Prelude.{◌==◌, ◌&&◌, ◌||◌, not, slice_get, is_some}
 use Rattle.std.specs.Option.{option_and_then, option_map_or}
 use Rattle.std.proofs.lemmas.Grind.{common_steps}
@@ -24,7 +24,7 @@ use Rattle.model_audit.specs.Rebuilt.{rebuilt, rebuilt_entry}
 use Rattle.model_audit.specs.Running.{runs_at}
 use Rattle.model_audit.specs.VotesDue.{sends_due}
 use Rattle.simplex_records.specs.Seats.{node_at, seat_of}
-use Rattle.simplex_records.proofs.Lists.{slice_get-set, slice_get-set_other}
+use Rattle.simplex_records.proofs.Lists.{slice_get-push, slice_get-set, slice_get-set_other}
 use Rattle.simplex_records.proofs.Seating.{seated, same-seat}
 use Rattle.simplex_case.specs.Stands.{IsEndOf}
 use Rattle.simplex_case.specs.Taking.{own_node}
@@ -86,7 +86,8 @@ pub end-followed : (seats : List (Option Follower)) (setup : Setup) (event : Eve
 end-followed seats setup event node follower result named there ends setting before alike stand =
     subst (IsEndOf setting before result) (sym named)
     (λ exists engine runs.
-        let followed = subst (Seated seats setting before node) (ap (λ s. at_seat seats s node) alike ∙ there) (at-seat seats setting before node exists stand) in
+        let followed : (runs_engine setting.setup node.member ≡ true) × IsFollowed follower setting before node =
+        subst (Seated seats setting before node) (ap (λ s. at_seat seats s node) alike ∙ there) (at-seat seats setting before node exists stand) in
         ends setting before followed.1 runs)
 
 -- ---- honest members
@@ -156,7 +157,8 @@ pub stored-unhonest : (seats : List (Option Follower)) (setup : Setup) (event : 
     → StoredBy seats setup event e true
 stored-unhonest seats setup event e node named unhonest = λ setting before same stand allowed.
     let not_here : is_honest setting.setup node.member ≡ false = ap (λ s. is_honest s node.member) same ∙ unhonest in
-    sym (ap (λ o. if_honest setting o (stores_first setting before (rebuilt_entry e))) named ∙ rw not_here refl)
+    let untested : if_honest setting (Some node) (stores_first setting before (rebuilt_entry e)) ≡ true = rw not_here refl in
+    sym (ap (λ o. if_honest setting o (stores_first setting before (rebuilt_entry e))) named ∙ untested)
 
 pub stored-unfollowed : (seats : List (Option Follower)) (setup : Setup) (event : Event) (e : AuditEntry) (node : Node) → node_named event ≡ Some node → is_honest setup node.member ≡ true
     → at_seat seats setup node ≡ None → StoredBy seats setup event e true
@@ -174,9 +176,11 @@ pub stored-followed : (seats : List (Option Follower)) (setup : Setup) (event : 
 stored-followed seats setup event e node follower stored named honest there tells = λ setting before same stand allowed.
     let here : is_honest setting.setup node.member ≡ true = ap (λ s. is_honest s node.member) same ∙ honest in
     let exists = named-exists setting before event node allowed named here in
-    let followed = subst (Seated seats setting before node) (ap (λ s. at_seat seats s node) same ∙ there) (at-seat seats setting before node exists stand) in
+    let followed : (runs_engine setting.setup node.member ≡ true) × IsFollowed follower setting before node =
+    subst (Seated seats setting before node) (ap (λ s. at_seat seats s node) same ∙ there) (at-seat seats setting before node exists stand) in
+    let tested : if_honest setting (Some node) (stores_first setting before (rebuilt_entry e)) ≡ stores_first setting before (rebuilt_entry e) node = rw here refl in
     tells setting before node followed.1.follows
-    ∙ sym (ap (λ o. if_honest setting o (stores_first setting before (rebuilt_entry e))) named ∙ rw here refl)
+    ∙ sym (ap (λ o. if_honest setting o (stores_first setting before (rebuilt_entry e))) named ∙ tested)
 
 -- ---- one entry more
 
@@ -223,6 +227,18 @@ own-named (events.Answer at request answer) node e = e
 own-named (events.Crash at) node e = e
 own-named (events.Inject member channel to bytes) node e = absurd cc
 
+or-nothing : (b : Bool) → (b || false) ≡ b
+or-nothing true = refl
+or-nothing false = refl
+
+or-all : (b : Bool) → (b || true) ≡ true
+or-all true = refl
+or-all false = refl
+
+sent-if : (honest here due sends result : Bool) → result ≡ (due || not honest) → honest ≡ here → (here ≡ true → due ≡ sends) → result ≡ (if here then sends else true)
+sent-if honest true due sends result all alike tells = all ∙ ap (λ h. due || not h) alike ∙ or-nothing due ∙ tells refl
+sent-if honest false due sends result all alike tells = all ∙ ap (λ h. due || not h) alike ∙ or-all due
+
 -- of all nodes, by one
 pub follow-own : (old new : List (Option Follower)) (setup : Setup) (node : Node) (prior : List AuditEntry) (event : Event) (e : AuditEntry) (due honest result : Bool) → own_node event ≡ Some node
     → honest ≡ is_honest setup node.member → result ≡ (due || not honest) → FollowAt old new setup node prior event e due → FollowOn old new setup prior event e result
@@ -230,24 +246,11 @@ follow-own old new setup node prior event e due honest result of is all at =
     record {
       follows = at.follows of;
       sends = λ setting before same stand next.
-          sent setting before (is_honest setting.setup node.member) refl (is ∙ ap (λ s. is_honest s node.member) (sym same))
-          (λ here. at.sends of setting before same stand next (ap (λ s. runs_engine s node.member) (sym same) ∙ honest-runs setting.setup node.member here))
-          ∙ ap (λ o. if_honest setting o (λ n. sends_due setting before (rebuilt_entry e) n event)) (sym (own-named event node of));
+          let sent : result ≡ if_honest setting (Some node) (λ n. sends_due setting before (rebuilt_entry e) n event) =
+          sent-if honest (is_honest setting.setup node.member) due (sends_due setting before (rebuilt_entry e) node event) result all (is ∙ ap (λ s. is_honest s node.member) (sym same))
+          (λ here. at.sends of setting before same stand next (ap (λ s. runs_engine s node.member) (sym same) ∙ honest-runs setting.setup node.member here)) in
+          sent ∙ ap (λ o. if_honest setting o (λ n. sends_due setting before (rebuilt_entry e) n event)) (sym (own-named event node of));
     }
-  where
-    sent : (setting : Setting) (before : List Noted) (h : Bool) → is_honest setting.setup node.member ≡ h → honest ≡ is_honest setting.setup node.member
-        → (is_honest setting.setup node.member ≡ true → due ≡ sends_due setting before (rebuilt_entry e) node event)
-        → result ≡ (if is_honest setting.setup node.member then sends_due setting before (rebuilt_entry e) node event else true)
-    sent setting before true here alike tells = all ∙ ap (λ h. due || not h) (alike ∙ here) ∙ or-nothing due ∙ tells here ∙ sym (rw here refl)
-      where
-        or-nothing : (b : Bool) → (b || false) ≡ b
-        or-nothing true = refl
-        or-nothing false = refl
-    sent setting before false here alike tells = all ∙ ap (λ h. due || not h) (alike ∙ here) ∙ or-all due ∙ sym (rw here refl)
-      where
-        or-all : (b : Bool) → (b || true) ≡ true
-        or-all true = refl
-        or-all false = refl
 
 -- a node that cannot be: it does not exist, or has no seat
 pub at-nowhere : (seats : List (Option Follower)) (setup : Setup) (node : Node) (prior : List AuditEntry) (event : Event) (e : AuditEntry) → is_node setup node ≡ false
@@ -280,10 +283,11 @@ at-no_seat seats setup node prior event e place exists is over =
 
 -- the event of a node at another seat
 other-seat : (event : Event) (node : Node) (at : ℕ) → node.half < 2 → own_node event ≡ Some node → (seat_of node ≡ at → ⊥) → is_of (node_at at) event ≡ false
-other-seat event node at half of apart = is-own event node (node_at at) of ∙ same-seat node at half ∙ unequal
+other-seat event node at half of apart = is-own event node (node_at at) of ∙ same-seat node at half ∙ by (seat_of node == at) refl
   where
-    unequal : (seat_of node == at) ≡ false
-    unequal = grind (arith, common_steps)
+    by : (t : Bool) → (seat_of node == at) ≡ t → (seat_of node == at) ≡ false
+    by true e = absurd (apart (eqb-true (seat_of node) at e))
+    by false e = e
 
 pub at-empty : (seats : List (Option Follower)) (setup : Setup) (node : Node) (prior : List AuditEntry) (event : Event) (e : AuditEntry) (place : ℕ) → is_node setup node ≡ true
     → place ≡ seat_of node → slice_get seats place ≡ Some None → FollowAt seats seats setup node prior event e true
@@ -308,14 +312,13 @@ pub at-followed : (seats : List (Option Follower)) (setup : Setup) (node : Node)
 at-followed seats setup node prior event e place old new due exists is there goes =
     record {
       follows = λ of setting before same stand next.
-          let here = seated-old setting before same stand in
           record {
             count = length-set seats place (Some new) ∙ stand.count;
             engines = λ at seat found. engines-at setting before stand at seat found (place == at) refl;
             each = λ at follower found. each-at of setting before same stand next at follower found (place == at) refl;
           };
       sends = λ of setting before same stand next engine.
-          let here = seated-old setting before same stand in
+          let here : (runs_engine setting.setup node.member ≡ true) × IsFollowed old setting before node = seated-old setting before same stand in
           goes.sends setting before node here.1 (record { next = next; named = of; engine = here.0 });
     }
   where
@@ -336,7 +339,7 @@ at-followed seats setup node prior event e place old new due exists is there goe
         → (at : ℕ) (follower : Follower) → slice_get (set seats place (Some new)) at ≡ Some (Some follower) → (b : Bool) → (place == at) ≡ b → IsFollowed follower setting (rebuilt event e ∷ before) (node_at at)
     each-at of setting before same stand next at follower found true b =
         let one : place ≡ at = eqb-true place at b in
-        let here = seated-old setting before same stand in
+        let here : (runs_engine setting.setup node.member ≡ true) × IsFollowed old setting before node = seated-old setting before same stand in
         let alike : Some follower ≡ Some new = slice_get-set seats place at (Some new) (Some follower) found one in
         let mine : follower ≡ new = cc in
         subst (λ (f : Follower). IsFollowed f setting (rebuilt event e ∷ before) (node_at at)) (sym mine)
@@ -347,3 +350,36 @@ at-followed seats setup node prior event e place old new due exists is there goe
         followed-other follower setting before (rebuilt event e) (node_at at)
         (other-seat event node at (node-half setup node exists) of (λ here. apart (is ∙ here)))
         (stand.each at follower (sym (slice_get-set_other seats place at (Some new) apart) ∙ found))
+
+-- ---- before any entry
+
+pub no-seats : (setup : Setup) → AreSeats [] setup
+unfolding AreSeats
+no-seats setup = λ at seat is. absurd cc
+
+pub seats-grown : (seats new : List (Option Follower)) (setup : Setup) (one : Option Follower) (member : ℕ) → new ≡ seats ++ one ∷ [] → AreSeats seats setup → IsSeatOf one setup member
+    → (node_at (length seats)).member ≡ member → AreSeats new setup
+unfolding AreSeats
+seats-grown seats new setup one member is all blank here =
+    λ at seat found. grown at seat (length seats == at) refl (sym (slice_get-push seats one at) ∙ ap (λ ss. slice_get ss at) (sym is) ∙ found)
+  where
+    grown : (at : ℕ) (seat : Option Follower) (b : Bool) → (length seats == at) ≡ b → (if b then Some one else slice_get seats at) ≡ Some seat → IsSeatOf seat setup (node_at at).member
+    grown at seat true e found =
+        let same : one ≡ seat = cc in
+        subst (λ s. IsSeatOf s setup (node_at at).member) same
+        (subst (IsSeatOf one setup) (sym here ∙ ap (λ n. (node_at n).member) (eqb-true (length seats) at e)) blank)
+    grown at seat false e found = all at seat found
+
+pub seats-new : (seats : List (Option Follower)) (setting : Setting) (setup : Setup) → setting.setup ≡ setup → length seats ≡ 2 * members_of setup → AreSeats seats setup
+    → FollowersStand seats setting []
+unfolding AreSeats
+seats-new seats setting setup same count all =
+    record {
+      count = count ∙ ap (λ s. 2 * members_of s) (sym same);
+      engines = λ at seat is. (all at seat is).engine ∙ ap (λ s. runs_engine s (node_at at).member) (sym same);
+      each = λ at follower is. (all at (Some follower) is).followed setting (node_at at) follower refl same refl;
+    }
+
+pub seat-member : (at : ℕ) → (node_at at).member ≡ at / 2
+unfolding node_at
+seat-member at = refl

@@ -2,7 +2,7 @@
 use Rattle.std.proofs.Common.{◌≡◌, ℕ, List, [], ◌∷◌, ◌++◌, Bool, true, false, refl, sym, ap, ◌∙◌, Option, Some, None, length, map, arith, if◌then◌else◌}
 use Rattle.std.specs.Prelude.{◌==◌, ◌&&◌, ◌||◌, filter, filter_map, is_some}
 use Rattle.std.specs.List.{cons_option, list_all, list_any}
-use Rattle.std.proofs.lemmas.Grind.{common_steps}
+use Rattle.std.proofs.lemmas.Bool.{eq-eqb, eqb-true}
 use Rattle.std.proofs.lemmas.List.{length-map, map-append}
 use Rattle.std.proofs.lemmas.List.Folds.{list_all-append}
 use Rattle.std.specs.Option.{option_map, option_map_or}
@@ -71,10 +71,11 @@ all-due due sent =
     (all-of votes.Finalize due.finalize sent)
 
 unlike : (a b : ℕ) → (a ≡ b → ⊥) → (a == b) ≡ false
-unlike a b apart = grind (arith, common_steps)
-
-alike : (a b : ℕ) → a ≡ b → (a == b) ≡ true
-alike a b same = grind (arith, common_steps)
+unlike a b apart = by (a == b) refl
+  where
+    by : (t : Bool) → (a == b) ≡ t → (a == b) ≡ false
+    by true e = absurd (apart (eqb-true a b e))
+    by false e = e
 
 pub sends-other : (due : Due) (sent : List (List ℕ)) (count least : ℕ) → count ≡ length sent → least ≡ length (votes_in due) → (count ≡ least → ⊥)
     → false ≡ are_those (map format.vote.spelling (votes_in due)) sent
@@ -90,5 +91,5 @@ pub sends-those : (due : Due) (sent : List (List ℕ)) (count least : ℕ) (all 
 sends-those due sent count least all is due_is same each =
     each ∙ sym (all-due due sent)
     ∙ sym (ap (λ b. b && list_all (λ bytes. list_any (bytes_eq bytes) sent) (map format.vote.spelling (votes_in due)))
-    (alike (length (map format.vote.spelling (votes_in due))) (length sent)
+    (eq-eqb (length (map format.vote.spelling (votes_in due))) (length sent)
     (length-map (votes_in due) format.vote.spelling ∙ sym due_is ∙ sym same ∙ is)))

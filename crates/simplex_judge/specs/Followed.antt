@@ -1,5 +1,5 @@
 -- Which node a follower follows, and through which entries.
-use Rattle.std.specs.Prelude.{◌≡◌, ◌∷◌, ◌×◌, ℕ, true, List, Bool, Option, Some, None}
+use Rattle.std.specs.Prelude.{◌≡◌, ◌∷◌, ℕ, true, List, Bool, Option, Some, None}
 use Rattle.simplex_values.specs.declared.proposal.Subject.{Subject}
 use Rattle.simplex_wire.specs.declared.attestation.Attestation.{Attestation}
 use Rattle.simplex_wire.specs.declared.certificate.Finalization.{Finalization}

@@ -1,5 +1,5 @@
 //! The nodes with engines, by where they sit.
-ghost use Rattle.std.specs.Prelude.{◌≡◌, ◌<◌, ◌*◌, ◌^◌, ◌∷◌, [], List, Some, None, IsNone, IfOk, length, if◌then◌else◌};
+ghost use Rattle.std.specs.Prelude.{◌≡◌, ◌<◌, ◌*◌, ◌^◌, ◌∷◌, [], List, true, Some, None, IsNone, IfOk, length, if◌then◌else◌};
 ghost use Rattle.std.specs.List.{slice_get};
 ghost use Rattle.std.specs.Option.{option_map, option_and_then};
 ghost use Rattle.model_run.specs.Kinds as kinds;
@@ -29,6 +29,7 @@ pub(crate) struct Followers {
 
 impl Followers {
     /// Of no entry.
+    #[tactic(auto, using(simplex_members::proofs::Good::good))]
     pub(crate) fn new(alloc: Global, setup: &Setup) -> Result<Followers, AllocError>
         requires good { IsNone (setups.first_bad setup.now) }
         ensures { IfOk result (λ followers. (setting : Setting) → setting.setup ≡ setup.now → FollowersStand followers.seats.items setting []) }

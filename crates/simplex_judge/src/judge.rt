@@ -22,6 +22,7 @@ pub struct Judge {
 
 impl Judge {
     /// Before any entry.
+    #[tactic(auto, using(simplex_members::proofs::Good::good))]
     pub fn new(alloc: Global, setup: &Setup) -> Result<Judge, AllocError>
         requires good { IsNone (setups.first_bad setup.now) }
         ensures { IfOk result (λ judge. (setting : Setting) → setting.setup ≡ setup.now → JudgeStands judge setting [] []) }
@@ -34,6 +35,7 @@ impl Judge {
     }
 
     /// The first fault of the next entry, if it has one. Behind a fault nothing is told of what is kept.
+    #[tactic(auto, using(simplex_members::proofs::Good::good))]
     pub fn judge(
         &mut self,
         alloc: Global,

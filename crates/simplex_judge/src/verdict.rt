@@ -1,5 +1,5 @@
 //! The verdict on a record.
-ghost use Rattle.std.specs.Prelude.{◌≡◌, ◌↔◌, ◌+◌, [], List, Ok, IsNone, IfOk};
+ghost use Rattle.std.specs.Prelude.{◌≡◌, ◌↔◌, [], List, Ok, IsNone, IfOk};
 ghost use Rattle.simplex_transcript.specs.declared.entry.Entry.{Entry};
 ghost use Rattle.law_run.specs.Safe.{AgreeAll};
 ghost use Rattle.law_run.specs.Fitting.{IsTyped};
@@ -7,12 +7,14 @@ ghost use Rattle.law_run.specs.Sayings.{Each};
 ghost use Rattle.model_run.specs.Run.{Run};
 ghost use Rattle.model_run.specs.Setting.{Setting, at_epoch_genesis};
 ghost use Rattle.model_run.specs.Setups as setups;
+ghost use Rattle.model_audit.specs.declared.record.Verdict.TheVariants as verdicts;
 ghost use Rattle.model_audit.specs.declared.record.Verdict.TheVariants.{Sound};
 ghost use Rattle.model_audit.specs.Audit.{audited, judged_from};
 ghost use Rattle.model_audit.specs.Holding.{IsSound, all_rebuilt};
 ghost use Rattle.model_audit.specs.Record.{record_of};
 
 use crate::judge::Judge;
+use law_audit::{records_of_runs_are_sound, sound_records_hold};
 use model_audit::{AuditEntry, AuditFault, Verdict};
 use simplex_members::{are_few, first_bad};
 use simplex_transcript::{Event, Setup};
@@ -27,6 +29,26 @@ pub fn audit(
     entries: &[AuditEntry],
 ) -> Result<Verdict, AllocError>
     ensures verdict { IfOk result (λ verdict. verdict ≡ audited (at_epoch_genesis setup.now) events.now entries.now) }
+    // It is sound exactly where the record has none of the faults, and then no two of its certificates conflict.
+    ensures sound { IfOk result (λ verdict. verdict ≡ Sound ↔ IsSound (at_epoch_genesis setup.now) events.now entries.now) }
+    ensures agrees { IfOk result (λ verdict. verdict ≡ Sound → AgreeAll setup.now (all_rebuilt events.now entries.now)) }
+    // So is the record of each run whose values keep to their types.
+    ensures recorded { IfOk result (λ verdict. (transcript : List Entry) → Run setup.now events.now ≡ Ok transcript → Each IsTyped transcript
+        → entries.now ≡ record_of transcript → verdict ≡ Sound) }
+{
+    sound_records_hold();
+    records_of_runs_are_sound();
+    verdict_on(alloc, setup, events, entries)
+}
+
+// The verdict.
+fn verdict_on(
+    alloc: Global,
+    setup: &Setup,
+    events: &[Event],
+    entries: &[AuditEntry],
+) -> Result<Verdict, AllocError>
+    ensures { IfOk result (λ verdict. verdict ≡ audited (at_epoch_genesis setup.now) events.now entries.now) }
 {
     if !are_few(setup, events) || first_bad(setup).is_some() {
         return Ok(fault_at(0, AuditFault::Setup));
@@ -35,6 +57,7 @@ pub fn audit(
 }
 
 // The verdict, where the setup keeps its limits.
+#[tactic(auto, using(simplex_members::proofs::Good::good))]
 fn judge_all(
     alloc: Global,
     setup: &Setup,
@@ -61,6 +84,8 @@ fn judge_all(
 }
 
 // This fault, at the event of this number.
-fn fault_at(event: u64, cause: AuditFault) -> Verdict {
+fn fault_at(event: u64, cause: AuditFault) -> Verdict
+    ensures { result ≡ verdicts.Fault event cause }
+{
     Verdict::Fault { event, cause }
 }

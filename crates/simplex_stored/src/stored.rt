@@ -110,12 +110,7 @@ impl Stored {
     }
 
     // Whether the call may be made behind these.
-    fn may_call(
-        &self,
-        alloc: Global,
-        before: &Before,
-        call: &AuditCall,
-    ) -> Result<bool, AllocError>
+    fn may_call(&self, alloc: Global, before: &Before, call: &AuditCall) -> Result<bool, AllocError>
         ensures { IfOk result (λ may. (calls : List Call) → BeforeStands before.now calls → may ≡ may_make (kept self.now) calls call.now) }
     {
         match call {
@@ -125,12 +120,7 @@ impl Stored {
     }
 
     // Whether a vote of these bytes may be sent.
-    fn may_send(
-        &self,
-        alloc: Global,
-        before: &Before,
-        bytes: &[u8],
-    ) -> Result<bool, AllocError>
+    fn may_send(&self, alloc: Global, before: &Before, bytes: &[u8]) -> Result<bool, AllocError>
         ensures { IfOk result (λ may. (calls : List Call) → BeforeStands before.now calls → may ≡ order.may_send (kept self.now) calls (whole vote bytes.now)) }
     {
         let Ok(vote) = Vote::decode(bytes) else {

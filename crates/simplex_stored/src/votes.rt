@@ -34,11 +34,7 @@ fn is_nullify(alloc: Global, bytes: &[u8], artifact: &Artifact) -> Result<bool, 
 }
 
 // Whether one of the records is the nullify that these bytes spell.
-fn have_nullify(
-    alloc: Global,
-    bytes: &[u8],
-    records: &[Artifact],
-) -> Result<bool, AllocError>
+fn have_nullify(alloc: Global, bytes: &[u8], records: &[Artifact]) -> Result<bool, AllocError>
     ensures { IfOk result (λ have. have ≡ list_any (before.is_nullify bytes.now) records.now) }
 {
     for record in records {

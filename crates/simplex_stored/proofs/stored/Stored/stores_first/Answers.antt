@@ -12,9 +12,9 @@ returns-then-not-branch c =
 pub loop-call-preserved : goal.loop-call-preserved
 loop-call-preserved c = (
   subst (BeforeStands c.take.new.self) (sym (made-next c.args.calls.now c.loop-call.call-index c.call-item.result c.loop-call-test.true c.call-item.is))
-  (c.in_ok-take.ensures (so_far c.args.calls.now c.loop-call.call-index) c.loop-call.invariant.0),
+      (c.in_ok-take.ensures (so_far c.args.calls.now c.loop-call.call-index) c.loop-call.invariant.0),
   order-next (kept c.args.self.now) c.args.calls.now c.loop-call.call-index c.call-item.result _ c.loop-call-test.true c.call-item.is
-  (sym (c.in_ok-may_call.ensures _ c.loop-call.invariant.0) ∙ c.if-not-branch.false) c.loop-call.invariant.1,
+      (sym (c.in_ok-may_call.ensures _ c.loop-call.invariant.0) ∙ c.if-not-branch.false) c.loop-call.invariant.1,
 )
 
 pub returns : goal.returns

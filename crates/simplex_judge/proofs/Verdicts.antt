@@ -92,27 +92,33 @@ pub left-fault : (setting : Setting) (events : List Event) (entries : List Audit
     → event ≡ get_or events i event → e ≡ get_or entries i e → number ≡ i + 1 → Some cause ≡ fault_in setting (so_far events entries i) event e → left_of setting events entries i ≡ whole
     → Fault number cause ≡ whole
 left-fault setting events entries i event e cause number whole low room here there numbered is so =
+    let count = count-so_far events entries i (omega (arith, low)) (omega (arith, room)) in
+    let named : length (so_far events entries i) + 1 ≡ number = omega (arith, count, numbered) in
     sym (split setting (so_far events entries i) events entries i event e low room here there
     ∙ one-fault setting (so_far events entries i) event e (drop (i + 1) events) (drop (i + 1) entries) cause (sym is)
-    ∙ ap (λ n. Fault n cause) (let count = count-so_far events entries i (omega (arith, low)) (omega (arith, room)) in omega (arith, count, numbered)))
+    ∙ ap (λ n. Fault n cause) named)
     ∙ so
 
 pub left-missing : (setting : Setting) (events : List Event) (entries : List AuditEntry) (i : ℕ) (event : Event) (number : ℕ) (whole : Verdict) → i < length events → length entries ≤ i → i ≤ length entries
     → event ≡ get_or events i event → number ≡ i + 1 → left_of setting events entries i ≡ whole → Fault number faults.Entry ≡ whole
 left-missing setting events entries i event number whole low over room here numbered so =
+    let count = count-so_far events entries i (omega (arith, low)) room in
+    let named : length (so_far events entries i) + 1 ≡ number = omega (arith, count, numbered) in
     sym (ap (λ es. judged_from setting (so_far events entries i) es (drop i entries)) (drop_more events i event low ∙ ap (λ x. x ∷ drop (i + 1) events) (sym here))
     ∙ ap (judged_from setting (so_far events entries i) (event ∷ drop (i + 1) events)) (drop_all i entries over)
     ∙ none-there setting (so_far events entries i) event (drop (i + 1) events)
-    ∙ ap (λ n. Fault n faults.Entry) (let count = count-so_far events entries i (omega (arith, low)) room in omega (arith, count, numbered)))
+    ∙ ap (λ n. Fault n faults.Entry) named)
     ∙ so
 
 pub left-more : (setting : Setting) (events : List Event) (entries : List AuditEntry) (i : ℕ) (e : AuditEntry) (number : ℕ) (whole : Verdict) → length events ≤ i → i ≤ length events → i < length entries
     → number ≡ i + 1 → left_of setting events entries i ≡ whole → Fault number faults.Entry ≡ whole
 left-more setting events entries i e number whole over low room numbered so =
+    let count = count-so_far events entries i low (omega (arith, room)) in
+    let named : length (so_far events entries i) + 1 ≡ number = omega (arith, count, numbered) in
     sym (ap (λ es. judged_from setting (so_far events entries i) es (drop i entries)) (drop_all i events over)
     ∙ ap (judged_from setting (so_far events entries i) []) (drop_more entries i e room)
     ∙ one-left setting (so_far events entries i) (get_or entries i e) (drop (i + 1) entries)
-    ∙ ap (λ n. Fault n faults.Entry) (let count = count-so_far events entries i low (omega (arith, room)) in omega (arith, count, numbered)))
+    ∙ ap (λ n. Fault n faults.Entry) named)
     ∙ so
 
 pub left-sound : (setting : Setting) (events : List Event) (entries : List AuditEntry) (i : ℕ) (whole : Verdict) → length events ≤ i → length entries ≤ i → left_of setting events entries i ≡ whole → Sound ≡ whole
