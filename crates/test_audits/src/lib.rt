@@ -7,4 +7,6 @@ mod changed;
 #[cfg(test)]
 mod generated;
 #[cfg(test)]
+mod mutated;
+#[cfg(test)]
 mod telling;
