@@ -13,11 +13,9 @@ use Rattle.simplex_journal.specs.Contents.{kept}
 use Rattle.simplex_messages.specs.declared.step.Outcome.{Outcome}
 use Rattle.simplex_messages.specs.declared.step.Outcome.TheVariants as outcomes
 use Rattle.simplex_messages.specs.declared.step.Stop.{Stop}
-use Rattle.simplex_transcript.specs.declared.event.Event.{Event}
 use Rattle.simplex_transcript.specs.declared.event.Event.TheVariants as events
 use Rattle.simplex_transcript.specs.declared.node.Node.{Node}
 use Rattle.simplex_transcript.specs.declared.node.Ref.{Ref}
-use Rattle.simplex_transcript.specs.declared.setup.Setup.{Setup}
 use Rattle.model_rules.specs.Known.{Made, Fact}
 use Rattle.model_rules.specs.Views.{current_of}
 use Rattle.model_steps.specs.Voter.{started}

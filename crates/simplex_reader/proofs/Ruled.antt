@@ -1,6 +1,6 @@
 -- Which call of the journal is the prune, by the calls that the rules make.
-use Rattle.std.proofs.Common.{◌≡◌, ℕ, ◌+◌, ◌-◌, ◌==◌, nat_lt, zero, suc, Bool, true, false, List, [], ◌∷◌, ◌++◌, map, filter, length, Option, Some, None, refl, sym, ap, ◌∙◌, subst, arith, append_assoc, if◌then◌else◌}
-use Rattle.std.specs.Option.{option_map, option_map_or}
+use Rattle.std.proofs.Common.{◌≡◌, ℕ, ◌+◌, ◌-◌, ◌==◌, nat_lt, zero, suc, Bool, true, false, List, [], ◌∷◌, ◌++◌, map, filter, length, Option, Some, None, refl, sym, ap, ◌∙◌, subst, arith, if◌then◌else◌}
+use Rattle.std.specs.Option.{option_map_or}
 use Rattle.std.proofs.lemmas.Grind.{common_steps}
 use Rattle.std.proofs.lemmas.Bool.Decides.{nat_tests}
 use Rattle.std.proofs.lemmas.List.{map-append}
@@ -14,7 +14,6 @@ use Rattle.simplex_messages.specs.declared.step.Stop.TheVariants as stops
 use Rattle.model_rules.specs.Known.{Made, Fact, Voted, has_nullified}
 use Rattle.model_rules.specs.Views.{current_of, least_active}
 use Rattle.model_steps.specs.Performed.{is_of_journal, journal_place, stop_place, failing_at}
-use Rattle.model_audit.specs.Journal.{after_failure}
 use Rattle.model_audit.specs.JournalCalls.{append_of, syncs_of, prunes_of, records_made, known_then, journal_calls}
 use Rattle.model_audit.specs.Taking.{Taking, Deadline, Mail, Reply, acted, given_up, newly_known}
 use Rattle.model_audit.specs.JournalCalls.{added_by}

@@ -1,8 +1,6 @@
 -- Which calls of the journal the rules make in a start.
-use Rattle.std.proofs.Common.{◌≡◌, ℕ, ◌+◌, ◌-◌, nat_lt, Bool, true, false, List, [], ◌∷◌, ◌++◌, map, Option, Some, None, refl, sym, ap, ◌∙◌, subst, arith, if◌then◌else◌}
+use Rattle.std.proofs.Common.{◌≡◌, ℕ, ◌+◌, ◌-◌, nat_lt, Bool, true, false, List, [], ◌∷◌, ◌++◌, map, Option, Some, None, refl, sym, ap, ◌∙◌, subst, if◌then◌else◌}
 use Rattle.std.specs.List.{list_any}
-use Rattle.std.proofs.lemmas.Grind.{common_steps}
-use Rattle.std.proofs.lemmas.Bool.Decides.{nat_tests}
 use Rattle.std.proofs.lemmas.List.{map-append}
 use Rattle.simplex_wire.specs.declared.artifact.Artifact.{Artifact}
 use Rattle.simplex_wire.specs.declared.artifact.Artifact.TheVariants as artifacts
@@ -25,16 +23,15 @@ use Rattle.model_rules.specs.Views.{least_active}
 use Rattle.model_rules.specs.Calls as state
 use Rattle.model_rules.specs.Calls.{replay_answer, certified_answer, pruned_view, prune_answer}
 use Rattle.model_rules.specs.Pending.{iterated}
-use Rattle.model_steps.specs.Desk.{Doing, begun, tell, make, hand, append}
+use Rattle.model_steps.specs.Desk.{Doing, begun, tell, hand, append}
 use Rattle.model_steps.specs.Voter.{sync, block_for, report_if, updated_if, activity_of, certificate_in, replay_verdict, replay_record, replay_all, floor_view, stand_on, is_final_from, keep_floor, update_message, blank_desk, begin_iteration, started}
 use Rattle.model_run.specs.Members.{floor_of}
-use Rattle.law_member.specs.Learned.{additions}
 use Rattle.law_member.proofs.Quiet.{iterated_same}
 use Rattle.law_requests.proofs.Told as told
 use Rattle.law_requests.proofs.Pruning.{still_quiet}
 use Rattle.law_audit.specs.Recording.{shape_of}
 use Rattle.law_audit.proofs.Looking.{finalized_by}
-use Rattle.law_audit.proofs.Writing.{Mark, Written, Dropped, marks_of, marks-append, marks_still, prune_of, shape_told}
+use Rattle.law_audit.proofs.Writing.{Mark, Written, marks_of, marks-append, marks_still, prune_of, shape_told}
 use Rattle.law_audit.proofs.Ending.{pruned_at, begin_shape}
 use Rattle.simplex_reader.specs.Failing.{ArePrunedBy, prune_above}
 use Rattle.simplex_reader.specs.Starting.{keeping_calls}

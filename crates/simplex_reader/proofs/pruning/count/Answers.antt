@@ -1,4 +1,4 @@
-use Rattle.std.proofs.Common.{arith, ◌∙◌}
+use Rattle.std.proofs.Common.{arith}
 use Rattle.std.proofs.lemmas.Grind.{common_steps}
 use Rattle.simplex_reader.proofs.Counted.{votes_counted}
 use Rattle.simplex_reader.proofs.pruning.count.Goals as goal

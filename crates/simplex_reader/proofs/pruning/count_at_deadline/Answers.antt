@@ -1,4 +1,4 @@
-use Rattle.std.proofs.Common.{arith, ◌-◌, ℕ, sym, subst}
+use Rattle.std.proofs.Common.{arith}
 use Rattle.std.proofs.lemmas.Grind.{common_steps}
 use Rattle.simplex_reader.proofs.Counted.{counts_deadline, counts_unless, counts_if}
 use Rattle.simplex_reader.proofs.pruning.count_at_deadline.Goals as goal

@@ -1,4 +1,4 @@
-use Rattle.std.proofs.Common.{Bool, arith, sym, ◌∙◌}
+use Rattle.std.proofs.Common.{arith, sym, ◌∙◌}
 use Rattle.std.proofs.lemmas.Grind.{common_steps}
 use Rattle.simplex_reader.proofs.Counted.{counts_certificate, counts_unless, counts_if}
 use Rattle.simplex_reader.proofs.Listing.{if-ok}

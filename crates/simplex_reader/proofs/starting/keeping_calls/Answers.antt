@@ -1,4 +1,4 @@
-use Rattle.std.proofs.Common.{ℕ, Bool, sym, ap, ◌∙◌, if◌then◌else◌}
+use Rattle.std.proofs.Common.{Bool, sym, ap, ◌∙◌, if◌then◌else◌}
 use Rattle.simplex_reader.proofs.StartCalls.{keeping_is}
 use Rattle.simplex_reader.proofs.starting.keeping_calls.Goals as goal
 
