@@ -130,7 +130,7 @@ syncs_shape : (rs : List Artifact) → marks_of (syncs_of rs) ≡ synced (is_any
 syncs_shape [] = refl
 syncs_shape (r ∷ rs) = refl
 
-abbrev pruned_at : Option ℕ → List Mark
+abbrev pub pruned_at : Option ℕ → List Mark
 pruned_at None = []
 pruned_at (Some least) = Dropped least ∷ []
 
@@ -297,7 +297,7 @@ module _ (made : Made) (view : ℕ) where
 
 -- ---- a step
 
-begin_shape : (made : Made) (now : ℕ) (d : Doing) → marks_of (begin_iteration made now d).calls ≡ marks_of d.calls ++ pruned_at (prune_answer made (iterated made now d.desk).known)
+pub begin_shape : (made : Made) (now : ℕ) (d : Doing) → marks_of (begin_iteration made now d).calls ≡ marks_of d.calls ++ pruned_at (prune_answer made (iterated made now d.desk).known)
 unfolding begin_iteration prune
 begin_shape made now d = at (prune_answer made (iterated made now d.desk).known)
   where

@@ -56,7 +56,7 @@ same_journal (c ∷ made) sections =
 
 -- ---- which call fails is told by the calls of the journal alone
 
-failed : Stop → ℕ → List Call → List Section → List Section
+unfoldable pub failed : Stop → ℕ → List Call → List Section → List Section
 failed stop number made sections = option_map_or (λ place. failing_at stop made place sections) (journal_place number made) sections
 
 further : (stop : Stop) (c : Call) (made : List Call) (sections : List Section) (o : Option ℕ)
@@ -72,11 +72,11 @@ further stop c made sections (Some n) = at (n + 1 == 0) (not_zero n) (n + 1 - 1)
     at false e m f = ap (λ k. failing_at stop made k sections) f
 
 -- what the failing call of this number leaves, by which calls of the journal are prunes
-abbrev after_prune : Stop → Option ℕ → List Section → List Section
+abbrev pub after_prune : Stop → Option ℕ → List Section → List Section
 after_prune stop None sections = sections
 after_prune stop (Some least) sections = after_failing stop (calls.Prune least) sections
 
-by_shape : Stop → ℕ → List (Option ℕ) → List Section → List Section
+unfoldable pub by_shape : Stop → ℕ → List (Option ℕ) → List Section → List Section
 by_shape stop number [] sections = sections
 by_shape stop number (p ∷ rest) sections = if number == 1 then after_prune stop p sections else by_shape stop (number - 1) rest sections
 
@@ -101,7 +101,7 @@ prune_alone stops.None (calls.Block member cause) sections = refl
 prune_alone (stops.Cut call keep) (calls.Block member cause) sections = refl
 prune_alone (stops.Fail call keep) (calls.Block member cause) sections = refl
 
-failed_alone : (stop : Stop) (number : ℕ) (made : List Call) (sections : List Section) → failed stop number made sections ≡ by_shape stop number (shape_of made) sections
+pub failed_alone : (stop : Stop) (number : ℕ) (made : List Call) (sections : List Section) → failed stop number made sections ≡ by_shape stop number (shape_of made) sections
 unfolding failed journal_place by_shape
 failed_alone stop number [] sections = refl
 failed_alone stop number (c ∷ made) sections = at (is_of_journal c) refl (failed_alone stop number made sections) (failed_alone stop (number - 1) made sections)
@@ -129,7 +129,7 @@ cut_fails_none call keep (c ∷ made) place sections = at (place == 0) (cut_fail
     at true same = refl
     at false same = same
 
-pub same_failure : (stop : Stop) (ruled made : List Call) (sections : List Section) → shape_of ruled ≡ shape_of made → after_failure stop ruled sections ≡ after_failure stop made sections
+same_failure : (stop : Stop) (ruled made : List Call) (sections : List Section) → shape_of ruled ≡ shape_of made → after_failure stop ruled sections ≡ after_failure stop made sections
 unfolding stop_place failed
 same_failure stops.None ruled made sections e = refl
 same_failure (stops.Cut call keep) ruled made sections e =

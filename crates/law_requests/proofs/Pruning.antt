@@ -182,7 +182,7 @@ step_prunes made now s input d h e = at (acted made now s input) refl e
         (finish_prunes made now (current_of made s.desk.known) outcome (told.kept_input made (IsLow made) (low_quiet made) now s input outcome h f))
 
 -- up to the prune of its end a step prunes nothing
-still_quiet : (made : Made) (least : ℕ) (call : state.Call) (known : List Fact) → told.IsNoPrune call → greatest_of pruned_view known ≡ least → greatest_of pruned_view (facts_of made known call ++ known) ≡ least
+pub still_quiet : (made : Made) (least : ℕ) (call : state.Call) (known : List Fact) → told.IsNoPrune call → greatest_of pruned_view known ≡ least → greatest_of pruned_view (facts_of made known call ++ known) ≡ least
 still_quiet made least call known quiet h = elim (new_unpruned made known call) [
   | inl e ↦ absurd (subst told.IsNoPrune e quiet)
   | inr u ↦ greatest_still (facts_of made known call) known u ∙ h

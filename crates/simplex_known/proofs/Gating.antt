@@ -1,5 +1,5 @@
 -- Whether a view that was given up gates another, by the greatest that was.
-use Rattle.std.proofs.Common.{◌≡◌, ℕ, ◌<◌, ◌≤◌, ◌&&◌, nat_lt, Bool, true, false, List, sym, ap, ◌∙◌, arith}
+use Rattle.std.proofs.Common.{◌≡◌, ℕ, ◌≤◌, ◌&&◌, nat_lt, Bool, true, false, List, sym, ap, ◌∙◌, arith}
 use Rattle.simplex_values.specs.Covers.{covers}
 use Rattle.simplex_state.specs.Ranges.{holds}
 use Rattle.simplex_state.proofs.Gates.{gate_free, gated_by_last}

@@ -8,7 +8,7 @@ use Rattle.model_rules.specs.Ancestry.{is_covered, is_covered_in}
 use Rattle.simplex_known.specs.declared.covers.Covers.{Covers}
 use Rattle.simplex_known.specs.declared.known.Known.{Known}
 use Rattle.simplex_known.specs.Covers.{CoversStand}
-use Rattle.simplex_known.specs.Knows.{Knows, Learns, AreRulesOf}
+use Rattle.simplex_known.specs.Knows.{Learns, AreRulesOf}
 use Rattle.simplex_known.specs.Opened.{lists}
 use Rattle.simplex_known.specs.Proposals.{has_proposal}
 use Rattle.simplex_known.specs.Rounds.{round_in}

@@ -1,9 +1,8 @@
 -- Whether each view between two is covered.
-use Rattle.std.proofs.Common.{◌≡◌, ℕ, ◌+◌, ◌-◌, ◌<◌, ◌≤◌, ◌^◌, not, Bool, true, false, find, refl, sym, ap, ◌∙◌, arith}
+use Rattle.std.proofs.Common.{◌≡◌, ℕ, ◌+◌, ◌-◌, ◌<◌, ◌≤◌, ◌^◌, not, Bool, true, find, ap, ◌∙◌, arith}
 use Rattle.std.specs.List.{range_with_len}
 use Rattle.std.specs.Option.{is_none}
-use Rattle.simplex_values.specs.Terms.{next_of, term_index}
-use Rattle.simplex_state.specs.Ranges.{holds}
+use Rattle.simplex_values.specs.Terms.{next_of}
 use Rattle.simplex_state.specs.Stands.{covered_in}
 use Rattle.simplex_state.proofs.Walking.{find_alike, find_nothing}
 use Rattle.simplex_known.specs.declared.covers.Covers.{Covers}

@@ -1,5 +1,5 @@
 -- Facts that are alike are kept alike.
-use Rattle.std.proofs.Common.{◌≡◌, ℕ, Bool, true, false, List, refl, sym, ap, ◌∙◌}
+use Rattle.std.proofs.Common.{◌≡◌, ℕ, false, List, refl, sym, ap, ◌∙◌}
 use Rattle.model_rules.specs.Known.{Made, Fact, Added, Judged, Voted}
 use Rattle.model_rules.specs.Ancestry.{is_covered}
 use Rattle.law_member.specs.Learned.{is_lasting, lasting}

@@ -1,5 +1,5 @@
 -- What a call of the journal that fails leaves, by the calls that the rules make.
-use Rattle.std.proofs.Common.{◌≡◌, ℕ, ◌-◌, ◌==◌, nat_lt, Bool, true, false, List, [], ◌∷◌, Option, Some, None, refl, sym, ap, ◌∙◌, subst, if◌then◌else◌}
+use Rattle.std.proofs.Common.{◌≡◌, ℕ, ◌-◌, ◌==◌, nat_lt, Bool, true, false, List, [], ◌∷◌, Option, Some, None, refl, sym, ap, ◌∙◌, if◌then◌else◌}
 use Rattle.std.specs.Option.{option_map_or}
 use Rattle.simplex_journal.specs.Journal.{Section, crashed}
 use Rattle.simplex_messages.specs.declared.call.Call.{Call}
@@ -9,6 +9,7 @@ use Rattle.simplex_messages.specs.declared.step.Stop.{Stop}
 use Rattle.simplex_messages.specs.declared.step.Stop.TheVariants as stops
 use Rattle.model_steps.specs.Performed.{journal_place, stop_place, kept_by, after_calls, after_failing, failing_at}
 use Rattle.model_audit.specs.Journal.{after_failure, sections_behind}
+use Rattle.model_audit.specs.Running.{is_done, is_broken}
 use Rattle.simplex_reader.specs.Failing.{is_failed, ArePrunedBy}
 
 -- ---- without a failure
@@ -76,3 +77,21 @@ ruled_apart outcomes.Idle stop a b made sections e = refl
 ruled_apart outcomes.Cut stop a b made sections e = refl
 ruled_apart outcomes.Journal stop a b made sections e = cc
 ruled_apart outcomes.Refused stop a b made sections e = refl
+
+pub true_false : {A : Type 0} → true ≡ false → A
+true_false e = absurd cc
+
+-- an entry of which one failed is broken, and not whole
+pub failed_breaks : (outcome : Outcome) → is_failed outcome ≡ true → is_broken outcome ≡ true
+failed_breaks outcomes.Done e = cc
+failed_breaks outcomes.Idle e = cc
+failed_breaks outcomes.Cut e = refl
+failed_breaks outcomes.Journal e = refl
+failed_breaks outcomes.Refused e = cc
+
+pub failed_undone : (outcome : Outcome) → is_failed outcome ≡ true → is_done outcome ≡ false
+failed_undone outcomes.Done e = cc
+failed_undone outcomes.Idle e = refl
+failed_undone outcomes.Cut e = refl
+failed_undone outcomes.Journal e = refl
+failed_undone outcomes.Refused e = refl

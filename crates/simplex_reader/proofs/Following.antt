@@ -1,7 +1,9 @@
 -- What is read of a node behind one entry more.
-use Rattle.std.proofs.Common.{◌≡◌, ℕ, ◌==◌, ◌-◌, ◌*◌, nat_lt, Bool, true, false, List, [], ◌∷◌, refl, sym, ap, ◌∙◌, subst, arith, eq-eqb, if◌then◌else◌}
+use Rattle.std.proofs.Common.{◌≡◌, ℕ, ◌==◌, ◌+◌, ◌-◌, ◌*◌, nat_lt, Bool, true, false, List, [], ◌∷◌, length, refl, sym, ap, ◌∙◌, subst, arith, eq-eqb, if◌then◌else◌}
 use Rattle.std.specs.Prelude.{◌&&◌, ◌||◌, Option}
 use Rattle.std.specs.List.{filter_map}
+use Rattle.std.specs.Option.{option_eq}
+use Rattle.law_run.specs.Complete.{node_named}
 use Rattle.std.proofs.lemmas.Grind.{common_steps}
 use Rattle.simplex_values.specs.declared.answer.Answer.{Answer}
 use Rattle.simplex_wire.specs.declared.certificate.Finalization.{Finalization}
@@ -11,11 +13,9 @@ use Rattle.simplex_journal.specs.Contents.{kept}
 use Rattle.simplex_messages.specs.declared.step.Outcome.{Outcome}
 use Rattle.simplex_messages.specs.declared.step.Outcome.TheVariants as outcomes
 use Rattle.simplex_messages.specs.declared.step.Stop.{Stop}
-use Rattle.simplex_transcript.specs.declared.event.Event.{Event}
 use Rattle.simplex_transcript.specs.declared.event.Event.TheVariants as events
 use Rattle.simplex_transcript.specs.declared.node.Node.{Node}
 use Rattle.simplex_transcript.specs.declared.node.Ref.{Ref}
-use Rattle.simplex_transcript.specs.declared.setup.Setup.{Setup}
 use Rattle.model_rules.specs.Known.{Made, Fact}
 use Rattle.model_rules.specs.Views.{current_of}
 use Rattle.model_steps.specs.Voter.{started}
@@ -27,7 +27,7 @@ use Rattle.model_run.specs.Setting.{Setting}
 use Rattle.model_audit.specs.declared.record.AuditEntry.{AuditEntry}
 use Rattle.model_audit.specs.Audit.{stores_first}
 use Rattle.model_audit.specs.Conditions.{is_at_end}
-use Rattle.model_audit.specs.Fitting.{outcome_fits, fits}
+use Rattle.model_audit.specs.Fitting.{outcome_fits, took_or_idle, fits}
 use Rattle.model_audit.specs.Journal.{behind_reading, sections_behind}
 use Rattle.model_audit.specs.Order.{are_in_order}
 use Rattle.model_audit.specs.Reading.{Read, rules_at, start_read, read_behind, read}
@@ -88,7 +88,7 @@ pub follows_apart : (reader : Reader) (setting : Setting) (before : List Noted) 
     → Follows reader setting before node → Follows reader setting (noted ∷ before) node
 follows_apart reader setting before node noted e f =
     follows_at reader setting (noted ∷ before) node (read setting before node) (read_apart setting before noted node e)
-    f.rules (λ runs. f.known (sym (runs_apart before noted node e) ∙ runs)) f.sections
+    f.rules (λ runs. f.known (sym (runs_apart setting before noted node e) ∙ runs)) f.sections
 
 -- nor is one of an event that is neither a start nor a step nor a crash, and not broken
 heard : (reader : Reader) (setting : Setting) (before : List Noted) (node : Node) (noted : Noted) → is_of node noted.event ≡ true
@@ -98,7 +98,7 @@ heard : (reader : Reader) (setting : Setting) (before : List Noted) (node : Node
 heard reader setting before node noted e whole same f =
     follows_at reader setting (noted ∷ before) node (read setting before node) (read_own setting before noted node e ∙ same)
     f.rules
-    (λ runs. f.known (sym (runs_own before noted node e ∙ ap (λ b. if b then is_start noted.event && is_done noted.entry.outcome else runs_at before node) whole) ∙ runs))
+    (λ runs. f.known (sym (runs_own setting before noted node e ∙ ap (λ b. if b then is_start noted.event && is_done noted.entry.outcome else runs_at before node) whole) ∙ runs))
     f.sections
 
 fitting_outcome : (a b c d : Bool) → (a && b && c && d) ≡ true → c ≡ true
@@ -129,7 +129,8 @@ pub follows_answer : (reader : Reader) (setting : Setting) (before : List Noted)
 unfolding fits rebuilt_entry
 follows_answer reader setting before node at answer entry fit f =
     heard reader setting before node (rebuilt (events.Answer node at answer) entry) (same_node node)
-    (answer_whole node at answer entry.outcome (fitting_outcome _ _ (outcome_fits (events.Answer node at answer) entry.outcome) _ fit))
+    (answer_whole node at answer entry.outcome (fitting_outcome (entry.event == length before + 1) (option_eq is_same_node entry.who (node_named (events.Answer node at answer)))
+    (outcome_fits (events.Answer node at answer) entry.outcome) (took_or_idle before (events.Answer node at answer) entry.outcome entry.took) fit))
     refl f
 
 pub follows_packet : (reader : Reader) (setting : Setting) (before : List Noted) (node : Node) (at : Ref) (entry : AuditEntry)
@@ -138,7 +139,8 @@ pub follows_packet : (reader : Reader) (setting : Setting) (before : List Noted)
 unfolding fits rebuilt_entry
 follows_packet reader setting before node at entry fit f =
     heard reader setting before node (rebuilt (events.Deliver node at) entry) (same_node node)
-    (packet_whole node at entry.outcome (fitting_outcome _ _ (outcome_fits (events.Deliver node at) entry.outcome) _ fit))
+    (packet_whole node at entry.outcome (fitting_outcome (entry.event == length before + 1) (option_eq is_same_node entry.who (node_named (events.Deliver node at)))
+    (outcome_fits (events.Deliver node at) entry.outcome) (took_or_idle before (events.Deliver node at) entry.outcome entry.took) fit))
     refl f
 
 -- ---- before any entry
@@ -184,7 +186,7 @@ follows_crash old new setting before node entry same stored f =
     follows_at new setting (noted ∷ before) node (record { start = r.start; known = []; sections = crashed 0 r.sections })
     (read_own setting before noted node (same_node node))
     (subst (AreRulesOf (rules_at setting node r)) (sym same) f.rules)
-    (λ runs. absurd (never (sym (runs_own before noted node (same_node node)) ∙ runs)))
+    (λ runs. absurd (never (sym (runs_own setting before noted node (same_node node)) ∙ runs)))
     (stored ∙ ap (crashed 0) f.sections)
   where
     never : false ≡ true → ⊥

@@ -1,9 +1,12 @@
 pub mod Acting
 pub mod Alike
+pub mod Counted
 pub mod Failing
 pub mod Following
 pub mod Good
 pub mod Listing
+pub mod Ruled
+pub mod StartCalls
 pub mod Started
 pub mod Stepped
 pub mod Voting

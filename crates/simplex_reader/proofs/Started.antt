@@ -23,6 +23,8 @@ use Rattle.simplex_known.specs.declared.known.Known.{Known}
 use Rattle.simplex_known.specs.declared.rules.Rules.{Rules}
 use Rattle.simplex_known.specs.Knows.{Knows, AreRulesOf, Relearns}
 use Rattle.simplex_known.proofs.Apart.{floor_kept}
+use Rattle.simplex_reader.specs.declared.sections.RuledPrune.{RuledPrune}
+use Rattle.simplex_reader.specs.Failing.{ArePrunedBy}
 use Rattle.simplex_reader.specs.Starting.{Stands, ReplaysOne, Replays, Starts, replay_above}
 use Rattle.simplex_reader.proofs.Alike.{knows_alike, alike_same}
 
@@ -32,7 +34,7 @@ pruned_known : (o : Option ℕ) (d : Doing) → (prune_at o d).desk.known ≡ d.
 pruned_known None d = refl
 pruned_known (Some least) d = refl
 
-begins_same : (made : Made) (now : ℕ) (d : Doing) → Same d.desk.known (begin_iteration made now d).desk.known
+pub begins_same : (made : Made) (now : ℕ) (d : Doing) → Same d.desk.known (begin_iteration made now d).desk.known
 unfolding begin_iteration prune
 begins_same made now d =
     let asked = seek (record d { desk = iterated made now d.desk }) in
@@ -110,3 +112,15 @@ starts blank stood known rules floor view records nothing stands is replays made
     (subst (λ v. Knows known made (replay_all made now v first records).desk.known) (is genesis)
     (replays made now first
     (subst (Knows stood made) (sym (stood_known made now at)) (stands made [] genesis now (nothing made own)))))
+
+-- ---- over the same records
+
+pub starts_same : (known : Known) (rules : Rules) (floor : Option Finalization) (given records : List Artifact) → given ≡ records → Starts known rules floor given → Starts known rules floor records
+starts_same known rules floor given records e before = subst (Starts known rules floor) e before
+
+pub pruned_same : (known : Known) (floor : Option Finalization) (given records : List Artifact) (prune : Option RuledPrune) → given ≡ records
+    → ((made : Made) (genesis : List ℕ) (now : ℕ) → Knows known made (started made now (floor_of genesis floor) given).desk.known → ArePrunedBy (started made now (floor_of genesis floor) given).calls prune)
+    → (made : Made) (genesis : List ℕ) (now : ℕ) → Knows known made (started made now (floor_of genesis floor) records).desk.known → ArePrunedBy (started made now (floor_of genesis floor) records).calls prune
+pruned_same known floor given records prune e given_so made genesis now =
+    subst (λ (rs : List Artifact). Knows known made (started made now (floor_of genesis floor) rs).desk.known → ArePrunedBy (started made now (floor_of genesis floor) rs).calls prune) e
+    (given_so made genesis now)

@@ -1,11 +1,8 @@
 -- What is read of a node behind a step.
-use Rattle.std.proofs.Common.{◌≡◌, ℕ, Bool, true, false, List, [], ◌∷◌, ◌++◌, map, reverse, Option, Some, None, refl, sym, ap, ◌∙◌, subst, if◌then◌else◌}
-use Rattle.std.specs.Prelude.{◌&&◌}
+use Rattle.std.proofs.Common.{◌≡◌, ℕ, Bool, true, false, List, ◌∷◌, ◌++◌, Option, Some, None, refl, sym, ap, ◌∙◌, subst, if◌then◌else◌}
 use Rattle.std.specs.List.{filter_map}
-use Rattle.std.specs.Option.{option_map}
 use Rattle.simplex_values.specs.declared.proposal.Subject.{Subject}
 use Rattle.simplex_wire.specs.declared.attestation.Attestation.{Attestation}
-use Rattle.simplex_messages.specs.declared.step.Outcome.{Outcome}
 use Rattle.simplex_messages.specs.declared.step.Stop.{Stop}
 use Rattle.simplex_transcript.specs.declared.entry.Entry.{Entry}
 use Rattle.simplex_transcript.specs.declared.event.Event.TheVariants as events
@@ -16,6 +13,8 @@ use Rattle.model_rules.specs.declared.request.Asked.{Asked}
 use Rattle.model_rules.specs.Known.{Made, Fact}
 use Rattle.model_run.specs.Life.{Noted, clock_of}
 use Rattle.model_run.specs.Setting.{Setting}
+use Rattle.simplex_wire.specs.declared.certificate.Certificate.{Certificate}
+use Rattle.model_audit.specs.declared.record.AuditCall.{AuditCall}
 use Rattle.model_audit.specs.declared.record.AuditEntry.{AuditEntry}
 use Rattle.model_audit.specs.declared.record.AuditTook.{AuditTook}
 use Rattle.model_audit.specs.declared.record.AuditTook.TheVariants as taken
@@ -32,6 +31,7 @@ use Rattle.simplex_due.specs.Due as due
 use Rattle.simplex_reader.specs.declared.reader.Reader.{Reader}
 use Rattle.simplex_reader.specs.Follows.{Follows, IsMadeBy, TakesStep, request_of}
 use Rattle.simplex_reader.specs.Taking.{taking_by, acted_if, due_if, ruled_if, Acts}
+use Rattle.simplex_reader.proofs.Voting.{Appends}
 use Rattle.simplex_reader.proofs.Following.{same_node, read_own, runs_own, follows_at}
 
 -- ---- what was taken
@@ -97,7 +97,7 @@ module _ (old new : Reader) (attests : Subject → Option Attestation) (source :
           })
           (read_own setting before noted node (same_node node) ∙ ap (step_read made now stop (rebuilt_entry entry) r) (read_so before m.request) ∙ behind_step made now stop (rebuilt_entry entry) r taking)
           (subst (AreRulesOf made) (sym same) f.rules)
-          (λ runs. knows (still_runs (is_broken entry.outcome) (runs_at before node) (sym (runs_own before noted node (same_node node)) ∙ runs)) made r.known now (f.known m.runs))
+          (λ runs. knows (still_runs (is_broken entry.outcome) (runs_at before node) (sym (runs_own setting before noted node (same_node node)) ∙ runs)) made r.known now (f.known m.runs))
           (sections made r.known now (f.known m.runs) (m.signs r.start)
           ∙ ap (sections_behind entry.outcome stop (ruled_if made now r.known taking) (filter_map call_for entry.calls)) f.sections)
 
@@ -108,3 +108,17 @@ module _ (old new : Reader) (attests : Subject → Option Attestation) (source :
           let made = rules_at setting node r in
           let now = clock_of before in
           votes done made r.known now (f.known m.runs) (m.signs r.start) ∙ ap (due_if made now r.known entry.added) (sym (read_so before m.request))
+
+-- ---- in parts
+
+module _ (old mid new : Known) (attests : Subject → Option Attestation) (given added : List Certificate) (told calls : List AuditCall) (o : Option Taking) (given_due : Due)
+    (same : given ≡ added) (acts : Acts old mid attests given o given_due) where
+  pub known_behind : told ≡ calls → Appends mid new told → (made : Made) (known : List Fact) (now : ℕ) → Knows old made known
+      → Knows new made (votes_in now (filter_map call_for calls) ++ acted_if made now known added o)
+  known_behind e appends made known now k =
+      subst (λ (cs : List AuditCall). Knows new made (votes_in now (filter_map call_for cs) ++ acted_if made now known added o)) e
+      (appends made (acted_if made now known added o) now
+      (subst (λ (xs : List Certificate). Knows mid made (acted_if made now known xs o)) same (acts.knows made known now k)))
+
+  pub votes_behind : (made : Made) (known : List Fact) (now : ℕ) → Knows old made known → attests ≡ made.signs → due.votes_in given_due ≡ due_if made now known added o
+  votes_behind made known now k signs = acts.votes made known now k signs ∙ ap (λ (xs : List Certificate). due_if made now known xs o) same

@@ -1,5 +1,6 @@
 pub mod Failing
 pub mod Follows
+pub mod Pruning
 pub mod Starting
 pub mod Taking
 pub mod Votes

@@ -1,5 +1,5 @@
 -- What is known behind a start.
-use Rattle.std.specs.Prelude.{◌≡◌, ◌++◌, nat_lt, ℕ, List, Option, Some, None, if◌then◌else◌}
+use Rattle.std.specs.Prelude.{◌++◌, nat_lt, ℕ, List, Option, Some, None, if◌then◌else◌}
 use Rattle.std.specs.List.{list_any}
 use Rattle.simplex_wire.specs.declared.artifact.Artifact.{Artifact}
 use Rattle.simplex_wire.specs.declared.certificate.Finalization.{Finalization}

@@ -5,6 +5,7 @@
 //! were appended. What the journal holds is told by the calls that the entries list, also where a step was broken.
 #![tactic(auto)]
 
+mod pruning;
 mod reader;
 mod sections;
 mod starting;

@@ -1,5 +1,5 @@
 //! The reader of one node.
-ghost use Rattle.std.specs.Prelude.{◌≡◌, ◌∷◌, [], List, true, IsNone, IfOk};
+ghost use Rattle.std.specs.Prelude.{◌≡◌, ◌∷◌, [], List, true, nat_lt, IsNone, IfOk};
 ghost use Rattle.simplex_transcript.specs.declared.event.Event.TheVariants as events;
 ghost use Rattle.simplex_transcript.specs.declared.node.Node.{Node};
 ghost use Rattle.model_run.specs.Life.{Noted};
@@ -15,7 +15,7 @@ use model_audit::AuditEntry;
 use simplex_known::{Known, Rules};
 use simplex_stored::Stored;
 use simplex_transcript::Setup;
-use simplex_values::{Epoch, Lookahead, TermLength, ViewDelta};
+use simplex_values::{Epoch, Lookahead, TermLength, View, ViewDelta};
 use std::alloc::{AllocError, Global};
 
 /// What one node knows and what its journal holds, read from the entries of a record.
@@ -52,7 +52,7 @@ impl Reader {
             .saturating_sub(term)
             .saturating_sub(term)
             .saturating_sub(self.rules.lookahead.views);
-        last < self.known.current().0
+        is_beyond(self.known.current(), last)
     }
 
     /// Whether the entry's votes were stored before they were sent.
@@ -72,8 +72,15 @@ impl Reader {
     }
 }
 
+// Whether the view is greater than the last.
+fn is_beyond(view: View, last: u64) -> bool
+    ensures { result ≡ nat_lt last view }
+{
+    last < view.0
+}
+
 // What a node of such a run is made with.
-#[tactic(auto, using(crate::proofs::Good::some_term))]
+#[tactic(auto, using(crate::proofs::Good::good))]
 fn rules_of(setup: &Setup) -> Rules
     requires good { IsNone (setups.first_bad setup.now) }
     ensures epoch { result.epoch ≡ setup.now.epoch }

@@ -43,7 +43,9 @@ pub(crate) fn take_calls(
             stop_at_failure(stored, stop, prune);
             Ok(())
         }
-        Outcome::Done | Outcome::Idle | Outcome::Refused => Ok(()),
+        Outcome::Done => Ok(()),
+        Outcome::Idle => Ok(()),
+        Outcome::Refused => Ok(()),
     }
 }
 
@@ -61,7 +63,8 @@ fn fail(stored: &mut Stored, stop: Stop, prune: Option<RuledPrune>)
     ensures { (ruled : List Call) → ArePrunedBy ruled prune → stored.new ≡ journal.after_failure stop ruled stored.old }
 {
     match stop {
-        Stop::None | Stop::Cut { .. } => {}
+        Stop::None => {}
+        Stop::Cut { .. } => {}
         Stop::Fail { call, keep } => fail_at(stored, call, keep, prune),
     }
 }

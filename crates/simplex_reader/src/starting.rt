@@ -1,5 +1,5 @@
 //! What a start makes of its floor and of what the journal held.
-ghost use Rattle.std.specs.Prelude.{◌≡◌, ◌∷◌, ℕ, List, OnOk, IfOk};
+ghost use Rattle.std.specs.Prelude.{◌≡◌, ◌≤◌, ◌∷◌, ℕ, List, OnOk, IfOk};
 ghost use Rattle.std.specs.List.{list_any};
 ghost use Rattle.simplex_transcript.specs.declared.event.Event.TheVariants as events;
 ghost use Rattle.simplex_transcript.specs.declared.node.Node.{Node};
@@ -11,7 +11,7 @@ ghost use Rattle.model_run.specs.Members.{floor_of};
 ghost use Rattle.model_run.specs.Setting.{Setting};
 ghost use Rattle.model_audit.specs.Rebuilt.{rebuilt};
 ghost use Rattle.simplex_known.specs.Knows.{Knows};
-ghost use Rattle.simplex_reader.specs.Failing.{ArePrunedBy};
+ghost use Rattle.simplex_reader.specs.Failing.{ArePrunedBy, prune_above};
 ghost use Rattle.simplex_reader.specs.Follows.{Follows};
 ghost use Rattle.simplex_reader.specs.Starting.{Stands, Replays, ReplaysOne, Starts, keeping_calls};
 
@@ -108,20 +108,29 @@ fn prune_at_start(
     ensures { (made : Made) (genesis : List ℕ) (now : ℕ) → (let doing = voter.started made now (floor_of genesis floor.now) records.now in
         Knows known.now made doing.desk.known → ArePrunedBy doing.calls result) }
 {
-    let least = known.least_active().0;
-    if least == 0 {
-        return None;
+    let least = known.least_active();
+    prune_above(keeping_calls(floor, records) + 1, least)
+}
+
+// The prune of this number, where the least active view is above 0.
+fn prune_above(number: u64, least: View) -> Option<RuledPrune>
+    ensures { result ≡ prune_above number least }
+{
+    if 0 < least.0 {
+        Some(RuledPrune {
+            number,
+            least: least.0,
+        })
+    } else {
+        None
     }
-    Some(RuledPrune {
-        number: keeping_calls(floor, records) + 1,
-        least,
-    })
 }
 
 // How many calls of the journal keep the floor: where the journal has no finalization of its view or a later one, it is appended
 // and synced.
 fn keeping_calls(floor: &Option<Finalization>, records: &[Artifact]) -> u64
-    ensures { result ≡ keeping_calls floor.now records.now }
+    ensures calls { result ≡ keeping_calls floor.now records.now }
+    ensures few { result ≤ 2 }
 {
     match floor {
         None => 0,

@@ -4,9 +4,10 @@ ghost use Rattle.std.specs.Option.{option_map};
 ghost use Rattle.simplex_reader.specs.Failing.{is_failed};
 ghost use Rattle.simplex_reader.specs.Follows.{TakesStep};
 
+use crate::pruning::ruled_prune;
 use crate::reader::Reader;
 use crate::sections::take_calls;
-use crate::taking::take_in;
+use crate::taking::{nothing_due, take_in};
 use crate::votes::take_votes;
 use model_audit::AuditEntry;
 use model_rules::Asked;
@@ -28,13 +29,13 @@ impl Reader {
         entry: &AuditEntry,
         asked: Option<&Asked>,
     ) -> Result<Due, AllocError>
-        ensures { IfOk result (λ due. TakesStep self.old self.new (S.attests scheme.now) source stop entry.now (option_map (λ asked. asked.now) asked.entry) due) }
+        ensures { IfOk result (λ due. TakesStep self.old self.new (S.attests scheme.now) source stop entry.now
+            (option_map (λ asked. asked.now) asked.entry) due) }
     {
-        match entry.outcome {
-            Outcome::Journal => Err(AllocError),
-            Outcome::Done | Outcome::Idle | Outcome::Cut | Outcome::Refused => {
-                self.take_made(alloc, scheme, source, stop, entry, asked)
-            }
+        if is_failed(entry.outcome) {
+            self.take_failed(alloc, scheme, source, stop, entry, asked)
+        } else {
+            self.take_made(alloc, scheme, source, stop, entry, asked)
         }
     }
 
@@ -57,4 +58,29 @@ impl Reader {
         take_calls(&mut self.stored, alloc, entry, stop, None)?;
         Ok(due)
     }
+
+    // Takes in a step in which a call of the journal failed. The node stops, so what it knows is spent on what the rules make.
+    fn take_failed<S: Scheme>(
+        &mut self,
+        alloc: Global,
+        scheme: &S,
+        source: StepSource,
+        stop: Stop,
+        entry: &AuditEntry,
+        asked: Option<&Asked>,
+    ) -> Result<Due, AllocError>
+        ensures { IfOk result (λ due. is_failed entry.now.outcome ≡ true
+            → TakesStep self.old self.new (S.attests scheme.now) source stop entry.now (option_map (λ asked. asked.now) asked.entry) due) }
+    {
+        let prune = ruled_prune(&mut self.known, scheme, source, &entry.took, asked)?;
+        take_calls(&mut self.stored, alloc, entry, stop, prune)?;
+        Ok(nothing_due())
+    }
+}
+
+// Whether a call of the journal failed.
+fn is_failed(outcome: Outcome) -> bool
+    ensures { result ≡ is_failed outcome }
+{
+    matches!(outcome, Outcome::Journal)
 }

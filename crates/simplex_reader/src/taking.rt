@@ -38,9 +38,10 @@ pub(crate) fn take_in<S: Scheme>(
             take_certificate(known, scheme, added, source, certificate)
         }
         AuditTook::Request(_, answer) => take_answer(known, scheme, added, asked, answer),
-        AuditTook::Nothing | AuditTook::Packet(_) | AuditTook::OtherMail | AuditTook::Floor => {
-            Ok(nothing_due())
-        }
+        AuditTook::Nothing => Ok(nothing_due()),
+        AuditTook::Packet(_) => Ok(nothing_due()),
+        AuditTook::OtherMail => Ok(nothing_due()),
+        AuditTook::Floor => Ok(nothing_due()),
     }
 }
 

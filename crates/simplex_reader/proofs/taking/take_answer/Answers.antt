@@ -1,8 +1,3 @@
-use Rattle.std.proofs.Common.{Option, sym, subst}
-use Rattle.std.specs.Option.{option_map}
-use Rattle.model_rules.specs.declared.request.Asked.{Asked}
-use Rattle.model_audit.specs.Reading.{reply}
-use Rattle.simplex_reader.specs.Taking.{Acts}
 use Rattle.simplex_reader.proofs.Acting.{acts_none, acts_some}
 use Rattle.simplex_reader.proofs.Listing.{if-ok}
 use Rattle.simplex_reader.proofs.taking.take_answer.Goals as goal

@@ -1,4 +1,4 @@
-use Rattle.std.proofs.Common.{List, subst}
+use Rattle.std.proofs.Common.{List, take, subst}
 use Rattle.model_audit.specs.declared.record.AuditCall.{AuditCall}
 use Rattle.simplex_reader.proofs.Listing.{take-next, take-done}
 use Rattle.simplex_reader.proofs.Voting.{Appends, appends_none, appends_more}
@@ -11,7 +11,7 @@ pub loop-call-preserved : goal.loop-call-preserved
 loop-call-preserved c =
     subst (λ (calls : List AuditCall). Appends c.args.known.now c.take_call.new.known calls)
     (take-next c.args.calls.now c.loop-call.call-index c.call-item.result c.loop-call-test.true c.call-item.is)
-    (appends_more c.args.known.now c.loop-call.known c.take_call.new.known _ _ c.loop-call.invariant c.in_ok-take_call.ensures)
+    (appends_more c.args.known.now c.loop-call.known c.take_call.new.known (take c.loop-call.call-index c.args.calls.now) c.call-item.result c.loop-call.invariant c.in_ok-take_call.ensures)
 
 pub returns : goal.returns
 returns c =

@@ -1,4 +1,4 @@
-use Rattle.std.proofs.Common.{arith, refl, sym, ap, not, ◌-◌, ◌∙◌}
+use Rattle.std.proofs.Common.{arith, refl, sym, ap, not, ◌∙◌}
 use Rattle.std.proofs.lemmas.Grind.{common_steps}
 use Rattle.std.specs.Option.{is_none}
 use Rattle.simplex_state.specs.Stands.{covered_in}

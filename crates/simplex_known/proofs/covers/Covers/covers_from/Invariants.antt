@@ -1,4 +1,4 @@
-use Rattle.std.proofs.Common.{◌≡◌, ℕ, ◌-◌, ◌≤◌}
+use Rattle.std.proofs.Common.{◌≡◌, ◌-◌, ◌≤◌}
 use Rattle.simplex_state.specs.Stands.{covered_in}
 use Rattle.simplex_known.specs.Covers.{are_whole}
 use Rattle.simplex_known.proofs.Spanning.{is_spanned}

@@ -1,6 +1,5 @@
-use Rattle.std.proofs.Common.{arith, ◌≡◌, false, true}
+use Rattle.std.proofs.Common.{arith}
 use Rattle.std.proofs.lemmas.Grind.{common_steps}
-use Rattle.simplex_values.specs.Maps.{found}
 use Rattle.simplex_values.specs.Terms.{term_index}
 use Rattle.simplex_state.specs.Stands.{covered_in}
 use Rattle.simplex_known.proofs.covers.Covers.new.Goals as goal
