@@ -2,6 +2,7 @@
 use Rattle.std.proofs.Common.{◌≡◌, ℕ, List, [], ◌∷◌, Bool, true, false, refl, sym, ap, subst, ◌∙◌, if◌then◌else◌, Option, Some, None, map}
 use Rattle.std.specs.Prelude.{◌&&◌, ◌||◌, not, filter_map}
 use Rattle.simplex_wire.specs.declared.certificate.Finalization.{Finalization}
+use Rattle.simplex_wire.specs.declared.vote.Vote.{Vote}
 use Rattle.simplex_wire.specs.Message as format
 use Rattle.simplex_messages.specs.declared.step.Outcome.{Outcome}
 use Rattle.simplex_messages.specs.declared.step.Outcome.TheVariants as outcomes
@@ -11,9 +12,18 @@ use Rattle.simplex_transcript.specs.declared.event.Event.TheVariants as events
 use Rattle.simplex_transcript.specs.declared.event.StepSource.{StepSource}
 use Rattle.simplex_transcript.specs.declared.node.Node.{Node}
 use Rattle.model_rules.specs.declared.request.Asked.{Asked}
-use Rattle.model_run.specs.Kinds.{is_node, runs_engine}
+use Rattle.model_run.specs.Kinds.{is_node, members_of, runs_engine}
 use Rattle.model_run.specs.Life.{Noted, is_of}
-use Rattle.model_run.specs.Setting.{Setting}
+use Rattle.model_run.specs.Setting.{Setting, setting_of}
+use Rattle.model_run.specs.Members.{engine_of, kind_of, rules_of}
+use Rattle.model_run.specs.Wrapped.{wrapped_attests}
+use Rattle.model_steps.specs.Engine.{EngineMade}
+use Rattle.simplex_engine.specs.Config.{engine_made}
+use Rattle.simplex_journal.specs.Journal.{Section}
+use Rattle.simplex_members.specs.NodeEngine.{NodeConfig, made_with}
+use Rattle.simplex_transcript.specs.declared.setup.Setup.{Setup}
+use Rattle.simplex_types.specs.Keyed.{keyed_attests, keyed_verifies}
+use Rattle.simplex_types.specs.declared.floor.Floor.{Floor}
 use Rattle.model_audit.specs.declared.record.AuditEntry.{AuditEntry}
 use Rattle.model_audit.specs.declared.record.AuditTook.{AuditTook}
 use Rattle.model_audit.specs.declared.record.AuditTook.TheVariants as tooks
@@ -32,7 +42,7 @@ use Rattle.simplex_case.proofs.Desks.{runs-other}
 use Rattle.simplex_reader.specs.declared.reader.Reader.{Reader}
 use Rattle.simplex_reader.specs.Follows.{Follows, IsMadeBy, TakesStep, request_of}
 use Rattle.simplex_judge.specs.declared.follower.Follower.{Follower}
-use Rattle.simplex_judge.specs.Followed.{IsFollowed, IsTaken, GoesOn, StartsOn, StepsOn, attests_by, request_listed, signs_of}
+use Rattle.simplex_judge.specs.Followed.{IsFollowed, IsTaken, GoesOn, StartsOn, StepsOn, attests_by, request_listed, signs_of, whole_sends}
 
 -- ---- entries that change nothing
 
@@ -67,6 +77,16 @@ keeps (events.Step node source stop) = false
 keeps (events.Answer node at answer) = true
 keeps (events.Crash node) = false
 keeps (events.Inject member channel to bytes) = true
+
+pub kept-other : (event : Event) → ((node : Node) (floor : Option Finalization) (stop : Stop) → event ≡ events.Start node floor stop → ⊥)
+    → ((node : Node) (source : StepSource) (stop : Stop) → event ≡ events.Step node source stop → ⊥) → ((node : Node) → event ≡ events.Crash node → ⊥) → keeps event ≡ true
+kept-other (events.Start node floor stop) start step crash = absurd (start node floor stop refl)
+kept-other (events.Tick ms) start step crash = refl
+kept-other (events.Deliver node at) start step crash = refl
+kept-other (events.Step node source stop) start step crash = absurd (step node source stop refl)
+kept-other (events.Answer node at answer) start step crash = refl
+kept-other (events.Crash node) start step crash = absurd (crash node refl)
+kept-other (events.Inject member channel to bytes) start step crash = refl
 
 either : {A : Type 0} (b : Bool) (x : A) → (if b then x else x) ≡ x
 either true x = refl
@@ -225,25 +245,25 @@ made-by follower setting prior before at node source stop e asked same listed fo
       request = listed ∙ request-is prior before e.took taken.next.items;
     }
 
--- what is told of the votes of a step
-pub data Told (source : StepSource) (e : AuditEntry) (due : Due) (sends : Bool) : Type 0 where
-  Else : (is_of_voter source && is_done e.outcome) ≡ false → sends ≡ true → Told source e due sends
-  Whole : (is_of_voter source && is_done e.outcome) ≡ true → sends ≡ are_those (map format.vote.spelling (votes_in due)) (filter_map vote_bytes e.packets) → Told source e due sends
+second : (a b : Bool) → (a && b) ≡ true → b ≡ true
+second true b h = h
+second false b h = absurd cc
 
-told-due : (setting : Setting) (before : List Noted) (node : Node) (source : StepSource) (stop : Stop) (e : AuditEntry) (due : Due) (sends : Bool) → Told source e due sends
-    → (is_done e.outcome ≡ true → votes_in due ≡ votes_at setting before (rebuilt_entry e) node source) → (at : Node) → sends ≡ sends_due setting before (rebuilt_entry e) node (events.Step at source stop)
+only-whole : (whole : Bool) (sent : List (List ℕ)) (a b : List Vote) → (whole ≡ true → a ≡ b)
+    → (not whole || are_those (map format.vote.spelling a) sent) ≡ (not whole || are_those (map format.vote.spelling b) sent)
+only-whole true sent a b same = ap (λ vs. are_those (map format.vote.spelling vs) sent) (same refl)
+only-whole false sent a b same = refl
+
+told-due : (setting : Setting) (before : List Noted) (node at : Node) (source : StepSource) (stop : Stop) (e : AuditEntry) (due : Due) (sends : Bool) → sends ≡ whole_sends source e (votes_in due)
+    → (is_done e.outcome ≡ true → votes_in due ≡ votes_at setting before (rebuilt_entry e) node source) → sends ≡ sends_due setting before (rebuilt_entry e) node (events.Step at source stop)
 unfolding sends_due rebuilt_entry
-told-due setting before node source stop e due sends (Else part is) votes at = is ∙ ap (λ b. not b || are_those (map format.vote.spelling (votes_at setting before (rebuilt_entry e) node source)) (filter_map vote_bytes e.packets)) (sym part)
-told-due setting before node source stop e due sends (Whole part is) votes at =
-    is ∙ ap (λ vs. are_those (map format.vote.spelling vs) (filter_map vote_bytes e.packets)) (votes (rest (is_of_voter source) (is_done e.outcome) part))
-    ∙ ap (λ b. not b || are_those (map format.vote.spelling (votes_at setting before (rebuilt_entry e) node source)) (filter_map vote_bytes e.packets)) (sym part)
-  where
-    rest : (a b : Bool) → (a && b) ≡ true → b ≡ true
-    rest true b h = h
-    rest false b h = absurd cc
+told-due setting before node at source stop e due sends is votes =
+    is ∙ only-whole (is_of_voter source && is_done e.outcome) (filter_map vote_bytes e.packets) (votes_in due) (votes_at setting before (rebuilt_entry e) node source)
+    (λ whole. votes (second (is_of_voter source) (is_done e.outcome) whole))
 
 pub steps-on : (old new : Follower) (prior : List AuditEntry) (source : StepSource) (stop : Stop) (e : AuditEntry) (asked : Option Asked) (due : Due) (sends : Bool) → new.scheme ≡ old.scheme
-    → asked ≡ request_listed prior e.took → TakesStep old.reader new.reader (signs_of old.scheme) source stop e asked due → Told source e due sends → StepsOn old new prior source stop e sends
+    → asked ≡ request_listed prior e.took → TakesStep old.reader new.reader (signs_of old.scheme) source stop e asked due → sends ≡ whole_sends source e (votes_in due)
+    → StepsOn old new prior source stop e sends
 steps-on old new prior source stop e asked due sends scheme listed takes told = λ at. record {
   follows = λ setting before node followed taken.
       let own : Some at ≡ Some node = taken.named in
@@ -256,10 +276,27 @@ steps-on old new prior source stop e asked due sends scheme listed takes told = 
   sends = λ setting before node followed taken.
       let own : Some at ≡ Some node = taken.named in
       let same : at ≡ node = cc in
-      told-due setting before node source stop e due sends told
-      (λ whole. takes.votes setting before node followed.follows (made-by old setting prior before at node source stop e asked same listed followed taken) whole) at;
+      told-due setting before node at source stop e due sends told
+      (λ whole. takes.votes setting before node followed.follows (made-by old setting prior before at node source stop e asked same listed followed taken) whole);
 }
 
 pub goes-step : (old new : Follower) (prior : List AuditEntry) (event : Event) (at : Node) (source : StepSource) (stop : Stop) (e : AuditEntry) (due : Bool)
     → event ≡ events.Step at source stop → StepsOn old new prior source stop e due → GoesOn old new prior event e due
 goes-step old new prior event at source stop e due is steps = subst (λ (ev : Event). GoesOn old new prior ev e due) (sym is) (steps at)
+
+-- ---- tests
+
+pub not-whole : (done test other : Bool) → test ≡ done → test ≡ false → true ≡ (not done || other)
+not-whole done test other is failed = sym (ap (λ b. not b || other) (sym is ∙ failed))
+
+pub is-whole : (done test other sent : Bool) → test ≡ done → test ≡ true → sent ≡ other → sent ≡ (not done || other)
+is-whole done test other sent is passed alike = alike ∙ sym (ap (λ b. not b || other) (sym is ∙ passed))
+
+-- ---- how a node signs
+
+pub signs-from : (config : NodeConfig) (setup : Setup) (genesis : List ℕ) (member : ℕ) (floor : Floor)
+    → ((sections : List Section) → made_with config sections ≡ engine_of (setting_of setup genesis) member floor sections) → attests_by config.scheme setup member
+unfolding engine_made engine_of rules_of
+signs-from config setup genesis member floor made = λ setting start same.
+    ap (λ (m : EngineMade). (m.voter start).rules.signs) (made [])
+    ∙ ap (λ (s : Setup). wrapped_attests (kind_of s member) (keyed_attests s.key_base (Some member)) (keyed_verifies s.key_base (members_of s))) (sym same)

@@ -18,7 +18,12 @@ use Rattle.model_audit.specs.Conflicts.{has_conflict}
 use Rattle.model_audit.specs.Fitting.{fits}
 use Rattle.model_audit.specs.Rebuilt.{rebuilt, rebuilt_entry}
 use Rattle.model_audit.specs.VotesDue.{sends_due}
+use Rattle.simplex_case.specs.Stands.{Answers, CaseStands, IsEndOf}
+use Rattle.simplex_conflicts.specs.Standing.{StandsFor}
+use Rattle.simplex_judge.specs.declared.follower.Follower.{Follower}
 use Rattle.simplex_judge.specs.declared.judge.Judge.{Judge}
+use Rattle.simplex_judge.specs.Followed.{IsNext}
+use Rattle.simplex_judge.specs.Followers.{FollowersStand, FollowOn}
 use Rattle.simplex_judge.specs.Judging.{JudgeStands, Judges}
 
 -- it is enough to judge from one genesis digest
@@ -112,3 +117,54 @@ module _ (old new : Judge) (setting : Setting) (prior : List AuditEntry) (event 
             sym (fault-is setting before event e ∙ none);
         stands = λ before stand none. goes before stand;
       }
+
+-- ---- what the parts told
+
+module _ (old : Judge) (setup : Setup) (genesis : List ℕ) (prior : List AuditEntry) (event : Event) (e : AuditEntry) where
+  abbrev pub it : Setting
+  it = setting_of setup genesis
+
+  pub told-fits : (test answer : Bool) → Answers old.case setup prior (λ before. fits before event e) test → test ≡ answer → Told old it prior (λ before. fits before event e) answer
+  told-fits test answer tells is = λ before stand. sym (tells before stand.case) ∙ is
+
+  pub told-allows : (test answer at_end : Bool)
+      → ((setting : Setting) (before : List Noted) → setting.setup ≡ setup → CaseStands old.case setup prior before → IsEndOf setting before at_end (node_named event) → test ≡ is_allowed setting before event)
+      → ((setting : Setting) (before : List Noted) → setting.setup ≡ setup → FollowersStand old.followers.seats.items setting before → IsEndOf setting before at_end (node_named event))
+      → test ≡ answer → Told old it prior (λ before. is_allowed it before event) answer
+  told-allows test answer at_end tells ends is = λ before stand. sym (tells it before refl stand.case (ends it before refl stand.followers)) ∙ is
+
+  pub told-genuine : (test answer : Bool) → ((all : List AuditEntry) → Answers old.case setup all (λ before. is_none (first_forged setup before (rebuilt_entry e))) test) → test ≡ answer
+      → Told old it prior (λ before. is_none (first_forged setup before (rebuilt_entry e))) answer
+  told-genuine test answer tells is = λ before stand. sym (tells prior before stand.case) ∙ is
+
+  pub told-stores : (test answer : Bool)
+      → ((setting : Setting) (before : List Noted) → setting.setup ≡ setup → FollowersStand old.followers.seats.items setting before → is_allowed setting before event ≡ true
+      → test ≡ if_honest setting (node_named event) (stores_first setting before (rebuilt_entry e)))
+      → Told old it prior (λ before. is_allowed it before event) true → test ≡ answer
+      → Told old it prior (λ before. if_honest it (node_named event) (stores_first it before (rebuilt_entry e))) answer
+  told-stores test answer tells allowed is = λ before stand. sym (tells it before refl stand.followers (allowed before stand)) ∙ is
+
+  next-of : Told old it prior (λ before. fits before event e) true → Told old it prior (λ before. is_allowed it before event) true → (before : List Noted) → JudgeStands old it prior before
+      → IsNext it prior before event e
+  next-of fitting allowed before stand = record { items = stand.case.items; fitting = fitting before stand; allowed = allowed before stand }
+
+  pub told-sends : (seats : List (Option Follower)) (test answer : Bool) → FollowOn old.followers.seats.items seats setup prior event e test
+      → Told old it prior (λ before. fits before event e) true → Told old it prior (λ before. is_allowed it before event) true → test ≡ answer
+      → Told old it prior (λ before. if_honest it (node_named event) (λ node. sends_due it before (rebuilt_entry e) node event)) answer
+  told-sends seats test answer tells fitting allowed is = λ before stand. sym (tells.sends it before refl stand.followers (next-of fitting allowed before stand)) ∙ is
+
+  pub told-clashes : (test answer : Bool) → ((s : Setup) (before : List Noted) → StandsFor old.standing s before → test ≡ has_conflict s before (rebuilt_entry e)) → test ≡ answer
+      → Told old it prior (λ before. has_conflict setup before (rebuilt_entry e)) answer
+  told-clashes test answer tells is = λ before stand. sym (tells setup before stand.standing) ∙ is
+
+  pub stands-on : (new : Judge) (due conflict : Bool) → FollowOn old.followers.seats.items new.followers.seats.items setup prior event e due
+      → Told old it prior (λ before. fits before event e) true → Told old it prior (λ before. is_allowed it before event) true
+      → ((setting : Setting) (before : List Noted) → setting.setup ≡ setup → CaseStands old.case setup prior before → is_allowed setting before event ≡ true
+      → CaseStands new.case setup (prior ++ e ∷ []) (rebuilt event e ∷ before))
+      → (conflict ≡ false → (s : Setup) (before : List Noted) (ev : Event) → StandsFor old.standing s before → StandsFor new.standing s (rebuilt ev e ∷ before)) → conflict ≡ false
+      → (before : List Noted) → JudgeStands old it prior before → JudgeStands new it (prior ++ e ∷ []) (rebuilt event e ∷ before)
+  stands-on new due conflict goes fitting allowed takes stands none = λ before stand. record {
+    case = takes it before refl stand.case (allowed before stand);
+    followers = goes.follows it before refl stand.followers (next-of fitting allowed before stand);
+    standing = stands none setup before event stand.standing;
+  }

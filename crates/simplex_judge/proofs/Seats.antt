@@ -383,3 +383,17 @@ seats-new seats setting setup same count all =
 pub seat-member : (at : ℕ) → (node_at at).member ≡ at / 2
 unfolding node_at
 seat-member at = refl
+
+pub seat-some : (one : Follower) (setup : Setup) (member : ℕ) → runs_engine setup member ≡ true
+    → ((setting : Setting) (node : Node) → setting.setup ≡ setup → node.member ≡ member → IsFollowed one setting [] node) → IsSeatOf (Some one) setup member
+seat-some one setup member engine followed =
+    record {
+      engine = sym engine;
+      followed = λ setting node follower is same of.
+          let alike : one ≡ follower = cc in
+          subst (λ (f : Follower). IsFollowed f setting [] node) alike (followed setting node same of);
+    }
+
+pub none-of : {A : Type 0} (o : Option A) → ((x : A) → o ≡ Some x → ⊥) → o ≡ None
+none-of None no_one = refl
+none-of (Some x) no_one = absurd (no_one x refl)

@@ -1,7 +1,8 @@
 -- The verdict, entry by entry.
 use Rattle.std.proofs.Common.{◌≡◌, ℕ, ◌+◌, ◌<◌, ◌≤◌, List, [], ◌∷◌, ◌++◌, Bool, true, false, refl, sym, ap, subst, ◌∙◌, Option, Some, None, length, take, drop, get_or, arith}
-use Rattle.std.proofs.lemmas.List.{drop_all, drop_more, length-take-le, take_all, take_more}
+use Rattle.std.proofs.lemmas.List.{drop_all, drop_more, length-drop, length-take-le, take_all, take_more}
 use Rattle.simplex_transcript.specs.declared.event.Event.{Event}
+use Rattle.simplex_transcript.specs.declared.field.Field.{Field}
 use Rattle.model_run.specs.Life.{Noted}
 use Rattle.model_run.specs.Setting.{Setting}
 use Rattle.model_audit.specs.declared.record.AuditEntry.{AuditEntry}
@@ -9,9 +10,13 @@ use Rattle.model_audit.specs.declared.record.AuditFault.{AuditFault}
 use Rattle.model_audit.specs.declared.record.AuditFault.TheVariants as faults
 use Rattle.model_audit.specs.declared.record.Verdict.{Verdict}
 use Rattle.model_audit.specs.declared.record.Verdict.TheVariants.{Sound, Fault}
-use Rattle.model_audit.specs.Audit.{fault_in, judged_from}
+use Rattle.model_run.specs.Run.{are_few}
+use Rattle.model_run.specs.Setups as setups
+use Rattle.model_audit.specs.Audit.{audited, fault_in, judged_from}
 use Rattle.model_audit.specs.Holding.{all_rebuilt, rebuilt_from}
 use Rattle.model_audit.specs.Rebuilt.{rebuilt}
+use Rattle.simplex_judge.specs.declared.judge.Judge.{Judge}
+use Rattle.simplex_judge.specs.Judging.{JudgeStands}
 
 -- the entries so far, as those of a run
 abbrev pub so_far : List Event → List AuditEntry → ℕ → List Noted
@@ -110,18 +115,51 @@ left-missing setting events entries i event number whole low over room here numb
     ∙ ap (λ n. Fault n faults.Entry) named)
     ∙ so
 
-pub left-more : (setting : Setting) (events : List Event) (entries : List AuditEntry) (i : ℕ) (e : AuditEntry) (number : ℕ) (whole : Verdict) → length events ≤ i → i ≤ length events → i < length entries
+pub left-more : (setting : Setting) (events : List Event) (entries : List AuditEntry) (i : ℕ) (number : ℕ) (whole : Verdict) → length events ≤ i → i ≤ length events → i < length entries
     → number ≡ i + 1 → left_of setting events entries i ≡ whole → Fault number faults.Entry ≡ whole
-left-more setting events entries i e number whole over low room numbered so =
+left-more setting events entries i number whole over low room numbered so =
     let count = count-so_far events entries i low (omega (arith, room)) in
     let named : length (so_far events entries i) + 1 ≡ number = omega (arith, count, numbered) in
+    let many : 0 < length (drop i entries) = omega (arith, room, length-drop i entries) in
     sym (ap (λ es. judged_from setting (so_far events entries i) es (drop i entries)) (drop_all i events over)
-    ∙ ap (judged_from setting (so_far events entries i) []) (drop_more entries i e room)
-    ∙ one-left setting (so_far events entries i) (get_or entries i e) (drop (i + 1) entries)
+    ∙ at-rest (drop i entries) many
     ∙ ap (λ n. Fault n faults.Entry) named)
     ∙ so
+  where
+    at-rest : (rest : List AuditEntry) → 0 < length rest → judged_from setting (so_far events entries i) [] rest ≡ Fault (length (so_far events entries i) + 1) faults.Entry
+    at-rest [] h = absurd (omega (arith, h))
+    at-rest (x ∷ rest) h = one-left setting (so_far events entries i) x rest
 
 pub left-sound : (setting : Setting) (events : List Event) (entries : List AuditEntry) (i : ℕ) (whole : Verdict) → length events ≤ i → length entries ≤ i → left_of setting events entries i ≡ whole → Sound ≡ whole
 left-sound setting events entries i whole over past so =
     sym (ap (λ es. judged_from setting (so_far events entries i) es (drop i entries)) (drop_all i events over)
     ∙ ap (judged_from setting (so_far events entries i) []) (drop_all i entries past) ∙ none-left setting (so_far events entries i)) ∙ so
+
+pub stands-next : (judge : Judge) (setting : Setting) (events : List Event) (entries : List AuditEntry) (i : ℕ) (event : Event) (e : AuditEntry) → i < length events → i < length entries
+    → event ≡ get_or events i event → e ≡ get_or entries i e → JudgeStands judge setting (take i entries ++ e ∷ []) (rebuilt event e ∷ so_far events entries i)
+    → JudgeStands judge setting (take (i + 1) entries) (so_far events entries (i + 1))
+stands-next judge setting events entries i event e low room here there stand =
+    let prior : take (i + 1) entries ≡ take i entries ++ e ∷ [] = take_more entries i e room ∙ ap (λ x. take i entries ++ x ∷ []) (sym there) in
+    subst (λ (p : List AuditEntry). JudgeStands judge setting p (so_far events entries (i + 1))) (sym prior)
+    (subst (JudgeStands judge setting (take i entries ++ e ∷ [])) (sym (more-so_far events entries i event e low room here there)) stand)
+
+pub stands-first : (judge : Judge) (setting : Setting) (events : List Event) (entries : List AuditEntry) → JudgeStands judge setting [] []
+    → JudgeStands judge setting (take 0 entries) (so_far events entries 0) × (left_of setting events entries 0 ≡ judged_from setting [] events entries)
+unfolding rebuilt_from
+stands-first judge setting events entries stand = (stand, refl)
+
+-- ---- the setup
+
+pub few-fails : (setting : Setting) (events : List Event) (entries : List AuditEntry) → are_few setting.setup events ≡ false → Fault 0 faults.Setup ≡ audited setting events entries
+unfolding audited
+few-fails setting events entries few = rw few refl
+
+pub bad-fails : (setting : Setting) (events : List Event) (entries : List AuditEntry) (field : Field) → are_few setting.setup events ≡ true → setups.first_bad setting.setup ≡ Some field
+    → Fault 0 faults.Setup ≡ audited setting events entries
+unfolding audited
+bad-fails setting events entries field few bad = rw (few, bad) refl
+
+pub good-judges : (setting : Setting) (events : List Event) (entries : List AuditEntry) → are_few setting.setup events ≡ true → setups.first_bad setting.setup ≡ None
+    → judged_from setting [] events entries ≡ audited setting events entries
+unfolding audited
+good-judges setting events entries few good = rw (few, good) refl

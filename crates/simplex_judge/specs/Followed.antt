@@ -1,8 +1,10 @@
 -- Which node a follower follows, and through which entries.
-use Rattle.std.specs.Prelude.{◌≡◌, ◌∷◌, ℕ, true, List, Bool, Option, Some, None}
+use Rattle.std.specs.Prelude.{◌≡◌, ◌∷◌, ◌&&◌, ◌||◌, ℕ, true, not, List, map, filter_map, Bool, Option, Some, None}
 use Rattle.simplex_values.specs.declared.proposal.Subject.{Subject}
 use Rattle.simplex_wire.specs.declared.attestation.Attestation.{Attestation}
 use Rattle.simplex_wire.specs.declared.certificate.Finalization.{Finalization}
+use Rattle.simplex_wire.specs.declared.vote.Vote.{Vote}
+use Rattle.simplex_wire.specs.Message as format
 use Rattle.simplex_types.specs.Keyed.{keyed_attests, keyed_verifies}
 use Rattle.simplex_messages.specs.declared.step.Stop.{Stop}
 use Rattle.simplex_transcript.specs.declared.event.Event.{Event}
@@ -22,7 +24,8 @@ use Rattle.model_audit.specs.declared.record.AuditTook.TheVariants as taken
 use Rattle.model_audit.specs.Conditions.{is_allowed}
 use Rattle.model_audit.specs.Fitting.{fits}
 use Rattle.model_audit.specs.Rebuilt.{rebuilt, rebuilt_entry}
-use Rattle.model_audit.specs.VotesDue.{sends_due}
+use Rattle.model_audit.specs.Running.{is_done}
+use Rattle.model_audit.specs.VotesDue.{are_those, is_of_voter, sends_due, vote_bytes}
 use Rattle.simplex_members.specs.NodeEngine.{NodeScheme}
 use Rattle.simplex_case.specs.Items.{AreItems, asked_listed}
 use Rattle.simplex_case.specs.Taking.{own_node}
@@ -45,6 +48,10 @@ pub record IsFollowed (follower : Follower) (setting : Setting) (before : List N
 abbrev pub request_listed : List AuditEntry → AuditTook → Option Asked
 request_listed prior (taken.Request at answer) = asked_listed prior at
 request_listed prior took = None
+
+-- a whole step of the voter sends these votes and no other
+abbrev pub whole_sends : StepSource → AuditEntry → List Vote → Bool
+whole_sends source e due = not (is_of_voter source && is_done e.outcome) || are_those (map format.vote.spelling due) (filter_map vote_bytes e.packets)
 
 -- the entry fits the event, which could be taken behind these entries
 pub record IsNext (setting : Setting) (prior : List AuditEntry) (before : List Noted) (event : Event) (e : AuditEntry) : Type 0 where

@@ -1,13 +1,13 @@
 //! A node with an engine, followed through the entries.
-ghost use Rattle.std.specs.Prelude.{◌≡◌, ◌<◌, ◌&&◌, ◌||◌, [], not, length, IsNone, IfOk};
+ghost use Rattle.std.specs.Prelude.{◌≡◌, ◌<◌, ◌&&◌, [], length, IsNone, IfOk};
 ghost use Rattle.std.specs.Option.{option_map};
 ghost use Rattle.simplex_transcript.specs.declared.node.Node.{Node};
 ghost use Rattle.model_run.specs.Setting.{Setting};
 ghost use Rattle.model_run.specs.Setups as setups;
 ghost use Rattle.model_audit.specs.Running as running;
 ghost use Rattle.model_audit.specs.VotesDue as votes_due;
-ghost use Rattle.simplex_reader.specs.Follows.{TakesStep};
-ghost use Rattle.simplex_judge.specs.Followed.{IsFollowed, GoesOn, StartsOn, StepsOn, request_listed, attests_by};
+ghost use Rattle.simplex_due.specs.Due.{votes_in};
+ghost use Rattle.simplex_judge.specs.Followed.{IsFollowed, GoesOn, StartsOn, StepsOn, request_listed, attests_by, whole_sends};
 
 use crate::sending::{nothing_due, sends};
 use model_audit::{AuditEntry, AuditTook};
@@ -18,7 +18,8 @@ use simplex_members::{NodeScheme, config_of};
 use simplex_messages::{Outcome, Stop};
 use simplex_reader::Reader;
 use simplex_transcript::{Event, Setup, StepSource};
-use simplex_types::{Epoch, Finalization, Participant, genesis};
+use simplex_due::Due;
+use simplex_types::{Digest, Finalization, Participant};
 use std::alloc::{AllocError, Global};
 
 /// What the entries tell of a node with an engine, and how it signs.
@@ -63,10 +64,7 @@ impl Follower {
                 self.reader.take_crash();
                 Ok(true)
             }
-            Event::Tick { .. }
-            | Event::Deliver { .. }
-            | Event::Answer { .. }
-            | Event::Inject { .. } => Ok(true),
+            _ => Ok(true),
         }
     }
 
@@ -99,13 +97,13 @@ impl Follower {
         ensures { IfOk result (λ due. StepsOn self.old self.new prior.now source stop entry.now due) }
     {
         let asked = request_of(prior, &entry.took);
-        let due = self
+        match self
             .reader
-            .take_step(alloc, &self.scheme, source, stop, entry, asked)?;
-        if !is_whole_of_voter(source, entry.outcome) {
-            return Ok(true);
+            .take_step(alloc, &self.scheme, source, stop, entry, asked)
+        {
+            Err(AllocError) => Err(AllocError),
+            Ok(due) => sends_whole(alloc, source, entry, &due),
         }
-        sends(alloc, entry.packets.as_slice(), &due)
     }
 }
 
@@ -119,8 +117,9 @@ fn scheme_of(
     requires below { member < length setup.now.members }
     ensures { IfOk result (λ scheme. attests_by scheme setup.now member) }
 {
-    let digest = genesis(Epoch(setup.epoch));
-    let EngineConfig { scheme, .. } = config_of(alloc, setup, digest, member, &None)?;
+    // No scheme rests on the genesis digest.
+    let config = config_of(alloc, setup, Digest([0; 32]), member, &None)?;
+    let EngineConfig { scheme, .. } = config;
     Ok(scheme)
 }
 
@@ -139,6 +138,21 @@ fn is_done(outcome: Outcome) -> bool
     ensures { result ≡ running.is_done outcome }
 {
     matches!(outcome, Outcome::Done)
+}
+
+// Whether a step of the voter that was made to its end sends these votes and no other.
+fn sends_whole(
+    alloc: Global,
+    source: StepSource,
+    entry: &AuditEntry,
+    due: &Due,
+) -> Result<bool, AllocError>
+    ensures { IfOk result (λ sent. sent ≡ whole_sends source entry.now (votes_in due.now)) }
+{
+    if !is_whole_of_voter(source, entry.outcome) {
+        return Ok(true);
+    }
+    sends(alloc, entry.packets.as_slice(), due)
 }
 
 // Whether it is a step of the voter that was made to its end.

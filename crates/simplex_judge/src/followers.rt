@@ -11,7 +11,7 @@ ghost use Rattle.model_audit.specs.Conditions.{is_allowed};
 ghost use Rattle.model_audit.specs.Rebuilt.{rebuilt_entry};
 ghost use Rattle.law_run.specs.Complete.{node_named};
 ghost use Rattle.simplex_case.specs.Stands.{IsEndOf};
-ghost use Rattle.simplex_judge.specs.Followers.{FollowersStand, FollowAt, FollowOn, IsSeatOf, at_seat};
+ghost use Rattle.simplex_judge.specs.Followers.{FollowersStand, FollowAt, FollowOn, IsSeatOf, at_seat, same};
 
 use crate::follower::Follower;
 use model_audit::AuditEntry;
@@ -35,23 +35,30 @@ impl Followers {
         ensures { IfOk result (λ followers. (setting : Setting) → setting.setup ≡ setup.now → FollowersStand followers.seats.items setting []) }
     {
         let mut seats = Vec::new(alloc);
-        for seat in 0..2 * setup.members.len() as u32 {
-            seats.push(follower_of(alloc, setup, Participant(seat / 2))?)?;
+        for place in 0..2 * setup.members.len() as u32 {
+            let seat = follower_of(alloc, setup, Participant(place / 2))?;
+            seats.push(seat)?;
         }
         Ok(Followers { seats })
     }
 
+    // What is followed at this seat.
+    fn at(&self, place: usize) -> Option<&Follower>
+        ensures { option_map (λ follower. follower.now) result ≡ option_and_then same (slice_get self.now.seats.items place) }
+    {
+        self.seats.get(place)?.as_ref()
+    }
+
     // What is followed of a node, if it exists.
+    #[tactic(auto, unfolding(crate::specs::Followers::at_seat))]
     fn get(&self, setup: &Setup, node: Node) -> Option<&Follower>
         requires few { length setup.now.members < 2 ^ 32 }
         ensures { option_map (λ follower. follower.now) result ≡ at_seat self.now.seats.items setup.now node }
     {
-        if !is_node(setup, node) {
-            return None;
-        }
-        match self.seats.get(seat_of(node)) {
-            None => None,
-            Some(seat) => seat.as_ref(),
+        if is_node(setup, node) {
+            self.at(seat_of(node))
+        } else {
+            None
         }
     }
 

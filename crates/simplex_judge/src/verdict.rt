@@ -50,10 +50,13 @@ fn verdict_on(
 ) -> Result<Verdict, AllocError>
     ensures { IfOk result (λ verdict. verdict ≡ audited (at_epoch_genesis setup.now) events.now entries.now) }
 {
-    if !are_few(setup, events) || first_bad(setup).is_some() {
+    if !are_few(setup, events) {
         return Ok(fault_at(0, AuditFault::Setup));
     }
-    judge_all(alloc, setup, events, entries)
+    match first_bad(setup) {
+        Some(_) => Ok(fault_at(0, AuditFault::Setup)),
+        None => judge_all(alloc, setup, events, entries),
+    }
 }
 
 // The verdict, where the setup keeps its limits.
@@ -67,14 +70,16 @@ fn judge_all(
     requires good { IsNone (setups.first_bad setup.now) }
     ensures { IfOk result (λ verdict. (setting : Setting) → setting.setup ≡ setup.now → verdict ≡ judged_from setting [] events.now entries.now) }
 {
-    let mut judge = Judge::new(alloc, setup)?;
+    let mut kept = Judge::new(alloc, setup)?;
     for (place, event) in events.iter().enumerate() {
         let number = place as u64 + 1;
-        let Some(entry) = entries.get(place) else {
+        if place >= entries.len() {
             return Ok(fault_at(number, AuditFault::Entry));
-        };
-        if let Some(cause) = judge.judge(alloc, setup, &entries[..place], event, entry)? {
-            return Ok(fault_at(number, cause));
+        }
+        let fault = kept.judge(alloc, setup, &entries[..place], event, &entries[place])?;
+        match fault {
+            Some(cause) => return Ok(fault_at(number, cause)),
+            None => {}
         }
     }
     if entries.len() > events.len() {

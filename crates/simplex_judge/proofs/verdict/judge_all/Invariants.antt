@@ -7,6 +7,6 @@ use Rattle.simplex_judge.proofs.verdict.judge_all.Given as goal
 
 abbrev pub invariant-loop-place : goal.invariant-loop-place
 invariant-loop-place l =
-    (l.place ≤ length l.entries)
-    × ((setting : Setting) → setting.setup ≡ l.setup → JudgeStands l.judge setting (take l.place l.entries) (so_far l.events l.entries l.place)
+    (l.place ≤ length l.entries) × (l.place ≤ length l.events)
+    × ((setting : Setting) → setting.setup ≡ l.setup → JudgeStands l.kept setting (take l.place l.entries) (so_far l.events l.entries l.place)
     × (left_of setting l.events l.entries l.place ≡ judged_from setting [] l.events l.entries))

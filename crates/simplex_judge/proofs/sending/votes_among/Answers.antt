@@ -1,0 +1,6 @@
+use Rattle.std.proofs.Common.{◌∙◌}
+use Rattle.simplex_judge.proofs.Sent.{count-votes}
+use Rattle.simplex_judge.proofs.sending.votes_among.Goals as goal
+
+pub returns : goal.returns
+returns c = ? ∙ count-votes c.args.packets.now
