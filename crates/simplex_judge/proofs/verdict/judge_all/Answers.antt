@@ -6,7 +6,7 @@ pub loop-place-init : goal.loop-place-init
 loop-place-init c = (
   omega arith,
   omega arith,
-  λ setting same. stands-first c.in_ok-kept.field-0 setting c.args.events.now c.args.entries.now (c.in_ok-kept.ensures setting same),
+  λ setting same. stands-first c.in_ok-kept.kept setting c.args.events.now c.args.entries.now (c.in_ok-kept.ensures setting same),
 )
 
 pub returns-then-place-entries : goal.returns-then-place-entries

@@ -16,5 +16,5 @@ loop-place-preserved c = (
 
 pub returns : goal.returns
 returns c =
-    let many : length c.loop-place.seats.items ≡ 2 * members_of c.args.setup.now = ? in
+    let many : length c.loop-place.seats.items ≡ 2 * members_of c.args.setup.now = omega (arith, c.loop-place.invariant.0, c.loop-place-test.false, c.len.ensures) in
     λ setting same. seats-new _ setting c.args.setup.now same many c.loop-place.invariant.1
