@@ -76,9 +76,9 @@ pub end-unfollowed : (seats : List (Option Follower)) (setup : Setup) (event : E
 end-unfollowed seats setup event node named none setting before alike stand =
     subst (IsEndOf setting before false) (sym named)
     (λ exists engine runs.
-        let unfollowed : at_seat seats setting.setup node ≡ None = ap (λ s. at_seat seats s node) alike ∙ none in
-        let no_engine : runs_engine setting.setup node.member ≡ false = subst (Seated seats setting before node) unfollowed (at-seat seats setting before node exists stand) in
-        absurd cc)
+    let unfollowed : at_seat seats setting.setup node ≡ None = ap (λ s. at_seat seats s node) alike ∙ none in
+    let no_engine : runs_engine setting.setup node.member ≡ false = subst (Seated seats setting before node) unfollowed (at-seat seats setting before node exists stand) in
+    absurd cc)
 
 pub end-followed : (seats : List (Option Follower)) (setup : Setup) (event : Event) (node : Node) (follower : Follower) (result : Bool) → node_named event ≡ Some node → at_seat seats setup node ≡ Some follower
     → ((setting : Setting) (before : List Noted) → IsFollowed follower setting before node → runs_at before node ≡ true → result ≡ is_at_end setting before node)
@@ -86,9 +86,9 @@ pub end-followed : (seats : List (Option Follower)) (setup : Setup) (event : Eve
 end-followed seats setup event node follower result named there ends setting before alike stand =
     subst (IsEndOf setting before result) (sym named)
     (λ exists engine runs.
-        let followed : (runs_engine setting.setup node.member ≡ true) × IsFollowed follower setting before node =
-        subst (Seated seats setting before node) (ap (λ s. at_seat seats s node) alike ∙ there) (at-seat seats setting before node exists stand) in
-        ends setting before followed.1 runs)
+    let followed : (runs_engine setting.setup node.member ≡ true) × IsFollowed follower setting before node =
+    subst (Seated seats setting before node) (ap (λ s. at_seat seats s node) alike ∙ there) (at-seat seats setting before node exists stand) in
+    ends setting before followed.1 runs)
 
 -- ---- honest members
 

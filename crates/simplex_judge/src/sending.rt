@@ -101,11 +101,7 @@ fn is_sent(alloc: Global, packets: &[Packet], vote: &Vote) -> Result<bool, Alloc
 }
 
 // Whether the vote, if there is one, is among the packets.
-fn is_sent_if(
-    alloc: Global,
-    packets: &[Packet],
-    vote: Option<Vote>,
-) -> Result<bool, AllocError>
+fn is_sent_if(alloc: Global, packets: &[Packet], vote: Option<Vote>) -> Result<bool, AllocError>
     ensures { IfOk result (λ sent. sent ≡ option_map_or (is_sent (filter_map vote_bytes packets.now)) vote true) }
 {
     match vote {
