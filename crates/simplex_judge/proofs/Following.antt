@@ -1,6 +1,7 @@
 -- What is followed of one node, through one entry more.
-use Rattle.std.proofs.Common.{◌≡◌, ℕ, List, [], ◌∷◌, Bool, true, false, refl, sym, ap, subst, ◌∙◌, if◌then◌else◌, Option, Some, None, map}
-use Rattle.std.specs.Prelude.{◌&&◌, ◌||◌, not, filter_map}
+use Rattle.std.proofs.Common.{◌≡◌, ℕ, List, [], ◌∷◌, Bool, true, false, refl, sym, ap, subst, ◌∙◌, if◌then◌else◌, Option, Some, None, map, length, ◌+◌}
+use Rattle.std.specs.Prelude.{◌==◌, ◌&&◌, ◌||◌, not, filter_map}
+use Rattle.std.specs.Option.{option_eq}
 use Rattle.simplex_wire.specs.declared.certificate.Finalization.{Finalization}
 use Rattle.simplex_wire.specs.declared.vote.Vote.{Vote}
 use Rattle.simplex_wire.specs.Message as format
@@ -12,7 +13,8 @@ use Rattle.simplex_transcript.specs.declared.event.Event.TheVariants as events
 use Rattle.simplex_transcript.specs.declared.event.StepSource.{StepSource}
 use Rattle.simplex_transcript.specs.declared.node.Node.{Node}
 use Rattle.model_rules.specs.declared.request.Asked.{Asked}
-use Rattle.model_run.specs.Kinds.{is_node, members_of, runs_engine}
+use Rattle.model_run.specs.Kinds.{is_node, is_same_node, members_of, runs_engine}
+use Rattle.law_run.specs.Complete.{node_named}
 use Rattle.model_run.specs.Life.{Noted, is_of}
 use Rattle.model_run.specs.Setting.{Setting, setting_of}
 use Rattle.model_run.specs.Members.{engine_of, kind_of, rules_of}
@@ -140,7 +142,7 @@ third false b c d h = absurd cc
 
 fit-outcome : (before : List Noted) (event : Event) (e : AuditEntry) → fits before event e ≡ true → outcome_fits event e.outcome ≡ true
 unfolding fits
-fit-outcome before event e fitting = third _ _ (outcome_fits event e.outcome) (took_or_idle before event e.outcome e.took) fitting
+fit-outcome before event e fitting = third (e.event == length before + 1) (option_eq is_same_node e.who (node_named event)) (outcome_fits event e.outcome) (took_or_idle before event e.outcome e.took) fitting
 
 kept-sends : (setting : Setting) (before : List Noted) (event : Event) (e : AuditEntry) (node : Node) → keeps event ≡ true → true ≡ sends_due setting before (rebuilt_entry e) node event
 unfolding sends_due

@@ -4,8 +4,8 @@ use Rattle.std.specs.Prelude.{◌==◌, ◌&&◌, ◌||◌, not, slice_get, is_s
 use Rattle.std.specs.Option.{option_and_then, option_map_or}
 use Rattle.std.proofs.lemmas.Grind.{common_steps}
 use Rattle.std.proofs.lemmas.Bool.{and_parts}
-use Rattle.std.proofs.lemmas.List.{length-set}
-use Rattle.std.proofs.lemmas.Option.{slice_get-get_or}
+use Rattle.std.proofs.lemmas.List.{length-set, set-get_or}
+use Rattle.std.proofs.lemmas.Option.{slice_get-get_or, slice_get_read}
 use Rattle.simplex_transcript.specs.declared.event.Event.{Event}
 use Rattle.simplex_transcript.specs.declared.event.Event.TheVariants as events
 use Rattle.simplex_transcript.specs.declared.node.Node.{Node}
@@ -76,9 +76,9 @@ pub end-unfollowed : (seats : List (Option Follower)) (setup : Setup) (event : E
 end-unfollowed seats setup event node named none setting before alike stand =
     subst (IsEndOf setting before false) (sym named)
     (λ exists engine runs.
-        let unfollowed : at_seat seats setting.setup node ≡ None = ap (λ s. at_seat seats s node) alike ∙ none in
-        let no_engine : runs_engine setting.setup node.member ≡ false = subst (Seated seats setting before node) unfollowed (at-seat seats setting before node exists stand) in
-        absurd cc)
+    let unfollowed : at_seat seats setting.setup node ≡ None = ap (λ s. at_seat seats s node) alike ∙ none in
+    let no_engine : runs_engine setting.setup node.member ≡ false = subst (Seated seats setting before node) unfollowed (at-seat seats setting before node exists stand) in
+    absurd cc)
 
 pub end-followed : (seats : List (Option Follower)) (setup : Setup) (event : Event) (node : Node) (follower : Follower) (result : Bool) → node_named event ≡ Some node → at_seat seats setup node ≡ Some follower
     → ((setting : Setting) (before : List Noted) → IsFollowed follower setting before node → runs_at before node ≡ true → result ≡ is_at_end setting before node)
@@ -86,9 +86,9 @@ pub end-followed : (seats : List (Option Follower)) (setup : Setup) (event : Eve
 end-followed seats setup event node follower result named there ends setting before alike stand =
     subst (IsEndOf setting before result) (sym named)
     (λ exists engine runs.
-        let followed : (runs_engine setting.setup node.member ≡ true) × IsFollowed follower setting before node =
-        subst (Seated seats setting before node) (ap (λ s. at_seat seats s node) alike ∙ there) (at-seat seats setting before node exists stand) in
-        ends setting before followed.1 runs)
+    let followed : (runs_engine setting.setup node.member ≡ true) × IsFollowed follower setting before node =
+    subst (Seated seats setting before node) (ap (λ s. at_seat seats s node) alike ∙ there) (at-seat seats setting before node exists stand) in
+    ends setting before followed.1 runs)
 
 -- ---- honest members
 
@@ -397,3 +397,16 @@ seat-some one setup member engine followed =
 pub none-of : {A : Type 0} (o : Option A) → ((x : A) → o ≡ Some x → ⊥) → o ≡ None
 none-of None no_one = refl
 none-of (Some x) no_one = absurd (no_one x refl)
+
+-- ---- a seat that is found
+
+pub at-seat_found : (seats : List (Option Follower)) (place many : ℕ) (seat other : Option Follower) → many ≡ length seats → place < many → seat ≡ get_or seats place seat → seat ≡ other
+    → slice_get seats place ≡ Some other
+at-seat_found seats place many seat other count low at is = slice_get_read seats many place seat count low at ∙ ap (λ s. Some s) is
+
+pub at-kept : (seats : List (Option Follower)) (setup : Setup) (node : Node) (prior : List AuditEntry) (event : Event) (e : AuditEntry) (place many : ℕ) (seat : Option Follower) → is_node setup node ≡ true
+    → place ≡ seat_of node → many ≡ length seats → place < many → seat ≡ get_or seats place seat → seat ≡ None → FollowAt seats (set seats place seat) setup node prior event e true
+at-kept seats setup node prior event e place many seat exists is count low at none =
+    let alike : set seats place seat ≡ seats = ap (set seats place) at ∙ set-get_or seats place seat in
+    subst (λ (ss : List (Option Follower)). FollowAt seats ss setup node prior event e true) (sym alike)
+    (at-empty seats setup node prior event e place exists is (at-seat_found seats place many seat None count low at none))

@@ -13,12 +13,12 @@ use crate::sending::{nothing_due, sends};
 use model_audit::{AuditEntry, AuditTook};
 use model_rules::Asked;
 use simplex_case::asked_at;
+use simplex_due::Due;
 use simplex_engine::EngineConfig;
 use simplex_members::{NodeScheme, config_of};
 use simplex_messages::{Outcome, Stop};
 use simplex_reader::Reader;
 use simplex_transcript::{Event, Setup, StepSource};
-use simplex_due::Due;
 use simplex_types::{Digest, Finalization, Participant};
 use std::alloc::{AllocError, Global};
 
@@ -108,11 +108,7 @@ impl Follower {
 }
 
 // How a node of the member signs.
-fn scheme_of(
-    alloc: Global,
-    setup: &Setup,
-    member: Participant,
-) -> Result<NodeScheme, AllocError>
+fn scheme_of(alloc: Global, setup: &Setup, member: Participant) -> Result<NodeScheme, AllocError>
     requires good { IsNone (setups.first_bad setup.now) }
     requires below { member < length setup.now.members }
     ensures { IfOk result (λ scheme. attests_by scheme setup.now member) }
@@ -172,9 +168,7 @@ fn is_of_voter(source: StepSource) -> bool
         | StepSource::Propose
         | StepSource::Verify
         | StepSource::Certify => true,
-        StepSource::Batcher
-        | StepSource::Resolver
-        | StepSource::Handler
-        | StepSource::Fetch => false,
+        StepSource::Batcher | StepSource::Resolver | StepSource::Handler | StepSource::Fetch =>
+            false,
     }
 }

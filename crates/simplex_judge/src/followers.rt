@@ -15,7 +15,8 @@ ghost use Rattle.simplex_judge.specs.Followers.{FollowersStand, FollowAt, Follow
 
 use crate::follower::Follower;
 use model_audit::AuditEntry;
-use simplex_case::{is_node, node_named, own_node, runs_engine};
+use simplex_case::{is_node, node_named, own_node};
+use simplex_members::has_engine;
 use simplex_records::{is_honest, seat_of};
 use simplex_transcript::{Event, Node, Setup};
 use simplex_types::Participant;
@@ -158,7 +159,7 @@ fn follower_of(
     requires below { member < length setup.now.members }
     ensures { IfOk result (λ seat. IsSeatOf seat setup.now member) }
 {
-    if !runs_engine(setup, member.0 as u64) {
+    if !has_engine(setup, member) {
         return Ok(None);
     }
     Ok(Some(Follower::new(alloc, setup, member)?))

@@ -1,5 +1,5 @@
 //! Whether the packets of an entry are the votes that were due.
-ghost use Rattle.std.specs.Prelude.{◌≡◌, ◌&&◌, [], true, false, IfOk, length, map, filter_map, is_some};
+ghost use Rattle.std.specs.Prelude.{◌≡◌, ◌&&◌, [], true, false, IfOk, length, map, filter, filter_map, is_some};
 ghost use Rattle.std.specs.List.{list_any};
 ghost use Rattle.std.specs.Option.{option_map_or};
 ghost use Rattle.std.specs.Str.{bytes_eq};
@@ -58,6 +58,13 @@ fn votes_due(due: &Due) -> usize
 fn votes_among(packets: &[Packet]) -> usize
     ensures { result ≡ length (filter_map vote_bytes packets.now) }
 {
+    count_votes(packets)
+}
+
+// How many packets go by the channel of votes.
+fn count_votes(packets: &[Packet]) -> usize
+    ensures { result ≡ length (filter (λ packet. is_some (vote_bytes packet)) packets.now) }
+{
     packets.iter().filter(|packet| is_vote(packet)).count()
 }
 
@@ -78,17 +85,27 @@ fn carries(packet: &Packet, bytes: &[u8]) -> bool
     }
 }
 
+// Whether one of the packets is a vote of these bytes.
+fn is_among(packets: &[Packet], bytes: &[u8]) -> bool
+    ensures { result ≡ list_any (sending.carries bytes.now) packets.now }
+{
+    packets.iter().any(|packet| carries(packet, bytes))
+}
+
+// Whether the vote is among the packets.
+fn is_sent(alloc: Global, packets: &[Packet], vote: &Vote) -> Result<bool, AllocError>
+    ensures { IfOk result (λ sent. sent ≡ is_sent (filter_map vote_bytes packets.now) vote.now) }
+{
+    let bytes = vote.encode(alloc)?;
+    Ok(is_among(packets, bytes.as_slice()))
+}
+
 // Whether the vote, if there is one, is among the packets.
-fn is_sent_if(
-    alloc: Global,
-    packets: &[Packet],
-    vote: Option<Vote>,
-) -> Result<bool, AllocError>
+fn is_sent_if(alloc: Global, packets: &[Packet], vote: Option<Vote>) -> Result<bool, AllocError>
     ensures { IfOk result (λ sent. sent ≡ option_map_or (is_sent (filter_map vote_bytes packets.now)) vote true) }
 {
-    let Some(vote) = vote else {
-        return Ok(true);
-    };
-    let bytes = vote.encode(alloc)?;
-    Ok(packets.iter().any(|packet| carries(packet, bytes.as_slice())))
+    match vote {
+        None => Ok(true),
+        Some(vote) => is_sent(alloc, packets, &vote),
+    }
 }

@@ -3,4 +3,4 @@ use Rattle.simplex_judge.proofs.Sent.{count-votes}
 use Rattle.simplex_judge.proofs.sending.votes_among.Goals as goal
 
 pub returns : goal.returns
-returns c = ? ∙ count-votes c.args.packets.now
+returns c = c.count_votes.ensures ∙ count-votes c.args.packets.now

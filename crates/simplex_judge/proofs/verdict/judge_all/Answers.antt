@@ -6,7 +6,7 @@ pub loop-place-init : goal.loop-place-init
 loop-place-init c = (
   omega arith,
   omega arith,
-  λ setting same. stands-first c.in_ok-kept.field-0 setting c.args.events.now c.args.entries.now (c.in_ok-kept.ensures setting same),
+  λ setting same. stands-first c.in_ok-kept.kept setting c.args.events.now c.args.entries.now (c.in_ok-kept.ensures setting same),
 )
 
 pub returns-then-place-entries : goal.returns-then-place-entries
@@ -29,12 +29,12 @@ loop-place-preserved c = (
   omega (arith, c.loop-place-test.true),
   λ setting same. (
     stands-next c.judge.new.self setting c.args.events.now c.args.entries.now c.loop-place.place c.index-events-place.result c.index-entries-place.result c.loop-place-test.true
-    c.if-place-entries.false c.index-events-place.is c.index-entries-place.is
-    ((c.in_ok-fault.ensures setting same).stands (so_far c.args.events.now c.args.entries.now c.loop-place.place) (c.loop-place.invariant.2 setting same).0 c.in-None.is),
+        c.if-place-entries.false c.index-events-place.is c.index-entries-place.is
+        ((c.in_ok-fault.ensures setting same).stands (so_far c.args.events.now c.args.entries.now c.loop-place.place) (c.loop-place.invariant.2 setting same).0 c.in-None.is),
     left-next setting c.args.events.now c.args.entries.now c.loop-place.place c.index-events-place.result c.index-entries-place.result _ c.loop-place-test.true c.if-place-entries.false
-    c.index-events-place.is c.index-entries-place.is
-    (sym c.in-None.is ∙ (c.in_ok-fault.ensures setting same).answers (so_far c.args.events.now c.args.entries.now c.loop-place.place) (c.loop-place.invariant.2 setting same).0)
-    (c.loop-place.invariant.2 setting same).1,
+        c.index-events-place.is c.index-entries-place.is
+        (sym c.in-None.is ∙ (c.in_ok-fault.ensures setting same).answers (so_far c.args.events.now c.args.entries.now c.loop-place.place) (c.loop-place.invariant.2 setting same).0)
+        (c.loop-place.invariant.2 setting same).1,
   ),
 )
 

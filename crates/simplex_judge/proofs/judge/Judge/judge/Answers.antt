@@ -1,7 +1,21 @@
+use Rattle.std.proofs.Common.{true, false}
 use Rattle.model_run.specs.Setting.{setting_of}
 use Rattle.simplex_judge.proofs.Judged.{
-  judges-from, entry-fault, condition-fault, forged-fault, order-fault, votes-fault, conflict-fault, no-fault, told-fits, told-allows, told-genuine, told-stores,
-  told-sends, told-clashes, stands-on,
+  judges-from,
+  entry-fault,
+  condition-fault,
+  forged-fault,
+  order-fault,
+  votes-fault,
+  conflict-fault,
+  no-fault,
+  told-fits,
+  told-allows,
+  told-genuine,
+  told-stores,
+  told-sends,
+  told-clashes,
+  stands-on,
 }
 use Rattle.simplex_judge.proofs.judge.Judge.judge.Goals as goal
 
