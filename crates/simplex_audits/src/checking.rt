@@ -1,5 +1,5 @@
 //! The verdict on a record, and its text.
-ghost use Rattle.std.specs.Prelude.{◌≡◌, ⊥, List, ℕ, IfOk, Ok, string_bytes};
+ghost use Rattle.std.specs.Prelude.{◌≡◌, List, ℕ, IfOk, Ok, string_bytes};
 ghost use Rattle.simplex_audit_form.specs.declared.document.Document.{Document};
 ghost use Rattle.simplex_front.specs.Answer.{IsAnswer};
 ghost use Rattle.simplex_audits.specs.Checks.{CheckSays, IsNoDocument, NothingRefused};

@@ -128,9 +128,10 @@ fn signed(rt: &impl Abort, alloc: Global, signer: u32, subject: &Subject) -> Att
 {
     let scheme = Keyed::new(alloc, 1, 4, Some(Participant(signer))).expect(rt, "room");
     let signed = scheme.sign(subject).expect(rt, "it signs");
+    let signature = signed.signature;
     Attestation {
         signer: Participant(signer),
-        signature: signed.signature,
+        signature,
     }
 }
 
@@ -142,19 +143,23 @@ fn three(rt: &impl Abort, alloc: Global, subject: &Subject) -> Signatures {
     Signatures::new(attestations)
 }
 
-/// A notarization of another proposal of view 1, which three members signed.
-fn rival(rt: &impl Abort, alloc: Global) -> Certificate {
-    let proposal = Proposal {
+/// Another proposal of view 1 than that of the run.
+fn rival_proposal() -> Proposal {
+    Proposal {
         round: Round {
             epoch: Epoch(0),
             view: View(1),
         },
         parent: View(0),
         payload: Digest([99; 32]),
-    };
+    }
+}
+
+/// A notarization of it, which three members signed.
+fn rival(rt: &impl Abort, alloc: Global) -> Certificate {
     Certificate::Notarization(Notarization {
-        proposal,
-        certificate: three(rt, alloc, &Subject::Notarize(proposal)),
+        proposal: rival_proposal(),
+        certificate: three(rt, alloc, &Subject::Notarize(rival_proposal())),
     })
 }
 
