@@ -1,0 +1,11 @@
+pub mod Digits
+pub mod Names
+pub mod Kinds
+pub mod Settings
+pub mod Orders
+pub mod Lines
+pub mod Statements
+pub mod Scripts
+pub mod Post
+pub mod Planning
+pub mod Faults
