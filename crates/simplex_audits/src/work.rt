@@ -73,6 +73,22 @@ fn as_checked(answer: Answer<Verdict, Refusal>) -> Answer<AuditDone, Refusal>
     }
 }
 
+// The record of the run of the input that the bytes say.
+fn make_record(alloc: Global, bytes: &[u8]) -> Result<Answer<AuditDone, Refusal>, AllocError>
+    ensures { IfOk result (IsAnswer (DoneSays tasks.Record bytes.now) (RefusedSays tasks.Record bytes.now) (MisreadSays tasks.Record bytes.now)) }
+{
+    let answer = record(alloc, bytes)?;
+    Ok(as_recorded(answer))
+}
+
+// The verdict on the record that the bytes say.
+fn judge_record(alloc: Global, bytes: &[u8]) -> Result<Answer<AuditDone, Refusal>, AllocError>
+    ensures { IfOk result (IsAnswer (DoneSays tasks.Check bytes.now) (RefusedSays tasks.Check bytes.now) (MisreadSays tasks.Check bytes.now)) }
+{
+    let answer = check(alloc, bytes)?;
+    Ok(as_checked(answer))
+}
+
 impl Work<AuditTask, AuditDone, Refusal> for AuditWork {
     ghost asked = { λ work. asks_for };
 
@@ -106,8 +122,8 @@ impl Work<AuditTask, AuditDone, Refusal> for AuditWork {
         bytes: Vec<u8>,
     ) -> Result<Answer<AuditDone, Refusal>, AllocError> {
         match ask {
-            AuditTask::Record => Ok(as_recorded(record(alloc, &bytes)?)),
-            AuditTask::Check => Ok(as_checked(check(alloc, &bytes)?)),
+            AuditTask::Record => make_record(alloc, &bytes),
+            AuditTask::Check => judge_record(alloc, &bytes),
         }
     }
 }
