@@ -1,5 +1,5 @@
-//! The program: runs the events that standard input says, and writes the record of what came of them:
-//! `simplex_audit_cli record < input.json`.
+//! The program: runs the events that standard input says, and writes the record of what came of them,
+//! `simplex_audit_cli record < input.json`; or judges the record that it says, `simplex_audit_cli check < record.json`.
 //!
 //! It hands the process to [`audit_program`] and decides nothing. Of an exit by a fault or want of memory, for which standard output
 //! stays as it is, it says on standard error which it was.
