@@ -270,6 +270,7 @@ pub use Rattle.simplex_form.specs.Events as FormEvents
 pub use Rattle.simplex_form.specs.Form as FormForm
 pub use Rattle.simplex_form.specs.Input
 pub use Rattle.simplex_form.specs.Setup as FormSetup
+pub use Rattle.simplex_names.specs.Names as FormNames
 -- Of lines.
 pub use Rattle.simplex_text.specs.Lines
 pub use Rattle.simplex_text.specs.Refusals

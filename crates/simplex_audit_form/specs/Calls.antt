@@ -8,10 +8,11 @@ use Rattle.simplex_wire.specs.declared.artifact.Artifact.{Artifact}
 use Rattle.simplex_wire.specs.Format.{whole}
 use Rattle.simplex_wire.specs.Artifact as format
 use Rattle.simplex_form.specs.Form.{◌>>=◌, has_members, has_items, number_of, number_at, made}
-use Rattle.simplex_form.specs.Events.{hex_of, channel_of}
+use Rattle.simplex_form.specs.Events.{hex_of}
+use Rattle.simplex_names.specs.Names.{channel_word, channel_of}
 use Rattle.model_audit.specs.declared.record.AuditCall.{AuditCall}
 use Rattle.model_audit.specs.declared.record.AuditCall.TheVariants as audit
-use Rattle.simplex_audit_form.specs.Pieces.{certificate_of, number_data, hex_data, pair_data, certificate_data, channel_name}
+use Rattle.simplex_audit_form.specs.Pieces.{certificate_of, number_data, hex_data, pair_data, certificate_data}
 use Rattle.simplex_audit_form.specs.Took.{single}
 
 -- ---- what is read
@@ -78,6 +79,6 @@ abbrev pub call_data : AuditCall → Data
 call_data (audit.Append section artifact) = single (codes "append") (pair_data (number_data section) (hex_data (format.artifact.spelling artifact)))
 call_data (audit.Sync section) = single (codes "sync") (number_data section)
 call_data (audit.Prune least) = single (codes "prune") (number_data least)
-call_data (audit.Send channel bytes) = single (codes "send") (pair_data (string (channel_name channel)) (hex_data bytes))
+call_data (audit.Send channel bytes) = single (codes "send") (pair_data (string (channel_word channel)) (hex_data bytes))
 call_data (audit.Report certificate) = single (codes "report") (certificate_data certificate)
 call_data audit.Other = string (codes "other")

@@ -9,11 +9,12 @@ use Rattle.simplex_messages.specs.declared.step.Outcome.TheVariants as outcomes
 use Rattle.simplex_transcript.specs.declared.entry.Packet.{Packet}
 use Rattle.simplex_transcript.specs.declared.node.Node.{Node}
 use Rattle.simplex_form.specs.Form.{◌>>=◌, has_members, is_null, number_of, number_at, text_at, list_of}
-use Rattle.simplex_form.specs.Events.{hex_of, node_of, channel_of}
+use Rattle.simplex_form.specs.Events.{hex_of, node_of}
+use Rattle.simplex_names.specs.Names.{channel_word, channel_of}
 use Rattle.model_audit.specs.declared.record.AuditEntry.{AuditEntry}
 use Rattle.model_audit.specs.declared.record.AuditTook.{AuditTook}
 use Rattle.simplex_audit_form.specs.declared.entries.Head.{Head}
-use Rattle.simplex_audit_form.specs.Pieces.{certificate_of, number_data, hex_data, list_data, node_data, certificate_data, channel_name}
+use Rattle.simplex_audit_form.specs.Pieces.{certificate_of, number_data, hex_data, list_data, node_data, certificate_data}
 use Rattle.simplex_audit_form.specs.Took.{took_of, took_data}
 use Rattle.simplex_audit_form.specs.Requests.{asked_of, asked_data}
 use Rattle.simplex_audit_form.specs.Calls.{call_of, call_data}
@@ -95,7 +96,7 @@ entry_of d = if has_members 9 d then head_of d >>= with_lists d else None
 abbrev pub packet_data : Packet → Data
 packet_data packet =
     object (member (codes "bytes") (hex_data packet.bytes)
-    (member (codes "channel") (string (channel_name packet.channel))
+    (member (codes "channel") (string (channel_word packet.channel))
     (member (codes "from") (node_data packet.from)
     (member (codes "to") (list_data node_data packet.to) no_members))))
 

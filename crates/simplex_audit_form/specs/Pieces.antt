@@ -1,11 +1,9 @@
 -- The JSON forms of what entries are made of, as they are read and as they are written.
-use Rattle.std.specs.Prelude.{ℕ, List, map, codes, Option, Some, None, if◌then◌else◌}
+use Rattle.std.specs.Prelude.{ℕ, List, map, Option, Some, None, if◌then◌else◌}
 use Rattle.hex.specs.Hex.{encode_lower}
 use Rattle.serde_json.specs.Data.{Data, number, unsigned, string, array, no_items, item}
 use Rattle.serde_json.specs.Find.{at}
 use Rattle.serde_json.specs.View.{items_of}
-use Rattle.simplex_values.specs.declared.plan.Channel.{Channel}
-use Rattle.simplex_values.specs.declared.plan.Channel.TheVariants as channels
 use Rattle.simplex_values.specs.declared.round.Round.{Round}
 use Rattle.simplex_wire.specs.declared.certificate.Certificate.{Certificate}
 use Rattle.simplex_wire.specs.Format.{whole}
@@ -56,8 +54,3 @@ round_data round = pair_data (number_data round.epoch) (number_data round.view)
 
 abbrev pub certificate_data : Certificate → Data
 certificate_data c = hex_data (format.certificate.spelling c)
-
-abbrev pub channel_name : Channel → List ℕ
-channel_name channels.Vote = codes "vote"
-channel_name channels.Certificate = codes "certificate"
-channel_name channels.Resolver = codes "resolver"

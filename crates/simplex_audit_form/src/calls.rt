@@ -5,14 +5,16 @@ ghost use Rattle.simplex_form.specs.Form.{made};
 ghost use Rattle.simplex_wire.specs.Format.{whole};
 ghost use Rattle.simplex_wire.specs.Artifact as format;
 ghost use Rattle.simplex_audit_form.specs.Calls.{artifact_of, append_of, send_of, append_call_of, sync_call_of, prune_call_of, send_call_of, report_call_of, valued_call_of, named_call_of, call_of, call_data};
-ghost use Rattle.simplex_audit_form.specs.Pieces.{number_data, pair_data, hex_data, channel_name};
+ghost use Rattle.simplex_audit_form.specs.Pieces.{number_data, pair_data, hex_data};
+ghost use Rattle.simplex_names.specs.Names.{channel_word};
 ghost use Rattle.serde_json.specs.Data.{string};
 
 use crate::form::Form;
-use crate::pieces::{channel_name, write_hex, write_name};
+use crate::pieces::{write_hex, write_name};
 use model_audit::AuditCall;
 use serde_json::{Value, json};
-use simplex_form::{FromData, has_items, has_members, number_at, read_channel};
+use simplex_form::{FromData, has_items, has_members, number_at};
+use simplex_names::{channel_of, channel_word};
 use simplex_types::{Artifact, Bytes, Certificate, Channel, DecodeError};
 use std::alloc::{AllocError, Global};
 
@@ -68,7 +70,7 @@ fn read_send(alloc: Global, value: &Value) -> Result<Option<AuditCall>, AllocErr
     let Some(name) = first.as_str() else {
         return Ok(None);
     };
-    let Some(channel) = read_channel(name) else {
+    let Some(channel) = channel_of(name) else {
         return Ok(None);
     };
     let Some(second) = value.get(1usize) else {
@@ -164,9 +166,9 @@ fn write_append(alloc: Global, section: u64, artifact: &Artifact) -> Result<Valu
 }
 
 fn write_send(alloc: Global, channel: Channel, bytes: &Bytes) -> Result<Value, AllocError>
-    ensures { IfOk result (λ value. view value ≡ pair_data (string (channel_name channel)) (hex_data bytes.now)) }
+    ensures { IfOk result (λ value. view value ≡ pair_data (string (channel_word channel)) (hex_data bytes.now)) }
 {
-    let name = channel_name(channel);
+    let name = channel_word(channel);
     let spelled = write_hex(alloc, bytes.as_slice())?;
     json!(in alloc; [name, spelled])
 }

@@ -4,9 +4,10 @@ ghost use Rattle.serde_json.specs.View.{view};
 ghost use Rattle.simplex_audit_form.specs.Entries.{packet_of, packet_data};
 
 use crate::form::{Form, read_list, write_list};
-use crate::pieces::{channel_name, write_hex};
+use crate::pieces::write_hex;
 use serde_json::{Value, json};
-use simplex_form::{FromData, has_members, read_channel, text_at};
+use simplex_form::{FromData, has_members, text_at};
+use simplex_names::{channel_of, channel_word};
 use simplex_transcript::{Node, Packet};
 use simplex_types::Bytes;
 use std::alloc::{AllocError, Global};
@@ -26,7 +27,7 @@ fn read_packet(alloc: Global, value: &Value) -> Result<Option<Packet>, AllocErro
     let Some(name) = text_at(value, "channel") else {
         return Ok(None);
     };
-    let Some(channel) = read_channel(name) else {
+    let Some(channel) = channel_of(name) else {
         return Ok(None);
     };
     let Some(part) = value.get("to") else {
@@ -60,7 +61,7 @@ impl Form for Packet {
 
     fn write(&self, alloc: Global) -> Result<Value, AllocError> {
         let bytes = write_hex(alloc, self.bytes.as_slice())?;
-        let channel = channel_name(self.channel);
+        let channel = channel_word(self.channel);
         let from = self.from.write(alloc)?;
         let to = write_list(alloc, self.to.as_slice())?;
         json!(in alloc; {"bytes": bytes, "channel": channel, "from": from, "to": to})

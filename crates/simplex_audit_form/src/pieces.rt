@@ -6,13 +6,13 @@ ghost use Rattle.simplex_form.specs.Form.{made, number_of};
 ghost use Rattle.simplex_form.specs.Events.{node_of};
 ghost use Rattle.simplex_wire.specs.Format.{whole};
 ghost use Rattle.simplex_wire.specs.Message as format;
-ghost use Rattle.simplex_audit_form.specs.Pieces.{round_of, certificate_of, number_data, hex_data, node_data, ref_data, round_data, certificate_data, channel_name};
+ghost use Rattle.simplex_audit_form.specs.Pieces.{round_of, certificate_of, number_data, hex_data, node_data, ref_data, round_data, certificate_data};
 
 use crate::form::Form;
 use serde_json::{Value, json};
 use simplex_form::{FromData, has_items};
 use simplex_transcript::{Node, Ref};
-use simplex_types::{Bytes, Certificate, Channel, DecodeError, Epoch, Round, View};
+use simplex_types::{Bytes, Certificate, DecodeError, Epoch, Round, View};
 use std::alloc::{AllocError, Global};
 
 /// A round of an epoch.
@@ -61,17 +61,6 @@ pub(crate) fn write_name(alloc: Global, name: &str) -> Result<Value, AllocError>
     ensures { IfOk result (λ value. view value ≡ string name.now) }
 {
     Value::try_from_str(alloc, name)
-}
-
-/// The name of a channel.
-pub(crate) fn channel_name(channel: Channel) -> &'static str
-    ensures { result.now ≡ channel_name channel }
-{
-    match channel {
-        Channel::Vote => "vote",
-        Channel::Certificate => "certificate",
-        Channel::Resolver => "resolver",
-    }
 }
 
 fn decode_certificate(alloc: Global, bytes: &[u8]) -> Result<Option<Certificate>, AllocError>

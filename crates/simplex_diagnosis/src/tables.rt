@@ -14,17 +14,34 @@ pub(crate) struct Wanted {
 pub(crate) const KINDS: &str =
     "\"start\", \"tick\", \"deliver\", \"step\", \"answer\", \"crash\" or \"inject\"";
 
+// What a number is.
+const NUMBER: &str = "a whole number from 0, below 2^64";
+
+// The node that an event is of.
+const NODE: Wanted = Wanted {
+    name: "node",
+    sample: "[0,0]",
+    words: "[MEMBER, HALF], as [2,0]",
+};
+
+// Where a step or a start stops.
+const STOP: Wanted = Wanted {
+    name: "stop",
+    sample: "null",
+    words: "null, {\"cut\": CALL, \"keep\": RECORDS} or {\"fail\": CALL, \"keep\": RECORDS}",
+};
+
 /// The members of a setup.
 pub(crate) const SETUP: [Wanted; 18] = [
     Wanted {
         name: "epoch",
         sample: "0",
-        words: "a whole number from 0, below 2^64",
+        words: NUMBER,
     },
     Wanted {
         name: "key_base",
         sample: "0",
-        words: "a whole number from 0, below 2^64",
+        words: NUMBER,
     },
     Wanted {
         name: "members",
@@ -34,27 +51,27 @@ pub(crate) const SETUP: [Wanted; 18] = [
     Wanted {
         name: "term",
         sample: "1",
-        words: "a whole number from 0, below 2^64",
+        words: NUMBER,
     },
     Wanted {
         name: "lookahead",
         sample: "0",
-        words: "a whole number from 0, below 2^64",
+        words: NUMBER,
     },
     Wanted {
         name: "leader_timeout",
         sample: "1",
-        words: "a whole number from 0, below 2^64",
+        words: NUMBER,
     },
     Wanted {
         name: "certification_timeout",
         sample: "1",
-        words: "a whole number from 0, below 2^64",
+        words: NUMBER,
     },
     Wanted {
         name: "retry",
         sample: "1",
-        words: "a whole number from 0, below 2^64",
+        words: NUMBER,
     },
     Wanted {
         name: "stall",
@@ -64,7 +81,7 @@ pub(crate) const SETUP: [Wanted; 18] = [
     Wanted {
         name: "retention",
         sample: "1",
-        words: "a whole number from 0, below 2^64",
+        words: NUMBER,
     },
     Wanted {
         name: "skip",
@@ -79,7 +96,7 @@ pub(crate) const SETUP: [Wanted; 18] = [
     Wanted {
         name: "mailbox",
         sample: "1",
-        words: "a whole number from 0, below 2^64",
+        words: NUMBER,
     },
     Wanted {
         name: "track",
@@ -94,12 +111,12 @@ pub(crate) const SETUP: [Wanted; 18] = [
     Wanted {
         name: "fetch_timeout",
         sample: "1",
-        words: "a whole number from 0, below 2^64",
+        words: NUMBER,
     },
     Wanted {
         name: "fetch_retry",
         sample: "0",
-        words: "a whole number from 0, below 2^64",
+        words: NUMBER,
     },
     Wanted {
         name: "scenario",
@@ -115,21 +132,13 @@ const START: [Wanted; 4] = [
         sample: "\"start\"",
         words: KINDS,
     },
-    Wanted {
-        name: "node",
-        sample: "[0,0]",
-        words: "[MEMBER, HALF], as [2,0]",
-    },
+    NODE,
     Wanted {
         name: "floor",
         sample: "null",
         words: "null or the certificate of a finalization, two lower-case hex digits a byte",
     },
-    Wanted {
-        name: "stop",
-        sample: "null",
-        words: "null, {\"cut\": CALL, \"keep\": RECORDS} or {\"fail\": CALL, \"keep\": RECORDS}",
-    },
+    STOP,
 ];
 
 /// Of a tick.
@@ -142,7 +151,7 @@ const TICK: [Wanted; 2] = [
     Wanted {
         name: "ms",
         sample: "1",
-        words: "a whole number from 0, below 2^64",
+        words: NUMBER,
     },
 ];
 
@@ -153,11 +162,7 @@ const DELIVER: [Wanted; 3] = [
         sample: "\"deliver\"",
         words: KINDS,
     },
-    Wanted {
-        name: "node",
-        sample: "[0,0]",
-        words: "[MEMBER, HALF], as [2,0]",
-    },
+    NODE,
     Wanted {
         name: "packet",
         sample: "[1,0]",
@@ -172,21 +177,13 @@ const STEP: [Wanted; 4] = [
         sample: "\"step\"",
         words: KINDS,
     },
-    Wanted {
-        name: "node",
-        sample: "[0,0]",
-        words: "[MEMBER, HALF], as [2,0]",
-    },
+    NODE,
     Wanted {
         name: "source",
         sample: "\"voter\"",
         words: "\"batcher\", \"voter\", \"timer\", \"propose\", \"verify\", \"certify\", \"resolver\", \"handler\" or \"fetch\"",
     },
-    Wanted {
-        name: "stop",
-        sample: "null",
-        words: "null, {\"cut\": CALL, \"keep\": RECORDS} or {\"fail\": CALL, \"keep\": RECORDS}",
-    },
+    STOP,
 ];
 
 /// Of an answer.
@@ -196,11 +193,7 @@ const ANSWER: [Wanted; 4] = [
         sample: "\"answer\"",
         words: KINDS,
     },
-    Wanted {
-        name: "node",
-        sample: "[0,0]",
-        words: "[MEMBER, HALF], as [2,0]",
-    },
+    NODE,
     Wanted {
         name: "request",
         sample: "[1,0]",
@@ -220,11 +213,7 @@ const CRASH: [Wanted; 2] = [
         sample: "\"crash\"",
         words: KINDS,
     },
-    Wanted {
-        name: "node",
-        sample: "[0,0]",
-        words: "[MEMBER, HALF], as [2,0]",
-    },
+    NODE,
 ];
 
 /// Of an injection.
@@ -237,7 +226,7 @@ const INJECT: [Wanted; 5] = [
     Wanted {
         name: "member",
         sample: "0",
-        words: "a whole number from 0, below 2^64",
+        words: NUMBER,
     },
     Wanted {
         name: "channel",

@@ -10,8 +10,6 @@ use Rattle.serde_json.specs.Find.{get, at, as_str}
 use Rattle.simplex_values.specs.declared.answer.Answer.{Answer}
 use Rattle.simplex_values.specs.declared.answer.Answer.TheVariants as answers
 use Rattle.simplex_values.specs.declared.answer.Handoff.TheVariants as handoffs
-use Rattle.simplex_values.specs.declared.plan.Channel.{Channel}
-use Rattle.simplex_values.specs.declared.plan.Channel.TheVariants as channels
 use Rattle.simplex_wire.specs.declared.certificate.Certificate.{Certificate}
 use Rattle.simplex_wire.specs.declared.certificate.Certificate.TheVariants as certificates
 use Rattle.simplex_wire.specs.declared.certificate.Finalization.{Finalization}
@@ -21,10 +19,9 @@ use Rattle.simplex_messages.specs.declared.step.Stop.{Stop}
 use Rattle.simplex_messages.specs.declared.step.Stop.TheVariants as stops
 use Rattle.simplex_transcript.specs.declared.node.Node.{Node}
 use Rattle.simplex_transcript.specs.declared.node.Ref.{Ref}
-use Rattle.simplex_transcript.specs.declared.event.StepSource.{StepSource}
-use Rattle.simplex_transcript.specs.declared.event.StepSource.TheVariants as sources
 use Rattle.simplex_transcript.specs.declared.event.Event.{Event}
 use Rattle.simplex_transcript.specs.declared.event.Event.TheVariants as events
+use Rattle.simplex_names.specs.Names.{channel_of, source_of}
 use Rattle.simplex_form.specs.Form.{◌>>=◌, has_members, has_items, is_null, number_of, number_at, text_at, flag_at, made, list_of}
 
 -- ---- hex
@@ -155,28 +152,6 @@ abbrev pub answer_of : Data → Option Answer
 answer_of d = answer_or d (as_str d)
 
 -- ---- events
-
--- what a step takes from
-abbrev pub source_of : List ℕ → Option StepSource
-source_of name =
-    if bytes_eq name (codes "batcher") then Some sources.Batcher else
-    if bytes_eq name (codes "voter") then Some sources.Voter else
-    if bytes_eq name (codes "timer") then Some sources.Timer else
-    if bytes_eq name (codes "propose") then Some sources.Propose else
-    if bytes_eq name (codes "verify") then Some sources.Verify else
-    if bytes_eq name (codes "certify") then Some sources.Certify else
-    if bytes_eq name (codes "resolver") then Some sources.Resolver else
-    if bytes_eq name (codes "handler") then Some sources.Handler else
-    if bytes_eq name (codes "fetch") then Some sources.Fetch else
-    None
-
--- on which channel bytes are sent
-abbrev pub channel_of : List ℕ → Option Channel
-channel_of name =
-    if bytes_eq name (codes "vote") then Some channels.Vote else
-    if bytes_eq name (codes "certificate") then Some channels.Certificate else
-    if bytes_eq name (codes "resolver") then Some channels.Resolver else
-    None
 
 -- {"do": "start", "node": NODE, "floor": FLOOR, "stop": STOP}
 abbrev pub start_event_of : Data → Option Event

@@ -13,27 +13,12 @@ use Rattle.simplex_transcript.specs.declared.setup.MemberKind.{MemberKind}
 use Rattle.simplex_transcript.specs.declared.setup.MemberKind.TheVariants as kinds
 use Rattle.simplex_transcript.specs.declared.setup.SetupRound.{SetupRound}
 use Rattle.simplex_transcript.specs.declared.setup.Setup.{Setup}
+use Rattle.simplex_names.specs.Names.{named_kind_of}
 use Rattle.simplex_form.specs.declared.setup.Committee.{Committee}
 use Rattle.simplex_form.specs.declared.setup.Timing.{Timing}
 use Rattle.simplex_form.specs.declared.setup.Policies.{Policies}
 use Rattle.simplex_form.specs.declared.setup.Fetching.{Fetching}
 use Rattle.simplex_form.specs.Form.{◌>>=◌, has_members, is_null, number_of, number_at, text_at, flag_at, list_of}
-
--- a kind of member that is written as a text
-abbrev pub named_kind_of : List ℕ → Option MemberKind
-named_kind_of name =
-    if bytes_eq name (codes "honest") then Some kinds.Honest else
-    if bytes_eq name (codes "silent") then Some kinds.Silent else
-    if bytes_eq name (codes "conflicter") then Some kinds.Conflicter else
-    if bytes_eq name (codes "equivocator") then Some kinds.Equivocator else
-    if bytes_eq name (codes "impersonator") then Some kinds.Impersonator else
-    if bytes_eq name (codes "nuller") then Some kinds.Nuller else
-    if bytes_eq name (codes "nullify_only") then Some kinds.NullifyOnly else
-    if bytes_eq name (codes "reconfigurer") then Some kinds.Reconfigurer else
-    if bytes_eq name (codes "corrupt") then Some kinds.Corrupt else
-    if bytes_eq name (codes "unrecovering") then Some kinds.Unrecovering else
-    if bytes_eq name (codes "twin") then Some kinds.Twin else
-    None
 
 -- {"outdated": 3}
 abbrev pub outdated_of : Data → Option MemberKind

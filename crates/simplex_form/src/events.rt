@@ -1,7 +1,7 @@
 //! Reads events.
 ghost use Rattle.std.specs.Prelude.{◌≡◌, IfOk};
 ghost use Rattle.serde_json.specs.View.{view};
-ghost use Rattle.simplex_form.specs.Events.{source_of, channel_of, start_event_of, tick_event_of, deliver_event_of, step_event_of, answer_event_of, crash_event_of, inject_event_of, event_of};
+ghost use Rattle.simplex_form.specs.Events.{start_event_of, tick_event_of, deliver_event_of, step_event_of, answer_event_of, crash_event_of, inject_event_of, event_of};
 
 use crate::answers::read_answer;
 use crate::floors::read_floor;
@@ -10,38 +10,9 @@ use crate::pieces::{FromData, has_members, number_at, read_list, text_at};
 use crate::references::{node_at, read_ref};
 use crate::stops::stop_at;
 use serde_json::Value;
-use simplex_transcript::{Event, StepSource};
-use simplex_types::Channel;
+use simplex_names::{channel_of, source_of};
+use simplex_transcript::Event;
 use std::alloc::{AllocError, Global};
-
-fn read_source(name: &str) -> Option<StepSource>
-    ensures { result ≡ source_of name.now }
-{
-    match name {
-        "batcher" => Some(StepSource::Batcher),
-        "voter" => Some(StepSource::Voter),
-        "timer" => Some(StepSource::Timer),
-        "propose" => Some(StepSource::Propose),
-        "verify" => Some(StepSource::Verify),
-        "certify" => Some(StepSource::Certify),
-        "resolver" => Some(StepSource::Resolver),
-        "handler" => Some(StepSource::Handler),
-        "fetch" => Some(StepSource::Fetch),
-        _ => None,
-    }
-}
-
-/// The channel of this name.
-pub fn read_channel(name: &str) -> Option<Channel>
-    ensures { result ≡ channel_of name.now }
-{
-    match name {
-        "vote" => Some(Channel::Vote),
-        "certificate" => Some(Channel::Certificate),
-        "resolver" => Some(Channel::Resolver),
-        _ => None,
-    }
-}
 
 fn read_start_event(alloc: Global, value: &Value) -> Result<Option<Event>, AllocError>
     ensures { IfOk result (λ o. o ≡ start_event_of (view value.now)) }
@@ -92,7 +63,7 @@ fn read_step_event(value: &Value) -> Option<Event>
         return None;
     }
     let node = node_at(value)?;
-    let source = read_source(text_at(value, "source")?)?;
+    let source = source_of(text_at(value, "source")?)?;
     let stop = stop_at(value)?;
     Some(Event::Step { node, source, stop })
 }
@@ -135,7 +106,7 @@ fn read_inject_event(alloc: Global, value: &Value) -> Result<Option<Event>, Allo
     let Some(name) = text_at(value, "channel") else {
         return Ok(None);
     };
-    let Some(channel) = read_channel(name) else {
+    let Some(channel) = channel_of(name) else {
         return Ok(None);
     };
     let Some(list) = value.get("to") else {

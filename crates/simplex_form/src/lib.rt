@@ -19,7 +19,7 @@ mod stream;
 mod values;
 
 pub use answers::read_answer;
-pub use events::{read_channel, read_event};
+pub use events::read_event;
 pub use fault::InputFault;
 pub use hex_text::read_digest;
 pub use input::{Input, read_input, read_run, read_value};

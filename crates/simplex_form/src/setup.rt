@@ -1,10 +1,11 @@
 //! Reads a setup: an object of eighteen members, in four parts.
 ghost use Rattle.std.specs.Prelude.{◌≡◌, IfOk};
 ghost use Rattle.serde_json.specs.View.{view};
-ghost use Rattle.simplex_form.specs.Setup.{named_kind_of, outdated_of, kind_of, round_of, limit_of, budget_of, enabled_of, skip_of, forward_of, committee_of, timing_of, policies_of, fetching_of, joined, setup_of};
+ghost use Rattle.simplex_form.specs.Setup.{outdated_of, kind_of, round_of, limit_of, budget_of, enabled_of, skip_of, forward_of, committee_of, timing_of, policies_of, fetching_of, joined, setup_of};
 
 use crate::pieces::{FromData, flag_at, has_members, number_at, read_list, text_at};
 use serde_json::Value;
+use simplex_names::named_kind_of;
 use simplex_transcript::{MemberKind, Setup, SetupRound};
 use simplex_types::{ForwardPolicy, Sequence, SkipBudget, SkipPolicy};
 use std::alloc::{AllocError, Global};
@@ -47,25 +48,6 @@ struct Fetching {
     scenario: Sequence<SetupRound>,
 }
 
-fn read_named_kind(name: &str) -> Option<MemberKind>
-    ensures { result ≡ named_kind_of name.now }
-{
-    match name {
-        "honest" => Some(MemberKind::Honest),
-        "silent" => Some(MemberKind::Silent),
-        "conflicter" => Some(MemberKind::Conflicter),
-        "equivocator" => Some(MemberKind::Equivocator),
-        "impersonator" => Some(MemberKind::Impersonator),
-        "nuller" => Some(MemberKind::Nuller),
-        "nullify_only" => Some(MemberKind::NullifyOnly),
-        "reconfigurer" => Some(MemberKind::Reconfigurer),
-        "corrupt" => Some(MemberKind::Corrupt),
-        "unrecovering" => Some(MemberKind::Unrecovering),
-        "twin" => Some(MemberKind::Twin),
-        _ => None,
-    }
-}
-
 fn read_outdated(value: &Value) -> Option<MemberKind>
     ensures { result ≡ outdated_of (view value.now) }
 {
@@ -80,7 +62,7 @@ fn read_kind(value: &Value) -> Option<MemberKind>
     ensures { result ≡ kind_of (view value.now) }
 {
     match value.as_str() {
-        Some(name) => read_named_kind(name),
+        Some(name) => named_kind_of(name),
         None => read_outdated(value),
     }
 }

@@ -17,7 +17,7 @@ use Rattle.simplex_generator.specs.Undelivered.{is_same_ref}
 use Rattle.simplex_text.specs.Lines.{pieces}
 use Rattle.simplex_trace.specs.Deeds.{node_text, ref_text, spaced}
 use Rattle.simplex_trace.specs.Items.{ask_text}
-use Rattle.simplex_trace.specs.Words.{channel_word, source_word}
+use Rattle.simplex_names.specs.Names.{channel_word, source_word}
 
 -- an item behind what stands before it
 abbrev pub item : List ℕ → List ℕ

@@ -1,34 +1,15 @@
 -- What the words ask for.
-use Rattle.std.specs.Prelude.{ℕ, ◌+◌, ◌-◌, ◌*◌, ◌==◌, ◌^◌, nat_le, nat_lt, true, false, List, [], ◌∷◌, ◌++◌, flat_map, map}
+use Rattle.std.specs.Prelude.{ℕ, nat_le, true, false, List, [], ◌∷◌, ◌++◌, flat_map, map}
 use Rattle.std.specs.Prelude.{Option, None, Some, option_and_then, option_map, String, codes, string_bytes, if◌then◌else◌}
-use Rattle.std.specs.Char.{is_ascii_digit}
 use Rattle.std.specs.Str.{bytes_eq}
 use Rattle.std.specs.declared.alloc.Global.{Global}
 use Rattle.simplex_simulator.specs.declared.plan.Chances.{Chances}
+use Rattle.simplex_names.specs.Numbers.{number_of}
 use Rattle.simplex_drawing.specs.Words.{wish_of}
 use Rattle.simplex_lab.specs.declared.words.Order.{Order}
 use Rattle.simplex_lab.specs.declared.words.TheConstants.{ALWAYS, MOST_STEPS}
 use Rattle.simplex_lab.specs.declared.words.Word.{Word}
 use Rattle.simplex_lab.specs.declared.words.Word.TheVariants as asks
-
--- the number, if it is below 2^64
-abbrev pub in_range : ℕ → Option ℕ
-in_range number = if nat_lt number (2 ^ 64) then Some number else None
-
--- one digit more
-abbrev pub with_digit : ℕ → ℕ → Option ℕ
-with_digit number byte = if is_ascii_digit byte then in_range (10 * number + (byte - 48)) else None
-
--- the digits behind those of a number
-abbrev pub number_behind : ℕ → List ℕ → Option ℕ
-number_behind number [] = Some number
-number_behind number (byte ∷ bytes) = option_and_then (λ more. number_behind more bytes) (with_digit number byte)
-
--- a number below 2^64, in digits without a leading zero
-abbrev pub number_of : List ℕ → Option ℕ
-number_of [] = None
-number_of (byte ∷ []) = number_behind 0 (byte ∷ [])
-number_of (byte ∷ next ∷ bytes) = if byte == 48 then None else number_behind 0 (byte ∷ next ∷ bytes)
 
 -- a number that is no greater
 abbrev pub number_up_to : ℕ → List ℕ → Option ℕ

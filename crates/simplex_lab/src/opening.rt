@@ -6,8 +6,9 @@ ghost use Rattle.simplex_transcript.specs.declared.event.StepSource.{StepSource}
 ghost use Rattle.simplex_lab.specs.Opening as opening;
 
 use simplex_generator::{Requests, SOURCES, Unanswered};
+use simplex_names::{channel_word, source_word};
 use simplex_network::{Network, Transcript};
-use simplex_trace::{ask_text, channel_word, node_text, ref_text, source_word, spaced};
+use simplex_trace::{ask_text, node_text, ref_text, spaced};
 use simplex_transcript::{Entry, Event, Node, Packet, Ref, StepSource};
 use std::alloc::{AllocError, Global};
 

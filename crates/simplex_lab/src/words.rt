@@ -3,6 +3,7 @@ ghost use Rattle.std.specs.Prelude.{◌≡◌, ◌<◌, ◌≤◌, ◌^◌, ℕ,
 ghost use Rattle.simplex_lab.specs.Words as said;
 
 use simplex_drawing::{Wish, wish_of};
+use simplex_names::number_of;
 use simplex_simulator::{Chances, Plan};
 use simplex_types::{Bytes, Sequence};
 use std::alloc::{AllocError, Global};
@@ -35,45 +36,11 @@ pub enum Word {
     Shrink(Bytes),
 }
 
-// The digit behind these, where the number stays below 2^64.
-fn with_digit(number: u64, byte: u8) -> Option<u64>
-    ensures { result ≡ said.with_digit number byte }
-{
-    if !byte.is_ascii_digit() {
-        return None;
-    }
-    number.checked_mul(10)?.checked_add(u64::from(byte - b'0'))
-}
-
-// The number that the digits behind these make.
-fn number_behind(number: u64, digits: &[u8]) -> Option<u64>
-    ensures { result ≡ said.number_behind number digits.now }
-{
-    let mut number = number;
-    let mut rest = digits;
-    while let [byte, after @ ..] = rest {
-        number = with_digit(number, *byte)?;
-        rest = after;
-    }
-    Some(number)
-}
-
-// The number that a word is, in digits without a leading zero.
-fn number_of(word: &[u8]) -> Option<u64>
-    ensures { result ≡ said.number_of word.now }
-{
-    match word {
-        [] => None,
-        [b'0', _, ..] => None,
-        digits => number_behind(0, digits),
-    }
-}
-
 // The number that a word is, where it is no greater than this.
 fn number_up_to(most: u64, word: &String) -> Option<u64>
     ensures { result ≡ said.number_up_to most (string_bytes word.now) }
 {
-    let number = number_of(word.as_bytes())?;
+    let number = number_of(word.as_str())?;
     if number <= most { Some(number) } else { None }
 }
 
@@ -176,7 +143,7 @@ fn simulation_of(words: &[String]) -> Option<Word>
 {
     match words {
         [] => None,
-        [seed, after @ ..] => simulation_from(number_of(seed.as_bytes())?, after),
+        [seed, after @ ..] => simulation_from(number_of(seed.as_str())?, after),
     }
 }
 

@@ -4,10 +4,11 @@ use crate::message::Message;
 use crate::text::bytes_in_short;
 use model_rules::Asked;
 use simplex_messages::{Call, Outcome};
+use simplex_names::channel_word;
 use simplex_transcript::{Entry, Event, MemberKind, Packet, StepSource};
 use simplex_types::{
-    Activity, Answer, Artifact, Attestation, BlockCause, Certificate, Channel, Digest, Handoff,
-    Plan, Proposal, Recipients, Vote,
+    Activity, Answer, Artifact, Attestation, BlockCause, Certificate, Digest, Handoff, Plan,
+    Proposal, Recipients, Vote,
 };
 use std::alloc::{AllocError, Global};
 
@@ -46,14 +47,6 @@ fn source_word(source: StepSource) -> &'static str {
         StepSource::Resolver => "a message from the resolver's mailbox",
         StepSource::Handler => "a message from the fetcher's mailbox",
         StepSource::Fetch => "the fetcher's deadline",
-    }
-}
-
-fn channel_word(channel: Channel) -> &'static str {
-    match channel {
-        Channel::Vote => "vote",
-        Channel::Certificate => "certificate",
-        Channel::Resolver => "resolver",
     }
 }
 

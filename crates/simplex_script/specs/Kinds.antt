@@ -3,24 +3,9 @@ use Rattle.std.specs.Prelude.{ℕ, List, [], ◌∷◌, codes, Option, Some, Non
 use Rattle.std.specs.Str.{bytes_eq}
 use Rattle.simplex_transcript.specs.declared.setup.MemberKind.{MemberKind}
 use Rattle.simplex_transcript.specs.declared.setup.MemberKind.TheVariants as kinds
-use Rattle.simplex_script.specs.Digits.{number_of}
+use Rattle.simplex_names.specs.Names.{named_kind_of}
+use Rattle.simplex_names.specs.Numbers.{number_of}
 use Rattle.simplex_script.specs.Names.{has, before, behind}
-
--- a kind that one word says
-abbrev pub plain_kind : List ℕ → Option MemberKind
-plain_kind word =
-    if bytes_eq word (codes "honest") then Some kinds.Honest else
-    if bytes_eq word (codes "silent") then Some kinds.Silent else
-    if bytes_eq word (codes "conflicter") then Some kinds.Conflicter else
-    if bytes_eq word (codes "equivocator") then Some kinds.Equivocator else
-    if bytes_eq word (codes "impersonator") then Some kinds.Impersonator else
-    if bytes_eq word (codes "nuller") then Some kinds.Nuller else
-    if bytes_eq word (codes "nullify_only") then Some kinds.NullifyOnly else
-    if bytes_eq word (codes "reconfigurer") then Some kinds.Reconfigurer else
-    if bytes_eq word (codes "corrupt") then Some kinds.Corrupt else
-    if bytes_eq word (codes "unrecovering") then Some kinds.Unrecovering else
-    if bytes_eq word (codes "twin") then Some kinds.Twin else
-    None
 
 -- outdated by so many views
 abbrev pub outdated : List ℕ → Option ℕ → Option MemberKind
@@ -29,7 +14,7 @@ outdated word None = None
 
 -- a kind; behind a colon stands by how many views it is outdated
 abbrev pub kind_of : List ℕ → Option MemberKind
-kind_of word = if has 58 word then outdated (before 58 word) (number_of (behind 58 word)) else plain_kind word
+kind_of word = if has 58 word then outdated (before 58 word) (number_of (behind 58 word)) else named_kind_of word
 
 abbrev pub with_kind : Option MemberKind → Option (List MemberKind) → Option (List MemberKind)
 with_kind (Some kind) (Some kinds_) = Some (kind ∷ kinds_)

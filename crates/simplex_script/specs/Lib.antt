@@ -1,4 +1,4 @@
-pub mod Digits
+pub mod Payloads
 pub mod Names
 pub mod Kinds
 pub mod Settings

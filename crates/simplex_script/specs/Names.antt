@@ -3,16 +3,12 @@ use Rattle.std.specs.Prelude.{ℕ, ◌==◌, nat_lt, Bool, true, false, List, le
 use Rattle.std.specs.List.{before_first, after_first, position_or_len}
 use Rattle.std.specs.Option.{option_map}
 use Rattle.std.specs.Str.{bytes_eq}
-use Rattle.simplex_values.specs.declared.plan.Channel.{Channel}
-use Rattle.simplex_values.specs.declared.plan.Channel.TheVariants as channels
 use Rattle.simplex_transcript.specs.declared.node.Node.{Node}
-use Rattle.simplex_transcript.specs.declared.event.StepSource.{StepSource}
-use Rattle.simplex_transcript.specs.declared.event.StepSource.TheVariants as sources
+use Rattle.simplex_names.specs.Numbers.{number_of}
 use Rattle.simplex_script.specs.declared.command.Question.{Question}
 use Rattle.simplex_script.specs.declared.command.Question.TheVariants as questions
 use Rattle.simplex_script.specs.declared.command.Whom.{Whom}
 use Rattle.simplex_script.specs.declared.command.Whom.TheVariants as whoms
-use Rattle.simplex_script.specs.Digits.{number_of}
 
 -- whether the byte stands in the word
 abbrev pub has : ℕ → List ℕ → Bool
@@ -46,34 +42,9 @@ pointed word = if has 62 word then (if length (before 62 word) == 0 then node_of
 abbrev pub way_of : List ℕ → Option (Node × Node)
 way_of word = if has 45 word then both (node_of (before 45 word)) (pointed (behind 45 word)) else None
 
-abbrev pub channel_of : List ℕ → Option Channel
-channel_of word =
-    if bytes_eq word (codes "vote") then Some channels.Vote else
-    if bytes_eq word (codes "certificate") then Some channels.Certificate else
-    if bytes_eq word (codes "resolver") then Some channels.Resolver else
-    None
-
-abbrev pub channel_word : Channel → List ℕ
-channel_word channels.Vote = codes "vote"
-channel_word channels.Certificate = codes "certificate"
-channel_word channels.Resolver = codes "resolver"
-
 abbrev pub question_word : Question → List ℕ
 question_word questions.Verify = codes "verify"
 question_word questions.Certify = codes "certify"
-
-abbrev pub source_of : List ℕ → Option StepSource
-source_of word =
-    if bytes_eq word (codes "batcher") then Some sources.Batcher else
-    if bytes_eq word (codes "voter") then Some sources.Voter else
-    if bytes_eq word (codes "timer") then Some sources.Timer else
-    if bytes_eq word (codes "propose") then Some sources.Propose else
-    if bytes_eq word (codes "verify") then Some sources.Verify else
-    if bytes_eq word (codes "certify") then Some sources.Certify else
-    if bytes_eq word (codes "resolver") then Some sources.Resolver else
-    if bytes_eq word (codes "handler") then Some sources.Handler else
-    if bytes_eq word (codes "fetch") then Some sources.Fetch else
-    None
 
 abbrev pub verdict_of : List ℕ → Option Bool
 verdict_of word = if bytes_eq word (codes "yes") then Some true else if bytes_eq word (codes "no") then Some false else None

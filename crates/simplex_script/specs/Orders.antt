@@ -11,9 +11,11 @@ use Rattle.simplex_script.specs.declared.command.Command.{Command}
 use Rattle.simplex_script.specs.declared.command.Command.TheVariants as commands
 use Rattle.simplex_script.specs.declared.command.Question.{Question}
 use Rattle.simplex_script.specs.declared.command.Whom.{Whom}
-use Rattle.simplex_script.specs.Digits.{number_of, payload_of}
+use Rattle.simplex_names.specs.Names.{channel_of, source_of}
+use Rattle.simplex_names.specs.Numbers.{number_of}
+use Rattle.simplex_script.specs.Payloads.{payload_of}
 use Rattle.simplex_script.specs.Lines.{pair_of}
-use Rattle.simplex_script.specs.Names.{channel_of, node_of, source_of, verdict_of, way_of, whom_of}
+use Rattle.simplex_script.specs.Names.{node_of, verdict_of, way_of, whom_of}
 
 -- how a step stops at a call, with so many records kept
 abbrev pub stop_with : List ℕ → Option ℕ → Option ℕ → Option Stop

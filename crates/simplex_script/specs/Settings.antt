@@ -9,7 +9,7 @@ use Rattle.simplex_script.specs.declared.change.Setting.{Setting}
 use Rattle.simplex_script.specs.declared.change.Setting.TheVariants as settings
 use Rattle.simplex_script.specs.declared.change.Change.{Change}
 use Rattle.simplex_script.specs.declared.change.Change.TheVariants as changes
-use Rattle.simplex_script.specs.Digits.{number_of}
+use Rattle.simplex_names.specs.Numbers.{number_of}
 use Rattle.simplex_script.specs.Names.{verdict_of}
 
 abbrev pub setting_of : List ℕ → Option Setting

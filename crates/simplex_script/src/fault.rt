@@ -3,7 +3,8 @@ ghost use Rattle.std.specs.Prelude.{◌≡◌, IfOk, string_bytes};
 ghost use Rattle.simplex_script.specs.Faults as said;
 
 use crate::command::Question;
-use crate::names::{channel_word, question_word};
+use crate::names::question_word;
+use simplex_names::channel_word;
 use simplex_transcript::Node;
 use simplex_types::Channel;
 use std::alloc::{AllocError, Global};

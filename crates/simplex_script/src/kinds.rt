@@ -2,30 +2,10 @@
 ghost use Rattle.std.specs.Prelude.{◌≡◌, IfOk, map};
 ghost use Rattle.simplex_script.specs.Kinds as said;
 
-use crate::digits::number_of;
+use simplex_names::{named_kind_of, number_of};
 use simplex_transcript::MemberKind;
 use simplex_types::Sequence;
 use std::alloc::{AllocError, Global};
-
-// A kind that one word says.
-fn plain_kind(word: &str) -> Option<MemberKind>
-    ensures { result ≡ said.plain_kind word.now }
-{
-    match word {
-        "honest" => Some(MemberKind::Honest),
-        "silent" => Some(MemberKind::Silent),
-        "conflicter" => Some(MemberKind::Conflicter),
-        "equivocator" => Some(MemberKind::Equivocator),
-        "impersonator" => Some(MemberKind::Impersonator),
-        "nuller" => Some(MemberKind::Nuller),
-        "nullify_only" => Some(MemberKind::NullifyOnly),
-        "reconfigurer" => Some(MemberKind::Reconfigurer),
-        "corrupt" => Some(MemberKind::Corrupt),
-        "unrecovering" => Some(MemberKind::Unrecovering),
-        "twin" => Some(MemberKind::Twin),
-        _ => None,
-    }
-}
 
 // `outdated`, by so many views.
 fn outdated(word: &str, views: Option<u64>) -> Option<MemberKind>
@@ -45,7 +25,7 @@ fn kind_of(word: &str) -> Option<MemberKind>
 {
     match word.split_once(':') {
         Some((kind, views)) => outdated(kind, number_of(views)),
-        None => plain_kind(word),
+        None => named_kind_of(word),
     }
 }
 

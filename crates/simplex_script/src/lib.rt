@@ -8,12 +8,12 @@
 mod asking;
 mod change;
 mod command;
-mod digits;
 mod fault;
 mod kinds;
 mod lines;
 mod names;
 mod orders;
+mod payloads;
 mod planning;
 mod post;
 mod script;

@@ -3,9 +3,8 @@ ghost use Rattle.std.specs.Prelude.{◌≡◌};
 ghost use Rattle.simplex_script.specs.Names as said;
 
 use crate::command::{Question, Whom};
-use crate::digits::number_of;
-use simplex_transcript::{Node, StepSource};
-use simplex_types::Channel;
+use simplex_names::number_of;
+use simplex_transcript::Node;
 
 // The node of these two numbers, if they are some.
 fn node_with(member: Option<u64>, half: Option<u64>) -> Option<Node>
@@ -61,29 +60,6 @@ pub(crate) fn way_of(word: &str) -> Option<(Node, Node)>
     }
 }
 
-/// A channel.
-pub(crate) fn channel_of(word: &str) -> Option<Channel>
-    ensures { result ≡ said.channel_of word.now }
-{
-    match word {
-        "vote" => Some(Channel::Vote),
-        "certificate" => Some(Channel::Certificate),
-        "resolver" => Some(Channel::Resolver),
-        _ => None,
-    }
-}
-
-/// The word for a channel.
-pub(crate) fn channel_word(channel: Channel) -> &'static str
-    ensures { result.now ≡ said.channel_word channel }
-{
-    match channel {
-        Channel::Vote => "vote",
-        Channel::Certificate => "certificate",
-        Channel::Resolver => "resolver",
-    }
-}
-
 /// The word for what is asked.
 pub(crate) fn question_word(question: Question) -> &'static str
     ensures { result.now ≡ said.question_word question }
@@ -91,24 +67,6 @@ pub(crate) fn question_word(question: Question) -> &'static str
     match question {
         Question::Verify => "verify",
         Question::Certify => "certify",
-    }
-}
-
-/// What a step takes from.
-pub(crate) fn source_of(word: &str) -> Option<StepSource>
-    ensures { result ≡ said.source_of word.now }
-{
-    match word {
-        "batcher" => Some(StepSource::Batcher),
-        "voter" => Some(StepSource::Voter),
-        "timer" => Some(StepSource::Timer),
-        "propose" => Some(StepSource::Propose),
-        "verify" => Some(StepSource::Verify),
-        "certify" => Some(StepSource::Certify),
-        "resolver" => Some(StepSource::Resolver),
-        "handler" => Some(StepSource::Handler),
-        "fetch" => Some(StepSource::Fetch),
-        _ => None,
     }
 }
 

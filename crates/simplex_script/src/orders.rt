@@ -1,14 +1,15 @@
 //! The commands that make events.
 ghost use Rattle.std.specs.Prelude.{◌≡◌, IfOk, Some, map};
-ghost use Rattle.simplex_script.specs.Digits as digits;
+ghost use Rattle.simplex_names.specs.Names as shared;
 ghost use Rattle.simplex_script.specs.Names as names;
 ghost use Rattle.simplex_script.specs.Orders as said;
 
 use crate::command::{Command, Question};
-use crate::digits::{number_of, payload_of};
 use crate::lines::pair_of;
-use crate::names::{channel_of, node_of, source_of, verdict_of, way_of, whom_of};
+use crate::names::{node_of, verdict_of, way_of, whom_of};
+use crate::payloads::payload_of;
 use simplex_messages::Stop;
+use simplex_names::{channel_of, number_of, source_of};
 use simplex_transcript::Node;
 use simplex_types::Sequence;
 use std::alloc::{AllocError, Global};
@@ -177,7 +178,7 @@ pub(crate) fn settle_of(alloc: Global, words: &[&str]) -> Result<Option<Command>
 }
 
 fn stepped(node: &str, source: &str, stop: Option<Stop>) -> Option<Command>
-    ensures { result ≡ said.step_with (names.node_of node.now) (names.source_of source.now) stop }
+    ensures { result ≡ said.step_with (names.node_of node.now) (shared.source_of source.now) stop }
 {
     let node = node_of(node)?;
     let source = source_of(source)?;

@@ -2,13 +2,13 @@
 ghost use Rattle.std.specs.Prelude.{◌≡◌};
 ghost use Rattle.std.specs.Option.{option_map};
 ghost use Rattle.simplex_script.specs.declared.change.Change.TheVariants as changes;
-ghost use Rattle.simplex_script.specs.Digits as digits;
+ghost use Rattle.simplex_names.specs.Numbers as numbers;
 ghost use Rattle.simplex_script.specs.Names as names;
 ghost use Rattle.simplex_script.specs.Settings as said;
 
 use crate::change::{Change, Setting};
-use crate::digits::number_of;
 use crate::names::verdict_of;
+use simplex_names::number_of;
 use simplex_transcript::Setup;
 use simplex_types::ForwardPolicy;
 
@@ -34,7 +34,7 @@ fn setting_of(name: &str) -> Option<Setting>
 }
 
 fn number_change(name: &str, value: &str) -> Option<Change>
-    ensures { result ≡ said.number_with (said.setting_of name.now) (digits.number_of value.now) }
+    ensures { result ≡ said.number_with (said.setting_of name.now) (numbers.number_of value.now) }
 {
     let setting = setting_of(name)?;
     let value = number_of(value)?;

@@ -9,8 +9,8 @@ use Rattle.simplex_transcript.specs.declared.node.Node.{Node}
 use Rattle.simplex_transcript.specs.declared.node.Ref.{Ref}
 use Rattle.simplex_transcript.specs.declared.event.Event.{Event}
 use Rattle.simplex_transcript.specs.declared.event.Event.TheVariants as events
+use Rattle.simplex_names.specs.Names.{channel_word, source_word}
 use Rattle.simplex_text.specs.Lines.{pieces}
-use Rattle.simplex_trace.specs.Words.{channel_word, source_word}
 
 -- one word behind another
 abbrev pub spaced : List ℕ → List ℕ → List ℕ

@@ -1,7 +1,6 @@
 -- What came of an event, item by item.
-use Rattle.std.specs.Prelude.{ℕ, List, [], ◌∷◌, ◌++◌, codes, decimal, flat_map}
+use Rattle.std.specs.Prelude.{ℕ, List, [], ◌++◌, codes, decimal, flat_map}
 use Rattle.std.specs.List.{enumerate_from}
-use Rattle.simplex_types.specs.declared.activity.Activity.{Activity}
 use Rattle.simplex_types.specs.Evidence.{activity_round}
 use Rattle.model_rules.specs.declared.request.Asked.{Asked}
 use Rattle.model_rules.specs.declared.request.Asked.TheVariants as asks
@@ -12,11 +11,11 @@ use Rattle.simplex_messages.specs.declared.handed.Handed.TheVariants as handed
 use Rattle.simplex_messages.specs.declared.step.Outcome.{Outcome}
 use Rattle.simplex_messages.specs.declared.step.Outcome.TheVariants as outcomes
 use Rattle.simplex_transcript.specs.declared.node.Node.{Node}
-use Rattle.simplex_transcript.specs.declared.node.Ref.{Ref}
 use Rattle.simplex_transcript.specs.declared.entry.Entry.{Entry}
 use Rattle.simplex_transcript.specs.declared.entry.Packet.{Packet}
+use Rattle.simplex_names.specs.Names.{channel_word}
 use Rattle.simplex_trace.specs.Deeds.{node_text, payload_text, ref_text, spaced}
-use Rattle.simplex_trace.specs.Words.{cause_word, channel_word, record_word, report_word}
+use Rattle.simplex_trace.specs.Words.{cause_word, record_word, report_word}
 
 -- a call
 abbrev pub call_text : Call → List ℕ

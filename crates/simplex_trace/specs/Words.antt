@@ -2,30 +2,10 @@
 use Rattle.std.specs.Prelude.{ℕ, List, codes}
 use Rattle.simplex_types.specs.declared.cause.BlockCause.{BlockCause}
 use Rattle.simplex_types.specs.declared.cause.BlockCause.TheVariants as causes
-use Rattle.simplex_values.specs.declared.plan.Channel.{Channel}
-use Rattle.simplex_values.specs.declared.plan.Channel.TheVariants as channels
 use Rattle.simplex_types.specs.declared.activity.Activity.{Activity}
 use Rattle.simplex_types.specs.declared.activity.Activity.TheVariants as activities
 use Rattle.simplex_wire.specs.declared.artifact.Artifact.{Artifact}
 use Rattle.simplex_wire.specs.declared.artifact.Artifact.TheVariants as artifacts
-use Rattle.simplex_transcript.specs.declared.event.StepSource.{StepSource}
-use Rattle.simplex_transcript.specs.declared.event.StepSource.TheVariants as sources
-
-abbrev pub source_word : StepSource → List ℕ
-source_word sources.Batcher = codes "batcher"
-source_word sources.Voter = codes "voter"
-source_word sources.Timer = codes "timer"
-source_word sources.Propose = codes "propose"
-source_word sources.Verify = codes "verify"
-source_word sources.Certify = codes "certify"
-source_word sources.Resolver = codes "resolver"
-source_word sources.Handler = codes "handler"
-source_word sources.Fetch = codes "fetch"
-
-abbrev pub channel_word : Channel → List ℕ
-channel_word channels.Vote = codes "vote"
-channel_word channels.Certificate = codes "certificate"
-channel_word channels.Resolver = codes "resolver"
 
 abbrev pub record_word : Artifact → List ℕ
 record_word (artifacts.Notarize v) = codes "notarize"

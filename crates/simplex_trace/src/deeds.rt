@@ -1,9 +1,9 @@
 //! An event, in the words of an input.
 ghost use Rattle.std.specs.Prelude.{◌≡◌, codes, decimal, option_map, IfOk, string_bytes};
+ghost use Rattle.simplex_names.specs.Names as names;
 ghost use Rattle.simplex_trace.specs.Deeds as deeds;
-ghost use Rattle.simplex_trace.specs.Words as words;
 
-use crate::words::{channel_word, source_word};
+use simplex_names::{channel_word, source_word};
 use simplex_transcript::{Event, Node, Ref};
 use simplex_types::{Answer, Channel, Digest, Finalization, Handoff};
 use std::alloc::{AllocError, Global};
@@ -140,7 +140,7 @@ pub(crate) fn deed_text(alloc: Global, event: &Event) -> Result<String, AllocErr
 }
 
 fn injected_text(alloc: Global, member: u64, channel: Channel) -> Result<String, AllocError>
-    ensures { IfOk result (λ text. string_bytes text ≡ deeds.spaced (decimal member) (deeds.spaced (codes "inject") (words.channel_word channel))) }
+    ensures { IfOk result (λ text. string_bytes text ≡ deeds.spaced (decimal member) (deeds.spaced (codes "inject") (names.channel_word channel))) }
 {
     let what = spaced(alloc, "inject", channel_word(channel))?;
     let what = what.as_str();

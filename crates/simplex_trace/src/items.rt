@@ -7,9 +7,10 @@ ghost use Rattle.simplex_trace.specs.Items as items;
 ghost use Rattle.simplex_trace.specs.Words as words;
 
 use crate::deeds::{node_text, numbered, payload_text, ref_text, spaced};
-use crate::words::{cause_word, channel_word, record_word, report_word};
+use crate::words::{cause_word, record_word, report_word};
 use model_rules::Asked;
 use simplex_messages::{Call, Handed, Outcome};
+use simplex_names::channel_word;
 use simplex_transcript::{Entry, Node, Packet, Ref};
 use simplex_types::{Activity, Artifact, BlockCause, Digest, Participant};
 use std::alloc::{AllocError, Global};

@@ -13,4 +13,3 @@ mod words;
 pub use deeds::{node_text, ref_text, spaced};
 pub use items::ask_text;
 pub use telling::{line, lines};
-pub use words::{channel_word, source_word};

@@ -2,36 +2,7 @@
 ghost use Rattle.std.specs.Prelude.{◌≡◌};
 ghost use Rattle.simplex_trace.specs.Words as words;
 
-use simplex_transcript::StepSource;
-use simplex_types::{Activity, Artifact, BlockCause, Channel};
-
-/// What a step takes from.
-pub fn source_word(source: StepSource) -> &'static str
-    ensures { result.now ≡ words.source_word source }
-{
-    match source {
-        StepSource::Batcher => "batcher",
-        StepSource::Voter => "voter",
-        StepSource::Timer => "timer",
-        StepSource::Propose => "propose",
-        StepSource::Verify => "verify",
-        StepSource::Certify => "certify",
-        StepSource::Resolver => "resolver",
-        StepSource::Handler => "handler",
-        StepSource::Fetch => "fetch",
-    }
-}
-
-/// A channel.
-pub fn channel_word(channel: Channel) -> &'static str
-    ensures { result.now ≡ words.channel_word channel }
-{
-    match channel {
-        Channel::Vote => "vote",
-        Channel::Certificate => "certificate",
-        Channel::Resolver => "resolver",
-    }
-}
+use simplex_types::{Activity, Artifact, BlockCause};
 
 pub(crate) fn record_word(artifact: &Artifact) -> &'static str
     ensures { result.now ≡ words.record_word artifact.now }

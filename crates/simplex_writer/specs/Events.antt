@@ -14,8 +14,9 @@ use Rattle.simplex_transcript.specs.declared.node.Ref.{Ref}
 use Rattle.simplex_transcript.specs.declared.event.StepSource.{StepSource}
 use Rattle.simplex_transcript.specs.declared.event.Event.{Event}
 use Rattle.simplex_transcript.specs.declared.event.Event.TheVariants as events
+use Rattle.simplex_names.specs.Names.{channel_word, source_word}
 use Rattle.simplex_text.specs.Lines.{pieces}
-use Rattle.simplex_writer.specs.Names.{channel_name, flag_name, source_name}
+use Rattle.simplex_writer.specs.Names.{flag_name}
 use Rattle.simplex_writer.specs.Pieces.{hex_text, list_text}
 
 -- [member,half]
@@ -68,7 +69,7 @@ deliver_text node packet = pieces (codes "{\"do\":\"deliver\",\"node\":" ∷ nod
 
 abbrev pub step_text : Node → StepSource → Stop → List ℕ
 step_text node source stop =
-    pieces (codes "{\"do\":\"step\",\"node\":" ∷ node_text node ∷ codes ",\"source\":\"" ∷ source_name source ∷ codes "\",\"stop\":" ∷ stop_text stop ∷ codes "}" ∷ [])
+    pieces (codes "{\"do\":\"step\",\"node\":" ∷ node_text node ∷ codes ",\"source\":\"" ∷ source_word source ∷ codes "\",\"stop\":" ∷ stop_text stop ∷ codes "}" ∷ [])
 
 -- an answer of these texts
 abbrev pub answer_object : List ℕ → List ℕ → List ℕ → List ℕ
@@ -88,7 +89,7 @@ inject_object member channel to bytes =
     ∷ codes ",\"bytes\":" ∷ bytes ∷ codes "}" ∷ [])
 
 abbrev pub inject_text : ℕ → Channel → List Node → List ℕ → List ℕ
-inject_text member channel to bytes = inject_object member (channel_name channel) (list_text node_text (codes ",") to) (hex_text bytes)
+inject_text member channel to bytes = inject_object member (channel_word channel) (list_text node_text (codes ",") to) (hex_text bytes)
 
 abbrev pub event_text : Event → List ℕ
 event_text (events.Start node floor stop) = start_text node floor stop

@@ -4,9 +4,9 @@ ghost use Rattle.simplex_writer.specs.Events as events;
 
 use crate::answers::answer_text;
 use crate::list::{Written, written_list};
-use crate::names::{channel_name, source_name};
 use crate::values::{hex_text, ref_text};
 use simplex_messages::Stop;
+use simplex_names::{channel_word, source_word};
 use simplex_transcript::{Event, Node, Ref, StepSource};
 use simplex_types::{Answer, Certificate, Channel, Finalization, Keep};
 use std::alloc::{AllocError, Global};
@@ -82,7 +82,7 @@ fn step_text(
 {
     let node = node.written(alloc)?;
     let node = node.as_str();
-    let source = source_name(source);
+    let source = source_word(source);
     let stop = stop_text(alloc, stop)?;
     let stop = stop.as_str();
     format!(in alloc; "{{\"do\":\"step\",\"node\":{node},\"source\":\"{source}\",\"stop\":{stop}}}")
@@ -153,7 +153,7 @@ fn inject_text(
     inject_object(
         alloc,
         member,
-        channel_name(channel),
+        channel_word(channel),
         to.as_str(),
         bytes.as_str(),
     )

@@ -1,8 +1,8 @@
 //! The program over memory: what it writes of an input, and with which status it ends.
 use simplex_audits::audit_program;
-use simplex_io::{MemorySink, MemorySource};
 use std::alloc::Global;
 use std::process::Abort;
+use test_telling::desk;
 
 /// The word that asks for the record of a run.
 pub(crate) const RECORD: &[&str] = &["record"];
@@ -10,23 +10,11 @@ pub(crate) const RECORD: &[&str] = &["record"];
 /// The word that asks for the verdict on a record.
 pub(crate) const CHECK: &[&str] = &["check"];
 
-fn words_of(rt: &impl Abort, alloc: Global, words: &[&str]) -> Vec<String> {
-    let mut owned = Vec::new(alloc);
-    for &word in words {
-        let word = String::from_str(alloc, word).expect(rt, "room");
-        owned.push(word).expect(rt, "room");
-    }
-    owned
-}
-
 /// What the program writes with these words and this input.
 pub(crate) fn told(rt: &impl Abort, alloc: Global, words: &[&str], input: &str) -> String {
-    let words = words_of(rt, alloc, words);
-    let bytes = input.as_bytes().to_vec(alloc).expect(rt, "room");
-    let mut source = MemorySource::new(bytes, Vec::new(alloc));
-    let mut sink = MemorySink::new(alloc, Vec::new(alloc));
-    let _exit = audit_program(alloc, &words, &mut source, &mut sink);
-    String::from_utf8_lossy(alloc, sink.bytes()).expect(rt, "room")
+    let mut desk = desk(alloc, words, input.as_bytes()).expect(rt, "room");
+    let _exit = audit_program(alloc, &desk.words, &mut desk.source, &mut desk.sink);
+    String::from_utf8_lossy(alloc, desk.sink.bytes()).expect(rt, "room")
 }
 
 /// The program writes this text with these words and this input, and ends with this status.
@@ -37,12 +25,9 @@ pub(crate) fn assert_tells(
     input: &str,
     (text, status): (&str, u8),
 ) {
-    let words = words_of(rt, alloc, words);
-    let bytes = input.as_bytes().to_vec(alloc).expect(rt, "room");
-    let mut source = MemorySource::new(bytes, Vec::new(alloc));
-    let mut sink = MemorySink::new(alloc, Vec::new(alloc));
-    let exit = audit_program(alloc, &words, &mut source, &mut sink);
-    let written = (sink.bytes(), exit.status());
+    let mut desk = desk(alloc, words, input.as_bytes()).expect(rt, "room");
+    let exit = audit_program(alloc, &desk.words, &mut desk.source, &mut desk.sink);
+    let written = (desk.sink.bytes(), exit.status());
     assert_eq!(rt; &written, &(text.as_bytes(), status));
 }
 

@@ -2,9 +2,9 @@
 use crate::events::{ONES, TWICE, TWOS};
 use crate::input::{ALONE, Given, THREE, bytes_of, input};
 use simplex_epochs::epochs_program;
-use simplex_io::{MemorySink, MemorySource};
 use std::alloc::Global;
 use std::process::Abort;
+use test_telling::desk;
 
 // The digests at which the first two of three epochs are closed, and the chain of the member that is honest in all.
 const THREE_LINES: &str =
@@ -33,15 +33,6 @@ fn alone(epoch: u64, events: &'static [&'static str]) -> Given {
     }
 }
 
-fn words_of(rt: &impl Abort, alloc: Global, words: &[&str]) -> Vec<String> {
-    let mut owned = Vec::new(alloc);
-    for &word in words {
-        let word = String::from_str(alloc, word).expect(rt, "room");
-        owned.push(word).expect(rt, "room");
-    }
-    owned
-}
-
 // The program writes this text of the input, and ends with this status.
 fn assert_ends(
     rt: &impl Abort,
@@ -50,12 +41,10 @@ fn assert_ends(
     bytes: Vec<u8>,
     (text, wanted): (&str, u8),
 ) {
-    let words = words_of(rt, alloc, words);
-    let mut source = MemorySource::new(bytes, Vec::new(alloc));
-    let mut sink = MemorySink::new(alloc, Vec::new(alloc));
-    let exit = epochs_program(alloc, &words, &mut source, &mut sink);
+    let mut desk = desk(alloc, words, &bytes).expect(rt, "room");
+    let exit = epochs_program(alloc, &desk.words, &mut desk.source, &mut desk.sink);
     let status = exit.status();
-    assert_eq!(rt; sink.bytes(), text.as_bytes(), "{text}");
+    assert_eq!(rt; desk.sink.bytes(), text.as_bytes(), "{text}");
     assert_eq!(rt; status, wanted, "{text}");
 }
 

@@ -1,20 +1,11 @@
 //! The program over memory: what it writes of an input, and with which status it ends.
-use simplex_io::{MemorySink, MemorySource};
 use simplex_logs::log_program;
 use std::alloc::Global;
 use std::process::Abort;
+use test_telling::desk;
 
 /// The words that ask for logs.
 pub(crate) const LOGS: &[&str] = &["logs"];
-
-fn words_of(rt: &impl Abort, alloc: Global, words: &[&str]) -> Vec<String> {
-    let mut owned = Vec::new(alloc);
-    for &word in words {
-        let word = String::from_str(alloc, word).expect(rt, "room");
-        owned.push(word).expect(rt, "room");
-    }
-    owned
-}
 
 /// The program writes this text with these words and this input, and ends with this status.
 pub(crate) fn assert_tells(
@@ -24,12 +15,9 @@ pub(crate) fn assert_tells(
     input: &str,
     (text, status): (&str, u8),
 ) {
-    let words = words_of(rt, alloc, words);
-    let bytes = input.as_bytes().to_vec(alloc).expect(rt, "room");
-    let mut source = MemorySource::new(bytes, Vec::new(alloc));
-    let mut sink = MemorySink::new(alloc, Vec::new(alloc));
-    let exit = log_program(alloc, &words, &mut source, &mut sink);
-    let written = (sink.bytes(), exit.status());
+    let mut desk = desk(alloc, words, input.as_bytes()).expect(rt, "room");
+    let exit = log_program(alloc, &desk.words, &mut desk.source, &mut desk.sink);
+    let written = (desk.sink.bytes(), exit.status());
     assert_eq!(rt; &written, &(text.as_bytes(), status));
 }
 

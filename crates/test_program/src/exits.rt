@@ -5,21 +5,13 @@ use std::alloc::Global;
 use std::fmt::Debug;
 use std::process::Abort;
 use std::thread::Threads;
+use test_telling::words_of;
 
 const USAGE: &str = "usage: run | par WORKERS | gen NUMBER STEPS\n";
 
 // All items of a setup but the epoch.
 const REST: &str =
     r#""key_base":1,"members":["honest"],"term":1,"lookahead":0,"leader_timeout":1000,"certification_timeout":2000,"retry":500,"stall":null,"retention":10,"skip":null,"forward":"disabled","mailbox":16,"track":false,"handoff":false,"fetch_timeout":1000,"fetch_retry":100,"scenario":[]"#;
-
-pub(crate) fn words_of(rt: &impl Abort, alloc: Global, words: &[&str]) -> Vec<String> {
-    let mut owned = Vec::new(alloc);
-    for &word in words {
-        let word = String::from_str(alloc, word).expect(rt, "room");
-        owned.push(word).expect(rt, "room");
-    }
-    owned
-}
 
 // So many spaces.
 fn spaces(rt: &impl Abort, alloc: Global, n: u32) -> Vec<u8> {
@@ -71,7 +63,7 @@ pub(crate) fn assert_ends<R: Abort + Threads + Sync>(
     failing: Failing,
     (text, wanted): (&str, u8),
 ) {
-    let words = words_of(rt, alloc, words);
+    let words = words_of(alloc, words).expect(rt, "room");
     let mut source = MemorySource::new(input, one(rt, alloc, failing.read));
     let mut sink = MemorySink::new(alloc, one(rt, alloc, failing.write));
     let status = status(rt, alloc, &words, &mut source, &mut sink);

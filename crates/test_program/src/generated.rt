@@ -1,7 +1,5 @@
 //! Runs that a number makes: the same events as the input of a run, and one event more.
-use crate::exits::words_of;
 use simplex_generator::gen_run;
-use simplex_io::{MemorySink, MemorySource};
 use simplex_network::run_network;
 use simplex_program::{Exit, program};
 use simplex_transcript::{Event, Node, Ref, RunError, Setup};
@@ -9,6 +7,7 @@ use simplex_writer::write_input;
 use std::alloc::{AllocError, Global};
 use std::process::Abort;
 use std::thread::Threads;
+use test_telling::desk;
 
 const NUMBER: u64 = 7;
 
@@ -28,11 +27,9 @@ fn ended<R: Abort + Threads + Sync>(
     words: &[&str],
     input: Vec<u8>,
 ) -> (Exit, Vec<u8>) {
-    let words = words_of(rt, alloc, words);
-    let mut source = MemorySource::new(input, Vec::new(alloc));
-    let mut sink = MemorySink::new(alloc, Vec::new(alloc));
-    let exit = program(rt, alloc, &words, &mut source, &mut sink);
-    let written = sink.bytes().to_vec(alloc).expect(rt, "room");
+    let mut desk = desk(alloc, words, &input).expect(rt, "room");
+    let exit = program(rt, alloc, &desk.words, &mut desk.source, &mut desk.sink);
+    let written = desk.sink.bytes().to_vec(alloc).expect(rt, "room");
     (exit, written)
 }
 

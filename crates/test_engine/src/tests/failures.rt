@@ -1,16 +1,13 @@
 //! A journal fails a call that it did not announce: the engine stops there, and nothing goes out that was not stored.
-use simplex_engine::{Engine, EngineConfig, Input, PollError};
+use simplex_engine::{Engine, Input, PollError};
 use simplex_journal::Journal;
 use simplex_messages::{Call, Outcome, StepOut, Stop};
 use simplex_transcript::StepSource;
-use simplex_types::elector::Config as _;
-use simplex_types::{
-    Answer, Artifact, Channel, Digest, Epoch, Floor, ForwardPolicy, Keyed, Participant, RoundRobin,
-    RoundRobinElector, SkipPolicy, TermLength, Terms, View, ViewDelta,
-};
+use simplex_types::{Answer, Artifact, Channel, Digest, Keyed, RoundRobinElector, View};
 use std::alloc::{AllocError, Global};
 use std::process::Abort;
 use std::test::Fail;
+use test_member::engine;
 use test_values::Untold;
 
 type Alone = Engine<Keyed, RoundRobinElector, Untold>;
@@ -40,35 +37,6 @@ const VIEW: [Deed; 9] = [
 
 /// How many calls of the journal the view makes, the reading at the start among them.
 const CALLS: u64 = 10;
-
-/// The engine of a member alone over the journal.
-fn engine(alloc: Global, journal: Untold) -> Result<Alone, Fail> {
-    let terms = Terms {
-        length: TermLength::ONE,
-        lookahead: 0,
-        stall_timeout: None,
-    };
-    let config = EngineConfig {
-        scheme: Keyed::new(alloc, 1, 1, Some(Participant(0)))?,
-        elector: RoundRobin::new(terms).build(1),
-        genesis: Digest([0; 32]),
-        floor: Floor::Genesis(Digest([0; 32])),
-        epoch: Epoch(0),
-        leader_timeout: 1000,
-        certification_timeout: 2000,
-        retry: 500,
-        retention: ViewDelta(10),
-        skip: SkipPolicy::Disabled,
-        mailbox: 16,
-        fetch_timeout: 1000,
-        fetch_retry: 100,
-        forward: ForwardPolicy::Disabled,
-        track: false,
-        handoff: false,
-    };
-    let engine = Engine::new(alloc, config, journal).ok().ok_or("an engine")?;
-    Ok(engine)
-}
 
 fn input(deed: Deed) -> Input {
     match deed {
@@ -192,7 +160,7 @@ fn refused(alloc: Global, engine: &mut Alone) -> Option<PollError> {
 fn a_failed_call_stops_the_engine(rt: HostRuntime) -> Result<(), Fail> {
     let alloc = rt.alloc();
     for call in 1..CALLS + 1 {
-        let mut engine = engine(alloc, Untold::failing(alloc, call))?;
+        let mut engine = engine(alloc, 1, Untold::failing(alloc, call))?;
         let (outcome, votes) = seen(&rt, alloc, &mut engine)?;
         assert_eq!(rt; outcome, Outcome::Journal, "call {call}");
         assert_eq!(rt; faults(&rt, &engine), 1, "call {call}");
@@ -205,7 +173,7 @@ fn a_failed_call_stops_the_engine(rt: HostRuntime) -> Result<(), Fail> {
 #[test]
 fn an_engine_whose_journal_tells_nothing(rt: HostRuntime) -> Result<(), Fail> {
     let alloc = rt.alloc();
-    let mut engine = engine(alloc, Untold::failing(alloc, 0))?;
+    let mut engine = engine(alloc, 1, Untold::failing(alloc, 0))?;
     assert_eq!(rt; engine.current_view(), View(1));
     let (outcome, votes) = seen(&rt, alloc, &mut engine)?;
     assert_eq!(rt; outcome, Outcome::Done);

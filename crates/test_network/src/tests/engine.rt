@@ -4,51 +4,17 @@ ghost use Rattle.simplex_engine.specs.Stands.{has_failed};
 
 use super::view::{CERTIFICATION, Deed, PROPOSAL, START, VIEW};
 use super::words::{artifact_name, told};
-use simplex_engine::{Engine, EngineConfig, Input, PollError};
+use simplex_engine::{Engine, Input, PollError};
 use simplex_journal::{Journal, MemoryJournal};
 use simplex_messages::{StepOut, Stop};
 use simplex_transcript::StepSource;
-use simplex_types::elector::Config as _;
-use simplex_types::{
-    Answer, Artifact, Digest, Epoch, Floor, ForwardPolicy, Keyed, Participant, RoundRobin,
-    RoundRobinElector, SkipPolicy, TermLength, Terms, View, ViewDelta,
-};
+use simplex_types::{Answer, Artifact, Digest, Keyed, RoundRobinElector, View};
 use std::alloc::{AllocError, Global};
 use std::process::Abort;
 use std::test::Fail;
+use test_member::engine;
 
 type Alone = Engine<Keyed, RoundRobinElector, MemoryJournal>;
-
-/// The engine of a member alone, with terms of one view.
-fn engine(alloc: Global) -> Result<Alone, Fail> {
-    let terms = Terms {
-        length: TermLength::ONE,
-        lookahead: 0,
-        stall_timeout: None,
-    };
-    let config = EngineConfig {
-        scheme: Keyed::new(alloc, 1, 1, Some(Participant(0)))?,
-        elector: RoundRobin::new(terms).build(1),
-        genesis: Digest([0; 32]),
-        floor: Floor::Genesis(Digest([0; 32])),
-        epoch: Epoch(0),
-        leader_timeout: 1000,
-        certification_timeout: 2000,
-        retry: 500,
-        retention: ViewDelta(10),
-        skip: SkipPolicy::Disabled,
-        mailbox: 16,
-        fetch_timeout: 1000,
-        fetch_retry: 100,
-        forward: ForwardPolicy::Disabled,
-        track: false,
-        handoff: false,
-    };
-    let engine = Engine::new(alloc, config, MemoryJournal::new(alloc))
-        .ok()
-        .ok_or("an engine")?;
-    Ok(engine)
-}
 
 fn input(deed: Deed) -> Input {
     match deed {
@@ -115,7 +81,7 @@ fn left(rt: &impl Abort, alloc: Global, engine: Alone) -> Result<String, Fail> {
 #[test]
 fn an_engine_alone_finalizes(rt: HostRuntime) -> Result<(), Fail> {
     let alloc = rt.alloc();
-    let mut engine = engine(alloc)?;
+    let mut engine = engine(alloc, 1, MemoryJournal::new(alloc))?;
     let early = refused(alloc, &mut engine, Deed::Step(StepSource::Timer));
     assert_eq!(rt; early, Some(PollError::Stopped));
     assert_eq!(rt; started(alloc, &mut engine)?.as_str(), START);

@@ -2,50 +2,18 @@
 ghost use Rattle.std.specs.Prelude.{◌<◌, All, IfOk, IfSome};
 ghost use Rattle.simplex_turns.specs.Threads.{IsInTime};
 
-use simplex_engine::{Engine, EngineConfig, Input};
+use simplex_engine::{Engine, Input};
 use simplex_journal::{Journal, MemoryJournal};
 use simplex_messages::{Call, Outcome, StepOut, Stop};
 use simplex_threads::{AskKind, Feed, FeedItem};
-use simplex_types::elector::Config as _;
 use simplex_types::{
-    Activity, Answer, Bytes, Channel, Digest, Epoch, Floor, ForwardPolicy, Keyed, Participant,
-    RoundRobin, RoundRobinElector, SkipPolicy, TermLength, Terms, View, ViewDelta,
+    Activity, Answer, Bytes, Channel, Digest, Keyed, Participant, RoundRobinElector, View,
 };
 use std::alloc::Global;
 use std::test::Fail;
+use test_member::engine;
 
 pub(super) type Member = Engine<Keyed, RoundRobinElector, MemoryJournal>;
-
-/// The engine of member 0 of so many over the journal, not started yet.
-pub(super) fn engine(alloc: Global, members: u32, journal: MemoryJournal) -> Result<Member, Fail>
-    requires { 0 < members }
-{
-    let terms = Terms {
-        length: TermLength::ONE,
-        lookahead: 0,
-        stall_timeout: None,
-    };
-    let config = EngineConfig {
-        scheme: Keyed::new(alloc, 1, members, Some(Participant(0)))?,
-        elector: RoundRobin::new(terms).build(members),
-        genesis: Digest([0; 32]),
-        floor: Floor::Genesis(Digest([0; 32])),
-        epoch: Epoch(0),
-        leader_timeout: 1000,
-        certification_timeout: 2000,
-        retry: 500,
-        retention: ViewDelta(10),
-        skip: SkipPolicy::Disabled,
-        mailbox: 16,
-        fetch_timeout: 1000,
-        fetch_retry: 100,
-        forward: ForwardPolicy::Disabled,
-        track: false,
-        handoff: false,
-    };
-    let engine = Engine::new(alloc, config, journal).ok().ok_or("an engine")?;
-    Ok(engine)
-}
 
 /// The same over a journal of which this call fails, counted from 1 (number 0: none), started at clock 0: the start reads it.
 pub(super) fn started(alloc: Global, members: u32, call: u64) -> Result<Member, Fail>

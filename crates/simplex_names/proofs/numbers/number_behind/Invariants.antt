@@ -1,6 +1,6 @@
 use Rattle.std.proofs.Common.{◌≡◌, length}
-use Rattle.simplex_script.specs.Digits.{number_behind}
-use Rattle.simplex_script.proofs.digits.number_behind.Given as goal
+use Rattle.simplex_names.specs.Numbers.{number_behind}
+use Rattle.simplex_names.proofs.numbers.number_behind.Given as goal
 
 abbrev pub invariant-loop-rest : goal.invariant-loop-rest
 invariant-loop-rest l = number_behind l.number l.rest ≡ number_behind l.initial.number l.digits
