@@ -1,19 +1,23 @@
-# example: runs the program on the worked example of the README, unproved. try, trace: the same on the input in INPUT, or what each
-# of its events did, a line an event; with what is wrong, where it is not of the form. fast: builds unproved/simplex_net and
-# unproved/simplex_lab without a proof, which try, trace and pictures take while they are newer than the code. build: proves and
-# builds the program. test: the whole gate. wrong-bodies: tries the wrong bodies that the gate leaves out, of all crates or of those
-# in CRATE. pictures: draws the runs of docs/TOUR.md into docs/pictures/, by the proved program where there is one, else unproved, and
-# says so.
-.PHONY: example try trace fast build test wrong-bodies pictures
+# example: runs the program on the worked example of the README, unproved. try, trace, draw: the same on the input in INPUT, or what
+# each of its events did, a line an event, or a picture of it; with what is wrong, where it is not of the form. fast: builds
+# unproved/simplex_net and unproved/simplex_lab without a proof, which the targets above and pictures take while they are newer than
+# the code. build: proves and builds the program. test: the whole gate. wrong-bodies: tries the wrong bodies that the gate leaves out,
+# of all crates or of those in CRATE. pictures: draws the runs of docs/TOUR.md into docs/pictures/, by the proved program where there
+# is one, else unproved, and says so.
+.PHONY: example try trace draw fast build test wrong-bodies pictures
+need = $(if $(INPUT),,$(error the input is missing: make $@ INPUT=my.json))
 example:
-	@cd crates/simplex_net && rt try -- run < stdin
-	@echo "This run was not proved (rt try). make build proves and builds the program."
+	@./unproved.sh run simplex_net run < crates/simplex_net/stdin
 
 try:
-	@./unproved.sh run simplex_net run < $(INPUT)
+	$(need)@./unproved.sh run simplex_net run < $(INPUT) || { status=$$?; \
+		echo "Of a refused run, make trace INPUT=$(INPUT) tells why, and what was open." >&2; exit $$status; }
 
 trace:
-	@./unproved.sh run simplex_lab trace < $(INPUT)
+	$(need)@./unproved.sh run simplex_lab trace < $(INPUT)
+
+draw:
+	$(need)@./unproved.sh run simplex_lab draw < $(INPUT)
 
 fast:
 	@./unproved.sh build

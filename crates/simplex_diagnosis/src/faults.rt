@@ -153,10 +153,10 @@ fn object_fault(
         return Ok(format!(in alloc; "byte {at}: found {found}, wanted an object")?);
     }
     let all = members(alloc, bytes, object)?;
-    if let Some(fault) = bad_member(alloc, bytes, object, &all, table, form)? {
+    if let Some(fault) = unknown_member(alloc, bytes, &all, table)? {
         return Ok(fault);
     }
-    if let Some(fault) = unknown_member(alloc, bytes, &all, table)? {
+    if let Some(fault) = bad_member(alloc, bytes, object, &all, table, form)? {
         return Ok(fault);
     }
     // A word that wants no events refuses one that is of the form.
@@ -200,13 +200,13 @@ const INPUT: [Wanted; 2] = [
 fn top_fault(alloc: Global, bytes: &[u8]) -> Result<String, AllocError> {
     let top = Span::whole(bytes).trimmed(bytes);
     let all = members(alloc, bytes, top)?;
+    if let Some(fault) = unknown_member(alloc, bytes, &all, &INPUT)? {
+        return Ok(fault);
+    }
     for wanted in INPUT {
         if find(bytes, &all, wanted.name).is_none() {
             return says(alloc, top.start, &wanted, None);
         }
-    }
-    if let Some(fault) = unknown_member(alloc, bytes, &all, &INPUT)? {
-        return Ok(fault);
     }
     let [_, events] = INPUT;
     match find(bytes, &all, events.name) {

@@ -36,7 +36,7 @@ pub(crate) const SETUP: [Wanted; 18] = [
     Wanted {
         name: "epoch",
         sample: "0",
-        words: NUMBER,
+        words: "a whole number from 0, below 2^64 - 1",
     },
     Wanted {
         name: "key_base",
@@ -51,37 +51,37 @@ pub(crate) const SETUP: [Wanted; 18] = [
     Wanted {
         name: "term",
         sample: "1",
-        words: NUMBER,
+        words: "a whole number from 1 to 2^32",
     },
     Wanted {
         name: "lookahead",
         sample: "0",
-        words: NUMBER,
+        words: "a whole number from 0 to 2^32",
     },
     Wanted {
         name: "leader_timeout",
         sample: "1",
-        words: NUMBER,
+        words: "milliseconds, a whole number from 1 to 2^62 and at most certification_timeout",
     },
     Wanted {
         name: "certification_timeout",
         sample: "1",
-        words: NUMBER,
+        words: "milliseconds, a whole number from 1 to 2^62",
     },
     Wanted {
         name: "retry",
         sample: "1",
-        words: NUMBER,
+        words: "milliseconds, a whole number from 1 to 2^62",
     },
     Wanted {
         name: "stall",
         sample: "null",
-        words: "null or a whole number from 0, below 2^64",
+        words: "null or milliseconds, a whole number above certification_timeout, up to 2^62",
     },
     Wanted {
         name: "retention",
         sample: "1",
-        words: NUMBER,
+        words: "a whole number from 1 to 2^32",
     },
     Wanted {
         name: "skip",
@@ -96,7 +96,7 @@ pub(crate) const SETUP: [Wanted; 18] = [
     Wanted {
         name: "mailbox",
         sample: "1",
-        words: NUMBER,
+        words: "a whole number from 1 to 4096",
     },
     Wanted {
         name: "track",
@@ -111,12 +111,12 @@ pub(crate) const SETUP: [Wanted; 18] = [
     Wanted {
         name: "fetch_timeout",
         sample: "1",
-        words: NUMBER,
+        words: "milliseconds, a whole number from 1 to 2^62",
     },
     Wanted {
         name: "fetch_retry",
         sample: "0",
-        words: NUMBER,
+        words: "milliseconds, a whole number from 0 to 2^62",
     },
     Wanted {
         name: "scenario",

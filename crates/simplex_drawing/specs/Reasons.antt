@@ -1,10 +1,31 @@
 -- Why a run is refused, in words.
 use Rattle.std.specs.Prelude.{ℕ, List, codes}
+use Rattle.simplex_transcript.specs.declared.field.Field.{Field}
+use Rattle.simplex_transcript.specs.declared.field.Field.TheVariants as fields
 use Rattle.simplex_transcript.specs.declared.refusal.RunError.{RunError}
 use Rattle.simplex_transcript.specs.declared.refusal.RunError.TheVariants as errors
 
+-- the limit of an item of a setup
+abbrev pub limit_of : Field → List ℕ
+limit_of fields.Events = codes "there may be 2^20 events, and 2^25 events times members"
+limit_of fields.Members = codes "there have to be 1 to 256 members, and with a scenario 1 to 64"
+limit_of fields.Faulty = codes "fewer than a third of the members may be faulty"
+limit_of fields.Epoch = codes "it has to be below 2^64 - 1"
+limit_of fields.Term = codes "it has to be 1 to 2^32"
+limit_of fields.Lookahead = codes "it may be up to 2^32"
+limit_of fields.LeaderTimeout = codes "it has to be 1 to 2^62, and at most the certification timeout"
+limit_of fields.CertificationTimeout = codes "it has to be 1 to 2^62"
+limit_of fields.Retry = codes "it has to be 1 to 2^62"
+limit_of fields.Stall = codes "it has to be null, or above the certification timeout and at most 2^62"
+limit_of fields.Retention = codes "it has to be 1 to 2^32"
+limit_of fields.Skip = codes "its timeout has to be 1 to 2^62"
+limit_of fields.Mailbox = codes "it has to be 1 to 4096"
+limit_of fields.FetchTimeout = codes "it has to be 1 to 2^62"
+limit_of fields.FetchRetry = codes "it may be up to 2^62"
+limit_of fields.Scenario = codes "each leader has to be a member with a bit in one of the masks, and the masks have bits of members alone"
+
 abbrev pub reason_of : RunError → List ℕ
-reason_of (errors.BadSetup field) = codes "this item of the setup breaks its limit"
+reason_of (errors.BadSetup field) = limit_of field
 reason_of errors.NoMember = codes "there is no such node"
 reason_of errors.NotRunning = codes "the node is stopped: it has to start first"
 reason_of errors.NotStopped = codes "the node runs: it has to crash before it can start again"

@@ -17,7 +17,7 @@ use Rattle.simplex_lab.specs.Lines.{makes_as_written, read_makes_line}
 use Rattle.simplex_lab.specs.Refusals.{reason_line}
 use Rattle.simplex_lab.specs.declared.words.Order.{Order}
 use Rattle.simplex_lab.specs.Says.{IsMadeFor, IsRefusedBehind, IsShrunk, IsSimulated, IsUnread, simulated_text, unread_line}
-use Rattle.simplex_lab.specs.Says.{TellsOpenIf, TellsRefusal, lines_if, node_at}
+use Rattle.simplex_lab.specs.Says.{TellsOpenIf, TellsRefusal, deed_if, lines_if, refused_node}
 
 -- whether what was written and read makes the line
 pub as_written : (setup : Setup) (line : List ℕ) (events : List Event) (written : List ℕ) (made : Result Input ℕ) (makes : Bool)
@@ -53,9 +53,9 @@ unread order given place written text none for_setup read told =
     record { none_given = none; written = written; for_setup = for_setup; unread = read; told = told }
 
 pub tells_refusal : (input : Input) (refusal : Refusal) (left text : List ℕ)
-    → TellsOpenIf (earlier input refusal) (entries_of input.setup (earlier input refusal)) (node_at input.events refusal.event) left
-    → text ≡ ((lines_if (earlier input refusal) (entries_of input.setup (earlier input refusal)) ++ refusal_text refusal)
-    ++ reason_line refusal.error) ++ left → TellsRefusal input refusal text
+    → TellsOpenIf (earlier input refusal) (entries_of input.setup (earlier input refusal)) (refused_node input refusal) left
+    → text ≡ (((lines_if (earlier input refusal) (entries_of input.setup (earlier input refusal)) ++ deed_if input.events refusal.event)
+    ++ refusal_text refusal) ++ reason_line refusal.error) ++ left → TellsRefusal input refusal text
 tells_refusal input refusal left text tells told = record { left = left; tells = tells; told = told }
 
 pub shrunk : (line : List ℕ) (input : Input) (left : List Event) (text : List ℕ) → makes_as_written input.setup line left ≡ true

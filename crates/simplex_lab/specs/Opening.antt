@@ -74,8 +74,13 @@ request_items node requests = flat_map (request_item node) requests
 abbrev pub source_items : List StepSource → List ℕ
 source_items sources = flat_map (λ source. item (source_word source)) sources
 
+-- the items, or that there are none
+abbrev pub or_none : List ℕ → List ℕ
+or_none [] = codes ", none"
+or_none (byte ∷ bytes) = byte ∷ bytes
+
 abbrev pub line : List ℕ → List ℕ → List ℕ → List ℕ
-line name node items = pieces (name ∷ codes " " ∷ node ∷ items ∷ codes "\n" ∷ [])
+line name node items = pieces (name ∷ codes " " ∷ node ∷ or_none items ∷ codes "\n" ∷ [])
 
 abbrev pub lines_on : Node → (packets requests sources : List ℕ) → List ℕ
 lines_on node packets requests sources =

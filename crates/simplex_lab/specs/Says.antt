@@ -1,6 +1,7 @@
 -- What the words make of an input.
 use Rattle.std.specs.Prelude.{ℕ, ◌≡◌, ◌≢◌, ◌≤◌, ◌==◌, ◌⊎◌, ◌-◌, ◌++◌, true, false, List, [], ◌∷◌, Option, None, Some, Ok, Err, codes, decimal, length}
-use Rattle.std.specs.Prelude.{option_and_then, if◌then◌else◌}
+use Rattle.std.specs.Prelude.{Bool, option_and_then, if◌then◌else◌}
+use Rattle.std.specs.Option.{option_map_or}
 use Rattle.std.specs.List.{slice_get}
 use Rattle.simplex_transcript.specs.declared.node.Node.{Node}
 use Rattle.simplex_generator.specs.Unanswered.{node_in}
@@ -9,6 +10,8 @@ use Rattle.simplex_lab.specs.Refusals.{reason_line}
 use Rattle.simplex_transcript.specs.declared.entry.Entry.{Entry}
 use Rattle.simplex_transcript.specs.declared.event.Event.{Event}
 use Rattle.simplex_transcript.specs.declared.refusal.Refusal.{Refusal}
+use Rattle.simplex_transcript.specs.declared.refusal.RunError.{RunError}
+use Rattle.simplex_transcript.specs.declared.refusal.RunError.TheVariants as errors
 use Rattle.simplex_transcript.specs.declared.setup.Setup.{Setup}
 use Rattle.simplex_form.specs.declared.input.Input.{Input}
 use Rattle.simplex_front.specs.declared.answer.Answer.{Answer}
@@ -16,7 +19,7 @@ use Rattle.simplex_front.specs.Answer.{IsAnswer}
 use Rattle.simplex_form.specs.Input.{input_of}
 use Rattle.simplex_text.specs.Lines.{PrintedRun, pieces}
 use Rattle.simplex_text.specs.Refusals.{refusal_text}
-use Rattle.simplex_trace.specs.Trace.{lines_of}
+use Rattle.simplex_trace.specs.Trace.{deed_line, lines_of}
 use Rattle.simplex_writer.specs.Inputs.{input_text}
 use Rattle.model_run.specs.Setting.{at_epoch_genesis}
 use Rattle.model_run.specs.Run.{Run}
@@ -51,18 +54,30 @@ lines_if events (Some entries) = lines_of events entries
 abbrev pub node_at : List Event → ℕ → Option Node
 node_at events number = if number == 0 then None else option_and_then node_in (slice_get events (number - 1))
 
+-- the line on the event of this number, if there is one
+abbrev pub deed_if : List Event → ℕ → List ℕ
+deed_if events number = if number == 0 then [] else option_map_or (deed_line number) (slice_get events (number - 1)) []
+
+abbrev pub is_no_node : RunError → Bool
+is_no_node errors.NoMember = true
+is_no_node _ = false
+
+-- the node of the event that is refused, if there is such a node
+abbrev pub refused_node : Input → Refusal → Option Node
+refused_node input refusal = if is_no_node refusal.error then None else node_at input.events refusal.event
+
 -- the text tells what is left open for the node, if there are both
 abbrev pub TellsOpenIf : List Event → Option (List Entry) → Option Node → List ℕ → Type 0
 TellsOpenIf events None _ text = text ≡ []
 TellsOpenIf events (Some entries) None text = text ≡ []
 TellsOpenIf events (Some entries) (Some node) text = TellsOpen events entries node text
 
--- the text tells the events before the one that is refused, the refusal and its reason, and what was open then for the node of this event
+-- the text tells the events before the one that is refused, and that one, the refusal and its reason, and what was open then for its node
 pub record TellsRefusal (input : Input) (refusal : Refusal) (text : List ℕ) : Type 0 where
   pub left : List ℕ
-  pub tells : TellsOpenIf (earlier input refusal) (entries_of input.setup (earlier input refusal)) (node_at input.events refusal.event) left
-  pub told : text ≡ ((lines_if (earlier input refusal) (entries_of input.setup (earlier input refusal)) ++ refusal_text refusal)
-      ++ reason_line refusal.error) ++ left
+  pub tells : TellsOpenIf (earlier input refusal) (entries_of input.setup (earlier input refusal)) (refused_node input refusal) left
+  pub told : text ≡ (((lines_if (earlier input refusal) (entries_of input.setup (earlier input refusal)) ++ deed_if input.events refusal.event)
+      ++ refusal_text refusal) ++ reason_line refusal.error) ++ left
 
 -- the run of the input is this refusal, which the text tells
 abbrev pub IsRefused : Input → Refusal → List ℕ → Type 0

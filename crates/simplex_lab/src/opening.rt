@@ -220,9 +220,20 @@ fn source_items(alloc: Global, sources: &[StepSource]) -> Result<String, AllocEr
     Ok(text)
 }
 
+// The items, or that there are none.
+fn or_none(items: &str) -> &str
+    ensures { result.now ≡ opening.or_none items.now }
+{
+    if items.is_empty() {
+        return ", none";
+    }
+    items
+}
+
 fn line(alloc: Global, name: &str, node: &str, items: &str) -> Result<String, AllocError>
     ensures { IfOk result (λ text. string_bytes text ≡ opening.line name.now node.now items.now) }
 {
+    let items = or_none(items);
     format!(in alloc; "{name} {node}{items}\n")
 }
 

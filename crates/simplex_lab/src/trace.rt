@@ -6,6 +6,7 @@ ghost use Rattle.simplex_network.specs.WholeRuns.{WholeRunFrom};
 ghost use Rattle.simplex_generator.specs.Unanswered.{node_in};
 ghost use Rattle.simplex_drawing.specs.Before.{earlier, entries_of};
 ghost use Rattle.simplex_lab.specs.declared.words.Word.TheVariants as asks;
+ghost use Rattle.simplex_lab.specs.Says as says;
 ghost use Rattle.simplex_lab.specs.Says.{AnswersOn, TellsOpenIf, TellsRefusal, lines_if, node_at};
 
 use crate::opening::open_lines;
@@ -17,7 +18,7 @@ use simplex_form::Input;
 use simplex_front::Answer;
 use simplex_network::{Transcript, run_network};
 use simplex_text::refusal_text;
-use simplex_trace::lines;
+use simplex_trace::{deed_line, lines};
 use simplex_transcript::{Event, Node, Refusal, RunError};
 use std::alloc::{AllocError, Global};
 
@@ -64,6 +65,36 @@ fn node_at(events: &[Event], number: u64) -> Option<Node>
     node_of(events.get(place as usize)?)
 }
 
+// The line on the event of this number, which is counted from 1, if there is one.
+fn deed_if(alloc: Global, events: &[Event], number: u64) -> Result<String, AllocError>
+    ensures { IfOk result (λ text. string_bytes text ≡ says.deed_if events.now number) }
+{
+    let Some(place) = number.checked_sub(1) else {
+        return Ok(String::new(alloc));
+    };
+    match events.get(place as usize) {
+        None => Ok(String::new(alloc)),
+        Some(event) => deed_line(alloc, number, event),
+    }
+}
+
+// Whether an event is refused since its node does not exist.
+fn is_no_node(error: &RunError) -> bool
+    ensures { result ≡ says.is_no_node error.now }
+{
+    matches!(error, RunError::NoMember)
+}
+
+// The node of the event that is refused, if there is such a node.
+fn refused_node(input: &Input, refusal: &Refusal) -> Option<Node>
+    ensures { result ≡ says.refused_node input.now refusal.now }
+{
+    if is_no_node(&refusal.error) {
+        return None;
+    }
+    node_at(input.events.as_slice(), refusal.event)
+}
+
 // The lines of a run, if there is one.
 fn lines_if(
     alloc: Global,
@@ -108,16 +139,17 @@ fn refused_behind(
     ensures { IfOk result (λ text. TellsRefusal input.now refusal.now (string_bytes text)) }
 {
     let events = events_before(input.events.as_slice(), refusal.event);
-    let node = node_at(input.events.as_slice(), refusal.event);
+    let node = refused_node(input, refusal);
     let open = open_if(alloc, events, whole, node)?;
     let mut text = lines_if(alloc, events, whole)?;
+    text.push_str(deed_if(alloc, input.events.as_slice(), refusal.event)?.as_str())?;
     text.push_str(refusal_text(alloc, refusal)?.as_str())?;
     text.push_str(reason_line(alloc, &refusal.error)?.as_str())?;
     text.push_str(open.as_str())?;
     Ok(text)
 }
 
-// The lines on the events before, on the refusal, and on what was open then.
+// The lines on the events before, on the one that is refused and why, and on what was open then.
 fn refused_text(alloc: Global, input: &Input, refusal: &Refusal) -> Result<String, AllocError>
     ensures { IfOk result (λ text. TellsRefusal input.now refusal.now (string_bytes text)) }
 {

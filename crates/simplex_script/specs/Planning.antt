@@ -103,7 +103,7 @@ some_of fault (event ∷ events_) = Ok (event ∷ events_)
 abbrev pub planned : Command → (waiting delivered : List Parcel) → List OpenRequest → Result (List Event) Fault
 planned (commands.Start nodes stop) waiting delivered open_ = Ok (starts stop nodes)
 planned (commands.Propose node payload) waiting delivered open_ = only_if (faults.NoProposal node) (proposed node payload open_)
-planned (commands.Judge question whom good) waiting delivered open_ = some_of (faults.NoRequest question) (verdicts question whom good open_)
+planned (commands.Judge question whom good) waiting delivered open_ = some_of (faults.NoRequest question whom) (verdicts question whom good open_)
 planned (commands.Deliver from to channel) waiting delivered open_ = delivered_if (faults.NoPacket from to channel) (first_on from to channel waiting)
 planned (commands.Resend from to channel) waiting delivered open_ =
     delivered_if (faults.NotDelivered from to channel) (last_on from to channel None delivered)

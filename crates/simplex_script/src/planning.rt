@@ -244,7 +244,13 @@ pub fn planned(
             good,
         } => {
             let events = verdicts(alloc, open, *question, *whom, *good)?;
-            Ok(some_of(events, Fault::NoRequest(*question)))
+            Ok(some_of(
+                events,
+                Fault::NoRequest {
+                    question: *question,
+                    whom: *whom,
+                },
+            ))
         }
         Command::Deliver { from, to, channel } => delivered_if(
             alloc,

@@ -12,4 +12,4 @@ mod words;
 
 pub use deeds::{node_text, ref_text, spaced};
 pub use items::ask_text;
-pub use telling::{line, lines};
+pub use telling::{deed_line, line, lines};

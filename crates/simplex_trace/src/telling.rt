@@ -1,12 +1,22 @@
 //! A run, line by line.
 ghost use Rattle.std.specs.Prelude.{◌≡◌, IfOk, string_bytes};
 ghost use Rattle.simplex_trace.specs.Trace.{line_of};
+ghost use Rattle.simplex_trace.specs.Trace.{deed_line as deed_line_of};
 ghost use Rattle.simplex_trace.specs.Trace.{lines_of as lines_on};
 
 use crate::deeds::deed_text;
 use crate::items::items_of;
 use simplex_transcript::{Entry, Event};
 use std::alloc::{AllocError, Global};
+
+/// The line on an event without its entry: the event's number, and what it was.
+pub fn deed_line(alloc: Global, number: u64, event: &Event) -> Result<String, AllocError>
+    ensures { IfOk result (λ text. string_bytes text ≡ deed_line_of number event.now) }
+{
+    let deed = deed_text(alloc, event)?;
+    let deed = deed.as_str();
+    format!(in alloc; "{number} {deed}\n")
+}
 
 /// The line on an event and its entry: the event's number, what it was, and what came of it.
 pub fn line(alloc: Global, event: &Event, entry: &Entry) -> Result<String, AllocError>

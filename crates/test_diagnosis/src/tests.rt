@@ -48,6 +48,14 @@ fn mistakes_outside_the_events(rt: HostRuntime) -> Result<(), Fail> {
             r#"the setup, byte 25: no member "more" is wanted here"#,
         ),
         (
+            r#"{"setup":{},"event":[]}"#,
+            r#"the setup, byte 13: no member "event" is wanted here"#,
+        ),
+        (
+            r#"{"setup":{"epoch":0,"keybase":1},"events":[]}"#,
+            r#"the setup, byte 21: no member "keybase" is wanted here"#,
+        ),
+        (
             r#"{"setup":7,"events":[]}"#,
             "the setup, byte 9: found 7, wanted an object",
         ),
@@ -61,7 +69,7 @@ fn mistakes_outside_the_events(rt: HostRuntime) -> Result<(), Fail> {
         ),
         (
             r#"{"setup":{"epoch":0,"key_base":1,"members":["honest"],"term":1.5},"events":[]}"#,
-            r#"the setup, byte 61: "term" is 1.5, wanted a whole number from 0, below 2^64"#,
+            r#"the setup, byte 61: "term" is 1.5, wanted a whole number from 1 to 2^32"#,
         ),
     ];
     assert_said(&rt, rt.alloc(), &table)
@@ -159,7 +167,9 @@ fn an_event_of_the_form_that_is_not_wanted(rt: HostRuntime) -> Result<(), Fail> 
     let text = format!(in alloc; "{BEFORE}{{\"do\":\"tick\",\"ms\":1}}]}}")?;
     assert!(rt; read_input(alloc, text.as_bytes())?.is_ok());
     let got = explain(alloc, text.as_bytes(), 2)?;
-    let wanted = format!(in alloc; "event 1, byte {FIRST}: this is of the form, but not wanted here")?;
+    let wanted = format!(in alloc;
+        "event 1, byte {FIRST}: this is of the form, but not wanted here"
+    )?;
     assert_eq!(rt; got.as_str(), wanted.as_str());
     Ok(())
 }

@@ -41,7 +41,7 @@ fn lines_that_cannot_be_read(rt: HostRuntime) -> Result<(), Fail> {
         ),
         (
             "network honest\nbegin 0\n",
-            "2: its first word is no command",
+            "2: its first word is none of network, set, start, propose, verify, certify, deliver, resend, lose, miss, step, tick, crash and settle",
         ),
         (
             "network honest\n  | told\n  start 0 1.1 x\n",
@@ -49,7 +49,7 @@ fn lines_that_cannot_be_read(rt: HostRuntime) -> Result<(), Fail> {
         ),
         (
             "network honest\ndeliver 1-0 vote\n",
-            "2: it is not of the form: deliver FROM->TO CHANNEL",
+            "2: it is not of the form: deliver FROM->TO CHANNEL, a channel vote, certificate or resolver",
         ),
         (
             "network honest\npropose 0 aA\n",
@@ -100,7 +100,7 @@ fn what_is_not_there_is_told(rt: HostRuntime) -> Result<(), Fail> {
         ),
         ("propose 2 aa", "2.0 is not asked for a proposal"),
         ("verify all yes", "no request to verify is open"),
-        ("certify 2 no", "no request to certify is open"),
+        ("certify 2 no", "no request of 2.0 to certify is open"),
     ];
     for (line, wanted) in table {
         let it = command(
