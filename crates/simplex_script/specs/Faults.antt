@@ -9,7 +9,8 @@ use Rattle.simplex_script.specs.declared.fault.Fault.{Fault}
 use Rattle.simplex_script.specs.declared.fault.Fault.TheVariants as faults
 use Rattle.simplex_script.specs.declared.fault.Form.{Form}
 use Rattle.simplex_script.specs.declared.fault.Form.TheVariants as forms
-use Rattle.simplex_script.specs.Names.{channel_word, question_word}
+use Rattle.simplex_names.specs.Names.{channel_word}
+use Rattle.simplex_script.specs.Names.{question_word}
 
 -- the words that a command takes
 abbrev pub form_text : Form → List ℕ
