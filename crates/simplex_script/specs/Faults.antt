@@ -31,7 +31,7 @@ form_text forms.Settle = codes "settle or settle NODE .."
 
 -- a node, as 0.0
 abbrev pub node_text : Node → List ℕ
-node_text node = decimal node.member ++ codes "." ++ decimal node.half
+node_text node = decimal node.member ++ (codes "." ++ decimal node.half)
 
 -- of which packet between which nodes it is so
 abbrev pub packet_text : Channel → (from to : Node) → (which : List ℕ) → List ℕ
@@ -40,8 +40,8 @@ packet_text channel from to which =
 
 -- of which kind no request is open, of any node or of one
 abbrev pub request_text : Question → Whom → List ℕ
-request_text question whoms.All = codes "no request to " ++ question_word question ++ codes " is open"
-request_text question (whoms.One node) = codes "no request of " ++ node_text node ++ codes " to " ++ question_word question ++ codes " is open"
+request_text question whoms.All = codes "no request to " ++ (question_word question ++ codes " is open")
+request_text question (whoms.One node) = codes "no request of " ++ (node_text node ++ (codes " to " ++ (question_word question ++ codes " is open")))
 
 -- why a line is refused
 abbrev pub fault_text : Fault → List ℕ
