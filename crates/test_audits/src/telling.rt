@@ -2,7 +2,7 @@
 use simplex_audits::audit_program;
 use std::alloc::Global;
 use std::process::Abort;
-use test_telling::desk;
+use test_telling::desk_of;
 
 /// The word that asks for the record of a run.
 pub(crate) const RECORD: &[&str] = &["record"];
@@ -12,7 +12,7 @@ pub(crate) const CHECK: &[&str] = &["check"];
 
 /// What the program writes with these words and this input.
 pub(crate) fn told(rt: &impl Abort, alloc: Global, words: &[&str], input: &str) -> String {
-    let mut desk = desk(alloc, words, input.as_bytes()).expect(rt, "room");
+    let mut desk = desk_of(alloc, words, input.as_bytes()).expect(rt, "room");
     let _exit = audit_program(alloc, &desk.words, &mut desk.source, &mut desk.sink);
     String::from_utf8_lossy(alloc, desk.sink.bytes()).expect(rt, "room")
 }
@@ -25,7 +25,7 @@ pub(crate) fn assert_tells(
     input: &str,
     (text, status): (&str, u8),
 ) {
-    let mut desk = desk(alloc, words, input.as_bytes()).expect(rt, "room");
+    let mut desk = desk_of(alloc, words, input.as_bytes()).expect(rt, "room");
     let exit = audit_program(alloc, &desk.words, &mut desk.source, &mut desk.sink);
     let written = (desk.sink.bytes(), exit.status());
     assert_eq!(rt; &written, &(text.as_bytes(), status));

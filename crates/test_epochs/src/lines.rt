@@ -4,7 +4,7 @@ use crate::input::{ALONE, Given, THREE, bytes_of, input};
 use simplex_epochs::epochs_program;
 use std::alloc::Global;
 use std::process::Abort;
-use test_telling::desk;
+use test_telling::desk_of;
 
 // The digests at which the first two of three epochs are closed, and the chain of the member that is honest in all.
 const THREE_LINES: &str =
@@ -41,7 +41,7 @@ fn assert_ends(
     bytes: Vec<u8>,
     (text, wanted): (&str, u8),
 ) {
-    let mut desk = desk(alloc, words, &bytes).expect(rt, "room");
+    let mut desk = desk_of(alloc, words, &bytes).expect(rt, "room");
     let exit = epochs_program(alloc, &desk.words, &mut desk.source, &mut desk.sink);
     let status = exit.status();
     assert_eq!(rt; desk.sink.bytes(), text.as_bytes(), "{text}");

@@ -2,7 +2,7 @@
 use simplex_logs::log_program;
 use std::alloc::Global;
 use std::process::Abort;
-use test_telling::desk;
+use test_telling::desk_of;
 
 /// The words that ask for logs.
 pub(crate) const LOGS: &[&str] = &["logs"];
@@ -15,7 +15,7 @@ pub(crate) fn assert_tells(
     input: &str,
     (text, status): (&str, u8),
 ) {
-    let mut desk = desk(alloc, words, input.as_bytes()).expect(rt, "room");
+    let mut desk = desk_of(alloc, words, input.as_bytes()).expect(rt, "room");
     let exit = log_program(alloc, &desk.words, &mut desk.source, &mut desk.sink);
     let written = (desk.sink.bytes(), exit.status());
     assert_eq!(rt; &written, &(text.as_bytes(), status));

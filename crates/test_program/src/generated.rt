@@ -7,7 +7,7 @@ use simplex_writer::write_input;
 use std::alloc::{AllocError, Global};
 use std::process::Abort;
 use std::thread::Threads;
-use test_telling::desk;
+use test_telling::desk_of;
 
 const NUMBER: u64 = 7;
 
@@ -27,7 +27,7 @@ fn ended<R: Abort + Threads + Sync>(
     words: &[&str],
     input: Vec<u8>,
 ) -> (Exit, Vec<u8>) {
-    let mut desk = desk(alloc, words, &input).expect(rt, "room");
+    let mut desk = desk_of(alloc, words, &input).expect(rt, "room");
     let exit = program(rt, alloc, &desk.words, &mut desk.source, &mut desk.sink);
     let written = desk.sink.bytes().to_vec(alloc).expect(rt, "room");
     (exit, written)

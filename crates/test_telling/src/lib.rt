@@ -26,7 +26,7 @@ pub fn words_of(alloc: Global, words: &[&str]) -> Result<Vec<String>, AllocError
 }
 
 /// These words, this input, and nothing written yet.
-pub fn desk(alloc: Global, words: &[&str], input: &[u8]) -> Result<Desk, AllocError> {
+pub fn desk_of(alloc: Global, words: &[&str], input: &[u8]) -> Result<Desk, AllocError> {
     let words = words_of(alloc, words)?;
     let bytes = input.to_vec(alloc)?;
     Ok(Desk {
