@@ -14,7 +14,8 @@ use simplex_transcript::{Event, StepSource};
 use simplex_types::Channel;
 use std::alloc::{AllocError, Global};
 
-fn read_source(name: &str) -> Option<StepSource>
+/// What a step takes from.
+pub(crate) fn read_source(name: &str) -> Option<StepSource>
     ensures { result ≡ source_of name.now }
 {
     match name {
