@@ -11,11 +11,13 @@ mod fault;
 mod floors;
 mod hex_text;
 mod input;
+mod next_event;
 mod pieces;
 mod references;
 mod setup;
 mod stops;
 mod stream;
+mod taking;
 mod values;
 
 pub use answers::read_answer;

@@ -42,7 +42,8 @@ fn read_order(value: &Value) -> Option<Stop>
     read_fail(value)
 }
 
-fn read_stop(value: &Value) -> Option<Stop>
+/// The order to stop inside a step, if there is one.
+pub(crate) fn read_stop(value: &Value) -> Option<Stop>
     ensures { result ≡ stop_of (view value.now) }
 {
     if value.is_null() {

@@ -10,9 +10,10 @@ ghost use Rattle.simplex_form.specs.Events.{event_of};
 ghost use Rattle.simplex_form.specs.Input.{input_of};
 ghost use Rattle.simplex_form.specs.Stream.{Reads, ReadsItems, IsUsual};
 
-use crate::events::read_event;
 use crate::input::Input;
+use crate::next_event::next_event;
 use crate::setup::read_setup;
+use crate::taking::{take_key, take_open_list, take_open_object};
 use crate::values::{Halt, next_value};
 use json::{Reader, Scratch, Token};
 use simplex_transcript::{Event, Setup};
@@ -49,36 +50,6 @@ fn read_document(alloc: Global, reader: &mut Reader<'_>) -> Result<Input, Halt>
     let events = read_events(alloc, reader)?;
     take_end(reader)?;
     Ok(Input { setup, events })
-}
-
-/// Takes the brace that opens an object.
-fn take_open_object(reader: &mut Reader<'_>) -> Result<(), Halt>
-    ensures { OnOk result (reader.old ≡ kind.begin_object ∷ reader.new) }
-{
-    match reader.next() {
-        Some(Token::BeginObject) => Ok(()),
-        _ => Err(Halt::Other),
-    }
-}
-
-/// Takes the bracket that opens a list.
-fn take_open_list(reader: &mut Reader<'_>) -> Result<(), Halt>
-    ensures { OnOk result (reader.old ≡ kind.begin_array ∷ reader.new) }
-{
-    match reader.next() {
-        Some(Token::BeginArray) => Ok(()),
-        _ => Err(Halt::Other),
-    }
-}
-
-/// Takes this key.
-fn take_key(reader: &mut Reader<'_>, name: &str) -> Result<(), Halt>
-    ensures { OnOk result (reader.old ≡ kind.key name.now ∷ reader.new) }
-{
-    match reader.next() {
-        Some(Token::Key(key)) if key == name => Ok(()),
-        _ => Err(Halt::Other),
-    }
 }
 
 /// Takes the brace that closes the last object, behind which nothing stands.
@@ -118,8 +89,7 @@ fn read_event_items(alloc: Global, reader: &mut Reader<'_>) -> Result<Sequence<E
 {
     let mut events = Sequence::new(alloc);
     while !reader.take_end_array() {
-        let value = next_value(alloc, reader, DEPTH - 1)?;
-        let event = read_event(alloc, &value)?.ok_or(Halt::Other)?;
+        let event = next_event(alloc, reader)?;
         events.push(event)?;
     }
     Ok(events)

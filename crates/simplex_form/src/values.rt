@@ -1,6 +1,5 @@
 //! Reads one JSON value of a text of many. `serde_json` reads whole texts alone.
-ghost use Rattle.std.specs.Prelude.{◌≡◌, ◌<◌, ◌==◌, length, slice_index, Some, IfOk, IfSome, OnOk};
-ghost use Rattle.serde_json.specs.Data.{no_members};
+ghost use Rattle.std.specs.Prelude.{◌≡◌, ℕ, ◌<◌, ◌≤◌, ◌==◌, length, slice_index, Some, IfOk, IfSome, OnOk};
 ghost use Rattle.serde_json.specs.Read.{number_of};
 ghost use Rattle.serde_json.specs.View.{view, number_view, items_view, members_view};
 ghost use Rattle.simplex_form.specs.Stream.{Reads, ReadsItems, ReadsMembers};
@@ -63,7 +62,8 @@ pub(crate) fn next_value(
             if depth == 0 {
                 return Err(Halt::Other);
             }
-            Ok(Value::Object(next_members(alloc, reader, depth - 1)?))
+            let found = Map::new(alloc);
+            Ok(Value::Object(rest_of_members(alloc, reader, depth - 1, found)?))
         }
     }
 }
@@ -82,17 +82,18 @@ fn next_items(alloc: Global, reader: &mut Reader<'_>, depth: usize) -> Result<Ve
     Ok(found)
 }
 
-/// The members up to the brace that closes their object. Of a name that comes twice the last value stays.
+/// The members up to the brace that closes their object, behind those found. Of a name that comes twice the last value stays.
 #[cycle(next_value)]
-fn next_members(
+pub(crate) fn rest_of_members(
     alloc: Global,
     reader: &mut Reader<'_>,
     depth: usize,
+    found: Map<String, Value>,
 ) -> Result<Map<String, Value>, Halt>
-    ensures said { IfOk result (λ m. ReadsMembers depth (length reader.old) reader.old no_members (members_view m.entries) reader.new) }
+    ensures said { IfOk result (λ m. (n : ℕ) → length reader.old ≤ n → ReadsMembers depth n reader.old (members_view found.entries) (members_view m.entries) reader.new) }
     ensures shorter { OnOk result (length reader.new < length reader.old) }
 {
-    let mut found = Map::new(alloc);
+    let mut found = found;
     'members: while let Some(name) = reader.next_key()? {
         let key = String::from_str(alloc, name)?;
         let member = next_value(alloc, reader, depth)?;
@@ -103,7 +104,7 @@ fn next_members(
 
 /// The number that a numeral writes, where it is whole, from 0 and below 2^64. [whole-numbers]
 #[tactic(auto, using(crate::proofs::Numbers::whole_number))]
-fn read_number(text: &str) -> Option<Number>
+pub(crate) fn read_number(text: &str) -> Option<Number>
     ensures { IfSome result (λ number. number_of text.now ≡ Some (number_view number)) }
 {
     let bytes = text.as_bytes();

@@ -51,12 +51,14 @@ next_value-returns-in_ok-next_items-in-BeginArray-clause-said t c =
     let is : c.args.reader.now ≡ Token.begin_array ∷ c.next.new.self = grind (arith, first) in
     same c.args.depth _ _ _ _ _ is (view-Array found.field-0) (reads_array c.args.depth c.next.new.self c.next_items.new.reader (items_view found.field-0.items) (omega arith) found.ensures.said)
 
-pub next_value-returns-in_ok-next_members-in-BeginObject-clause-said : goal.next_value-returns-in_ok-next_members-in-BeginObject-clause-said
-next_value-returns-in_ok-next_members-in-BeginObject-clause-said t c =
-    let found = c.in_ok-next_members-in-BeginObject in
+pub next_value-returns-in_ok-rest_of_members-in-BeginObject-clause-said : goal.next_value-returns-in_ok-rest_of_members-in-BeginObject-clause-said
+next_value-returns-in_ok-rest_of_members-in-BeginObject-clause-said t c =
+    let found = c.in_ok-rest_of_members-in-BeginObject in
     let first : c.args.reader.now ≡ token_of c.in_ok-token.token ∷ c.next.new.self = grind arith in
     let is : c.args.reader.now ≡ Token.begin_object ∷ c.next.new.self = grind (arith, first) in
-    same c.args.depth _ _ _ _ _ is (view-Object found.field-0) (reads_object c.args.depth c.next.new.self c.next_members.new.reader (members_view found.field-0.entries) (omega arith) found.ensures.said)
+    let none : c.new-found.result.entries ≡ [] = search rules in
+    let read = found.ensures.said (length c.next.new.self) (omega arith) in
+    same c.args.depth _ _ _ _ _ is (view-Object found.field-0) (reads_object c.args.depth c.next.new.self c.rest_of_members.new.reader (members_view found.field-0.entries) (omega arith) (rw (ap members_view none) at read))
 
 pub next_items-items-preserved : goal.next_items-items-preserved
 next_items-items-preserved t c =
@@ -83,10 +85,9 @@ next_items-returns-clause-said t c =
     let all = l.invariant.3 [] c.take_end_array.new.self (no_more_items c.args.depth l.invariant.0 l.reader c.take_end_array.new.self l.invariant.1 over) in
     rw append-nil at all
 
-pub next_members-members-preserved : goal.next_members-members-preserved
-next_members-members-preserved t c =
+pub rest_of_members-members-preserved : goal.rest_of_members-members-preserved
+rest_of_members-members-preserved t c =
     let l = c.members in
-    let n = l.invariant.0 in
     let k = c.in-Some.name.now in
     let s = c.next_key.new.self in
     let named : read_key l.reader ≡ Some (Some k, s) = grind arith in
@@ -97,14 +98,19 @@ next_members-members-preserved t c =
     let copied : string_bytes c.in_ok-key.key ≡ k = search rules in
     let inserted : members_view c.insert.new.self.entries ≡ put k (view v) (members_view l.found.entries) =
     ap members_view c.in_ok-insert.ensures.entries ∙ members_view-insert_entry l.found.entries c.in_ok-key.key v ∙ ap (λ name. put name (view v) (members_view l.found.entries)) copied in (
-      n - 1,
-      omega (arith, less, lesser, l.invariant.1),
-      omega (arith, less, lesser, l.invariant.2),
-      λ ms end more. l.invariant.3 ms end (one_more_member c.args.depth n k l.reader s r end (view v) (members_view l.found.entries) ms (omega (arith, less, l.invariant.1)) named c.in_ok-member.ensures.said (rw inserted at more)),
+      omega (arith, less, lesser, l.invariant.0),
+      λ most enough.
+          let now = l.invariant.1 most enough in (
+            now.0 - 1,
+            omega (arith, less, lesser, now.1),
+            λ ms end more. now.2 ms end (one_more_member c.args.depth now.0 k l.reader s r end (view v) (members_view l.found.entries) ms (omega (arith, less, now.1)) named c.in_ok-member.ensures.said (rw inserted at more)),
+          ),
     )
 
-pub next_members-returns-clause-said : goal.next_members-returns-clause-said
-next_members-returns-clause-said t c =
+pub rest_of_members-returns-clause-said : goal.rest_of_members-returns-clause-said
+rest_of_members-returns-clause-said t c =
     let l = c.members in
     let over : read_key l.reader ≡ Some (None, c.next_key.new.self) = grind arith in
-    l.invariant.3 (members_view l.found.entries) c.next_key.new.self (no_more_members c.args.depth l.invariant.0 l.reader c.next_key.new.self (members_view l.found.entries) l.invariant.1 over)
+    λ most enough.
+    let now = l.invariant.1 most enough in
+    now.2 (members_view l.found.entries) c.next_key.new.self (no_more_members c.args.depth now.0 l.reader c.next_key.new.self (members_view l.found.entries) now.1 over)
