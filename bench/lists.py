@@ -1,13 +1,15 @@
 #!/usr/bin/env python3
-"""Long lists of events of honest members, for what measures the program.
+"""Long lists of events, most of them of honest members, for what measures the program.
 
     bench/lists.py rounds MEMBERS EVENTS      members finalize view after view, and nothing is lost
     bench/lists.py abreast MEMBERS EVENTS     the same, and each member takes a step before any takes the next
     bench/lists.py ticks MEMBERS EVENTS       each member takes eight steps between two ticks, abreast of the others, in one view
     bench/lists.py shown MEMBERS EVENTS       members give up view after view, and each verifies the certificate that one makes of it
+    bench/lists.py doubted MEMBERS EVENTS     each faulty member shows all honest ones a certificate whose last signature is wrong
     bench/lists.py behind VIEWS               three members give up so many views and one more, and a fourth catches up
     bench/lists.py given_up VIEWS             the same without the fourth
 """
+import hashlib
 import json
 import sys
 
@@ -229,6 +231,51 @@ def shown(members, count):
     return first_events(made, made.give_up_view, count)
 
 
+def number(value):
+    """A number as packets spell it: base 128, the least part first."""
+    return bytes([value % 128 + 128]) + number(value // 128) if value > 127 else bytes([value])
+
+
+class Doubted(Events):
+    """A third of the members is faulty. The others give up view 1, and then each faulty member shows all of them a nullification of
+    it that they signed, but that the last signature is wrong: each verifies it, abreast of the others, some 0.7 microseconds for
+    each signature of a quorum, and hears that member no more."""
+
+    NULLIFY = bytes([1, 0, 1])  # of epoch 0 and view 1
+
+    def __init__(self, members):
+        faulty = (members - 1) // 3
+        super().__init__(members - faulty)
+        self.setup["members"] = self.setup["members"] + ["silent"] * faulty
+        self.faulty = range(members - faulty, members)
+        for member in self.members:
+            self.add("start", member, floor=None, stop=None)
+        self.events.append({"do": "tick", "ms": 1000})
+        for source in ["resolver", "batcher", "timer"]:
+            for member in self.members:
+                self.step(member, source)
+
+    def signature(self, member):
+        key = hashlib.sha256(b"key" + self.setup["key_base"].to_bytes(8, "big") + member.to_bytes(4, "big")).digest()
+        return hashlib.sha256(key + b"simplex" + self.NULLIFY).digest()
+
+    def show(self, sender):
+        """The certificate goes to all honest members, and each hears it."""
+        signed = [number(it) + self.signature(it) for it in self.members]
+        wrong = self.NULLIFY + number(len(signed)) + b"".join(signed)[:-1] + b"."
+        to = [[it, 0] for it in self.members]
+        self.events.append({"do": "inject", "member": sender, "channel": "certificate", "to": to, "bytes": wrong.hex()})
+        self.deliver_all([(sender, [len(self.events), 0])])
+
+
+def doubted(members, count):
+    made = Doubted(members)
+    for sender in made.faulty:
+        made.show(sender)
+    del made.events[count:]
+    return made.input()
+
+
 class Behind(Events):
     """Four members, of which three give up view after view, while the fourth does not run."""
 
@@ -286,6 +333,8 @@ def main():
             made = ticks(int(members), int(events))
         case ["shown", members, events]:
             made = shown(int(members), int(events))
+        case ["doubted", members, events]:
+            made = doubted(int(members), int(events))
         case ["behind", views]:
             made = behind(int(views), True)
         case ["given_up", views]:

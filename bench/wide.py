@@ -1,9 +1,9 @@
 #!/usr/bin/env python3
 """Times `run` and `par` on lists in which many events of different members stand side by side, so that `par` steps them at once.
 
-Run it from anywhere, after `make build`: bench/wide.py [--turns N] [--members N] [--events N] [--workers N,..] [PROGRAM].
-Each list (`abreast` and `ticks` of bench/lists.py) is given to `run` and to `par` with these numbers of workers, in turn, and all
-must write the same. It prints how many events a group has that is stepped at once; then, for each way, the events a second by the
+Run it from anywhere, after `make build`: bench/wide.py [--lists NAME,..] [--turns N] [--members N] [--events N] [--workers N,..]
+[PROGRAM]. Each list (of bench/lists.py: `abreast` and `ticks`, whose steps are cheap, or `shown` and `doubted`, whose steps verify
+certificates) is given to `run` and to `par` with these numbers of workers, in turn, and all must write the same. It prints how many events a group has that is stepped at once; then, for each way, the events a second by the
 clock on the wall (the least of the turns, reading and printing counted), how many times as fast that is as `par 1`, and the
 seconds of processor time; then what reading alone takes, which is the time of the same list behind an event that is refused.
 """
@@ -70,8 +70,8 @@ def least(runs):
 
 def time_list(name, words):
     made = getattr(lists, name)(words.members, words.events)
-    sizes = groups(made["events"])
-    print(f"{name}: {words.members} members, {words.events} events in {len(sizes)} groups, of {words.events / len(sizes):.1f} each")
+    count, sizes = len(made["events"]), groups(made["events"])
+    print(f"{name}: {words.members} members, {count} events in {len(sizes)} groups, of {count / len(sizes):.1f} each")
     ways = [["run"]] + [["par", str(it)] for it in words.workers]
     with file_of(made["events"], made["setup"]) as file, file_of([REFUSED] + made["events"], made["setup"]) as read:
         turns = [[run(words.program, way, file, 0) for way in ways] for _ in range(words.turns)]
@@ -82,7 +82,7 @@ def time_list(name, words):
     by_one, _ = times.get("par 1", times["run"])
     for way, (seconds, cost) in times.items():
         print(
-            f"  {way:<8} {words.events / seconds:>10.0f} a second {by_one / seconds:>6.2f} times {cost:>7.2f} s of processors",
+            f"  {way:<8} {count / seconds:>10.0f} a second {by_one / seconds:>6.2f} times {cost:>7.2f} s of processors",
             flush=True,
         )
     whole, _ = times["run"]
@@ -91,13 +91,14 @@ def time_list(name, words):
 
 def main():
     parser = argparse.ArgumentParser(description="times run and par on lists in which groups are wide")
+    parser.add_argument("--lists", type=lambda text: text.split(","), default=["abreast", "ticks"])
     parser.add_argument("--turns", type=int, default=5)
     parser.add_argument("--members", type=int, default=64)
     parser.add_argument("--events", type=int, default=200_000)
     parser.add_argument("--workers", type=numbers, default=[1, 2, 4])
     parser.add_argument("program", nargs="?", default=str(PROGRAM))
     words = parser.parse_args()
-    for name in ["abreast", "ticks"]:
+    for name in words.lists:
         time_list(name, words)
 
 

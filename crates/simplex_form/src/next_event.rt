@@ -1,6 +1,6 @@
 //! Reads the next event of a text: a delivery or a step, whose members stand in the order of docs/INPUT.md, with no tree of it, since
 //! most events are these, and any other event by its tree.
-ghost use Rattle.std.specs.Prelude.{◌≡◌, ◌<◌, codes, length, Some, IfOk, OnOk};
+ghost use Rattle.std.specs.Prelude.{◌≡◌, codes, Some, IfOk};
 ghost use Rattle.serde_json.specs.Data.{Data, Members, string, object, no_members, put};
 ghost use Rattle.serde_json.specs.View.{view};
 ghost use Rattle.simplex_form.specs.Events.{event_of, node_of, ref_of, stop_of};

@@ -90,7 +90,8 @@ pub(crate) fn rest_of_members(
     depth: usize,
     found: Map<String, Value>,
 ) -> Result<Map<String, Value>, Halt>
-    ensures said { IfOk result (λ m. (n : ℕ) → length reader.old ≤ n → ReadsMembers depth n reader.old (members_view found.entries) (members_view m.entries) reader.new) }
+    ensures said { IfOk result (λ m. (n : ℕ) → length reader.old ≤ n
+        → ReadsMembers depth n reader.old (members_view found.entries) (members_view m.entries) reader.new) }
     ensures shorter { OnOk result (length reader.new < length reader.old) }
 {
     let mut found = found;
