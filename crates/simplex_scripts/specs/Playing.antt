@@ -1,113 +1,133 @@
 -- What a script comes to.
-use Rattle.std.specs.Prelude.{ℕ, ◌≡◌, ◌≤◌, Bool, true, false, List, [], ◌∷◌, ◌++◌, length, Contains, Option, None, Some, IfSome, Result, Ok, Err}
-use Rattle.std.specs.List.{AllZip}
-use Rattle.simplex_values.specs.declared.answer.Answer.TheVariants as answers
-use Rattle.simplex_messages.specs.declared.step.Stop.TheVariants as stops
+use Rattle.std.specs.Prelude.{◌≡◌, ℕ, zero, suc, List, [], ◌∷◌, ◌++◌, filter, map, not, reverse, Option, None, Some, Result, Ok, Err}
 use Rattle.simplex_transcript.specs.declared.event.Event.{Event}
-use Rattle.simplex_transcript.specs.declared.event.Event.TheVariants as events
-use Rattle.simplex_transcript.specs.declared.setup.Setup.{Setup}
-use Rattle.simplex_simulator.specs.Going.{IsRunnable, MadeEvents}
+use Rattle.simplex_transcript.specs.declared.field.Field.{Field}
+use Rattle.simplex_transcript.specs.declared.node.Node.{Node}
+use Rattle.simplex_transcript.specs.declared.refusal.RunError.{RunError}
+use Rattle.model_run.specs.Entries.{entry_of}
+use Rattle.model_run.specs.Life.{Noted}
+use Rattle.model_run.specs.Setting.{Setting, at_epoch_genesis}
+use Rattle.model_run.specs.Setups.{first_bad}
 use Rattle.simplex_script.specs.declared.command.Command.{Command}
 use Rattle.simplex_script.specs.declared.command.Command.TheVariants as commands
 use Rattle.simplex_script.specs.declared.command.Placed.{Placed}
 use Rattle.simplex_script.specs.declared.fault.BadLine.{BadLine}
 use Rattle.simplex_script.specs.declared.fault.Fault.{Fault}
 use Rattle.simplex_script.specs.declared.fault.Fault.TheVariants as faults
-use Rattle.simplex_script.specs.declared.planning.OpenRequest.{OpenRequest}
 use Rattle.simplex_script.specs.declared.post.Parcel.{Parcel}
 use Rattle.simplex_script.specs.declared.script.Script.{Script}
 use Rattle.simplex_script.specs.Planning.{planned}
-use Rattle.simplex_script.specs.Post.{first_on}
+use Rattle.simplex_script.specs.Post.{delivered_behind, first_on, is_for, is_same_parcel, waiting_behind}
 use Rattle.simplex_scripts.specs.declared.compiling.Compiled.{Compiled}
-use Rattle.simplex_scripts.specs.declared.compiling.Refused.{Refused}
-use Rattle.simplex_scripts.specs.declared.play.Play.{Play}
 use Rattle.simplex_scripts.specs.declared.play.TheConstants.{MOST_EVENTS}
+use Rattle.simplex_scripts.specs.Coming.{next, open_in}
 
--- the event comes up by itself: a whole step, a delivery, or a verdict of yes
-abbrev pub ComesUp : Event → Type 0
-ComesUp (events.Step node source stops.None) = Unit {0}
-ComesUp (events.Deliver node packet) = Unit {0}
-ComesUp (events.Answer node request (answers.Verdict true)) = Unit {0}
-ComesUp _ = ⊥
+-- what was made so far, the newest first, of each event the line that it is of, and the packets that wait and that were delivered
+pub record Scene : Type 0 where
+  pub before : List Noted
+  pub lines : List ℕ
+  pub waiting : List Parcel
+  pub delivered : List Parcel
 
--- the command stands for events, where what is open is known
-abbrev pub is_order : Command → Bool
-is_order (commands.Settle nodes) = false
-is_order (commands.Lose from to channel) = false
-is_order (commands.Miss nodes) = false
-is_order _ = true
+abbrev pub opening : Scene
+opening = record { before = []; lines = []; waiting = []; delivered = [] }
 
--- where some packets and requests are open, the command stands for the event, with others or alone
-abbrev pub IsPlanned : Command → Event → Type 0
-IsPlanned command event =
-    (waiting : List Parcel) × ((delivered : List Parcel) × ((open_ : List OpenRequest) × ((plan : List Event)
-    × (planned command waiting delivered open_ ≡ Ok plan) × Contains plan event)))
+-- an event of a line more
+abbrev pub behind : ℕ → Noted → Scene → Scene
+behind line noted scene = record {
+    before = noted ∷ scene.before;
+    lines = line ∷ scene.lines;
+    waiting = waiting_behind noted.event noted.entry scene.waiting;
+    delivered = delivered_behind noted.event scene.waiting scene.delivered
+  }
 
--- what a command may come to
-abbrev pub MayStand : Command → Event → Type 0
-MayStand (commands.Settle nodes) event = ComesUp event
-MayStand (commands.Lose from to channel) event = ⊥
-MayStand (commands.Miss nodes) event = ⊥
-MayStand command event = IsPlanned command event
+-- some of what waits is lost
+abbrev pub without : (Parcel → Bool) → Scene → Scene
+without lost scene = record {
+    before = scene.before;
+    lines = scene.lines;
+    waiting = filter (λ it. not (lost it)) scene.waiting;
+    delivered = scene.delivered
+  }
 
--- one of the commands is of this line, and may come to the event
-abbrev pub IsOfLine : List Placed → ℕ → Event → Type 0
-IsOfLine placed line event = (it : Placed) × Contains placed it × (it.line ≡ line) × MayStand it.command event
+-- it goes on; or an event of a line is refused; or a line names what is not there
+pub data Played : Type 0 where
+  On : Scene → Played
+  Stopped : Scene → (line : ℕ) → Event → Played
+  Bad : BadLine → Played
 
--- each event is of the line beside it
-abbrev pub AreOfLines : List Placed → List Event → List ℕ → Type 0
-AreOfLines placed all lines = AllZip (λ event line. IsOfLine placed line event) all lines
+abbrev pub and_then : Played → (Scene → Played) → Played
+and_then (On scene) more = more scene
+and_then (Stopped scene line event) more = Stopped scene line event
+and_then (Bad bad) more = Bad bad
 
--- where some packets and requests are open, the command does not find what it names; nothing ends `settle` but too many events
-abbrev pub Lacks : Command → Fault → Type 0
-Lacks (commands.Settle nodes) fault = fault ≡ faults.Restless MOST_EVENTS
-Lacks (commands.Lose from to channel) fault = (waiting : List Parcel) × (first_on from to channel waiting ≡ None) × (fault ≡ faults.NoPacket from to channel)
-Lacks (commands.Miss nodes) fault = ⊥
-Lacks command fault =
-    (waiting : List Parcel) × ((delivered : List Parcel) × ((open_ : List OpenRequest) × (planned command waiting delivered open_ ≡ Err fault)))
+abbrev pub bad_line : ℕ → Fault → Played
+bad_line line fault = Bad (record { line = line; fault = fault })
 
--- one of the commands is of this line, and does not find what it names
-abbrev pub IsBad : List Placed → BadLine → Type 0
-IsBad placed bad = (it : Placed) × Contains placed it × (it.line ≡ bad.line) × Lacks it.command bad.fault
+-- ---- events
 
--- the network made these events and refuses none of them; one more may stand last
-abbrev pub RunsButLast : Setup → List Event → Type 0
-RunsButLast setup all = (made : List Event) × ((last : List Event) × (all ≡ made ++ last) × (length last ≤ 1) × IsRunnable setup made)
+abbrev pub noted_in : ℕ → Event → Scene → Result Noted RunError → Played
+noted_in line event scene (Ok noted) = On (behind line noted scene)
+noted_in line event scene (Err error) = Stopped scene line event
 
--- each event is of the line beside it, and none but the last is refused
-pub record IsCompiled (script : Script) (compiled : Compiled) : Type 0 where
-  pub of_lines : AreOfLines script.commands compiled.events compiled.lines
-  pub runs : RunsButLast script.setup compiled.events
+-- one event is made
+unfoldable pub made : Setting → ℕ → Event → Scene → Played
+made setting line event scene = noted_in line event scene (entry_of setting scene.before event)
 
--- ---- as it goes
+-- some, one after another
+unfoldable pub all_made : Setting → ℕ → List Event → Scene → Played
+all_made setting line [] scene = On scene
+all_made setting line (event ∷ events) scene = and_then (made setting line event scene) (all_made setting line events)
 
--- the network made the events
-abbrev pub Went : Play → Setup → Type 0
-Went play setup = MadeEvents play.network setup play.events
+-- ---- commands
 
--- events of one line more, of which this holds, as of one that is refused
-pub record Adds (P : Event → Type 0) (line : ℕ) (old new : Play) (refused : Option Event) : Type 0 where
-  pub went : (setup : Setup) → Went old setup → Went new setup
-  pub beside : (placed : List Placed) → ((event : Event) → P event → IsOfLine placed line event) → AreOfLines placed old.events old.lines → AreOfLines placed new.events new.lines
-  pub last : IfSome refused P
+-- what comes up between the nodes is made, until nothing is left
+unfoldable pub settled : Setting → ℕ → List Node → (left : ℕ) → Scene → Played
+settled setting line among zero scene = bad_line line (faults.Restless MOST_EVENTS)
+settled setting line among (suc left) scene = settled_by (next setting scene.before scene.waiting among)
+  where
+    settled_by : Option Event → Played
+    settled_by None = On scene
+    settled_by (Some event) = and_then (made setting line event scene) (settled setting line among left)
 
--- the same, or what is not there
-abbrev pub AddsOr : Command → ℕ → (old new : Play) → Result (Option Event) Fault → Type 0
-AddsOr command line old new (Ok refused) = Adds (MayStand command) line old new refused
-AddsOr command line old new (Err fault) = Lacks command fault
+abbrev pub lost : ℕ → Fault → Scene → Option Parcel → Played
+lost line fault scene None = bad_line line fault
+lost line fault scene (Some parcel) = On (without (λ it. is_same_parcel it parcel) scene)
 
--- all commands of a script, up to an event that is refused: each event is of a line, and so is that one
-pub record Goes (placed : List Placed) (old new : Play) (refused : Option Refused) : Type 0 where
-  pub went : (setup : Setup) → Went old setup → Went new setup
-  pub of_lines : AreOfLines placed old.events old.lines → AreOfLines placed new.events new.lines
-  pub last : IfSome refused (λ it. IsOfLine placed it.line it.event)
+abbrev pub as_planned : Setting → ℕ → Scene → Result (List Event) Fault → Played
+as_planned setting line scene (Ok events) = all_made setting line events scene
+as_planned setting line scene (Err fault) = bad_line line fault
 
--- the same, or the first line that names what is not there
-abbrev pub GoesOr : List Placed → (old new : Play) → Result (Option Refused) BadLine → Type 0
-GoesOr placed old new (Ok refused) = Goes placed old new refused
-GoesOr placed old new (Err bad) = IsBad placed bad
+-- a command is done
+unfoldable pub obeyed : Setting → ℕ → Command → Scene → Played
+obeyed setting line (commands.Settle nodes) scene = settled setting line nodes MOST_EVENTS scene
+obeyed setting line (commands.Lose from to channel) scene =
+    lost line (faults.NoPacket from to channel) scene (first_on from to channel scene.waiting)
+obeyed setting line (commands.Miss nodes) scene = On (without (is_for nodes) scene)
+obeyed setting line command scene = as_planned setting line scene (planned command scene.waiting scene.delivered (open_in scene.before))
 
--- what a script comes to
-abbrev pub IsCompiledOr : Script → Result Compiled BadLine → Type 0
-IsCompiledOr script (Ok compiled) = IsCompiled script compiled
-IsCompiledOr script (Err bad) = IsBad script.commands bad
+-- all of them, one after another
+unfoldable pub all_obeyed : Setting → List Placed → Scene → Played
+all_obeyed setting [] scene = On scene
+all_obeyed setting (it ∷ others) scene = and_then (obeyed setting it.line it.command scene) (all_obeyed setting others)
+
+-- ---- the script
+
+-- the events that were made, with their lines, and one that was refused last
+abbrev pub compiled_with : Scene → (refused : List Event) → (line : List ℕ) → Compiled
+compiled_with scene refused line =
+    record { events = reverse (map (λ noted. noted.event) scene.before) ++ refused; lines = reverse scene.lines ++ line }
+
+abbrev pub compiled_of : Played → Result Compiled BadLine
+compiled_of (On scene) = Ok (compiled_with scene [] [])
+compiled_of (Stopped scene line event) = Ok (compiled_with scene (event ∷ []) (line ∷ []))
+compiled_of (Bad bad) = Err bad
+
+-- of a setup that is refused there are no events
+abbrev pub unless_bad : Option Field → Played → Played
+unless_bad None played = played
+unless_bad (Some field) played = On opening
+
+-- what a script comes to: its events with their lines, or its first line that names what is not there
+unfoldable pub compiled : Script → Result Compiled BadLine
+compiled script = compiled_of (unless_bad (first_bad script.setup) (all_obeyed (at_epoch_genesis script.setup) script.commands opening))
