@@ -1,0 +1,54 @@
+//! A script with what came out.
+use simplex_front::Exit;
+use simplex_io::{MemorySink, MemorySource};
+use simplex_lab::{lab_program, script_fault};
+use simplex_script::is_told;
+use std::alloc::{AllocError, Global};
+use std::str::from_utf8;
+
+/// What stands before each line on what came out.
+const BAR: &str = "  | ";
+
+/// A script without what it tells of an earlier run.
+fn bare(alloc: Global, script: &str) -> Result<String, AllocError> {
+    let mut text = String::new(alloc);
+    for line in script.lines() {
+        if !is_told(line) {
+            text.push_str(line)?;
+            text.push_str("\n")?;
+        }
+    }
+    Ok(text)
+}
+
+/// Puts the lines behind the text, each behind a bar.
+fn push_lines(text: &mut String, lines: &str) -> Result<(), AllocError> {
+    for line in lines.lines() {
+        text.push_str(BAR)?;
+        text.push_str(line)?;
+        text.push_str("\n")?;
+    }
+    Ok(())
+}
+
+/// The script with what came out: of each event below its line; or at its end, why it is refused.
+pub(crate) fn told(alloc: Global, script: &str) -> Result<String, AllocError> {
+    let mut text = bare(alloc, script)?;
+    let words = vec![in alloc; String::from_str(alloc, "script")?]?;
+    let bytes = Vec::from_slice(alloc, text.as_bytes())?;
+    let mut source = MemorySource::new(bytes, Vec::new(alloc));
+    let mut sink = MemorySink::new(alloc, Vec::new(alloc));
+    let exit = lab_program(alloc, &words, &mut source, &mut sink);
+    let said = from_utf8(sink.bytes()).unwrap_or("");
+    match exit {
+        Exit::Done(_) => String::from_str(alloc, said),
+        Exit::Memory => Err(AllocError),
+        _ => {
+            push_lines(&mut text, said)?;
+            if let Some(why) = script_fault(alloc, text.as_bytes())? {
+                push_lines(&mut text, why.as_str())?;
+            }
+            Ok(text)
+        }
+    }
+}
