@@ -83,14 +83,15 @@ fn says(
     }
 }
 
-/// The member of this name.
+/// The member of this name: the last, whose value counts, where several have it.
 fn find(bytes: &[u8], all: &[Member], name: &str) -> Option<Member> {
+    let mut found = None;
     for member in all {
         if member.name.of(bytes) == name.as_bytes() {
-            return Some(*member);
+            found = Some(*member);
         }
     }
-    None
+    found
 }
 
 /// The first member of the table that is missing, or whose value is not of the form.
@@ -158,7 +159,8 @@ fn object_fault(
     if let Some(fault) = unknown_member(alloc, bytes, &all, table)? {
         return Ok(fault);
     }
-    Ok(format!(in alloc; "byte {at}: a member stands here twice")?)
+    // A word that wants no events refuses one that is of the form.
+    Ok(format!(in alloc; "byte {at}: this is of the form, but not wanted here")?)
 }
 
 /// What is wrong with an event.

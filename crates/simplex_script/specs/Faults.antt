@@ -1,7 +1,13 @@
 -- Why a line of a script is refused, in words.
-use Rattle.std.specs.Prelude.{ℕ, List, codes}
+use Rattle.std.specs.Prelude.{ℕ, List, ◌++◌, codes, decimal}
+use Rattle.simplex_values.specs.declared.plan.Channel.{Channel}
+use Rattle.simplex_transcript.specs.declared.node.Node.{Node}
+use Rattle.simplex_script.specs.declared.command.Question.{Question}
+use Rattle.simplex_script.specs.declared.fault.Fault.{Fault}
+use Rattle.simplex_script.specs.declared.fault.Fault.TheVariants as faults
 use Rattle.simplex_script.specs.declared.fault.Form.{Form}
 use Rattle.simplex_script.specs.declared.fault.Form.TheVariants as forms
+use Rattle.simplex_script.specs.Names.{channel_word, question_word}
 
 -- the words that a command takes
 abbrev pub form_text : Form → List ℕ
@@ -19,3 +25,24 @@ form_text forms.Step = codes "step NODE SOURCE or step NODE SOURCE cut CALL keep
 form_text forms.Tick = codes "tick MILLISECONDS"
 form_text forms.Crash = codes "crash NODE .."
 form_text forms.Settle = codes "settle or settle NODE .."
+
+-- a node, as 0.0
+abbrev pub node_text : Node → List ℕ
+node_text node = decimal node.member ++ codes "." ++ decimal node.half
+
+-- of which packet between which nodes it is so
+abbrev pub packet_text : Channel → (from to : Node) → (which : List ℕ) → List ℕ
+packet_text channel from to which =
+    codes "no " ++ channel_word channel ++ codes " from " ++ node_text from ++ codes " to " ++ node_text to ++ codes " " ++ which
+
+-- why a line is refused
+abbrev pub fault_text : Fault → List ℕ
+fault_text faults.NoCommand = codes "its first word is no command"
+fault_text (faults.Words form) = codes "it is not of the form: " ++ form_text form
+fault_text faults.NoNetwork = codes "the line on the network has to come first"
+fault_text faults.Late = codes "it has to stand once, before the first event"
+fault_text (faults.NoPacket from to channel) = packet_text channel from to (codes "is open")
+fault_text (faults.NotDelivered from to channel) = packet_text channel from to (codes "was delivered")
+fault_text (faults.NoProposal node) = node_text node ++ codes " is not asked for a proposal"
+fault_text (faults.NoRequest question) = codes "no request to " ++ question_word question ++ codes " is open"
+fault_text (faults.Restless events) = codes "something is left to do behind " ++ decimal events ++ codes " events"

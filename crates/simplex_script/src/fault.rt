@@ -1,5 +1,5 @@
 //! Why a line of a script is refused.
-ghost use Rattle.std.specs.Prelude.{◌≡◌};
+ghost use Rattle.std.specs.Prelude.{◌≡◌, IfOk, string_bytes};
 ghost use Rattle.simplex_script.specs.Faults as said;
 
 use crate::command::Question;
@@ -89,8 +89,37 @@ fn form_text(form: Form) -> &'static str
     }
 }
 
+// A node, as `0.0`.
+fn node_text(alloc: Global, node: Node) -> Result<String, AllocError>
+    ensures { IfOk result (λ text. string_bytes text ≡ said.node_text node) }
+{
+    let member = node.member;
+    let half = node.half;
+    format!(in alloc; "{member}.{half}")
+}
+
+// Of which packet between which nodes it is so.
+fn packet_text(
+    alloc: Global,
+    channel: Channel,
+    from: Node,
+    to: Node,
+    which: &str,
+) -> Result<String, AllocError>
+    ensures { IfOk result (λ text. string_bytes text ≡ said.packet_text channel from to which.now) }
+{
+    let channel = channel_word(channel);
+    let from = node_text(alloc, from)?;
+    let from = from.as_str();
+    let to = node_text(alloc, to)?;
+    let to = to.as_str();
+    format!(in alloc; "no {channel} from {from} to {to} {which}")
+}
+
 /// Why a line is refused, in words.
-pub fn fault_text(alloc: Global, fault: &Fault) -> Result<String, AllocError> {
+pub fn fault_text(alloc: Global, fault: &Fault) -> Result<String, AllocError>
+    ensures { IfOk result (λ text. string_bytes text ≡ said.fault_text fault.now) }
+{
     match fault {
         Fault::NoCommand => String::from_str(alloc, "its first word is no command"),
         Fault::Words(form) => {
@@ -100,14 +129,16 @@ pub fn fault_text(alloc: Global, fault: &Fault) -> Result<String, AllocError> {
         Fault::NoNetwork => String::from_str(alloc, "the line on the network has to come first"),
         Fault::Late => String::from_str(alloc, "it has to stand once, before the first event"),
         Fault::NoPacket { from, to, channel } => {
-            let channel = channel_word(*channel);
-            format!(in alloc; "no {channel} from {from} to {to} is open")
+            packet_text(alloc, *channel, *from, *to, "is open")
         }
         Fault::NotDelivered { from, to, channel } => {
-            let channel = channel_word(*channel);
-            format!(in alloc; "no {channel} from {from} to {to} was delivered")
+            packet_text(alloc, *channel, *from, *to, "was delivered")
         }
-        Fault::NoProposal(node) => format!(in alloc; "{node} is not asked for a proposal"),
+        Fault::NoProposal(node) => {
+            let node = node_text(alloc, *node)?;
+            let node = node.as_str();
+            format!(in alloc; "{node} is not asked for a proposal")
+        }
         Fault::NoRequest(question) => {
             let question = question_word(*question);
             format!(in alloc; "no request to {question} is open")

@@ -87,7 +87,7 @@ fn assert_event_said(
 }
 
 /// The last member of each kind of event is wrong, so all others are found to be of the form.
-const EVENTS: [(&str, usize, &str); 10] = [
+const EVENTS: [(&str, usize, &str); 11] = [
     (
         r#"{"do":"start","node":[0,0],"floor":null,"stop":"now"}"#,
         47,
@@ -134,6 +134,11 @@ const EVENTS: [(&str, usize, &str); 10] = [
         r#""do" is "strat", wanted "start", "tick", "deliver", "step", "answer", "crash" or "inject""#,
     ),
     (
+        r#"{"do":"tick","ms":1,"ms":"2"}"#,
+        25,
+        r#""ms" is "2", wanted a whole number from 0, below 2^64"#,
+    ),
+    (
         r#"{"node":[0,0]}"#,
         0,
         r#""do" is missing, wanted "start", "tick", "deliver", "step", "answer", "crash" or "inject""#,
@@ -145,6 +150,17 @@ fn mistakes_in_an_event(rt: HostRuntime) -> Result<(), Fail> {
     for (event, place, wanted) in EVENTS {
         assert_event_said(&rt, rt.alloc(), event, place, wanted)?;
     }
+    Ok(())
+}
+
+#[test]
+fn an_event_of_the_form_that_is_not_wanted(rt: HostRuntime) -> Result<(), Fail> {
+    let alloc = rt.alloc();
+    let text = format!(in alloc; "{BEFORE}{{\"do\":\"tick\",\"ms\":1}}]}}")?;
+    assert!(rt; read_input(alloc, text.as_bytes())?.is_ok());
+    let got = explain(alloc, text.as_bytes(), 2)?;
+    let wanted = format!(in alloc; "event 1, byte {FIRST}: this is of the form, but not wanted here")?;
+    assert_eq!(rt; got.as_str(), wanted.as_str());
     Ok(())
 }
 
