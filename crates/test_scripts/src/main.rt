@@ -24,7 +24,7 @@ fn main(rt: HostRuntime) -> io::Result<()> {
     let text = String::from_utf8(bytes).map_err(|_| io::Error::from(ErrorKind::InvalidData))?;
     for section in sections(alloc, text.as_str())? {
         println!(rt; "{}", section.head.as_str())?;
-        print!(rt; "{}", told(alloc, section.text.as_str())?.as_str())?;
+        println!(rt; "{}", told(alloc, section.text.as_str())?.as_str())?;
     }
     Ok(())
 }

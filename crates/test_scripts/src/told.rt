@@ -9,24 +9,27 @@ use std::str::from_utf8;
 /// What stands before each line on what came out.
 const BAR: &str = "  | ";
 
-/// A script without what it tells of an earlier run.
+fn push_line(text: &mut String, line: &str) -> Result<(), AllocError> {
+    text.push_str(line)?;
+    text.push_str("\n")
+}
+
+/// A script without what it tells of an earlier run, and without empty lines at its end.
 fn bare(alloc: Global, script: &str) -> Result<String, AllocError> {
     let mut text = String::new(alloc);
-    for line in script.lines() {
+    for line in script.trim_end().lines() {
         if !is_told(line) {
-            text.push_str(line)?;
-            text.push_str("\n")?;
+            push_line(&mut text, line)?;
         }
     }
     Ok(text)
 }
 
 /// Puts the lines behind the text, each behind a bar.
-fn push_lines(text: &mut String, lines: &str) -> Result<(), AllocError> {
+fn push_barred(text: &mut String, lines: &str) -> Result<(), AllocError> {
     for line in lines.lines() {
         text.push_str(BAR)?;
-        text.push_str(line)?;
-        text.push_str("\n")?;
+        push_line(text, line)?;
     }
     Ok(())
 }
@@ -44,9 +47,9 @@ pub(crate) fn told(alloc: Global, script: &str) -> Result<String, AllocError> {
         Exit::Done(_) => String::from_str(alloc, said),
         Exit::Memory => Err(AllocError),
         _ => {
-            push_lines(&mut text, said)?;
+            push_barred(&mut text, said)?;
             if let Some(why) = script_fault(alloc, text.as_bytes())? {
-                push_lines(&mut text, why.as_str())?;
+                push_barred(&mut text, why.as_str())?;
             }
             Ok(text)
         }
