@@ -4,7 +4,8 @@
 # that stands in further folders.
 # Usage: examples.sh [FOLDER..]. A folder has NAME.json, NAME.out and NAME.status of each example. Where the words are not the
 # one word run they stand in NAME.words, and NAME.json may be missing. Where the program is not simplex_net its name stands in
-# NAME.program. A program is the one that rt ci or make build built; where there is none, rt run builds it.
+# NAME.program. Where there is a NAME.script it is the input, and without
+# NAME.out what is written is the script itself. A program is the one that rt ci or make build built; where there is none, rt run builds it.
 set -uo pipefail
 here=$(cd "$(dirname "$0")" && pwd)
 
@@ -40,20 +41,24 @@ count() {
 
 # Why the program does not do what the example says, or nothing.
 fault() {
-    local example=$1 status=0 wanted words=(run) input=$1.json runs=$program
+    local example=$1 status=0 wanted words=(run) input=$1.json output=$1.out runs=$program
     if [[ -f $example.words ]]; then
         read -ra words <"$example.words"
         [[ -f $input ]] || input=/dev/null
     fi
+    if [[ -f $example.script ]]; then
+        input=$example.script
+        [[ -f $output ]] || output=$example.script
+    fi
     [[ ! -f $example.program ]] || runs=$(built "$(<"$example.program")")
-    for file in "$example.out" "$example.status" "$input" "$runs"; do
+    for file in "$output" "$example.status" "$input" "$runs"; do
         [[ -e $file ]] || { echo "there is no $file"; return; }
     done
     wanted=$(<"$example.status")
     timeout 120 "$runs" "${words[@]}" <"$input" >"$written" || status=$?
     if [[ $status != "$wanted" ]]; then
         echo "status $status, not $wanted"
-    elif ! cmp -s "$written" "$example.out"; then
+    elif ! cmp -s "$written" "$output"; then
         echo "it wrote otherwise, beginning '$(head -n 1 "$written" | head -c 200)'"
     fi
 }
@@ -77,7 +82,7 @@ done <"$here/examples.txt"
 count unread "$(stream 5 'simplex_net: standard input could not be read' / "$written")"
 count unwritten "$(stream 6 'simplex_net: standard output could not be written' "$here/examples/one-member-finalizes.json" /dev/full)"
 for folder in "$@"; do
-    mapfile -t names < <(ls "$folder" | sed -nE 's/\.(json|out|status|words|program)$//p' | sort -u)
+    mapfile -t names < <(ls "$folder" | sed -nE 's/\.(json|out|status|words|program|script)$//p' | sort -u)
     ((${#names[@]} > 0)) || count "$folder" "no example is there"
     for name in "${names[@]}"; do
         count "$(basename "$folder")/$name" "$(fault "$folder/$name")"

@@ -1,4 +1,5 @@
 pub mod Opened
 pub mod Traced
 pub mod Saying
+pub mod Scripted
 pub mod Pictured

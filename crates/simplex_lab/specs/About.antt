@@ -26,9 +26,11 @@ help = pieces (
     codes "    --events               writes the input that was made, in place of what it reports\n" ∷
     codes "shrink LINE                leaves events out while the run still makes the line, and writes the input that is left\n" ∷
     codes "    LINE                   what a line of a run says behind its event, as 'node 0.0 stopped crash', or 'refused NoPacket'\n" ∷
+    codes "script [--events]          reads a script in place of an input, and writes it with what each line came to below it\n" ∷
+    codes "    --events               writes the input that has its events, in place of the script\n" ∷
     codes "--help                     this text\n" ∷
     codes "--version                  the program's version\n" ∷
-    codes "An input is read from standard input.\n" ∷
+    codes "An input, or a script, is read from standard input.\n" ∷
     [])
 
 abbrev pub version : List ℕ

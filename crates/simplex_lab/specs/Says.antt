@@ -1,8 +1,8 @@
 -- What the words make of an input.
-use Rattle.std.specs.Prelude.{ℕ, ◌≡◌, ◌≢◌, ◌≤◌, ◌==◌, ◌⊎◌, ◌-◌, ◌++◌, true, false, List, [], ◌∷◌, Option, None, Some, Ok, Err, codes, decimal, length}
-use Rattle.std.specs.Prelude.{Bool, option_and_then, if◌then◌else◌}
-use Rattle.std.specs.Option.{option_map_or}
+use Rattle.std.specs.Prelude.{ℕ, ◌≡◌, ◌≢◌, ◌≤◌, ◌==◌, ◌⊎◌, ◌-◌, ◌++◌, Bool, true, false, List, [], ◌∷◌, Option, None, Some, Ok, Err, codes, decimal, length}
+use Rattle.std.specs.Prelude.{option_and_then, if◌then◌else◌}
 use Rattle.std.specs.List.{slice_get}
+use Rattle.std.specs.Str.{IsUtf8}
 use Rattle.simplex_transcript.specs.declared.node.Node.{Node}
 use Rattle.simplex_generator.specs.Unanswered.{node_in}
 use Rattle.simplex_lab.specs.Opening.{TellsOpen}
@@ -26,6 +26,12 @@ use Rattle.model_run.specs.Run.{Run}
 use Rattle.simplex_network.specs.declared.run.Transcript.{Transcript}
 use Rattle.simplex_network.specs.WholeRuns.{WholeRunFrom}
 use Rattle.simplex_simulator.specs.Going.{IsRunnable}
+use Rattle.simplex_script.specs.Scripts.{script_of}
+use Rattle.simplex_script.specs.declared.fault.BadLine.{BadLine}
+use Rattle.simplex_script.specs.declared.script.Script.{Script}
+use Rattle.simplex_scripts.specs.Playing.{IsBad, IsCompiled}
+use Rattle.simplex_scripts.specs.Rewriting.{rewritten}
+use Rattle.simplex_scripts.specs.declared.compiling.Compiled.{Compiled}
 use Rattle.simplex_drawing.specs.Before.{earlier, entries_of}
 use Rattle.simplex_drawing.specs.Drawings.{absent_line, drawn_of}
 use Rattle.simplex_drawing.specs.declared.drawing.Drawn.TheVariants as drawns
@@ -134,6 +140,62 @@ pub record IsShrunk (line : List ℕ) (input : Input) (left : List Event) (text 
   pub few : length left ≤ length input.events
   pub told : text ≡ input_text input.setup left
 
+-- ---- script
+
+-- the input that has the events, or the script with what came out
+abbrev pub scripted_text : Bool → List ℕ → Script → Compiled → List Entry → List ℕ
+scripted_text shows bytes script compiled entries =
+    if shows then input_text script.setup compiled.events else rewritten bytes compiled.lines compiled.events entries
+
+-- the bytes are a script; it was compiled, and the whole run of its events is told
+pub record IsScripted (shows : Bool) (bytes : List ℕ) (done : Transcript) (text : List ℕ) : Type 0 where
+  pub script : Script
+  pub compiled : Compiled
+  pub read : script_of bytes ≡ Ok script
+  pub fits : IsCompiled script compiled
+  pub whole : WholeRunFrom (at_epoch_genesis script.setup) compiled.events done
+  pub told : text ≡ scripted_text shows bytes script compiled done.entries
+
+-- the line of the event of this number, which is counted from 1
+abbrev pub line_at : List ℕ → ℕ → Option ℕ
+line_at lines number = if number == 0 then None else slice_get lines (number - 1)
+
+-- which line it is, if there is one
+abbrev pub in_line : Option ℕ → List ℕ
+in_line None = []
+in_line (Some line) = pieces (codes "in line " ∷ decimal line ∷ codes "\n" ∷ [])
+
+-- a refusal, its line, and why
+abbrev pub refused_in : List ℕ → Refusal → List ℕ
+refused_in lines refusal = (refusal_text refusal ++ in_line (line_at lines refusal.event)) ++ reason_line refusal.error
+
+-- the bytes are a script; it was compiled, and the run of its events is this refusal
+pub record IsScriptRefused (bytes : List ℕ) (refusal : Refusal) (text : List ℕ) : Type 0 where
+  pub script : Script
+  pub compiled : Compiled
+  pub read : script_of bytes ≡ Ok script
+  pub fits : IsCompiled script compiled
+  pub refused : Run script.setup compiled.events ≡ Err refusal
+  pub told : text ≡ refused_in compiled.lines refusal
+
+-- the bytes are no text; or this line of theirs cannot be read, or names what is not there
+abbrev pub IsBadScript : List ℕ → ℕ → Type 0
+IsBadScript bytes place =
+    ((place ≡ 0) × ¬ IsUtf8 bytes)
+    ⊎ ((bad : BadLine) × (place ≡ bad.line) × ((script_of bytes ≡ Err bad) ⊎ ((script : Script) × (script_of bytes ≡ Ok script) × IsBad script.commands bad)))
+
+abbrev pub ScriptDone : Bool → List ℕ → Told → List ℕ → Type 0
+ScriptDone shows bytes (tells.Run done) text = IsScripted shows bytes done text
+ScriptDone shows bytes _ text = ⊥
+
+abbrev pub ScriptRefused : List ℕ → LabReason → List ℕ → Type 0
+ScriptRefused bytes (reasons.Refused refusal) text = IsScriptRefused bytes refusal text
+ScriptRefused bytes _ text = ⊥
+
+-- what the work on a script comes to
+abbrev pub AnswersScript : Bool → List ℕ → Answer Told LabReason → Type 0
+AnswersScript shows bytes answer = IsAnswer (ScriptDone shows bytes) (ScriptRefused bytes) (IsBadScript bytes) answer
+
 -- ---- each word
 
 -- the whole work of a word on an input, and its text. How a picture is written is not said
@@ -161,6 +223,7 @@ MisreadOn asks.Trace input place = ⊥
 MisreadOn (asks.Draw wish) input place = ⊥
 MisreadOn (asks.Simulate order) input place = (place ≡ 2) × (input.events ≢ [])
 MisreadOn (asks.Shrink line) input place = ⊥
+MisreadOn (asks.Script shows) input place = place ≡ 0
 
 -- what the work of a word on an input comes to
 abbrev pub AnswersOn : Word → Input → Answer Told LabReason → Type 0
@@ -170,12 +233,36 @@ AnswersOn word input answer = IsAnswer (DoneOn word input) (RefusedOn word input
 abbrev pub OfInput : List ℕ → (Input → Type 0) → Type 0
 OfInput bytes P = (input : Input) × (input_of bytes ≡ Ok input) × P input
 
+-- whether the word asks for a script, and then whether for its events
+abbrev pub script_in : Word → Option Bool
+script_in (asks.Script shows) = Some shows
+script_in _ = None
+
+abbrev pub DoesWith : Option Bool → Word → List ℕ → Told → List ℕ → Type 0
+DoesWith (Some shows) word bytes done text = ScriptDone shows bytes done text
+DoesWith None word bytes done text = OfInput bytes (λ input. DoneOn word input done text)
+
 abbrev pub Does : Word → List ℕ → Told → List ℕ → Type 0
-Does word bytes done text = OfInput bytes (λ input. DoneOn word input done text)
+Does word bytes done text = DoesWith (script_in word) word bytes done text
+
+abbrev pub RefusesWith : Option Bool → Word → List ℕ → LabReason → List ℕ → Type 0
+RefusesWith (Some shows) word bytes reason text = ScriptRefused bytes reason text
+RefusesWith None word bytes reason text = OfInput bytes (λ input. RefusedOn word input reason text)
 
 abbrev pub Refuses : Word → List ℕ → LabReason → List ℕ → Type 0
-Refuses word bytes reason text = OfInput bytes (λ input. RefusedOn word input reason text)
+Refuses word bytes reason text = RefusesWith (script_in word) word bytes reason text
 
 -- the bytes are not of the form at this place, or their input is none that the word takes
+abbrev pub MisreadsInput : Word → List ℕ → ℕ → Type 0
+MisreadsInput word bytes place = (input_of bytes ≡ Err place) ⊎ OfInput bytes (λ input. MisreadOn word input place)
+
+abbrev pub MisreadsWith : Option Bool → Word → List ℕ → ℕ → Type 0
+MisreadsWith (Some shows) word bytes place = IsBadScript bytes place
+MisreadsWith None word bytes place = MisreadsInput word bytes place
+
 abbrev pub Misreads : Word → List ℕ → ℕ → Type 0
-Misreads word bytes place = (input_of bytes ≡ Err place) ⊎ OfInput bytes (λ input. MisreadOn word input place)
+Misreads word bytes place = MisreadsWith (script_in word) word bytes place
+
+-- what the work on the bytes of an input comes to
+abbrev pub AnswersInput : Word → List ℕ → Answer Told LabReason → Type 0
+AnswersInput word bytes answer = IsAnswer (DoesWith None word bytes) (RefusesWith None word bytes) (MisreadsWith None word bytes) answer

@@ -1,5 +1,5 @@
 -- What the words ask for.
-use Rattle.std.specs.Prelude.{ℕ, nat_le, true, false, List, [], ◌∷◌, ◌++◌, flat_map, map}
+use Rattle.std.specs.Prelude.{ℕ, ◌+◌, ◌-◌, ◌*◌, ◌==◌, ◌^◌, ◌&&◌, length, nat_le, nat_lt, true, false, List, [], ◌∷◌, ◌++◌, flat_map, map}
 use Rattle.std.specs.Prelude.{Option, None, Some, option_and_then, option_map, String, codes, string_bytes, if◌then◌else◌}
 use Rattle.std.specs.Str.{bytes_eq}
 use Rattle.std.specs.declared.alloc.Global.{Global}
@@ -86,6 +86,11 @@ trace_of (word ∷ words) = None
 abbrev pub draw_of : List (List ℕ) → Option Word
 draw_of words = option_map (λ wish. asks.Draw wish) (wish_of words)
 
+-- nothing, or --events
+abbrev pub script_of : List (List ℕ) → Option Word
+script_of [] = Some (asks.Script false)
+script_of (word ∷ after) = if bytes_eq word (codes "--events") && length after == 0 then Some (asks.Script true) else None
+
 -- what the first word asks for, with the others
 abbrev pub asked_with : List ℕ → List (List ℕ) → Option Word
 asked_with word others =
@@ -93,6 +98,7 @@ asked_with word others =
     if bytes_eq word (codes "draw") then draw_of others else
     if bytes_eq word (codes "simulate") then simulation_of others else
     if bytes_eq word (codes "shrink") then shrink_of others else
+    if bytes_eq word (codes "script") then script_of others else
     None
 
 abbrev pub asked_by : List (List ℕ) → Option Word
@@ -104,4 +110,4 @@ asked words = asked_by (map string_bytes words)
 
 -- what is said of other words
 abbrev pub usage : List ℕ
-usage = codes "usage: trace | draw [--html] [FROM TO [NODE ..]] | simulate SEED STEPS [--drop P] [--repeat P] [--crash P] [--delay P] [--events] | shrink LINE | --help | --version\n"
+usage = codes "usage: trace | draw [--html] [FROM TO [NODE ..]] | simulate SEED STEPS [--drop P] [--repeat P] [--crash P] [--delay P] [--events] | shrink LINE | script [--events] | --help | --version\n"

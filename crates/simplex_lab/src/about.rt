@@ -26,9 +26,11 @@ simulate SEED STEPS ..     makes events for a setup without events, and tells wh
     --events               writes the input that was made, in place of what it reports
 shrink LINE                leaves events out while the run still makes the line, and writes the input that is left
     LINE                   what a line of a run says behind its event, as 'node 0.0 stopped crash', or 'refused NoPacket'
+script [--events]          reads a script in place of an input, and writes it with what each line came to below it
+    --events               writes the input that has its events, in place of the script
 --help                     this text
 --version                  the program's version
-An input is read from standard input.
+An input, or a script, is read from standard input.
 ";
 
 const VERSION: &str = "simplex_lab 1.0.0\n";

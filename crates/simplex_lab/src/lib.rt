@@ -7,6 +7,7 @@ mod drawing;
 mod opening;
 mod reason;
 mod reasons;
+mod scripting;
 mod shrinking;
 mod simulating;
 mod told;
@@ -15,6 +16,7 @@ mod words;
 mod work;
 
 pub use reason::LabReason;
+pub use scripting::script_fault;
 pub use told::Told;
-pub use words::{ALWAYS, MOST_STEPS, Order, Word};
+pub use words::{ALWAYS, MOST_STEPS, Order, Word, begins_script};
 pub use work::{LabWork, lab_program};

@@ -1,5 +1,5 @@
 //! The words that the program takes.
-ghost use Rattle.std.specs.Prelude.{◌≡◌, ◌<◌, ◌≤◌, ◌^◌, ℕ, List, map, IfOk, string_bytes};
+ghost use Rattle.std.specs.Prelude.{◌≡◌, ◌∷◌, ◌<◌, ◌≤◌, ◌^◌, ℕ, List, map, IfOk, string_bytes};
 ghost use Rattle.simplex_lab.specs.Words as said;
 
 use simplex_drawing::{Wish, wish_of};
@@ -34,6 +34,8 @@ pub enum Word {
     Simulate(Order),
     /// `shrink LINE`: events are left out while the run still makes the line.
     Shrink(Bytes),
+    /// `script`, or `script --events`: a script with what came out, or the input that has its events.
+    Script { shows_events: bool },
 }
 
 // The number that a word is, where it is no greater than this.
@@ -208,6 +210,29 @@ fn draw_of(alloc: Global, words: &[String]) -> Result<Option<Word>, AllocError>
     }
 }
 
+// `--events`, and nothing behind it.
+fn shown_script(word: &String, after: &[String]) -> Option<Word>
+    ensures { result ≡ said.script_of (string_bytes word.now ∷ map string_bytes after.now) }
+{
+    if word.as_str() == "--events" && after.is_empty() {
+        Some(Word::Script { shows_events: true })
+    } else {
+        None
+    }
+}
+
+// Nothing, or `--events`.
+fn script_of(words: &[String]) -> Option<Word>
+    ensures { result ≡ said.script_of (map string_bytes words.now) }
+{
+    match words {
+        [] => Some(Word::Script {
+            shows_events: false,
+        }),
+        [word, after @ ..] => shown_script(word, after),
+    }
+}
+
 // What the first word asks for, with the others.
 fn word_with(alloc: Global, word: &String, others: &[String]) -> Result<Option<Word>, AllocError>
     ensures { IfOk result (λ it. it ≡ said.asked_with (string_bytes word.now) (map string_bytes others.now)) }
@@ -217,6 +242,7 @@ fn word_with(alloc: Global, word: &String, others: &[String]) -> Result<Option<W
         "draw" => draw_of(alloc, others),
         "simulate" => Ok(simulation_of(others)),
         "shrink" => shrink_of(alloc, others),
+        "script" => Ok(script_of(others)),
         _ => Ok(None),
     }
 }
@@ -228,5 +254,13 @@ pub(crate) fn word_of(alloc: Global, words: &[String]) -> Result<Option<Word>, A
     match words {
         [] => Ok(None),
         [word, others @ ..] => word_with(alloc, word, others),
+    }
+}
+
+/// Whether the words ask for a script.
+pub fn begins_script(words: &[String]) -> bool {
+    match words {
+        [] => false,
+        [word, ..] => word.as_str() == "script",
     }
 }

@@ -9,11 +9,12 @@ ghost use Rattle.simplex_lab.specs.declared.told.Told.{Told};
 ghost use Rattle.simplex_lab.specs.declared.reason.LabReason.{LabReason};
 ghost use Rattle.simplex_lab.specs.About.{SaidOr, said_on};
 ghost use Rattle.simplex_lab.specs.Words.{asked, usage};
-ghost use Rattle.simplex_lab.specs.Says.{AnswersOn, Does, Misreads, Refuses};
+ghost use Rattle.simplex_lab.specs.Says.{AnswersInput, AnswersOn, Does, Misreads, Refuses, script_in};
 
 use crate::about::{about, say};
 use crate::drawing::drawn;
 use crate::reason::LabReason;
+use crate::scripting::scripted;
 use crate::shrinking::shrunk;
 use crate::simulating::simulated;
 use crate::told::Told;
@@ -25,7 +26,7 @@ use simplex_io::{Sink, Source};
 use std::alloc::{AllocError, Global};
 
 const USAGE: &str =
-    "usage: trace | draw [--html] [FROM TO [NODE ..]] | simulate SEED STEPS [--drop P] [--repeat P] [--crash P] [--delay P] [--events] | shrink LINE | --help | --version\n";
+    "usage: trace | draw [--html] [FROM TO [NODE ..]] | simulate SEED STEPS [--drop P] [--repeat P] [--crash P] [--delay P] [--events] | shrink LINE | script [--events] | --help | --version\n";
 
 /// Does what the words ask for with an input.
 pub struct LabWork;
@@ -39,6 +40,30 @@ fn answer(alloc: Global, word: &Word, input: Input) -> Result<Answer<Told, LabRe
         Word::Draw(wish) => drawn(alloc, wish, &input),
         Word::Simulate(order) => simulated(alloc, order, &input),
         Word::Shrink(line) => shrunk(alloc, line.as_slice(), input),
+        Word::Script { .. } => Ok(Answer::BadInput { place: 0 }),
+    }
+}
+
+// Whether the word asks for a script, and then whether for its events.
+fn script_in(word: &Word) -> Option<bool>
+    ensures { result ≡ script_in word.now }
+{
+    match word {
+        Word::Script { shows_events } => Some(*shows_events),
+        Word::Trace => None,
+        Word::Draw(_) => None,
+        Word::Simulate(_) => None,
+        Word::Shrink(_) => None,
+    }
+}
+
+// What the work on the bytes of an input comes to.
+fn on_input(alloc: Global, word: &Word, bytes: &[u8]) -> Result<Answer<Told, LabReason>, AllocError>
+    ensures { IfOk result (AnswersInput word.now bytes.now) }
+{
+    match read_input(alloc, bytes)? {
+        Err(place) => Ok(Answer::BadInput { place }),
+        Ok(input) => answer(alloc, word, input),
     }
 }
 
@@ -61,15 +86,16 @@ impl Work<Word, Told, LabReason> for LabWork {
         USAGE
     }
 
+    #[tactic(auto, using(crate::proofs::Scripted::on_script, crate::proofs::Scripted::on_input))]
     fn work(
         &self,
         alloc: Global,
         ask: Word,
         bytes: Vec<u8>,
     ) -> Result<Answer<Told, LabReason>, AllocError> {
-        match read_input(alloc, &bytes)? {
-            Err(place) => Ok(Answer::BadInput { place }),
-            Ok(input) => answer(alloc, &ask, input),
+        match script_in(&ask) {
+            Some(shows_events) => scripted(alloc, shows_events, &bytes),
+            None => on_input(alloc, &ask, &bytes),
         }
     }
 }

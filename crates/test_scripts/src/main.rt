@@ -1,0 +1,30 @@
+//! Runs the scripts of standard input, each of which stands behind a line `== NAME`, and writes each with what came out. As long as no
+//! rule changes, what is written is what was read: the gate gives the program crates/test_scripts/stdin, and compares what it writes
+//! with crates/test_scripts/stdout, which has the same text. `rewrite.sh` writes both anew, so that a rule that changes is a
+//! difference to read.
+//!
+//! It owes nothing but that it is safe and ends.
+#![tactic(auto)]
+
+mod sections;
+mod told;
+
+use crate::sections::sections;
+use crate::told::told;
+use simplex_io::{ReaderSource, read_bytes};
+use std::io;
+use std::io::{ErrorKind, Print};
+
+fn main(rt: HostRuntime) -> io::Result<()> {
+    let alloc = rt.alloc();
+    let mut source = ReaderSource::new(alloc, rt.reader());
+    let Ok(bytes) = read_bytes(alloc, &mut source) else {
+        return Err(io::Error::from(ErrorKind::Other));
+    };
+    let text = String::from_utf8(bytes).map_err(|_| io::Error::from(ErrorKind::InvalidData))?;
+    for section in sections(alloc, text.as_str())? {
+        println!(rt; "{}", section.head.as_str())?;
+        println!(rt; "{}", told(alloc, section.text.as_str())?.as_str())?;
+    }
+    Ok(())
+}
