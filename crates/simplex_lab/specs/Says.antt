@@ -29,7 +29,7 @@ use Rattle.simplex_simulator.specs.Going.{IsRunnable}
 use Rattle.simplex_script.specs.Scripts.{script_of}
 use Rattle.simplex_script.specs.declared.fault.BadLine.{BadLine}
 use Rattle.simplex_script.specs.declared.script.Script.{Script}
-use Rattle.simplex_scripts.specs.Playing.{IsBad, IsCompiled}
+use Rattle.simplex_scripts.specs.Playing.{compiled}
 use Rattle.simplex_scripts.specs.Rewriting.{rewritten}
 use Rattle.simplex_scripts.specs.declared.compiling.Compiled.{Compiled}
 use Rattle.simplex_drawing.specs.Before.{earlier, entries_of}
@@ -142,19 +142,23 @@ pub record IsShrunk (line : List ℕ) (input : Input) (left : List Event) (text 
 
 -- ---- script
 
+-- the bytes are a script, which comes to these events
+pub record ComesTo (bytes : List ℕ) (script : Script) (made : Compiled) : Type 0 where
+  pub read : script_of bytes ≡ Ok script
+  pub comes : compiled script ≡ Ok made
+
 -- the input that has the events, or the script with what came out
 abbrev pub scripted_text : Bool → List ℕ → Script → Compiled → List Entry → List ℕ
-scripted_text shows bytes script compiled entries =
-    if shows then input_text script.setup compiled.events else rewritten bytes compiled.lines compiled.events entries
+scripted_text shows bytes script made entries =
+    if shows then input_text script.setup made.events else rewritten bytes made.lines made.events entries
 
--- the bytes are a script; it was compiled, and the whole run of its events is told
+-- the whole run of the script's events is told
 pub record IsScripted (shows : Bool) (bytes : List ℕ) (done : Transcript) (text : List ℕ) : Type 0 where
   pub script : Script
-  pub compiled : Compiled
-  pub read : script_of bytes ≡ Ok script
-  pub fits : IsCompiled script compiled
-  pub whole : WholeRunFrom (at_epoch_genesis script.setup) compiled.events done
-  pub told : text ≡ scripted_text shows bytes script compiled done.entries
+  pub made : Compiled
+  pub comes : ComesTo bytes script made
+  pub whole : WholeRunFrom (at_epoch_genesis script.setup) made.events done
+  pub told : text ≡ scripted_text shows bytes script made done.entries
 
 -- the line of the event of this number, which is counted from 1
 abbrev pub line_at : List ℕ → ℕ → Option ℕ
@@ -169,20 +173,21 @@ in_line (Some line) = pieces (codes "in line " ∷ decimal line ∷ codes "\n" �
 abbrev pub refused_in : List ℕ → Refusal → List ℕ
 refused_in lines refusal = (refusal_text refusal ++ in_line (line_at lines refusal.event)) ++ reason_line refusal.error
 
--- the bytes are a script; it was compiled, and the run of its events is this refusal
+-- the run of the script's events is this refusal
 pub record IsScriptRefused (bytes : List ℕ) (refusal : Refusal) (text : List ℕ) : Type 0 where
   pub script : Script
-  pub compiled : Compiled
-  pub read : script_of bytes ≡ Ok script
-  pub fits : IsCompiled script compiled
-  pub refused : Run script.setup compiled.events ≡ Err refusal
-  pub told : text ≡ refused_in compiled.lines refusal
+  pub made : Compiled
+  pub comes : ComesTo bytes script made
+  pub refused : Run script.setup made.events ≡ Err refusal
+  pub told : text ≡ refused_in made.lines refusal
 
--- the bytes are no text; or this line of theirs cannot be read, or names what is not there
+-- the first bad line of a text: one that cannot be read, or else one that names what is not there
+abbrev pub IsBadLine : List ℕ → BadLine → Type 0
+IsBadLine bytes bad = (script_of bytes ≡ Err bad) ⊎ ((script : Script) × (script_of bytes ≡ Ok script) × (compiled script ≡ Err bad))
+
+-- it is the line at this place; or the bytes are no text
 abbrev pub IsBadScript : List ℕ → ℕ → Type 0
-IsBadScript bytes place =
-    ((place ≡ 0) × ¬ IsUtf8 bytes)
-    ⊎ ((bad : BadLine) × (place ≡ bad.line) × ((script_of bytes ≡ Err bad) ⊎ ((script : Script) × (script_of bytes ≡ Ok script) × IsBad script.commands bad)))
+IsBadScript bytes place = ((bad : BadLine) × IsBadLine bytes bad × (place ≡ bad.line)) ⊎ ((¬ IsUtf8 bytes) × (place ≡ 0))
 
 abbrev pub ScriptDone : Bool → List ℕ → Told → List ℕ → Type 0
 ScriptDone shows bytes (tells.Run done) text = IsScripted shows bytes done text
@@ -191,10 +196,6 @@ ScriptDone shows bytes _ text = ⊥
 abbrev pub ScriptRefused : List ℕ → LabReason → List ℕ → Type 0
 ScriptRefused bytes (reasons.Refused refusal) text = IsScriptRefused bytes refusal text
 ScriptRefused bytes _ text = ⊥
-
--- what the work on a script comes to
-abbrev pub AnswersScript : Bool → List ℕ → Answer Told LabReason → Type 0
-AnswersScript shows bytes answer = IsAnswer (ScriptDone shows bytes) (ScriptRefused bytes) (IsBadScript bytes) answer
 
 -- ---- each word
 
@@ -219,11 +220,8 @@ RefusedOn _ input _ text = ⊥
 
 -- the input is not what the word takes: a simulation wants no events
 abbrev pub MisreadOn : Word → Input → ℕ → Type 0
-MisreadOn asks.Trace input place = ⊥
-MisreadOn (asks.Draw wish) input place = ⊥
 MisreadOn (asks.Simulate order) input place = (place ≡ 2) × (input.events ≢ [])
-MisreadOn (asks.Shrink line) input place = ⊥
-MisreadOn (asks.Script shows) input place = place ≡ 0
+MisreadOn _ input place = ⊥
 
 -- what the work of a word on an input comes to
 abbrev pub AnswersOn : Word → Input → Answer Told LabReason → Type 0
@@ -233,36 +231,20 @@ AnswersOn word input answer = IsAnswer (DoneOn word input) (RefusedOn word input
 abbrev pub OfInput : List ℕ → (Input → Type 0) → Type 0
 OfInput bytes P = (input : Input) × (input_of bytes ≡ Ok input) × P input
 
--- whether the word asks for a script, and then whether for its events
-abbrev pub script_in : Word → Option Bool
-script_in (asks.Script shows) = Some shows
-script_in _ = None
-
-abbrev pub DoesWith : Option Bool → Word → List ℕ → Told → List ℕ → Type 0
-DoesWith (Some shows) word bytes done text = ScriptDone shows bytes done text
-DoesWith None word bytes done text = OfInput bytes (λ input. DoneOn word input done text)
-
+-- what a word makes of bytes: of a script, or of an input
 abbrev pub Does : Word → List ℕ → Told → List ℕ → Type 0
-Does word bytes done text = DoesWith (script_in word) word bytes done text
-
-abbrev pub RefusesWith : Option Bool → Word → List ℕ → LabReason → List ℕ → Type 0
-RefusesWith (Some shows) word bytes reason text = ScriptRefused bytes reason text
-RefusesWith None word bytes reason text = OfInput bytes (λ input. RefusedOn word input reason text)
+Does (asks.Script shows) bytes done text = ScriptDone shows bytes done text
+Does word bytes done text = OfInput bytes (λ input. DoneOn word input done text)
 
 abbrev pub Refuses : Word → List ℕ → LabReason → List ℕ → Type 0
-Refuses word bytes reason text = RefusesWith (script_in word) word bytes reason text
+Refuses (asks.Script shows) bytes reason text = ScriptRefused bytes reason text
+Refuses word bytes reason text = OfInput bytes (λ input. RefusedOn word input reason text)
 
 -- the bytes are not of the form at this place, or their input is none that the word takes
-abbrev pub MisreadsInput : Word → List ℕ → ℕ → Type 0
-MisreadsInput word bytes place = (input_of bytes ≡ Err place) ⊎ OfInput bytes (λ input. MisreadOn word input place)
-
-abbrev pub MisreadsWith : Option Bool → Word → List ℕ → ℕ → Type 0
-MisreadsWith (Some shows) word bytes place = IsBadScript bytes place
-MisreadsWith None word bytes place = MisreadsInput word bytes place
-
 abbrev pub Misreads : Word → List ℕ → ℕ → Type 0
-Misreads word bytes place = MisreadsWith (script_in word) word bytes place
+Misreads (asks.Script shows) bytes place = IsBadScript bytes place
+Misreads word bytes place = (input_of bytes ≡ Err place) ⊎ OfInput bytes (λ input. MisreadOn word input place)
 
--- what the work on the bytes of an input comes to
-abbrev pub AnswersInput : Word → List ℕ → Answer Told LabReason → Type 0
-AnswersInput word bytes answer = IsAnswer (DoesWith None word bytes) (RefusesWith None word bytes) (MisreadsWith None word bytes) answer
+-- what the work of a word on bytes comes to
+abbrev pub Answers : Word → List ℕ → Answer Told LabReason → Type 0
+Answers word bytes answer = IsAnswer (Does word bytes) (Refuses word bytes) (Misreads word bytes) answer

@@ -1,13 +1,9 @@
 //! Runs a script, and tells it with what came out.
-ghost use Rattle.std.specs.Prelude.{◌≡◌, ◌⊎◌, Ok, Err, IfOk, string_bytes};
-ghost use Rattle.std.specs.Str.{IsUtf8};
-ghost use Rattle.model_run.specs.Run.{Run};
-ghost use Rattle.model_run.specs.Setting.{at_epoch_genesis};
-ghost use Rattle.simplex_network.specs.WholeRuns.{WholeRunFrom};
+ghost use Rattle.std.specs.Prelude.{◌≡◌, Ok, IfOk, string_bytes};
 ghost use Rattle.simplex_script.specs.Scripts.{script_of};
-ghost use Rattle.simplex_scripts.specs.Playing.{IsBad, IsCompiled};
+ghost use Rattle.simplex_lab.specs.declared.words.Word.TheVariants as asks;
 ghost use Rattle.simplex_lab.specs.Says as says;
-ghost use Rattle.simplex_lab.specs.Says.{AnswersScript, IsBadScript};
+ghost use Rattle.simplex_lab.specs.Says.{Answers, ComesTo};
 
 use crate::reason::LabReason;
 use crate::reasons::reason_line;
@@ -84,9 +80,8 @@ fn run(
     script: &Script,
     compiled: &Compiled,
 ) -> Result<Answer<Told, LabReason>, AllocError>
-    requires read { script_of text.now ≡ Ok script.now }
-    requires fits { IsCompiled script.now compiled.now }
-    ensures { IfOk result (AnswersScript shows_events text.now) }
+    requires { ComesTo text.now script.now compiled.now }
+    ensures { IfOk result (Answers (asks.Script shows_events) text.now) }
 {
     match run_network(alloc, &script.setup, compiled.events.as_slice()) {
         Ok(transcript) => {
@@ -110,7 +105,7 @@ fn run(
 }
 
 // What a script comes to that was read.
-#[tactic(auto, using(crate::proofs::Scripted::not_there))]
+#[tactic(auto, using(crate::proofs::Scripted::comes_to, crate::proofs::Scripted::not_there))]
 fn played(
     alloc: Global,
     shows_events: bool,
@@ -118,7 +113,7 @@ fn played(
     script: &Script,
 ) -> Result<Answer<Told, LabReason>, AllocError>
     requires { script_of text.now ≡ Ok script.now }
-    ensures { IfOk result (AnswersScript shows_events text.now) }
+    ensures { IfOk result (Answers (asks.Script shows_events) text.now) }
 {
     match compile(alloc, script)? {
         Err(bad) => Ok(Answer::BadInput { place: bad.line }),
@@ -133,7 +128,7 @@ fn told(
     shows_events: bool,
     text: &str,
 ) -> Result<Answer<Told, LabReason>, AllocError>
-    ensures { IfOk result (AnswersScript shows_events text.now) }
+    ensures { IfOk result (Answers (asks.Script shows_events) text.now) }
 {
     match read_script(alloc, text)? {
         Err(bad) => Ok(Answer::BadInput { place: bad.line }),
@@ -148,7 +143,7 @@ pub(crate) fn scripted(
     shows_events: bool,
     bytes: &[u8],
 ) -> Result<Answer<Told, LabReason>, AllocError>
-    ensures { IfOk result (AnswersScript shows_events bytes.now) }
+    ensures { IfOk result (Answers (asks.Script shows_events) bytes.now) }
 {
     match from_utf8(bytes) {
         Err(_) => Ok(Answer::BadInput { place: 0 }),

@@ -9,7 +9,8 @@ ghost use Rattle.simplex_lab.specs.declared.told.Told.{Told};
 ghost use Rattle.simplex_lab.specs.declared.reason.LabReason.{LabReason};
 ghost use Rattle.simplex_lab.specs.About.{SaidOr, said_on};
 ghost use Rattle.simplex_lab.specs.Words.{asked, usage};
-ghost use Rattle.simplex_lab.specs.Says.{AnswersInput, AnswersOn, Does, Misreads, Refuses, script_in};
+ghost use Rattle.simplex_lab.specs.declared.words.Word.TheVariants as asks;
+ghost use Rattle.simplex_lab.specs.Says.{Answers, Does, Misreads, Refuses};
 
 use crate::about::{about, say};
 use crate::drawing::drawn;
@@ -19,10 +20,12 @@ use crate::shrinking::shrunk;
 use crate::simulating::simulated;
 use crate::told::Told;
 use crate::trace::trace;
-use crate::words::{Word, word_of};
-use simplex_form::{Input, read_input};
+use crate::words::{Order, Word, word_of};
+use simplex_drawing::Wish;
+use simplex_form::read_input;
 use simplex_front::{Answer, Exit, Work, program};
 use simplex_io::{Sink, Source};
+use simplex_types::Bytes;
 use std::alloc::{AllocError, Global};
 
 const USAGE: &str =
@@ -31,39 +34,51 @@ const USAGE: &str =
 /// Does what the words ask for with an input.
 pub struct LabWork;
 
-// What the work on an input comes to.
-fn answer(alloc: Global, word: &Word, input: Input) -> Result<Answer<Told, LabReason>, AllocError>
-    ensures { IfOk result (AnswersOn word.now input) }
-{
-    match word {
-        Word::Trace => trace(alloc, &input),
-        Word::Draw(wish) => drawn(alloc, wish, &input),
-        Word::Simulate(order) => simulated(alloc, order, &input),
-        Word::Shrink(line) => shrunk(alloc, line.as_slice(), input),
-        Word::Script { .. } => Ok(Answer::BadInput { place: 0 }),
-    }
-}
-
-// Whether the word asks for a script, and then whether for its events.
-fn script_in(word: &Word) -> Option<bool>
-    ensures { result ≡ script_in word.now }
-{
-    match word {
-        Word::Script { shows_events } => Some(*shows_events),
-        Word::Trace => None,
-        Word::Draw(_) => None,
-        Word::Simulate(_) => None,
-        Word::Shrink(_) => None,
-    }
-}
-
-// What the work on the bytes of an input comes to.
-fn on_input(alloc: Global, word: &Word, bytes: &[u8]) -> Result<Answer<Told, LabReason>, AllocError>
-    ensures { IfOk result (AnswersInput word.now bytes.now) }
+// What an input's run comes to, event by event.
+fn on_trace(alloc: Global, bytes: &[u8]) -> Result<Answer<Told, LabReason>, AllocError>
+    ensures { IfOk result (Answers asks.Trace bytes.now) }
 {
     match read_input(alloc, bytes)? {
         Err(place) => Ok(Answer::BadInput { place }),
-        Ok(input) => answer(alloc, word, input),
+        Ok(input) => trace(alloc, &input),
+    }
+}
+
+// The picture of an input's run.
+fn on_draw(alloc: Global, wish: &Wish, bytes: &[u8]) -> Result<Answer<Told, LabReason>, AllocError>
+    ensures { IfOk result (Answers (asks.Draw wish.now) bytes.now) }
+{
+    match read_input(alloc, bytes)? {
+        Err(place) => Ok(Answer::BadInput { place }),
+        Ok(input) => drawn(alloc, wish, &input),
+    }
+}
+
+// What is made for an input without events.
+fn on_simulation(
+    alloc: Global,
+    order: &Order,
+    bytes: &[u8],
+) -> Result<Answer<Told, LabReason>, AllocError>
+    ensures { IfOk result (Answers (asks.Simulate order.now) bytes.now) }
+{
+    match read_input(alloc, bytes)? {
+        Err(place) => Ok(Answer::BadInput { place }),
+        Ok(input) => simulated(alloc, order, &input),
+    }
+}
+
+// What is left of an input that still makes the line.
+fn on_shrink(
+    alloc: Global,
+    line: &Bytes,
+    bytes: &[u8],
+) -> Result<Answer<Told, LabReason>, AllocError>
+    ensures { IfOk result (Answers (asks.Shrink line.now) bytes.now) }
+{
+    match read_input(alloc, bytes)? {
+        Err(place) => Ok(Answer::BadInput { place }),
+        Ok(input) => shrunk(alloc, line.as_slice(), input),
     }
 }
 
@@ -86,16 +101,18 @@ impl Work<Word, Told, LabReason> for LabWork {
         USAGE
     }
 
-    #[tactic(auto, using(crate::proofs::Scripted::on_script, crate::proofs::Scripted::on_input))]
     fn work(
         &self,
         alloc: Global,
         ask: Word,
         bytes: Vec<u8>,
     ) -> Result<Answer<Told, LabReason>, AllocError> {
-        match script_in(&ask) {
-            Some(shows_events) => scripted(alloc, shows_events, &bytes),
-            None => on_input(alloc, &ask, &bytes),
+        match ask {
+            Word::Trace => on_trace(alloc, &bytes),
+            Word::Draw(wish) => on_draw(alloc, &wish, &bytes),
+            Word::Simulate(order) => on_simulation(alloc, &order, &bytes),
+            Word::Shrink(line) => on_shrink(alloc, &line, &bytes),
+            Word::Script { shows_events } => scripted(alloc, shows_events, &bytes),
         }
     }
 }

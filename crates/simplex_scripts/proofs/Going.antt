@@ -1,142 +1,194 @@
 -- A play that goes on.
-use Rattle.std.proofs.Common.{◌≡◌, ℕ, List, [], ◌∷◌, ◌++◌, refl, sym, subst}
-use Rattle.std.specs.Prelude.{Contains, IfSome, Option, None, Some, Ok, Err, true}
-use Rattle.std.proofs.lemmas.List.Elements.{AllZip-push}
-use Rattle.simplex_transcript.specs.declared.entry.Entry.{Entry}
+use Rattle.std.proofs.Common.{◌≡◌, ◌<◌, ◌-◌, ◌∷◌, [], ℕ, zero, suc, List, refl, sym, ap, ◌∙◌, arith}
+use Rattle.std.specs.Prelude.{Option, Some, None}
 use Rattle.simplex_transcript.specs.declared.event.Event.{Event}
-use Rattle.simplex_transcript.specs.declared.setup.Setup.{Setup}
-use Rattle.simplex_network.specs.declared.network.Network.{Network}
-use Rattle.simplex_network.specs.Stands.{Enters, Grows, Stays}
-use Rattle.simplex_simulator.specs.Going.{MadeEvents}
-use Rattle.simplex_simulator.proofs.Making.{made_more, made_same}
-use Rattle.simplex_script.specs.declared.command.Command.{Command}
-use Rattle.simplex_script.specs.declared.command.Command.TheVariants as commands
+use Rattle.simplex_transcript.specs.declared.node.Node.{Node}
+use Rattle.model_run.specs.Setting.{Setting}
 use Rattle.simplex_script.specs.declared.command.Placed.{Placed}
-use Rattle.simplex_script.specs.declared.fault.Fault.{Fault}
-use Rattle.simplex_script.specs.declared.planning.OpenRequest.{OpenRequest}
-use Rattle.simplex_script.specs.declared.post.Parcel.{Parcel}
-use Rattle.simplex_script.specs.Planning.{planned}
+use Rattle.simplex_script.specs.declared.fault.Fault.TheVariants as faults
+use Rattle.simplex_scripts.specs.declared.came.Came.{Came}
+use Rattle.simplex_scripts.specs.declared.came.Came.TheVariants as cames
 use Rattle.simplex_scripts.specs.declared.play.Play.{Play}
-use Rattle.simplex_scripts.specs.Playing.{Adds, AreOfLines, IsOfLine, IsPlanned, Lacks, MayStand, Went, is_order}
+use Rattle.simplex_scripts.specs.declared.play.TheConstants.{MOST_EVENTS}
+use Rattle.simplex_scripts.specs.Coming.{next}
+use Rattle.simplex_scripts.specs.Playing.{On, Played, Scene, all_made, all_obeyed, and_then, bad_line, made, obeyed, or_next, settled}
+use Rattle.simplex_scripts.specs.Stands.{Answers, Leads, Plays, played_of}
 
--- the network and the events of two plays are the same
-went_same : (old new : Play) (setup : Setup) → new.network ≡ old.network → new.events ≡ old.events → Went old setup → Went new setup
-went_same old new setup here events went =
-    let moved : MadeEvents new.network setup old.events = subst (λ (at : Network). MadeEvents at setup old.events) (sym here) went in
-    subst (λ (all : List Event). MadeEvents new.network setup all) (sym events) moved
+-- at a scene from which what is left comes to the same
+pub record Leaves (play : Play) (setting : Setting) (left : Scene → Played) (whole : Played) : Type 0 where
+  pub now : Scene
+  pub plays : Plays play setting now
+  pub same : left now ≡ whole
 
--- the same lines beside the same events
-beside_same : (old new : Play) (placed : List Placed) → new.events ≡ old.events → new.lines ≡ old.lines
-    → AreOfLines placed old.events old.lines → AreOfLines placed new.events new.lines
-beside_same old new placed events lines are =
-    let moved : AreOfLines placed new.events old.lines = subst (λ (all : List Event). AreOfLines placed all old.lines) (sym events) are in
-    subst (λ (all : List ℕ). AreOfLines placed new.events all) (sym lines) moved
+-- whatever scene the first play was at, this one is on the way
+abbrev pub Left : Play → Play → (Setting → Scene → Played) → (Setting → Scene → Played) → Type 0
+Left first play left whole = (setting : Setting) (scene : Scene) → Plays first setting scene → Leaves play setting (left setting) (whole setting scene)
 
--- nothing more
-pub adds_none : (P : Event → Type 0) (line : ℕ) (old new : Play) → new.network ≡ old.network → new.events ≡ old.events → new.lines ≡ old.lines
-    → Adds P line old new None
-adds_none P line old new here events lines = record {
-  went = λ setup went. went_same old new setup here events went;
-  beside = λ placed of_line are. beside_same old new placed events lines are;
-  last = tt;
-}
+-- at a scene of the play what is left is the one, and then more
+abbrev Begins : Play → (Setting → Scene → Played) → (Setting → Scene → Played) → (Setting → Scene → Played) → Type 0
+Begins play left one more = (setting : Setting) (scene : Scene) → Plays play setting scene → left setting scene ≡ and_then (one setting scene) (more setting)
 
--- one event more
-pub adds_one : (P : Event → Type 0) (line : ℕ) (old new : Play) (network : Network) (event : Event) (entry : Entry)
-    → Grows old.network network event entry → Enters old.network event entry
-    → new.network ≡ network → new.events ≡ old.events ++ event ∷ [] → new.lines ≡ old.lines ++ line ∷ [] → P event → Adds P line old new None
-adds_one P line old new network event entry grows enters here events lines is = record {
-  went = λ setup went.
-      let made : MadeEvents network setup (old.events ++ event ∷ []) = made_more old.network network setup old.events event entry grows enters went in
-      let moved : MadeEvents new.network setup (old.events ++ event ∷ []) =
-      subst (λ (at : Network). MadeEvents at setup (old.events ++ event ∷ [])) (sym here) made in
-      subst (λ (all : List Event). MadeEvents new.network setup all) (sym events) moved;
-  beside = λ placed of_line are.
-      let more : AreOfLines placed (old.events ++ event ∷ []) (old.lines ++ line ∷ []) =
-      AllZip-push (λ it at. IsOfLine placed at it) old.events old.lines event line are (of_line event is) in
-      let moved : AreOfLines placed new.events (old.lines ++ line ∷ []) =
-      subst (λ (all : List Event). AreOfLines placed all (old.lines ++ line ∷ [])) (sym events) more in
-      subst (λ (all : List ℕ). AreOfLines placed new.events all) (sym lines) moved;
-  last = tt;
-}
+-- or it is over
+abbrev Ends : Play → (Setting → Scene → Played) → Came → Type 0
+Ends play left came = (setting : Setting) (scene : Scene) → Plays play setting scene → left setting scene ≡ played_of came scene
 
--- an event that is refused
-pub adds_refused : (P : Event → Type 0) (line : ℕ) (old new : Play) (event : Event)
-    → Stays old.network new.network → new.events ≡ old.events → new.lines ≡ old.lines → P event → Adds P line old new (Some event)
-adds_refused P line old new event stays events lines is = record {
-  went = λ setup went.
-      let made : MadeEvents new.network setup old.events = made_same old.network new.network setup old.events stays went in
-      subst (λ (all : List Event). MadeEvents new.network setup all) (sym events) made;
-  beside = λ placed of_line are. beside_same old new placed events lines are;
-  last = is;
-}
+pub left_first : (play : Play) (whole : Setting → Scene → Played) → Left play play whole whole
+left_first play whole setting scene plays = record { now = scene; plays = plays; same = refl }
 
--- one after another
-pub adds_on : (P : Event → Type 0) (line : ℕ) (old mid new : Play) (refused : Option Event)
-    → Adds P line old mid None → Adds P line mid new refused → Adds P line old new refused
-adds_on P line old mid new refused first second = record {
-  went = λ setup went. second.went setup (first.went setup went);
-  beside = λ placed of_line are. second.beside placed of_line (first.beside placed of_line are);
-  last = second.last;
-}
+left_more : (first old new : Play) (left one more whole : Setting → Scene → Played) → Begins old left one more → Left first old left whole
+    → Leads old new one cames.On → Left first new more whole
+left_more first old new left one more whole begins lefts leads setting scene plays =
+    let was = lefts setting scene plays in
+    let comes = leads setting was.now was.plays in
+    record {
+      now = comes.scene;
+      plays = comes.plays;
+      same = sym (begins setting was.now was.plays ∙ ap (λ (it : Played). and_then it (more setting)) comes.is) ∙ was.same;
+    }
 
--- what is of a command that stands among these is of its line
-pub of_line : (placed : List Placed) (it : Placed) (event : Event) → Contains placed it → MayStand it.command event → IsOfLine placed it.line event
-of_line placed it event there is = (it, there, refl, is)
+-- what does not go on is the end
+stops : (came : Came) (scene : Scene) (more : Scene → Played) → (came ≡ cames.On → ⊥) → and_then (played_of came scene) more ≡ played_of came scene
+stops cames.On scene more not_on = absurd (not_on refl)
+stops (cames.Refused line event) scene more not_on = refl
+stops (cames.Bad bad) scene more not_on = refl
 
--- where it holds of more
-pub adds_weaker : (P Q : Event → Type 0) (line : ℕ) (old new : Play) (refused : Option Event) → ((event : Event) → P event → Q event)
-    → Adds P line old new refused → Adds Q line old new refused
-adds_weaker P Q line old new refused more adds = record {
-  went = adds.went;
-  beside = λ placed of_line are. adds.beside placed (λ event is. of_line event (more event is)) are;
-  last = still refused adds.last;
-}
-  where
-    still : (it : Option Event) → IfSome it P → IfSome it Q
-    still None is = tt
-    still (Some event) is = more event is
+left_stop : (first old new : Play) (left one more whole : Setting → Scene → Played) (came : Came) → Begins old left one more → Left first old left whole
+    → Leads old new one came → (came ≡ cames.On → ⊥) → Leads first new whole came
+left_stop first old new left one more whole came begins lefts leads not_on setting scene plays =
+    let was = lefts setting scene plays in
+    let comes = leads setting was.now was.plays in
+    record {
+      scene = comes.scene;
+      plays = comes.plays;
+      is = sym was.same ∙ begins setting was.now was.plays ∙ ap (λ (it : Played). and_then it (more setting)) comes.is
+          ∙ stops came comes.scene (more setting) not_on;
+    }
 
--- an event more, of which it holds
-pub adds_made : (P : Event → Type 0) (line : ℕ) (old mid new : Play) (event : Event) (refused : Option Event) → P event
-    → Adds P line old mid None → Adds (λ it. it ≡ event) line mid new refused → Adds P line old new refused
-adds_made P line old mid new event refused is first second =
-    adds_on P line old mid new refused first
-    (adds_weaker (λ it. it ≡ event) P line mid new refused (λ it same. subst (λ (other : Event). P other) (sym same) is) second)
+left_over : (first play : Play) (left whole : Setting → Scene → Played) (came : Came) → Ends play left came → Left first play left whole
+    → Leads first play whole came
+left_over first play left whole came ends lefts setting scene plays =
+    let was = lefts setting scene plays in
+    record { scene = was.now; plays = was.plays; is = sym was.same ∙ ends setting was.now was.plays }
 
--- what an order stands for it may come to
-may_stand : (command : Command) (event : Event) → is_order command ≡ true → IsPlanned command event → MayStand command event
-may_stand (commands.Start nodes stop) event order is = is
-may_stand (commands.Propose node payload) event order is = is
-may_stand (commands.Judge question whom good) event order is = is
-may_stand (commands.Deliver from to channel) event order is = is
-may_stand (commands.Resend from to channel) event order is = is
-may_stand (commands.Step node source stop) event order is = is
-may_stand (commands.Tick ms) event order is = is
-may_stand (commands.Crash nodes) event order is = is
-may_stand (commands.Lose from to channel) event order is = absurd (cc)
-may_stand (commands.Miss nodes) event order is = absurd (cc)
-may_stand (commands.Settle nodes) event order is = absurd (cc)
+-- ---- events one after another
 
--- the events of a plan
-pub planned_adds : (command : Command) (line : ℕ) (old new : Play) (waiting delivered : List Parcel) (open_ : List OpenRequest) (plan : List Event)
-    (refused : Option Event) → is_order command ≡ true → planned command waiting delivered open_ ≡ Ok plan
-    → Adds (Contains plan) line old new refused → Adds (MayStand command) line old new refused
-planned_adds command line old new waiting delivered open_ plan refused order is adds =
-    adds_weaker (Contains plan) (MayStand command) line old new refused
-    (λ event there. may_stand command event order (waiting, (delivered, (open_, (plan, is, there))))) adds
+abbrev pub of_events : ℕ → List Event → Setting → Scene → Played
+of_events line events setting = all_made setting line events
 
--- what is not found
-pub planned_lacks : (command : Command) (waiting delivered : List Parcel) (open_ : List OpenRequest) (fault : Fault) → is_order command ≡ true
-    → planned command waiting delivered open_ ≡ Err fault → Lacks command fault
-planned_lacks (commands.Start nodes stop) waiting delivered open_ fault order is = (waiting, (delivered, (open_, is)))
-planned_lacks (commands.Propose node payload) waiting delivered open_ fault order is = (waiting, (delivered, (open_, is)))
-planned_lacks (commands.Judge question whom good) waiting delivered open_ fault order is = (waiting, (delivered, (open_, is)))
-planned_lacks (commands.Deliver from to channel) waiting delivered open_ fault order is = (waiting, (delivered, (open_, is)))
-planned_lacks (commands.Resend from to channel) waiting delivered open_ fault order is = (waiting, (delivered, (open_, is)))
-planned_lacks (commands.Step node source stop) waiting delivered open_ fault order is = (waiting, (delivered, (open_, is)))
-planned_lacks (commands.Tick ms) waiting delivered open_ fault order is = (waiting, (delivered, (open_, is)))
-planned_lacks (commands.Crash nodes) waiting delivered open_ fault order is = (waiting, (delivered, (open_, is)))
-planned_lacks (commands.Lose from to channel) waiting delivered open_ fault order is = absurd (cc)
-planned_lacks (commands.Miss nodes) waiting delivered open_ fault order is = absurd (cc)
-planned_lacks (commands.Settle nodes) waiting delivered open_ fault order is = absurd (cc)
+begins_event : (play : Play) (line : ℕ) (left more : List Event) (event : Event) → left ≡ event ∷ more
+    → Begins play (of_events line left) (λ setting. made setting line event) (of_events line more)
+unfolding all_made
+begins_event play line left more event is setting scene plays = ap (λ (its : List Event). all_made setting line its scene) is
+
+pub events_more : (first old new : Play) (line : ℕ) (all left more : List Event) (event : Event) → left ≡ event ∷ more
+    → Left first old (of_events line left) (of_events line all) → Leads old new (λ setting. made setting line event) cames.On
+    → Left first new (of_events line more) (of_events line all)
+events_more first old new line all left more event is lefts leads =
+    left_more first old new (of_events line left) (λ setting. made setting line event) (of_events line more) (of_events line all)
+    (begins_event old line left more event is) lefts leads
+
+pub events_stop : (first old new : Play) (line : ℕ) (all left more : List Event) (event : Event) (came : Came) → left ≡ event ∷ more
+    → Left first old (of_events line left) (of_events line all) → Leads old new (λ setting. made setting line event) came → (came ≡ cames.On → ⊥)
+    → Leads first new (of_events line all) came
+events_stop first old new line all left more event came is lefts leads not_on =
+    left_stop first old new (of_events line left) (λ setting. made setting line event) (of_events line more) (of_events line all) came
+    (begins_event old line left more event is) lefts leads not_on
+
+pub events_over : (first play : Play) (line : ℕ) (all left : List Event) → left ≡ []
+    → Left first play (of_events line left) (of_events line all) → Leads first play (of_events line all) cames.On
+unfolding all_made
+events_over first play line all left none lefts =
+    left_over first play (of_events line left) (of_events line all) cames.On
+    (λ setting scene plays. ap (λ (its : List Event). all_made setting line its scene) none) lefts
+
+-- ---- commands one after another
+
+abbrev pub of_commands : List Placed → Setting → Scene → Played
+of_commands commands setting = all_obeyed setting commands
+
+begins_command : (play : Play) (left more : List Placed) (it : Placed) → left ≡ it ∷ more
+    → Begins play (of_commands left) (λ setting. obeyed setting it.line it.command) (of_commands more)
+unfolding all_obeyed
+begins_command play left more it is setting scene plays = ap (λ (its : List Placed). all_obeyed setting its scene) is
+
+pub commands_more : (first old new : Play) (all left more : List Placed) (it : Placed) → left ≡ it ∷ more
+    → Left first old (of_commands left) (of_commands all) → Leads old new (λ setting. obeyed setting it.line it.command) cames.On
+    → Left first new (of_commands more) (of_commands all)
+commands_more first old new all left more it is lefts leads =
+    left_more first old new (of_commands left) (λ setting. obeyed setting it.line it.command) (of_commands more) (of_commands all)
+    (begins_command old left more it is) lefts leads
+
+pub commands_stop : (first old new : Play) (all left more : List Placed) (it : Placed) (came : Came) → left ≡ it ∷ more
+    → Left first old (of_commands left) (of_commands all) → Leads old new (λ setting. obeyed setting it.line it.command) came
+    → (came ≡ cames.On → ⊥) → Leads first new (of_commands all) came
+commands_stop first old new all left more it came is lefts leads not_on =
+    left_stop first old new (of_commands left) (λ setting. obeyed setting it.line it.command) (of_commands more) (of_commands all) came
+    (begins_command old left more it is) lefts leads not_on
+
+pub commands_over : (first play : Play) (all left : List Placed) → left ≡ [] → Left first play (of_commands left) (of_commands all)
+    → Leads first play (of_commands all) cames.On
+unfolding all_obeyed
+commands_over first play all left none lefts =
+    left_over first play (of_commands left) (of_commands all) cames.On
+    (λ setting scene plays. ap (λ (its : List Placed). all_obeyed setting its scene) none) lefts
+
+-- ---- what comes up
+
+abbrev pub of_settling : ℕ → List Node → ℕ → Setting → Scene → Played
+of_settling line among most setting = settled setting line among most
+
+-- what comes up next at each scene of the play
+abbrev pub NextIs : Play → List Node → Option Event → Type 0
+NextIs play among event = Answers play (λ setting scene. next setting scene.before scene.waiting among) event
+
+settled_none : (setting : Setting) (line : ℕ) (among : List Node) (most : ℕ) (scene : Scene) → None ≡ next setting scene.before scene.waiting among
+    → settled setting line among most scene ≡ On scene
+unfolding settled
+settled_none setting line among zero scene none =
+    sym (ap (λ (it : Option Event). or_next scene it (λ event. bad_line line (faults.Restless MOST_EVENTS))) none)
+settled_none setting line among (suc most) scene none =
+    sym (ap (λ (it : Option Event). or_next scene it (λ event. and_then (made setting line event scene) (settled setting line among most))) none)
+
+settled_out : (setting : Setting) (line : ℕ) (among : List Node) (most : ℕ) (scene : Scene) (event : Event) → most ≡ 0
+    → Some event ≡ next setting scene.before scene.waiting among → settled setting line among most scene ≡ bad_line line (faults.Restless MOST_EVENTS)
+unfolding settled
+settled_out setting line among zero scene event over is =
+    sym (ap (λ (it : Option Event). or_next scene it (λ other. bad_line line (faults.Restless MOST_EVENTS))) is)
+settled_out setting line among (suc most) scene event over is = absurd (cc)
+
+settled_one : (setting : Setting) (line : ℕ) (among : List Node) (most : ℕ) (scene : Scene) (event : Event) → 0 < most
+    → Some event ≡ next setting scene.before scene.waiting among
+    → settled setting line among most scene ≡ and_then (made setting line event scene) (settled setting line among (most - 1))
+unfolding settled
+settled_one setting line among zero scene event some is = absurd (omega (arith, some))
+settled_one setting line among (suc most) scene event some is =
+    sym (ap (λ (it : Option Event). or_next scene it (λ other. and_then (made setting line other scene) (settled setting line among most))) is)
+
+pub settling_more : (first old new : Play) (line : ℕ) (among : List Node) (most all : ℕ) (event : Event) → 0 < most → NextIs old among (Some event)
+    → Left first old (of_settling line among most) (of_settling line among all) → Leads old new (λ setting. made setting line event) cames.On
+    → Left first new (of_settling line among (most - 1)) (of_settling line among all)
+settling_more first old new line among most all event some comes lefts leads =
+    left_more first old new (of_settling line among most) (λ setting. made setting line event) (of_settling line among (most - 1))
+    (of_settling line among all)
+    (λ setting scene plays. settled_one setting line among most scene event some (comes setting scene plays)) lefts leads
+
+pub settling_stop : (first old new : Play) (line : ℕ) (among : List Node) (most all : ℕ) (event : Event) (came : Came) → 0 < most
+    → NextIs old among (Some event) → Left first old (of_settling line among most) (of_settling line among all)
+    → Leads old new (λ setting. made setting line event) came → (came ≡ cames.On → ⊥) → Leads first new (of_settling line among all) came
+settling_stop first old new line among most all event came some comes lefts leads not_on =
+    left_stop first old new (of_settling line among most) (λ setting. made setting line event) (of_settling line among (most - 1))
+    (of_settling line among all) came
+    (λ setting scene plays. settled_one setting line among most scene event some (comes setting scene plays)) lefts leads not_on
+
+pub settling_over : (first play : Play) (line : ℕ) (among : List Node) (most all : ℕ) → NextIs play among None
+    → Left first play (of_settling line among most) (of_settling line among all) → Leads first play (of_settling line among all) cames.On
+settling_over first play line among most all comes lefts =
+    left_over first play (of_settling line among most) (of_settling line among all) cames.On
+    (λ setting scene plays. settled_none setting line among most scene (comes setting scene plays)) lefts
+
+pub settling_out : (first play : Play) (line : ℕ) (among : List Node) (most all : ℕ) (event : Event) → most ≡ 0 → NextIs play among (Some event)
+    → Left first play (of_settling line among most) (of_settling line among all)
+    → Leads first play (of_settling line among all) (cames.Bad (record { line = line; fault = faults.Restless MOST_EVENTS }))
+settling_out first play line among most all event over comes lefts =
+    left_over first play (of_settling line among most) (of_settling line among all) (cames.Bad (record { line = line; fault = faults.Restless MOST_EVENTS }))
+    (λ setting scene plays. settled_out setting line among most scene event over (comes setting scene plays)) lefts

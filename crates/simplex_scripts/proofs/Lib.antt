@@ -1,2 +1,8 @@
+pub mod Asking
 pub mod Going
-pub mod Ends
+pub mod Holding
+pub mod Making
+pub mod Members
+pub mod Ordering
+pub mod Upcoming
+pub mod Whole

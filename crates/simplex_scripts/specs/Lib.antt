@@ -1,3 +1,4 @@
 pub mod Coming
 pub mod Playing
 pub mod Rewriting
+pub mod Stands

@@ -1,5 +1,5 @@
 -- What a script comes to.
-use Rattle.std.specs.Prelude.{◌≡◌, ℕ, zero, suc, List, [], ◌∷◌, ◌++◌, filter, map, not, reverse, Option, None, Some, Result, Ok, Err}
+use Rattle.std.specs.Prelude.{ℕ, Bool, zero, suc, List, [], ◌∷◌, ◌++◌, filter, map, not, reverse, Option, None, Some, Result, Ok, Err}
 use Rattle.simplex_transcript.specs.declared.event.Event.{Event}
 use Rattle.simplex_transcript.specs.declared.field.Field.{Field}
 use Rattle.simplex_transcript.specs.declared.node.Node.{Node}
@@ -81,14 +81,17 @@ all_made setting line (event ∷ events) scene = and_then (made setting line eve
 
 -- ---- commands
 
--- what comes up between the nodes is made, until nothing is left
-unfoldable pub settled : Setting → ℕ → List Node → (left : ℕ) → Scene → Played
-settled setting line among zero scene = bad_line line (faults.Restless MOST_EVENTS)
-settled setting line among (suc left) scene = settled_by (next setting scene.before scene.waiting among)
-  where
-    settled_by : Option Event → Played
-    settled_by None = On scene
-    settled_by (Some event) = and_then (made setting line event scene) (settled setting line among left)
+-- nothing is left to do; or this event, of which more comes
+abbrev pub or_next : Scene → Option Event → (Event → Played) → Played
+or_next scene None more = On scene
+or_next scene (Some event) more = more event
+
+-- what comes up between the nodes is made, until nothing is left; so many events at most
+unfoldable pub settled : Setting → ℕ → List Node → (most : ℕ) → Scene → Played
+settled setting line among zero scene =
+    or_next scene (next setting scene.before scene.waiting among) (λ event. bad_line line (faults.Restless MOST_EVENTS))
+settled setting line among (suc most) scene =
+    or_next scene (next setting scene.before scene.waiting among) (λ event. and_then (made setting line event scene) (settled setting line among most))
 
 abbrev pub lost : ℕ → Fault → Scene → Option Parcel → Played
 lost line fault scene None = bad_line line fault

@@ -1,7 +1,10 @@
 //! The events of a script.
-ghost use Rattle.std.specs.Prelude.{◌≡◌, [], IfOk, IfSome};
-ghost use Rattle.simplex_scripts.specs.Playing.{AreOfLines, GoesOr, IsCompiled, IsCompiledOr, IsOfLine, Went};
+ghost use Rattle.std.specs.Prelude.{◌≡◌, [], IfOk};
+ghost use Rattle.model_run.specs.Setting.{Setting, at_epoch_genesis};
+ghost use Rattle.simplex_scripts.specs.Playing as playing;
+ghost use Rattle.simplex_scripts.specs.Stands.{Comes, Plays};
 
+use crate::came::Came;
 use crate::play::Play;
 use simplex_script::{BadLine, Placed, Script};
 use simplex_transcript::{Event, RunError};
@@ -15,43 +18,6 @@ pub struct Compiled {
     pub events: Sequence<Event>,
     /// Of each event the number of the line that it stands for.
     pub lines: Sequence<u64>,
-}
-
-// An event that was refused, with its line.
-#[derive(Drop)]
-struct Refused {
-    line: u64,
-    event: Event,
-}
-
-// Does what the commands say, up to an event that is refused; or the first line that names what is not there.
-#[tactic(auto, using(crate::proofs::Ends::goes_none, crate::proofs::Ends::goes_on, crate::proofs::Ends::goes_up_to, crate::proofs::Ends::goes_bad))]
-fn play_all(
-    play: &mut Play,
-    commands: &[Placed],
-) -> Result<Result<Option<Refused>, BadLine>, AllocError>
-    ensures { IfOk result (GoesOr commands.now play.old play.new) }
-{
-    let mut rest = commands;
-    while let [it, after @ ..] = rest {
-        match play.play(it.line, &it.command)? {
-            Err(fault) => {
-                return Ok(Err(BadLine {
-                    line: it.line,
-                    fault,
-                }));
-            }
-            Ok(Some(event)) => {
-                return Ok(Ok(Some(Refused {
-                    line: it.line,
-                    event,
-                })));
-            }
-            Ok(None) => {}
-        }
-        rest = after;
-    }
-    Ok(Ok(None))
 }
 
 fn nothing(alloc: Global) -> Compiled
@@ -72,39 +38,40 @@ fn made(play: Play) -> Compiled
     Compiled { events, lines }
 }
 
-// What was made, and behind it what was refused.
-#[tactic(auto, using(crate::proofs::Ends::compiled_whole, crate::proofs::Ends::compiled_behind))]
-fn finished(script: &Script, play: Play, refused: Option<Refused>) -> Result<Compiled, AllocError>
-    requires went { Went play script.now.setup }
-    requires of_lines { AreOfLines script.now.commands play.events play.lines }
-    requires last { IfSome refused (λ it. IsOfLine script.now.commands it.line it.event) }
-    ensures { IfOk result (IsCompiled script.now) }
+// What was made, and behind it what was refused; or the line that is bad.
+#[tactic(auto, using(crate::proofs::Whole::whole_on, crate::proofs::Whole::whole_refused, crate::proofs::Whole::whole_bad))]
+fn compiled_of(play: Play, came: Came) -> Result<Result<Compiled, BadLine>, AllocError>
+    ensures { IfOk result (λ it. (setting : Setting) (played : playing.Played) → Comes play setting came played → it ≡ playing.compiled_of played) }
 {
-    let _script = script;
     let mut all = made(play);
-    match refused {
-        None => Ok(all),
-        Some(Refused { line, event }) => {
+    match came {
+        Came::On => Ok(Ok(all)),
+        Came::Refused { line, event } => {
             all.events.push(event)?;
             all.lines.push(line)?;
-            Ok(all)
+            Ok(Ok(all))
         }
+        Came::Bad(bad) => Ok(Err(bad)),
     }
+}
+
+// What the commands come to.
+fn played(mut play: Play, commands: &[Placed]) -> Result<Result<Compiled, BadLine>, AllocError>
+    ensures { IfOk result (λ it. (setting : Setting) → Plays play setting playing.opening → it ≡ playing.compiled_of (playing.all_obeyed setting commands.now playing.opening)) }
+{
+    let came = play.obey_all(commands)?;
+    compiled_of(play, came)
 }
 
 /// The events that a script stands for, or its first line that names what is not there. The last event may be one that the network
 /// refuses; of a setup that is refused there is none.
-#[tactic(auto, using(crate::proofs::Ends::compiled_nothing, crate::proofs::Ends::of_lines_none))]
+#[tactic(auto, using(crate::proofs::Whole::comes_whole, crate::proofs::Whole::comes_refused))]
 pub fn compile(alloc: Global, script: &Script) -> Result<Result<Compiled, BadLine>, AllocError>
-    ensures { IfOk result (IsCompiledOr script.now) }
+    ensures { IfOk result (λ it. it ≡ playing.compiled script.now) }
 {
-    let mut play = match Play::new(alloc, &script.setup) {
-        Ok(play) => play,
-        Err(RunError::Memory) => return Err(AllocError),
-        Err(_) => return Ok(Ok(nothing(alloc))),
-    };
-    match play_all(&mut play, script.commands.as_slice())? {
-        Err(bad) => Ok(Err(bad)),
-        Ok(refused) => Ok(Ok(finished(script, play, refused)?)),
+    match Play::new(alloc, &script.setup) {
+        Ok(play) => played(play, script.commands.as_slice()),
+        Err(RunError::Memory) => Err(AllocError),
+        Err(_) => Ok(Ok(nothing(alloc))),
     }
 }

@@ -6,6 +6,8 @@
 //! came to below the line of its command.
 #![tactic(auto)]
 
+mod came;
+mod coming;
 mod compiling;
 mod nodes;
 mod play;

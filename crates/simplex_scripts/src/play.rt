@@ -1,17 +1,24 @@
 //! A network that is given the commands of a script.
-ghost use Rattle.std.specs.Prelude.{◌≡◌, ◌++◌, ◌∷◌, [], ℕ, true, Contains, IfOk, IfSome, OnOk};
-ghost use Rattle.simplex_script.specs.declared.command.Command.TheVariants as commands;
-ghost use Rattle.simplex_scripts.specs.Playing.{Adds, AddsOr, ComesUp, MayStand, Went, is_order};
+ghost use Rattle.std.specs.Prelude.{◌≡◌, IfErr, IfOk, OnOk};
+ghost use Rattle.model_run.specs.Setting.{at_epoch_genesis};
+ghost use Rattle.simplex_network.specs.Answer.{IsRefused, setup_refusal};
+ghost use Rattle.simplex_generator.specs.Drawing as drawing;
+ghost use Rattle.simplex_script.specs.Planning as plans;
+ghost use Rattle.simplex_script.specs.Post.{first_on, is_for};
+ghost use Rattle.simplex_script.specs.declared.fault.Fault.TheVariants as faults;
+ghost use Rattle.simplex_scripts.specs.declared.came.Came.TheVariants as cames;
+ghost use Rattle.simplex_scripts.specs.Coming as coming;
+ghost use Rattle.simplex_scripts.specs.Playing as playing;
+ghost use Rattle.simplex_scripts.specs.Stands.{Answers, Leads, Plays, TakesIn};
 
-use crate::nodes::{hearers_of, nodes_of};
-use simplex_generator::{Requests, SOURCES};
-use simplex_messages::Stop;
+use crate::came::Came;
+use crate::coming::{next_delivery, next_step, next_verdict, open_in};
+use crate::nodes::nodes_of;
+use simplex_generator::Requests;
 use simplex_network::Network;
-use simplex_script::{
-    Command, Fault, OpenRequest, Parcel, Post, delivery, judged, planned, wants_verdict,
-};
-use simplex_transcript::{Entry, Event, Node, RunError, Setup, StepSource};
-use simplex_types::{Channel, Sequence};
+use simplex_script::{BadLine, Command, Fault, Placed, Post, planned};
+use simplex_transcript::{Entry, Event, Node, RunError, Setup};
+use simplex_types::{Channel, Keep, Sequence};
 use std::alloc::{AllocError, Global};
 
 /// How many events a `settle` makes at most.
@@ -21,31 +28,30 @@ pub const MOST_EVENTS: u64 = 4096;
 #[derive(Drop)]
 pub(crate) struct Play {
     alloc: Global,
-    pub(crate) network: Network,
+    setup: Setup,
+    network: Network,
     nodes: Vec<Node>,
-    hearers: Vec<Node>,
     post: Post,
     requests: Requests,
     clock: u64,
-    pub(crate) events: Sequence<Event>,
-    pub(crate) lines: Sequence<u64>,
+    events: Sequence<Event>,
+    lines: Sequence<u64>,
 }
 
 impl Play {
     /// Nothing was made yet.
+    #[tactic(auto, using(crate::proofs::Asking::asks_none, crate::proofs::Whole::opens))]
     pub(crate) fn new(alloc: Global, setup: &Setup) -> Result<Play, RunError>
-        ensures went { IfOk result (λ it. Went it setup.now) }
-        ensures events { IfOk result (λ it. it.events ≡ []) }
-        ensures lines { IfOk result (λ it. it.lines ≡ []) }
+        ensures opens { IfOk result (λ play. Plays play (at_epoch_genesis setup.now) playing.opening) }
+        ensures refused { IfErr result (IsRefused (setup_refusal setup.now)) }
     {
         let network = Network::new(alloc, setup)?;
         let nodes = nodes_of(alloc, setup)?;
-        let hearers = hearers_of(alloc, setup, nodes.as_slice())?;
         Ok(Play {
             alloc,
+            setup: setup.keep(alloc)?,
             network,
             nodes,
-            hearers,
             post: Post::new(alloc),
             requests: Requests::new(alloc),
             clock: 0,
@@ -61,9 +67,9 @@ impl Play {
     {
         let Play {
             alloc: _,
+            setup: _,
             network: _,
             nodes: _,
-            hearers: _,
             post: _,
             requests: _,
             clock: _,
@@ -73,261 +79,170 @@ impl Play {
         (events, lines)
     }
 
+    // ---- events
+
     // The event is one of the run.
     fn take(&mut self, line: u64, event: Event, entry: &Entry) -> Result<(), AllocError>
-        ensures network { OnOk result (self.new.network ≡ self.old.network) }
-        ensures events { OnOk result (self.new.events ≡ self.old.events ++ event ∷ []) }
-        ensures lines { OnOk result (self.new.lines ≡ self.old.lines ++ line ∷ []) }
+        ensures { OnOk result (TakesIn self.old self.new line event entry.now) }
     {
         self.post.take_in(&event, entry)?;
         self.requests.take_in(&event, entry)?;
-        self.clock = clock_behind(self.clock, &event);
+        self.clock = clock_behind(&event, self.clock)?;
         self.events.push(event)?;
         self.lines.push(line)
     }
 
-    // Makes an event; or gives it back, where the network refuses it.
-    #[tactic(auto, using(crate::proofs::Going::adds_one, crate::proofs::Going::adds_refused))]
-    fn make(&mut self, line: u64, event: Event) -> Result<Option<Event>, AllocError>
-        ensures { IfOk result (λ refused. Adds (λ it. it ≡ event) line self.old self.new refused) }
+    // Makes an event, unless the network refuses it.
+    #[tactic(auto, using(crate::proofs::Making::makes, crate::proofs::Making::refuses))]
+    fn make(&mut self, line: u64, event: Event) -> Result<Came, AllocError>
+        ensures { IfOk result (Leads self.old self.new (λ setting. playing.made setting line event)) }
     {
         match self.network.apply(&event) {
             Ok(entry) => {
                 self.take(line, event, &entry)?;
-                Ok(None)
+                Ok(Came::On)
             }
-            Err(RunError::Memory | RunError::Failed) => Err(AllocError),
-            Err(_) => Ok(Some(event)),
+            Err(RunError::Memory) => Err(AllocError),
+            Err(_) => Ok(Came::Refused { line, event }),
         }
     }
 
     // Makes events one after another, up to one that is refused.
-    #[tactic(auto, using(crate::proofs::Going::adds_none, crate::proofs::Going::adds_made))]
-    fn make_all(&mut self, line: u64, events: Vec<Event>) -> Result<Option<Event>, AllocError>
-        ensures { IfOk result (λ refused. Adds (Contains events.items) line self.old self.new refused) }
+    #[tactic(auto, using(crate::proofs::Going::left_first, crate::proofs::Going::events_more, crate::proofs::Going::events_stop, crate::proofs::Going::events_over))]
+    fn make_all(&mut self, line: u64, events: Vec<Event>) -> Result<Came, AllocError>
+        ensures { IfOk result (Leads self.old self.new (λ setting. playing.all_made setting line events.items)) }
     {
         for event in events {
-            if let Some(refused) = self.make(line, event)? {
-                return Ok(Some(refused));
+            match self.make(line, event)? {
+                Came::On => {}
+                stopped => return Ok(stopped),
             }
         }
-        Ok(None)
+        Ok(Came::On)
     }
 
-    /// Does what a command says, up to an event that is refused; or what the command does not find.
-    pub(crate) fn play(
-        &mut self,
-        line: u64,
-        command: &Command,
-    ) -> Result<Result<Option<Event>, Fault>, AllocError>
-        ensures { IfOk result (AddsOr command.now line self.old self.new) }
+    // ---- commands
+
+    /// Does what the commands say, up to an event that is refused, or a line that names what is not there.
+    #[tactic(auto, using(crate::proofs::Going::left_first, crate::proofs::Going::commands_more, crate::proofs::Going::commands_stop, crate::proofs::Going::commands_over))]
+    pub(crate) fn obey_all(&mut self, commands: &[Placed]) -> Result<Came, AllocError>
+        ensures { IfOk result (Leads self.old self.new (λ setting. playing.all_obeyed setting commands.now)) }
     {
-        if is_order(command) {
-            self.order(line, command)
-        } else {
-            self.rule(line, command)
+        let mut rest = commands;
+        while let [it, after @ ..] = rest {
+            match self.obey(it.line, &it.command)? {
+                Came::On => {}
+                stopped => return Ok(stopped),
+            }
+            rest = after;
         }
+        Ok(Came::On)
     }
 
-    // Does what a command says that stands for no events of its own.
-    #[tactic(auto, using(crate::proofs::Going::adds_none))]
-    fn rule(
-        &mut self,
-        line: u64,
-        command: &Command,
-    ) -> Result<Result<Option<Event>, Fault>, AllocError>
-        ensures { IfOk result (AddsOr command.now line self.old self.new) }
+    #[tactic(auto, unfolding(crate::specs::Playing::obeyed), using(crate::proofs::Ordering::orders))]
+    fn obey(&mut self, line: u64, command: &Command) -> Result<Came, AllocError>
+        ensures { IfOk result (Leads self.old self.new (λ setting. playing.obeyed setting line command.now)) }
     {
         match command {
             Command::Settle { nodes } => self.settle(line, nodes.as_slice()),
-            Command::Lose { from, to, channel } => Ok(self.lose(*from, *to, *channel)),
-            Command::Miss { nodes } => Ok(Ok(self.miss(nodes.as_slice()))),
-            _ => Ok(Ok(None)),
+            Command::Lose { from, to, channel } => Ok(self.lose(line, *from, *to, *channel)),
+            Command::Miss { nodes } => Ok(self.miss(nodes.as_slice())),
+            _ => self.order(line, command),
         }
     }
 
     // Makes the events that a command stands for.
-    #[tactic(auto, using(crate::proofs::Going::planned_adds, crate::proofs::Going::planned_lacks))]
-    fn order(
-        &mut self,
-        line: u64,
-        command: &Command,
-    ) -> Result<Result<Option<Event>, Fault>, AllocError>
-        requires { is_order command.now ≡ true }
-        ensures { IfOk result (AddsOr command.now line self.old self.new) }
+    #[tactic(auto, using(crate::proofs::Ordering::plans_bad, crate::proofs::Ordering::plans_made))]
+    fn order(&mut self, line: u64, command: &Command) -> Result<Came, AllocError>
+        ensures { IfOk result (Leads self.old self.new (λ setting scene. playing.as_planned setting line scene (plans.planned command.now scene.waiting scene.delivered (coming.open_in scene.before)))) }
     {
         let open = open_in(self.alloc, &self.requests)?;
         match planned(self.alloc, command, &self.post, open.as_slice())? {
-            Err(fault) => Ok(Err(fault)),
-            Ok(events) => Ok(Ok(self.make_all(line, events)?)),
+            Err(fault) => Ok(Came::Bad(BadLine { line, fault })),
+            Ok(events) => self.make_all(line, events),
         }
     }
 
     // The oldest packet on a way is lost.
-    #[tactic(auto, using(crate::proofs::Going::adds_none))]
-    fn lose(&mut self, from: Node, to: Node, channel: Channel) -> Result<Option<Event>, Fault>
-        ensures { (line : ℕ) → AddsOr (commands.Lose from to channel) line self.old self.new result }
+    #[tactic(auto, using(crate::proofs::Ordering::loses_none, crate::proofs::Ordering::loses_one))]
+    fn lose(&mut self, line: u64, from: Node, to: Node, channel: Channel) -> Came
+        ensures { Leads self.old self.new (λ setting scene. playing.lost line (faults.NoPacket from to channel) scene (first_on from to channel scene.waiting)) result }
     {
         match self.post.oldest(from, to, channel) {
-            None => Err(Fault::NoPacket { from, to, channel }),
+            None => Came::Bad(BadLine {
+                line,
+                fault: Fault::NoPacket { from, to, channel },
+            }),
             Some(parcel) => {
                 self.post.lose(&parcel);
-                Ok(None)
+                Came::On
             }
         }
     }
 
-    // What waits for the nodes is lost.
-    #[tactic(auto, using(crate::proofs::Going::adds_none))]
-    fn miss(&mut self, nodes: &[Node]) -> Option<Event>
-        ensures { (line : ℕ) → Adds (MayStand (commands.Miss nodes.now)) line self.old self.new result }
+    // All that waits for the nodes is lost.
+    #[tactic(auto, using(crate::proofs::Ordering::misses))]
+    fn miss(&mut self, nodes: &[Node]) -> Came
+        ensures { Leads self.old self.new (λ setting scene. playing.On (playing.without (is_for nodes.now) scene)) result }
     {
         self.post.miss(nodes);
-        None
+        Came::On
     }
 
-    // Does what comes up between the nodes, until nothing is left.
-    #[tactic(auto, using(crate::proofs::Going::adds_none, crate::proofs::Going::adds_made))]
-    fn settle(
-        &mut self,
-        line: u64,
-        nodes: &[Node],
-    ) -> Result<Result<Option<Event>, Fault>, AllocError>
-        ensures { IfOk result (AddsOr (commands.Settle nodes.now) line self.old self.new) }
+    // Makes what comes up between the nodes, until nothing is left.
+    #[tactic(auto, using(crate::proofs::Going::left_first, crate::proofs::Going::settling_more, crate::proofs::Going::settling_stop, crate::proofs::Going::settling_over, crate::proofs::Going::settling_out))]
+    fn settle(&mut self, line: u64, nodes: &[Node]) -> Result<Came, AllocError>
+        ensures { IfOk result (Leads self.old self.new (λ setting. playing.settled setting line nodes.now MOST_EVENTS)) }
     {
-        for _ in 0..MOST_EVENTS {
+        let mut left = MOST_EVENTS;
+        'events: loop {
             let Some(event) = self.next(nodes)? else {
-                return Ok(Ok(None));
+                return Ok(Came::On);
             };
-            if let Some(refused) = self.make(line, event)? {
-                return Ok(Ok(Some(refused)));
+            if left == 0 {
+                return Ok(restless(line));
             }
+            match self.make(line, event)? {
+                Came::On => {}
+                stopped => return Ok(stopped),
+            }
+            left -= 1;
         }
-        Ok(Err(Fault::Restless(MOST_EVENTS)))
     }
 
-    // What comes up next between the nodes: a step, an answer, a delivery.
+    // What comes up next between the nodes: a step, else a verdict, else a delivery.
+    #[tactic(auto, using(crate::proofs::Upcoming::upcoming_step, crate::proofs::Upcoming::upcoming_verdict, crate::proofs::Upcoming::upcoming_delivery))]
     fn next(&self, nodes: &[Node]) -> Result<Option<Event>, AllocError>
-        ensures { IfOk result (λ event. IfSome event ComesUp) }
+        ensures { IfOk result (Answers self.now (λ setting scene. coming.next setting scene.before scene.waiting nodes.now)) }
     {
-        if let Some(event) = self.next_step(nodes) {
+        if let Some(event) = next_step(&self.network, self.nodes.as_slice(), self.clock, nodes) {
             return Ok(Some(event));
         }
         let open = open_in(self.alloc, &self.requests)?;
-        if let Some(event) = next_answer(open.as_slice(), nodes) {
+        if let Some(event) = next_verdict(open.as_slice(), nodes) {
             return Ok(Some(event));
         }
-        Ok(self.next_delivery(nodes))
-    }
-
-    fn next_step(&self, among: &[Node]) -> Option<Event>
-        ensures { IfSome result ComesUp }
-    {
-        for node in &self.nodes {
-            if is_among(*node, among)
-                && let Some(source) = self.held_by(*node)
-            {
-                return Some(whole_step(*node, source));
-            }
-        }
-        None
-    }
-
-    // The first source of the node that holds something.
-    fn held_by(&self, node: Node) -> Option<StepSource> {
-        let engine = self.network.engine(node)?;
-        for source in SOURCES {
-            if engine.holds(source, self.clock) {
-                return Some(source);
-            }
-        }
-        None
-    }
-
-    fn next_delivery(&self, among: &[Node]) -> Option<Event>
-        ensures { IfSome result ComesUp }
-    {
-        for it in self.post.waiting() {
-            if self.may_come(it, among) {
-                return Some(delivery(it));
-            }
-        }
-        None
-    }
-
-    // Whether the parcel goes between the nodes, to one that is there and hears.
-    fn may_come(&self, parcel: &Parcel, among: &[Node]) -> bool {
-        is_among(parcel.from, among) && is_among(parcel.to, among) && self.hears(parcel.to)
-    }
-
-    // Whether what comes to the node may come to something.
-    fn hears(&self, node: Node) -> bool {
-        self.network.engine(node).is_some() || self.hearers.as_slice().contains(&node)
+        let delivery = next_delivery(&self.network, &self.setup, self.post.waiting(), nodes);
+        Ok(delivery)
     }
 }
 
-// Whether the command stands for events, where what is open is known.
-fn is_order(command: &Command) -> bool
-    ensures { result ≡ is_order command.now }
+// The clock behind an event. No memory has room for so many ticks that it would end.
+fn clock_behind(event: &Event, clock: u64) -> Result<u64, AllocError>
+    ensures { IfOk result (λ behind. behind ≡ drawing.clock_behind event.now clock) }
 {
-    match command {
-        Command::Start { .. } => true,
-        Command::Propose { .. } => true,
-        Command::Judge { .. } => true,
-        Command::Deliver { .. } => true,
-        Command::Resend { .. } => true,
-        Command::Step { .. } => true,
-        Command::Tick { .. } => true,
-        Command::Crash { .. } => true,
-        Command::Lose { .. } => false,
-        Command::Miss { .. } => false,
-        Command::Settle { .. } => false,
-    }
-}
-
-fn clock_behind(clock: u64, event: &Event) -> u64 {
     match event {
-        Event::Tick { ms } => clock.saturating_add(*ms),
-        _ => clock,
+        Event::Tick { ms } => clock.checked_add(*ms).ok_or(AllocError),
+        _ => Ok(clock),
     }
 }
 
-fn whole_step(node: Node, source: StepSource) -> Event
-    ensures { ComesUp result }
+// Something is left to do behind the most events.
+fn restless(line: u64) -> Came
+    ensures { result ≡ cames.Bad (record { line = line; fault = faults.Restless MOST_EVENTS }) }
 {
-    Event::Step {
-        node,
-        source,
-        stop: Stop::None,
-    }
-}
-
-// The requests that are open.
-fn open_in(alloc: Global, requests: &Requests) -> Result<Vec<OpenRequest>, AllocError> {
-    let mut open = Vec::new(alloc);
-    for it in requests.open() {
-        open.push(OpenRequest {
-            node: it.node,
-            request: it.request,
-            asked: it.asked,
-        })?;
-    }
-    Ok(open)
-}
-
-// The oldest request of one of the nodes that wants a verdict is answered by yes.
-fn next_answer(open: &[OpenRequest], among: &[Node]) -> Option<Event>
-    ensures { IfSome result ComesUp }
-{
-    for it in open {
-        if is_among(it.node, among) && wants_verdict(it) {
-            return Some(judged(it, true));
-        }
-    }
-    None
-}
-
-// Whether the node is one of these: all nodes are, where none is named.
-fn is_among(node: Node, nodes: &[Node]) -> bool {
-    nodes.is_empty() || nodes.contains(&node)
+    Came::Bad(BadLine {
+        line,
+        fault: Fault::Restless(MOST_EVENTS),
+    })
 }

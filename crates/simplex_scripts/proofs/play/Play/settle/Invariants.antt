@@ -1,6 +1,9 @@
-use Rattle.std.specs.Prelude.{None}
-use Rattle.simplex_scripts.specs.Playing.{Adds, ComesUp}
+use Rattle.simplex_scripts.specs.declared.play.TheConstants.{MOST_EVENTS}
+use Rattle.simplex_scripts.proofs.Going.{Left, of_settling}
 use Rattle.simplex_scripts.proofs.play.Play.settle.Given as goal
 
-abbrev pub invariant-loop : goal.invariant-loop
-invariant-loop l = Adds ComesUp l.line l.initial.self l.self None
+abbrev pub invariant-events : goal.invariant-events
+invariant-events l = Left l.initial.self l.self (of_settling l.line l.nodes l.left) (of_settling l.line l.nodes MOST_EVENTS)
+
+abbrev pub decreases-events : goal.decreases-events
+decreases-events l = l.left
