@@ -162,7 +162,8 @@ settled_one : (setting : Setting) (line : ℕ) (among : List Node) (most : ℕ) 
 unfolding settled
 settled_one setting line among zero scene event some is = absurd (omega (arith, some))
 settled_one setting line among (suc most) scene event some is =
-    sym (ap (λ (it : Option Event). or_next scene it (λ other. and_then (made setting line other scene) (settled setting line among most))) is)
+    let less : suc most - 1 ≡ most = omega arith in
+    rw less (sym (ap (λ (it : Option Event). or_next scene it (λ other. and_then (made setting line other scene) (settled setting line among most))) is))
 
 pub settling_more : (first old new : Play) (line : ℕ) (among : List Node) (most all : ℕ) (event : Event) → 0 < most → NextIs old among (Some event)
     → Left first old (of_settling line among most) (of_settling line among all) → Leads old new (λ setting. made setting line event) cames.On

@@ -1,14 +1,14 @@
 -- What the engines that a network shows say of its nodes.
-use Rattle.std.proofs.Common.{◌≡◌, ◌++◌, ◌∷◌, ◌&&◌, [], ℕ, Bool, true, false, not, List, refl, sym, ap, subst, ◌∙◌, if◌then◌else◌}
+use Rattle.std.proofs.Common.{◌≡◌, ◌≤◌, ◌++◌, ◌∷◌, ◌&&◌, [], ℕ, Bool, true, false, not, List, length, refl, sym, ap, subst, ◌∙◌, arith, if◌then◌else◌}
 use Rattle.std.specs.Prelude.{Option, Some, None}
-use Rattle.std.specs.List.{flat_map, list_all, slice_get}
+use Rattle.std.specs.List.{flat_map, list_all, list_any, slice_get}
 use Rattle.std.specs.Option.{is_some, option_map}
 use Rattle.simplex_transcript.specs.declared.event.Event.{Event}
 use Rattle.simplex_transcript.specs.declared.node.Node.{Node}
 use Rattle.simplex_transcript.specs.declared.setup.Setup.{Setup}
 use Rattle.model_steps.specs.Engine.{Did, EngineMade, runs}
 use Rattle.model_run.specs.Hearing.{heard_in}
-use Rattle.model_run.specs.Kinds.{is_node, is_of_kind, runs_engine}
+use Rattle.model_run.specs.Kinds.{is_node, is_of_kind, is_same_node, runs_engine}
 use Rattle.model_run.specs.Life.{Life, Noted, Running, Stopped, clock_of, life_in}
 use Rattle.model_run.specs.Setting.{Setting}
 use Rattle.law_run.specs.Histories.{IsRun}
@@ -24,6 +24,13 @@ use Rattle.simplex_generator.specs.Generated as generated
 use Rattle.simplex_generator.specs.Generated.{held_at}
 use Rattle.simplex_scripts.specs.Coming.{hears, held_among, is_among, is_silent, next_step, nodes_of}
 use Rattle.simplex_scripts.proofs.Members.{nodes_exist}
+
+-- ---- the nodes that are named
+
+pub among_some : (nodes : List Node) (node : Node) (answer : Bool) → 1 ≤ length nodes → answer ≡ list_any (is_same_node node) nodes
+    → answer ≡ is_among nodes node
+among_some [] node answer some is = absurd (omega (arith, some))
+among_some (one ∷ others) node answer some is = is
 
 -- ---- the part of a node
 
@@ -56,8 +63,8 @@ engineless : (setting : Setting) (before : List Noted) (node : Node) (now : ℕ)
 engineless setting before node now ran none = by (life_in setting before node) refl
   where
     never : (b : Bool) → b ≡ true → b ≡ false → ⊥
-    never true yes no = cc
-    never false yes no = cc
+    never true e f = cc
+    never false e f = cc
 
     by : (life : Life) → life_in setting before node ≡ life → held_at life now node ≡ []
     by (Stopped sections) is = refl

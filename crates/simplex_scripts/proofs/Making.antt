@@ -40,7 +40,7 @@ ticked (events.Inject member channel to bytes) entry did before = refl
 
 -- ---- the entry of an event
 
-entry_in : Entry → Result Entry RunError → Entry
+abbrev entry_in : Entry → Result Entry RunError → Entry
 entry_in entry (Ok other) = other
 entry_in entry (Err error) = entry
 

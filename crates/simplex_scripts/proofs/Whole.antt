@@ -42,6 +42,9 @@ opens play setup same stands nodes waiting delivered requests clock events lines
 
 -- ---- the last
 
+abbrev right : Compiled → Result Compiled BadLine
+right made = Ok made
+
 compiled_is : (made : Compiled) (events : List Event) (lines : List ℕ) → made.events ≡ events → made.lines ≡ lines
     → ◌≡◌ {A = Compiled} made (record { events = events; lines = lines })
 compiled_is made events lines same_events same_lines = rw (sym same_events, sym same_lines) refl
@@ -49,7 +52,7 @@ compiled_is made events lines same_events same_lines = rw (sym same_events, sym 
 pub whole_on : (play : Play) (made : Compiled) → made.events ≡ play.events → made.lines ≡ play.lines
     → (setting : Setting) (played : Played) → Comes play setting cames.On played → Ok made ≡ compiled_of played
 whole_on play made events lines setting played comes =
-    ap (λ (it : Compiled). Ok {E = BadLine} it)
+    ap right
     (compiled_is made (reverse (map (λ (noted : Noted). noted.event) comes.scene.before) ++ []) (reverse comes.scene.lines ++ [])
     (events ∙ comes.plays.events ∙ sym (append-nil (reverse (map (λ (noted : Noted). noted.event) comes.scene.before))))
     (lines ∙ comes.plays.lines ∙ sym (append-nil (reverse comes.scene.lines))))
@@ -59,7 +62,7 @@ pub whole_refused : (play : Play) (made : Compiled) (line : ℕ) (event : Event)
     → made.lines ≡ play.lines ++ line ∷ [] → (setting : Setting) (played : Played) → Comes play setting (cames.Refused line event) played
     → Ok made ≡ compiled_of played
 whole_refused play made line event events lines setting played comes =
-    ap (λ (it : Compiled). Ok {E = BadLine} it)
+    ap right
     (compiled_is made (reverse (map (λ (noted : Noted). noted.event) comes.scene.before) ++ event ∷ []) (reverse comes.scene.lines ++ line ∷ [])
     (events ∙ ap (λ (all : List Event). all ++ event ∷ []) comes.plays.events)
     (lines ∙ ap (λ (all : List ℕ). all ++ line ∷ []) comes.plays.lines))
@@ -86,7 +89,7 @@ pub comes_refused : (script : Script) (made : Compiled) (error : RunError) → I
     → made.events ≡ [] → made.lines ≡ [] → Ok made ≡ compiled script
 unfolding compiled
 comes_refused script made error refused not_memory events lines =
-    ap (λ (it : Compiled). Ok {E = BadLine} it) (compiled_is made [] [] events lines) ∙ by (first_bad script.setup) (some error refused not_memory)
+    ap right (compiled_is made [] [] events lines) ∙ by (first_bad script.setup) (some error refused not_memory)
   where
     some : (it : RunError) → IsRefused (setup_refusal script.setup) it → is_memory it ≡ false → setup_refusal script.setup ≡ Some it
     some errors.Memory is other = absurd (cc)

@@ -35,20 +35,20 @@ opening = record { before = []; lines = []; waiting = []; delivered = [] }
 -- an event of a line more
 abbrev pub behind : ℕ → Noted → Scene → Scene
 behind line noted scene = record {
-    before = noted ∷ scene.before;
-    lines = line ∷ scene.lines;
-    waiting = waiting_behind noted.event noted.entry scene.waiting;
-    delivered = delivered_behind noted.event scene.waiting scene.delivered
-  }
+  before = noted ∷ scene.before;
+  lines = line ∷ scene.lines;
+  waiting = waiting_behind noted.event noted.entry scene.waiting;
+  delivered = delivered_behind noted.event scene.waiting scene.delivered;
+}
 
 -- some of what waits is lost
 abbrev pub without : (Parcel → Bool) → Scene → Scene
 without lost scene = record {
-    before = scene.before;
-    lines = scene.lines;
-    waiting = filter (λ it. not (lost it)) scene.waiting;
-    delivered = scene.delivered
-  }
+  before = scene.before;
+  lines = scene.lines;
+  waiting = filter (λ it. not (lost it)) scene.waiting;
+  delivered = scene.delivered;
+}
 
 -- it goes on; or an event of a line is refused; or a line names what is not there
 pub data Played : Type 0 where

@@ -8,10 +8,7 @@ pub(crate) enum Came {
     /// All of them were made.
     On,
     /// The network refuses an event of this line.
-    Refused {
-        line: u64,
-        event: Event,
-    },
+    Refused { line: u64, event: Event },
     /// A line names what is not there.
     Bad(BadLine),
 }

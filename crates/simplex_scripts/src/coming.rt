@@ -1,6 +1,6 @@
 //! What comes up between nodes by itself.
 ghost use Rattle.std.specs.Prelude.{◌≡◌, ◌&&◌, true, IfOk, List, map, not};
-ghost use Rattle.std.specs.List.{slice_get};
+ghost use Rattle.std.specs.List.{list_any, slice_get};
 ghost use Rattle.model_steps.specs.Engine.{Did, EngineMade, runs};
 ghost use Rattle.model_run.specs.Kinds as kinds;
 ghost use Rattle.model_run.specs.Life.{Noted, Running, clock_of};
@@ -19,10 +19,10 @@ use simplex_script::{OpenRequest, Parcel, delivery, judged, wants_verdict};
 use simplex_transcript::{Event, Node, Setup};
 use std::alloc::{AllocError, Global};
 
-fn is_same_node(a: Node, b: Node) -> bool
-    ensures { result ≡ kinds.is_same_node a b }
+fn is_one_of(node: &Node, nodes: &[Node]) -> bool
+    ensures { result ≡ list_any (kinds.is_same_node node.now) nodes.now }
 {
-    a.member == b.member && a.half == b.half
+    nodes.contains(node)
 }
 
 // Whether the node is one of these: all nodes are, where none is named.
@@ -31,7 +31,7 @@ fn is_among(node: Node, nodes: &[Node]) -> bool
 {
     match nodes {
         [] => true,
-        [_, ..] => nodes.iter().any(|it| is_same_node(node, *it)),
+        [_, ..] => is_one_of(&node, nodes),
     }
 }
 
@@ -166,6 +166,7 @@ fn may_come(network: &Network, setup: &Setup, among: &[Node], it: &Parcel) -> bo
 }
 
 /// The oldest packet is delivered.
+#[tactic(auto, unfolding(crate::specs::Coming::next_delivery))]
 pub(crate) fn next_delivery(
     network: &Network,
     setup: &Setup,
