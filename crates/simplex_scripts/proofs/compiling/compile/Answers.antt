@@ -12,5 +12,5 @@ returns-in-Ok c =
     (λ it is.
     comes_whole c.args.script.now c.in-Ok.play it c.in-Ok.ensures.opens
     (is (at_epoch_genesis c.args.script.now.setup) c.in-Ok.ensures.opens
-    ∙ ap (λ (commands : List Placed). compiled_of (all_obeyed (at_epoch_genesis c.args.script.now.setup) commands opening)) c.as_slice.ensures.value))
+    ∙ ap (λ (commands : List Placed). compiled_of (all_obeyed (at_epoch_genesis c.args.script.now.setup) commands opening)) c.as_slice.ensures))
     c.played.ensures

@@ -3,7 +3,7 @@ use Rattle.std.proofs.lemmas.Result.{IfOk-weaker}
 use Rattle.simplex_scripts.specs.declared.came.Came.{Came}
 use Rattle.simplex_scripts.specs.Playing.{made}
 use Rattle.simplex_scripts.specs.Stands.{Leads}
-use Rattle.simplex_scripts.proofs.Making.{refuses}
+use Rattle.simplex_scripts.proofs.Making.{makes, refuses}
 use Rattle.simplex_scripts.proofs.play.Play.make.Goals as goal
 
 pub returns-in-Err : goal.returns-in-Err
@@ -15,3 +15,8 @@ returns-in-Err c =
     (refuses c.args.self.now c.apply.new.self c.args.line c.args.event c.in-Err.error (c.in-Err.ensures.reason is.refused)
     (c.in-Err.ensures.stays is.refused)))
     c.refused.ensures
+
+pub returns-in_ok-take-in-Ok : goal.returns-in_ok-take-in-Ok
+returns-in_ok-take-in-Ok c =
+    makes c.args.self.now c.take.new.self c.apply.new.self c.args.line c.args.event c.in-Ok.entry c.in-Ok.ensures.stands c.in-Ok.ensures.entry
+    c.in_ok-take.ensures
