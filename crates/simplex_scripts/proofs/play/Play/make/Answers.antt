@@ -19,4 +19,4 @@ returns-in-Err c =
 pub returns-in_ok-take-in-Ok : goal.returns-in_ok-take-in-Ok
 returns-in_ok-take-in-Ok c =
     makes c.args.self.now c.take.new.self c.apply.new.self c.args.line c.args.event c.in-Ok.entry c.in-Ok.ensures.stands c.in-Ok.ensures.entry
-    c.in_ok-take.ensures
+    c.in_ok-take-in-Ok.ensures
