@@ -1,5 +1,5 @@
 -- A play that goes on.
-use Rattle.std.proofs.Common.{◌≡◌, ◌<◌, ◌-◌, ◌∷◌, [], ℕ, zero, suc, List, refl, sym, ap, ◌∙◌, arith}
+use Rattle.std.proofs.Common.{◌≡◌, ◌<◌, ◌≤◌, ◌-◌, ◌∷◌, [], ℕ, zero, suc, List, drop, get_or, length, take, refl, sym, ap, ◌∙◌, arith}
 use Rattle.std.specs.Prelude.{Option, Some, None}
 use Rattle.simplex_transcript.specs.declared.event.Event.{Event}
 use Rattle.simplex_transcript.specs.declared.node.Node.{Node}
@@ -69,6 +69,26 @@ left_over : (first play : Play) (left whole : Setting → Scene → Played) (cam
 left_over first play left whole came ends lefts setting scene plays =
     let was = lefts setting scene plays in
     record { scene = was.now; plays = was.plays; is = sym was.same ∙ ends setting was.now was.plays }
+
+-- a list that has an item
+pub split_first : {A : Type 0} (items : List A) (item : A) → 1 ≤ length items → item ≡ get_or items 0 item → items ≡ item ∷ drop 1 items
+split_first {A} [] item some is = absurd (omega (arith, some))
+split_first {A} (one ∷ items) item some is = ap (λ (it : A). it ∷ items) (sym is)
+
+pub split_taken : {A : Type 0} (items : List A) (item : A) → 1 ≤ length items → item ≡ get_or items 0 item
+    → items ≡ item ∷ take (length items - 1) (drop 1 items)
+split_taken {A} [] item some is = absurd (omega (arith, some))
+split_taken {A} (one ∷ items) item some is =
+    let count : suc (length items) - 1 ≡ length items = omega arith in
+    rw count (ap (λ (it : A). it ∷ items) (sym is) ∙ ap (λ (its : List A). item ∷ its) (sym (whole items)))
+  where
+    whole : (its : List A) → take (length its) its ≡ its
+    whole [] = refl
+    whole (it ∷ its) = ap (λ (more : List A). it ∷ more) (whole its)
+
+pub split_copied : {A : Type 0} (items : List A) (other : A) → 1 ≤ length items → items ≡ get_or items 0 other ∷ drop 1 items
+split_copied [] other some = absurd (omega (arith, some))
+split_copied (one ∷ items) other some = refl
 
 -- ---- events one after another
 

@@ -85,6 +85,10 @@ comes_whole script play answer plays is = is ∙ by (first_bad script.setup) pla
     by None good = refl
     by (Some field) good = absurd (cc)
 
+pub not_memory : (error : RunError) → (error ≡ errors.Memory → ⊥) → is_memory error ≡ false
+not_memory errors.Memory not_it = absurd (not_it refl)
+not_memory _ not_it = refl
+
 pub comes_refused : (script : Script) (made : Compiled) (error : RunError) → IsRefused (setup_refusal script.setup) error → is_memory error ≡ false
     → made.events ≡ [] → made.lines ≡ [] → Ok made ≡ compiled script
 unfolding compiled

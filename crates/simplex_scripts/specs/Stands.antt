@@ -1,11 +1,13 @@
 -- Which scene a play is at.
-use Rattle.std.specs.Prelude.{ℕ, ◌≡◌, List, [], ◌∷◌, ◌++◌, map, reverse}
+use Rattle.std.specs.Prelude.{ℕ, ◌≡◌, false, List, [], ◌∷◌, ◌++◌, map, reverse}
 use Rattle.simplex_transcript.specs.declared.entry.Entry.{Entry}
 use Rattle.simplex_transcript.specs.declared.event.Event.{Event}
 use Rattle.simplex_transcript.specs.declared.node.Node.{Node}
+use Rattle.simplex_transcript.specs.declared.refusal.RunError.{RunError}
 use Rattle.model_run.specs.Life.{Noted, clock_of}
 use Rattle.model_run.specs.Requests.{asked_since}
 use Rattle.model_run.specs.Setting.{Setting}
+use Rattle.simplex_network.specs.Answer.{is_memory}
 use Rattle.simplex_network.specs.Stands.{StandsFor}
 use Rattle.simplex_generator.specs.declared.unanswered.Requests.{Requests}
 use Rattle.simplex_generator.specs.Drawing.{clock_behind}
@@ -66,3 +68,8 @@ pub record TakesIn (old new : Play) (line : ℕ) (event : Event) (entry : Entry)
   pub clock : new.clock ≡ clock_behind event old.clock
   pub events : new.events ≡ old.events ++ event ∷ []
   pub lines : new.lines ≡ old.lines ++ line ∷ []
+
+-- the event of the line is refused, and not for want of memory
+pub record IsRefusal (error : RunError) (line : ℕ) (event : Event) (came : Came) : Type 0 where
+  pub refused : is_memory error ≡ false
+  pub came_is : came ≡ cames.Refused line event

@@ -5,6 +5,7 @@ ghost use Rattle.model_steps.specs.Engine.{Did, EngineMade, runs};
 ghost use Rattle.model_run.specs.Kinds as kinds;
 ghost use Rattle.model_run.specs.Life.{Noted, Running, clock_of};
 ghost use Rattle.model_run.specs.Setting.{Setting};
+ghost use Rattle.simplex_engine.specs.Holding as holding;
 ghost use Rattle.simplex_network.specs.NodeEngine.{EngineStands};
 ghost use Rattle.simplex_network.specs.Stands.{StandsFor};
 ghost use Rattle.simplex_generator.specs.Drawing as drawing;
@@ -16,7 +17,7 @@ use simplex_generator::{Held, Requests, SOURCES};
 use simplex_messages::Stop;
 use simplex_network::{Network, NodeEngine};
 use simplex_script::{OpenRequest, Parcel, delivery, judged, wants_verdict};
-use simplex_transcript::{Event, Node, Setup};
+use simplex_transcript::{Event, Node, Setup, StepSource};
 use std::alloc::{AllocError, Global};
 
 fn is_one_of(node: &Node, nodes: &[Node]) -> bool
@@ -37,13 +38,19 @@ fn is_among(node: Node, nodes: &[Node]) -> bool
 
 // ---- a step
 
+fn holds(engine: &NodeEngine, source: StepSource, now: u64) -> bool
+    ensures { (made : EngineMade) (past : List Did) → EngineStands engine.now made past → runs past ≡ true → result ≡ holding.holds made past source now }
+{
+    engine.holds(source, now)
+}
+
 // The first source of an engine that holds something.
 fn first_held(engine: &NodeEngine, node: Node, now: u64) -> Option<Held>
     ensures { (made : EngineMade) (past : List Did) → EngineStands engine.now made past → runs past ≡ true → result ≡ slice_get (held_at (Running made past) now node) 0 }
 {
     let mut rest = SOURCES.as_slice();
     while let [source, after @ ..] = rest {
-        if engine.holds(*source, now) {
+        if holds(engine, *source, now) {
             return Some(Held {
                 node,
                 source: *source,

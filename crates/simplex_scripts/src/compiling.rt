@@ -1,6 +1,8 @@
 //! The events of a script.
 ghost use Rattle.std.specs.Prelude.{◌≡◌, [], IfOk};
 ghost use Rattle.model_run.specs.Setting.{Setting, at_epoch_genesis};
+ghost use Rattle.simplex_network.specs.Answer.{IsRefused, setup_refusal};
+ghost use Rattle.simplex_script.specs.declared.script.Script as scripts;
 ghost use Rattle.simplex_scripts.specs.Playing as playing;
 ghost use Rattle.simplex_scripts.specs.Stands.{Comes, Plays};
 
@@ -63,15 +65,24 @@ fn played(mut play: Play, commands: &[Placed]) -> Result<Result<Compiled, BadLin
     compiled_of(play, came)
 }
 
+// Of a setup that is refused there are no events.
+#[tactic(auto, using(crate::proofs::Whole::comes_refused))]
+fn unmade(alloc: Global, error: RunError) -> Result<Result<Compiled, BadLine>, AllocError>
+    ensures { IfOk result (λ it. (script : scripts.Script) → IsRefused (setup_refusal script.setup) error → it ≡ playing.compiled script) }
+{
+    match error {
+        RunError::Memory => Err(AllocError),
+        _ => Ok(Ok(nothing(alloc))),
+    }
+}
+
 /// The events that a script stands for, or its first line that names what is not there. The last event may be one that the network
 /// refuses; of a setup that is refused there is none.
-#[tactic(auto, using(crate::proofs::Whole::comes_whole, crate::proofs::Whole::comes_refused))]
 pub fn compile(alloc: Global, script: &Script) -> Result<Result<Compiled, BadLine>, AllocError>
     ensures { IfOk result (λ it. it ≡ playing.compiled script.now) }
 {
     match Play::new(alloc, &script.setup) {
         Ok(play) => played(play, script.commands.as_slice()),
-        Err(RunError::Memory) => Err(AllocError),
-        Err(_) => Ok(Ok(nothing(alloc))),
+        Err(error) => unmade(alloc, error),
     }
 }

@@ -9,7 +9,7 @@ ghost use Rattle.simplex_script.specs.declared.fault.Fault.TheVariants as faults
 ghost use Rattle.simplex_scripts.specs.declared.came.Came.TheVariants as cames;
 ghost use Rattle.simplex_scripts.specs.Coming as coming;
 ghost use Rattle.simplex_scripts.specs.Playing as playing;
-ghost use Rattle.simplex_scripts.specs.Stands.{Answers, Leads, Plays, TakesIn};
+ghost use Rattle.simplex_scripts.specs.Stands.{Answers, IsRefusal, Leads, Plays, TakesIn};
 
 use crate::came::Came;
 use crate::coming::{next_delivery, next_step, next_verdict, open_in};
@@ -102,8 +102,7 @@ impl Play {
                 self.take(line, event, &entry)?;
                 Ok(Came::On)
             }
-            Err(RunError::Memory) => Err(AllocError),
-            Err(_) => Ok(Came::Refused { line, event }),
+            Err(error) => refused(error, line, event),
         }
     }
 
@@ -234,6 +233,16 @@ fn clock_behind(event: &Event, clock: u64) -> Result<u64, AllocError>
     match event {
         Event::Tick { ms } => clock.checked_add(*ms).ok_or(AllocError),
         _ => Ok(clock),
+    }
+}
+
+// An event is refused, but for want of memory.
+fn refused(error: RunError, line: u64, event: Event) -> Result<Came, AllocError>
+    ensures { IfOk result (IsRefusal error line event) }
+{
+    match error {
+        RunError::Memory => Err(AllocError),
+        _ => Ok(Came::Refused { line, event }),
     }
 }
 
