@@ -185,31 +185,31 @@ settled_one setting line among (suc most) scene event some is =
     let less : suc most - 1 ≡ most = omega arith in
     rw less (sym (ap (λ (it : Option Event). or_next scene it (λ other. and_then (made setting line other scene) (settled setting line among most))) is))
 
-pub settling_more : (first old new : Play) (line : ℕ) (among : List Node) (most all : ℕ) (event : Event) → 0 < most → NextIs old among (Some event)
+pub settles_more : (first old new : Play) (line : ℕ) (among : List Node) (most all : ℕ) (event : Event) → 0 < most → NextIs old among (Some event)
     → Left first old (of_settling line among most) (of_settling line among all) → Leads old new (λ setting. made setting line event) cames.On
     → Left first new (of_settling line among (most - 1)) (of_settling line among all)
-settling_more first old new line among most all event some comes lefts leads =
+settles_more first old new line among most all event some comes lefts leads =
     left_more first old new (of_settling line among most) (λ setting. made setting line event) (of_settling line among (most - 1))
     (of_settling line among all)
     (λ setting scene plays. settled_one setting line among most scene event some (comes setting scene plays)) lefts leads
 
-pub settling_stop : (first old new : Play) (line : ℕ) (among : List Node) (most all : ℕ) (event : Event) (came : Came) → 0 < most
+pub settles_stop : (first old new : Play) (line : ℕ) (among : List Node) (most all : ℕ) (event : Event) (came : Came) → 0 < most
     → NextIs old among (Some event) → Left first old (of_settling line among most) (of_settling line among all)
     → Leads old new (λ setting. made setting line event) came → (came ≡ cames.On → ⊥) → Leads first new (of_settling line among all) came
-settling_stop first old new line among most all event came some comes lefts leads not_on =
+settles_stop first old new line among most all event came some comes lefts leads not_on =
     left_stop first old new (of_settling line among most) (λ setting. made setting line event) (of_settling line among (most - 1))
     (of_settling line among all) came
     (λ setting scene plays. settled_one setting line among most scene event some (comes setting scene plays)) lefts leads not_on
 
-pub settling_over : (first play : Play) (line : ℕ) (among : List Node) (most all : ℕ) → NextIs play among None
+pub settles_over : (first play : Play) (line : ℕ) (among : List Node) (most all : ℕ) → NextIs play among None
     → Left first play (of_settling line among most) (of_settling line among all) → Leads first play (of_settling line among all) cames.On
-settling_over first play line among most all comes lefts =
+settles_over first play line among most all comes lefts =
     left_over first play (of_settling line among most) (of_settling line among all) cames.On
     (λ setting scene plays. settled_none setting line among most scene (comes setting scene plays)) lefts
 
-pub settling_out : (first play : Play) (line : ℕ) (among : List Node) (most all : ℕ) (event : Event) → most ≡ 0 → NextIs play among (Some event)
+pub settles_out : (first play : Play) (line : ℕ) (among : List Node) (most all : ℕ) (event : Event) → most ≡ 0 → NextIs play among (Some event)
     → Left first play (of_settling line among most) (of_settling line among all)
     → Leads first play (of_settling line among all) (cames.Bad (record { line = line; fault = faults.Restless MOST_EVENTS }))
-settling_out first play line among most all event over comes lefts =
+settles_out first play line among most all event over comes lefts =
     left_over first play (of_settling line among most) (of_settling line among all) (cames.Bad (record { line = line; fault = faults.Restless MOST_EVENTS }))
     (λ setting scene plays. settled_out setting line among most scene event over (comes setting scene plays)) lefts

@@ -189,7 +189,7 @@ impl Play {
     }
 
     // Makes what comes up between the nodes, until nothing is left.
-    #[tactic(auto, using(crate::proofs::Going::left_first, crate::proofs::Going::settling_more, crate::proofs::Going::settling_stop, crate::proofs::Going::settling_over, crate::proofs::Going::settling_out))]
+    #[tactic(auto, using(crate::proofs::Going::left_first, crate::proofs::Going::settles_more, crate::proofs::Going::settles_stop, crate::proofs::Going::settles_over, crate::proofs::Going::settles_out))]
     fn settle(&mut self, line: u64, nodes: &[Node]) -> Result<Came, AllocError>
         ensures { IfOk result (Leads self.old self.new (λ setting. playing.settled setting line nodes.now MOST_EVENTS)) }
     {
