@@ -1,5 +1,5 @@
 -- What the words ask for.
-use Rattle.std.specs.Prelude.{ℕ, ◌+◌, ◌-◌, ◌*◌, ◌==◌, ◌^◌, ◌&&◌, length, nat_le, nat_lt, true, false, List, [], ◌∷◌, ◌++◌, flat_map, map}
+use Rattle.std.specs.Prelude.{ℕ, ◌==◌, ◌&&◌, length, nat_le, Bool, true, false, List, [], ◌∷◌, ◌++◌, flat_map, map}
 use Rattle.std.specs.Prelude.{Option, None, Some, option_and_then, option_map, String, codes, string_bytes, if◌then◌else◌}
 use Rattle.std.specs.Str.{bytes_eq}
 use Rattle.std.specs.declared.alloc.Global.{Global}
@@ -90,6 +90,11 @@ draw_of words = option_map (λ wish. asks.Draw wish) (wish_of words)
 abbrev pub script_of : List (List ℕ) → Option Word
 script_of [] = Some (asks.Script false)
 script_of (word ∷ after) = if bytes_eq word (codes "--events") && length after == 0 then Some (asks.Script true) else None
+
+-- whether the first word is that for a script
+abbrev pub begins_script : List (List ℕ) → Bool
+begins_script [] = false
+begins_script (word ∷ words) = bytes_eq word (codes "script")
 
 -- what the first word asks for, with the others
 abbrev pub asked_with : List ℕ → List (List ℕ) → Option Word

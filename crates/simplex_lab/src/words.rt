@@ -257,8 +257,10 @@ pub(crate) fn word_of(alloc: Global, words: &[String]) -> Result<Option<Word>, A
     }
 }
 
-/// Whether the words ask for a script.
-pub fn begins_script(words: &[String]) -> bool {
+/// Whether the first word is that for a script.
+pub fn begins_script(words: &[String]) -> bool
+    ensures { result ≡ said.begins_script (map string_bytes words.now) }
+{
     match words {
         [] => false,
         [word, ..] => word.as_str() == "script",
