@@ -270,7 +270,11 @@ impl<'a> Reader<'a> {
     fn attestations(&mut self, alloc: Global, count: u32) -> Result<Vec<Attestation>, DecodeError>
         ensures { GivesItemsUnlessMemory self.new result (attestations_from count 0 self.old) }
     {
-        let mut attestations = Vec::new(alloc);
+        // Each takes 33 bytes or more, so that a count takes no room that the bytes left do not fill.
+        let room = (count as usize).min(self.bytes.len() / 33);
+        let Ok(mut attestations) = Vec::with_capacity(alloc, room) else {
+            return Err(DecodeError::Memory);
+        };
         let mut least = 0;
         for _ in 0..count {
             let attestation = self.attestation_from(least)?;
