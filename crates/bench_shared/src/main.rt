@@ -11,7 +11,7 @@ use std::alloc::Global;
 use std::sync::Wait;
 use std::thread::Threads;
 use std::{env, thread};
-use test_values::Letter;
+use test_support::Letter;
 
 /// How many letters are ready.
 const CAPACITY: u32 = 16;

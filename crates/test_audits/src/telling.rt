@@ -2,7 +2,7 @@
 use simplex_audits::audit_program;
 use std::alloc::Global;
 use std::process::Abort;
-use test_telling::desk_of;
+use test_support::desk_of;
 
 /// The word that asks for the record of a run.
 pub(crate) const RECORD: &[&str] = &["record"];

@@ -4,7 +4,7 @@ use crate::input::{ALONE, Given, THREE, bytes_of, input};
 use simplex_epochs::epochs_program;
 use std::alloc::Global;
 use std::process::Abort;
-use test_telling::desk_of;
+use test_support::desk_of;
 
 // The digests at which the first two of three epochs are closed, and the chain of the member that is honest in all.
 const THREE_LINES: &str =

@@ -2,7 +2,7 @@
 use simplex_logs::log_program;
 use std::alloc::Global;
 use std::process::Abort;
-use test_telling::desk_of;
+use test_support::desk_of;
 
 /// The words that ask for logs.
 pub(crate) const LOGS: &[&str] = &["logs"];

@@ -5,7 +5,7 @@ use std::alloc::Global;
 use std::fmt::Debug;
 use std::process::Abort;
 use std::thread::Threads;
-use test_telling::words_of;
+use test_support::words_of;
 
 const USAGE: &str = "usage: run | par WORKERS | gen NUMBER STEPS\n";
 

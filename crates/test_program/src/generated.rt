@@ -7,7 +7,7 @@ use simplex_writer::write_input;
 use std::alloc::{AllocError, Global};
 use std::process::Abort;
 use std::thread::Threads;
-use test_telling::desk_of;
+use test_support::desk_of;
 
 const NUMBER: u64 = 7;
 

@@ -6,14 +6,13 @@
 //! It owes nothing but that it is safe and ends.
 #![tactic(auto)]
 
-mod sections;
 mod told;
 
-use crate::sections::sections;
 use crate::told::told;
 use simplex_io::{ReaderSource, read_bytes};
 use std::io;
 use std::io::{ErrorKind, Print};
+use test_support::scripts;
 
 fn main(rt: HostRuntime) -> io::Result<()> {
     let alloc = rt.alloc();
@@ -22,9 +21,9 @@ fn main(rt: HostRuntime) -> io::Result<()> {
         return Err(io::Error::from(ErrorKind::Other));
     };
     let text = String::from_utf8(bytes).map_err(|_| io::Error::from(ErrorKind::InvalidData))?;
-    for section in sections(alloc, text.as_str())? {
-        println!(rt; "{}", section.head.as_str())?;
-        println!(rt; "{}", told(alloc, section.text.as_str())?.as_str())?;
+    for script in scripts(alloc, text.as_str())? {
+        println!(rt; "{}", script.head.as_str())?;
+        println!(rt; "{}", told(alloc, &script)?.as_str())?;
     }
     Ok(())
 }

@@ -2,9 +2,9 @@
 use simplex_front::Exit;
 use simplex_io::{MemorySink, MemorySource};
 use simplex_lab::{lab_program, script_fault};
-use simplex_script::is_told;
 use std::alloc::{AllocError, Global};
 use std::str::from_utf8;
+use test_support::Script;
 
 /// What stands before each line on what came out.
 const BAR: &str = "  | ";
@@ -14,13 +14,11 @@ fn push_line(text: &mut String, line: &str) -> Result<(), AllocError> {
     text.push_str("\n")
 }
 
-/// A script without what it tells of an earlier run, and without empty lines at its end.
-fn bare(alloc: Global, script: &str) -> Result<String, AllocError> {
+/// The script's own lines, as one text.
+fn bare(alloc: Global, script: &Script) -> Result<String, AllocError> {
     let mut text = String::new(alloc);
-    for line in script.trim_end().lines() {
-        if !is_told(line) {
-            push_line(&mut text, line)?;
-        }
+    for line in &script.lines {
+        push_line(&mut text, line.as_str())?;
     }
     Ok(text)
 }
@@ -35,7 +33,7 @@ fn push_barred(text: &mut String, lines: &str) -> Result<(), AllocError> {
 }
 
 /// The script with what came out: of each event below its line; or at its end, why it is refused.
-pub(crate) fn told(alloc: Global, script: &str) -> Result<String, AllocError> {
+pub(crate) fn told(alloc: Global, script: &Script) -> Result<String, AllocError> {
     let mut text = bare(alloc, script)?;
     let words = vec![in alloc; String::from_str(alloc, "script")?]?;
     let bytes = Vec::from_slice(alloc, text.as_bytes())?;

@@ -5,7 +5,7 @@ use simplex_mailbox::Mailbox;
 use simplex_shared::{Log, Op};
 use std::alloc::Global;
 use std::process::Abort;
-use test_values::Letter;
+use test_support::Letter;
 
 /// The test ends here where the mailbox of one thread answers a call otherwise.
 pub fn replay(rt: &impl Abort, alloc: Global, log: &Log<Letter>, capacity: u32)

@@ -6,7 +6,7 @@ use simplex_mailbox::Policy;
 use simplex_shared::{Log, Pass, RecordedMailbox};
 use simplex_values::Keep;
 use std::test::Fail;
-use test_values::Letter;
+use test_support::Letter;
 
 /// What threads may share.
 fn lend<T: Sync>(_shared: &T) {}

@@ -11,7 +11,7 @@ use std::sync::Wait;
 use std::test::Fail;
 use std::thread;
 use std::thread::Threads;
-use test_values::Letter;
+use test_support::Letter;
 
 /// So many calls each pass makes.
 const CALLS: u64 = 10_000;

@@ -5,7 +5,7 @@ use crate::tests::{Member, start};
 use simplex_values::{TimeoutReason, View};
 use std::alloc::Global;
 use std::test::Fail;
-use test_values::unsigned::nullification;
+use test_support::unsigned::nullification;
 
 /// A view is given up again, and its nullify goes out again later.
 #[test]

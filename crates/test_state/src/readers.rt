@@ -2,7 +2,7 @@
 use crate::tests::{Member, certify, start};
 use simplex_values::{Digest, Parent, Participant, Proposal, View};
 use std::test::Fail;
-use test_values::unsigned::{block, finalization, notarization};
+use test_support::unsigned::{block, finalization, notarization};
 
 /// View 15 is final, and ten views below it are kept.
 #[test]

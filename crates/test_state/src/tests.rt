@@ -11,7 +11,7 @@ use simplex_values::{
 use simplex_wire::{Artifact, CertificateKind};
 use std::alloc::{AllocError, Global};
 use std::test::Fail;
-use test_values::unsigned::{block, finalization, notarization, nullification, round};
+use test_support::unsigned::{block, finalization, notarization, nullification, round};
 
 pub(crate) type Member = State<Keyed, RoundRobinElector>;
 

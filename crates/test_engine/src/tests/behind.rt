@@ -7,7 +7,7 @@ use simplex_types::{Channel, Participant, View};
 use std::alloc::Global;
 use std::process::Abort;
 use std::test::Fail;
-use test_values::papers::{Paper, bytes_of};
+use test_support::papers::{Paper, bytes_of};
 
 /// How many terms were given up while the member heard nothing.
 const MISSED: u64 = 12;

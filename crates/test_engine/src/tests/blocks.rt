@@ -12,7 +12,7 @@ use simplex_types::{
 use std::alloc::Global;
 use std::process::Abort;
 use std::test::Fail;
-use test_values::papers::{Paper, bytes_of, message, noise, round};
+use test_support::papers::{Paper, bytes_of, message, noise, round};
 
 const CHANNELS: [Channel; 3] = [Channel::Vote, Channel::Certificate, Channel::Resolver];
 

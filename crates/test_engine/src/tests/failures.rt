@@ -8,7 +8,7 @@ use std::alloc::{AllocError, Global};
 use std::process::Abort;
 use std::test::Fail;
 use test_member::engine;
-use test_values::Untold;
+use test_support::Untold;
 
 type Alone = Engine<Keyed, RoundRobinElector, Untold>;
 

@@ -6,7 +6,7 @@ use simplex_types::{BlockCause, Bytes, Channel, Participant, ResolverBody, Resol
 use std::alloc::Global;
 use std::process::Abort;
 use std::test::Fail;
-use test_values::papers::{Paper, bytes_of, message, noise};
+use test_support::papers::{Paper, bytes_of, message, noise};
 
 /// What the peer that was asked answers.
 #[derive(Clone, Copy)]

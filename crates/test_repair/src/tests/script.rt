@@ -6,7 +6,7 @@ use simplex_wire::Certificate;
 use std::alloc::{AllocError, Global};
 use std::process::Abort;
 use std::test::Fail;
-use test_values::unsigned::{finalization, notarization, nullification};
+use test_support::unsigned::{finalization, notarization, nullification};
 
 /// A call of a repair state, or a question to it. Views stand in it as they are.
 #[derive(Clone, Copy)]

@@ -1,7 +1,7 @@
 //! Terms, the nullifications that they lack, and who is asked for them.
 use super::script::{FIVES, FOUR, Member, Move, Step, run, takes};
 use std::test::Fail;
-use test_values::papers::Paper;
+use test_support::papers::Paper;
 
 const THREES: Member = Member {
     members: 4,

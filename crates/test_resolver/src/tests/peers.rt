@@ -2,7 +2,7 @@
 use super::script::{FOUR, Member, Move, Step, run};
 use simplex_types::Kind;
 use std::test::Fail;
-use test_values::papers::Paper;
+use test_support::papers::Paper;
 
 /// Nothing is asked for where the proposal is not later, or the certificate is known. The target alone is asked, and
 /// again once it was silent, until the same is missing with no target.

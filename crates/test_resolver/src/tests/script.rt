@@ -10,7 +10,7 @@ use simplex_types::{Bytes, Epoch, Keyed, Kind, Participant, ResolverBody, TermLe
 use std::alloc::Global;
 use std::process::Abort;
 use std::test::Fail;
-use test_values::papers::{Paper, bytes_of, certificate, message, noise, notarization};
+use test_support::papers::{Paper, bytes_of, certificate, message, noise, notarization};
 
 /// Member 0 of so many, with terms of so many views, whose handler's mailbox holds so many messages.
 #[derive(Clone, Copy)]

@@ -1,7 +1,7 @@
 //! What peers are answered.
 use super::script::{FIVES, Member, Move, Step, run};
 use std::test::Fail;
-use test_values::papers::Paper;
+use test_support::papers::Paper;
 
 /// View 4 is final, views 7 to 10 are nullified, and view 12 is certified.
 const HELD: [Step; 4] = [

@@ -2,7 +2,7 @@
 use super::script::{FOUR, Move, Step, run};
 use simplex_types::Kind;
 use std::test::Fail;
-use test_values::papers::Paper;
+use test_support::papers::Paper;
 
 /// Views 1 and 2 lack a nullification.
 const LACKING: [Step; 2] = [

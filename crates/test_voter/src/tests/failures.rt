@@ -6,7 +6,7 @@ use simplex_messages::Stop;
 use std::alloc::Global;
 use std::process::Abort;
 use std::test::Fail;
-use test_values::Untold;
+use test_support::Untold;
 
 /// Which call of the journal fails, how many moves come before the step that makes it, what that step did, and how
 /// many records are left.
