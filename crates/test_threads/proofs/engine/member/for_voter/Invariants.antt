@@ -1,6 +1,6 @@
 use Rattle.std.specs.Prelude.{All}
 use Rattle.simplex_turns.specs.Threads.{IsInTime}
-use Rattle.test_threads.proofs.tests.member.for_voter.Given as goal
+use Rattle.test_threads.proofs.engine.member.for_voter.Given as goal
 
 -- what was taken so far is in time
 abbrev pub invariant-loop-item : goal.invariant-loop-item

@@ -1,5 +1,4 @@
-//! The engine of a member, as the tests of several crates need it: terms of one view, keyed signatures, leaders in turn.
-#![tactic(auto)]
+//! The engine of a member: terms of one view, keyed signatures, leaders in turn.
 
 ghost use Rattle.std.specs.Prelude.{◌≡◌, ◌<◌, false, IfOk};
 ghost use Rattle.simplex_engine.specs.Stands.{has_failed};
@@ -15,7 +14,7 @@ use std::alloc::Global;
 use std::test::Fail;
 
 /// The engine of member 0 of so many over the journal, not started yet.
-pub fn engine<J: Journal + Drop>(
+pub(crate) fn engine<J: Journal + Drop>(
     alloc: Global,
     members: u32,
     journal: J,

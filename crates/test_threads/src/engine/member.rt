@@ -2,6 +2,7 @@
 ghost use Rattle.std.specs.Prelude.{◌<◌, All, IfOk, IfSome};
 ghost use Rattle.simplex_turns.specs.Threads.{IsInTime};
 
+use crate::alone::engine;
 use simplex_engine::{Engine, Input};
 use simplex_journal::{Journal, MemoryJournal};
 use simplex_messages::{Call, Outcome, StepOut, Stop};
@@ -11,7 +12,6 @@ use simplex_types::{
 };
 use std::alloc::Global;
 use std::test::Fail;
-use test_member::engine;
 
 pub(super) type Member = Engine<Keyed, RoundRobinElector, MemoryJournal>;
 

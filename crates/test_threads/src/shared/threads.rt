@@ -1,9 +1,9 @@
 //! Threads that call at once, and their one history.
 ghost use Rattle.std.specs.Prelude.{◌≡◌, ◌<◌};
 
-use crate::calls::pair;
-use crate::gate::Gate;
-use crate::replay::{assert_calls, replay};
+use crate::shared::calls::pair;
+use crate::shared::gate::Gate;
+use crate::shared::replay::{assert_calls, replay};
 use simplex_shared::{Log, Op, Pass, RecordedMailbox};
 use std::alloc::Global;
 use std::process::Abort;

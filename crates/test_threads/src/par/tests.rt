@@ -1,8 +1,8 @@
 //! Two workers meet, and any number of workers gives what one gives.
 ghost use Rattle.std.specs.Prelude.{◌<◌};
 
-use crate::gates::{Counts, Holds};
-use crate::lists::{Act, List};
+use crate::par::gates::{Counts, Holds};
+use crate::par::lists::{Act, List};
 use simplex_form::Input;
 use simplex_network::run_network;
 use simplex_par::{OpenGate, run_network_par};

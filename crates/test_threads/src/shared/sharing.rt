@@ -1,7 +1,7 @@
 //! That threads may share a mailbox, whatever its messages, if these may go to another thread.
 ghost use Rattle.std.specs.Prelude.{◌≡◌};
 
-use crate::calls::{pair, same};
+use crate::shared::calls::{pair, same};
 use simplex_mailbox::Policy;
 use simplex_shared::{Log, Pass, RecordedMailbox};
 use simplex_values::Keep;

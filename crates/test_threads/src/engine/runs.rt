@@ -1,12 +1,12 @@
 //! Runs on threads.
 use super::gates::{InStep, Meets};
 use super::member::{answers, finalizes, started};
+use crate::alone::engine;
 use simplex_engine::PollError;
 use simplex_journal::{Journal, MemoryJournal};
 use simplex_threads::{OpenGate, start_threads};
 use simplex_types::View;
 use std::test::Fail;
-use test_member::engine;
 
 #[test]
 fn threads_meet(rt: HostRuntime) -> Result<(), Fail> {

@@ -1,5 +1,5 @@
 use Rattle.std.proofs.Common.{◌≡◌}
-use Rattle.test_shared.proofs.threads.call_all.Given as goal
+use Rattle.test_threads.proofs.shared.threads.call_all.Given as goal
 
 abbrev pub invariant-loop-number : goal.invariant-loop-number
 invariant-loop-number g l = l.pass.mailbox ≡ l.mailbox
