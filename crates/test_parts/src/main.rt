@@ -6,6 +6,8 @@
 //! It owes nothing but that it is safe and ends.
 #![tactic(auto)]
 
+mod engine;
+mod limits;
 mod told;
 
 use crate::told::told;

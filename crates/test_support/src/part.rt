@@ -17,10 +17,13 @@ pub fn words_in(alloc: Global, line: &str) -> Result<Vec<&str>, AllocError> {
     Ok(words)
 }
 
-/// Gives the part the lines of a script behind its first, which told how the part is made.
+/// Gives the part the lines of a script behind its first, which told how the part is made. A line that begins with `#` is a comment.
 pub fn play<P: Part>(part: &mut P, script: &Script, told: &mut Told) -> Result<(), AllocError> {
     for line in script.lines.iter().skip(1) {
         told.line(line.as_str())?;
+        if line.starts_with("#") {
+            continue;
+        }
         let words = words_in(told.alloc(), line.as_str())?;
         part.take(words.as_slice(), told)?;
     }

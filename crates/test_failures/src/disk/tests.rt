@@ -1,6 +1,6 @@
 //! The bytes of a file, each disk call failing in turn, each image that a crash may leave, and orders.
-use crate::images::{Found, images_at};
-use crate::runs::{forty, may_be, new_journal, opened, record};
+use crate::disk::images::{Found, images_at};
+use crate::disk::runs::{forty, may_be, new_journal, opened, record};
 use simplex_disk::{Disk, DiskError, DiskJournal, InitError, MemoryDisk};
 use simplex_journal::{Journal, JournalError, MemoryJournal};
 use simplex_wire::Artifact;

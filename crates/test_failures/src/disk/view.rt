@@ -1,6 +1,6 @@
 //! The journal calls of a view that a member finalizes alone, stopped before each call of the disk, and each image that a crash may
 //! leave of the file then.
-use crate::runs::{new_journal, opened};
+use crate::disk::runs::{new_journal, opened};
 use simplex_disk::{Disk, DiskError, DiskJournal, MemoryDisk};
 use simplex_journal::{Journal, JournalError};
 use simplex_values::{Digest, Epoch, Participant, Proposal, Round, View};

@@ -5,8 +5,8 @@ use Rattle.simplex_disk.specs.Index.{LeavesJournal}
 use Rattle.simplex_disk.specs.Memory.{Held, file_in, IsLeftBy}
 use Rattle.simplex_disk.specs.Moments.{Always, Then}
 use Rattle.simplex_disk.specs.Opening.{AreRead}
-use Rattle.test_disk.proofs.Two.{no_sections, first_synced, second_appended, none_more}
-use Rattle.test_disk.proofs.samples.two_records.Goals as goal
+use Rattle.test_failures.proofs.Two.{no_sections, first_synced, second_appended, none_more}
+use Rattle.test_failures.proofs.disk.samples.two_records.Goals as goal
 
 -- the sections of a journal on a disk in memory
 abbrev kept : OnDisk Held → List Section

@@ -1,5 +1,5 @@
 //! Runs of whole networks that stop at each call of a member: what stands then is looked over by a slow checker.
-#![tactic(auto)]
-
-#[cfg(test)]
-mod tests;
+mod alone;
+mod checker;
+mod four;
+mod world;

@@ -1,6 +1,4 @@
-//! Tests of the journal in segment files.
-#![tactic(auto)]
-
+//! The journal in segment files.
 #[cfg(test)]
 mod images;
 #[cfg(test)]

@@ -1,5 +1,5 @@
 //! What a crash may leave of a disk.
-use crate::runs::{forty, may_be, new_journal, opened};
+use crate::disk::runs::{forty, may_be, new_journal, opened};
 use simplex_disk::{Disk, DiskError, MemoryDisk};
 use simplex_journal::{Journal, JournalError};
 use std::alloc::Global;
