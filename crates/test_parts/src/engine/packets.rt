@@ -24,6 +24,8 @@ pub(super) enum Load {
     Request(u64, View),
     /// An answer to the last request of the engine, with a certificate.
     Answer(Paper),
+    /// One to the request of this number.
+    AnswerTo(u64, Paper),
     /// An answer to it that says nothing.
     NoAnswer,
 }
@@ -77,6 +79,7 @@ impl Load {
                 Some(Load::Vote(member(who)?, subject))
             }
             ["request", id, "for", wanted] => Some(Load::Request(number(id)?, view(wanted)?)),
+            ["answer", "to", id, words @ ..] => Some(Load::AnswerTo(number(id)?, paper(words)?)),
             ["answer", "noise"] => Some(Load::NoAnswer),
             ["answer", words @ ..] => Some(Load::Answer(paper(words)?)),
             words => Some(Load::Paper(paper(words)?)),
@@ -125,6 +128,7 @@ pub(super) fn bytes_of(
         }
         Load::Request(id, view) => { message(alloc, id, ResolverBody::Request { view }) }
         Load::Answer(paper) => answer(alloc, asked, papers::bytes_of(alloc, paper)?),
+        Load::AnswerTo(id, paper) => answer(alloc, id, papers::bytes_of(alloc, paper)?),
         Load::NoAnswer => answer(alloc, asked, noise(alloc)?),
     }
 }
