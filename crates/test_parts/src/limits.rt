@@ -72,18 +72,20 @@ impl Items {
 
     /// What the words of a line tell.
     fn read(words: &[&str]) -> Option<Items> {
-        let (mut items, mut rest) = match words {
-            ["least", rest @ ..] => (LEAST, rest),
-            ["most", rest @ ..] => (MOST, rest),
+        let (mut items, others) = match words {
+            ["least", others @ ..] => (LEAST, others),
+            ["most", others @ ..] => (MOST, others),
             _ => return None,
         };
-        while let [name, value, behind @ ..] = rest {
+        for item in others.chunks(2) {
+            let [name, value] = item else {
+                return None;
+            };
             if !items.set(name, number(value)?) {
                 return None;
             }
-            rest = behind;
         }
-        if rest.is_empty() { Some(items) } else { None }
+        Some(items)
     }
 }
 

@@ -1,8 +1,8 @@
 //! What a packet holds. Votes are of view 1 in epoch 0, where nothing else is said; certificates are signed by members 0, 1 and 2 of
 //! four, stand on genesis, and are for payload 09.
 use simplex_types::{
-    Attestation, Bytes, Digest, Epoch, Participant, Proposal, ResolverBody, Round, Sequence,
-    Subject, View, Vote,
+    Attestation, Bytes, Digest, Epoch, Notarize, Participant, Proposal, ResolverBody, Round,
+    Sequence, Subject, View, Vote,
 };
 use std::alloc::{AllocError, Global};
 use test_support::papers::{self, Paper, message, noise};
@@ -90,14 +90,18 @@ impl Load {
 /// The vote, with no signature of its signer.
 fn unsigned(vote: Vote) -> Vote {
     match vote {
-        Vote::Notarize(mut notarize) => {
-            let Attestation { signer, .. } = notarize.attestation;
-            notarize.attestation = Attestation {
-                signer,
+        Vote::Notarize(
+            Notarize {
+                proposal,
+                attestation,
+            },
+        ) => Vote::Notarize(Notarize {
+            proposal,
+            attestation: Attestation {
+                signer: attestation.signer,
                 signature: [0; 32],
-            };
-            Vote::Notarize(notarize)
-        }
+            },
+        }),
         other => other,
     }
 }

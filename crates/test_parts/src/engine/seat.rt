@@ -226,28 +226,6 @@ impl<J: Journal + Drop> Seat<J> {
         told.says("there is always something")
     }
 
-    fn hear(
-        &mut self,
-        sender: Participant,
-        channel: Channel,
-        load: Load,
-        told: &mut Told,
-    ) -> Result<(), AllocError> {
-        let bytes = bytes_of(self.alloc, self.setup.members, self.asked, load)?;
-        let input = Input::Deliver {
-            sender,
-            channel,
-            bytes,
-        };
-        self.poll("", input, false, told)?;
-        Ok(())
-    }
-
-    fn answer(&mut self, request: u64, answer: Answer, told: &mut Told) -> Result<(), AllocError> {
-        self.poll("", Input::Answer { request, answer }, false, told)?;
-        Ok(())
-    }
-
     /// Tells whom it blocked.
     fn blocked(&self, told: &mut Told) -> Result<(), AllocError> {
         let mut items = Items::new(self.alloc);
@@ -314,16 +292,26 @@ fn deed_of(words: &[&str]) -> Option<Deed> {
 }
 
 impl<J: Journal + Drop> Seat<J> {
-    fn does(&mut self, words: &[&str], told: &mut Told) -> Result<(), AllocError> {
-        match deed_of(words) {
-            Some(Deed::Hear(sender, channel, load)) => self.hear(sender, channel, load, told),
-            Some(Deed::Step(source)) => {
-                self.poll("", Input::Step(source), false, told)?;
-                Ok(())
-            }
-            Some(Deed::Answer(request, answer)) => self.answer(request, answer, told),
-            None => told.says("not a command"),
+    /// What the engine is given.
+    fn input(&self, deed: Deed) -> Result<Input, AllocError> {
+        match deed {
+            Deed::Hear(sender, channel, load) => Ok(Input::Deliver {
+                sender,
+                channel,
+                bytes: bytes_of(self.alloc, self.setup.members, self.asked, load)?,
+            }),
+            Deed::Step(source) => Ok(Input::Step(source)),
+            Deed::Answer(request, answer) => Ok(Input::Answer { request, answer }),
         }
+    }
+
+    fn does(&mut self, words: &[&str], told: &mut Told) -> Result<(), AllocError> {
+        let Some(deed) = deed_of(words) else {
+            return told.says("not a command");
+        };
+        let input = self.input(deed)?;
+        self.poll("", input, false, told)?;
+        Ok(())
     }
 
     fn is_running(&self) -> bool {

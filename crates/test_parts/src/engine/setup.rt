@@ -68,12 +68,13 @@ impl Setup {
             skip: SkipPolicy::Disabled,
             failing: None,
         };
-        let mut items = items;
-        while let [name, value, rest @ ..] = items {
+        for item in items.chunks(2) {
+            let [name, value] = item else {
+                return None;
+            };
             setup = setup.with(name, number(value)?)?;
-            items = rest;
         }
-        if items.is_empty() { Some(setup) } else { None }
+        Some(setup)
     }
 
     /// An engine that was not started, if there is one with this setup.
