@@ -6,6 +6,9 @@
 //! It owes nothing but that it is safe and ends.
 #![tactic(auto)]
 
+mod fetcher;
+mod repair;
+mod resolver;
 mod told;
 
 use crate::told::told;

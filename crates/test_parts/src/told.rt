@@ -1,4 +1,5 @@
 //! A script of a part with what came out.
+use crate::{fetcher, repair, resolver};
 use std::alloc::{AllocError, Global};
 use test_support::{Script, Told, words_in};
 
@@ -10,8 +11,10 @@ pub(crate) fn told(alloc: Global, script: &Script) -> Result<Told, AllocError> {
     };
     told.line(first.as_str())?;
     let words = words_in(alloc, first.as_str())?;
-    match words.first() {
-        // A part is made here by the words of its name, and given the script by `play`.
+    match words.as_slice() {
+        ["fetcher", how @ ..] => fetcher::run(how, script, &mut told)?,
+        ["repair", how @ ..] => repair::run(how, script, &mut told)?,
+        ["resolver", how @ ..] => resolver::run(how, script, &mut told)?,
         _ => told.says("there is no such part")?,
     }
     Ok(told)

@@ -3,6 +3,7 @@
 
 mod desk;
 mod letter;
+mod numbers;
 pub mod papers;
 mod part;
 mod script;
@@ -11,6 +12,7 @@ mod untold;
 
 pub use desk::{Desk, desk_of, words_of};
 pub use letter::Letter;
-pub use part::{Part, play, words_in};
+pub use numbers::{member, number, timed};
+pub use part::{Part, play, play_made, words_in};
 pub use script::{Script, Told, scripts};
 pub use untold::Untold;

@@ -84,8 +84,8 @@ fn vote(alloc: Global, vote: Vote) -> Result<Bytes, Fail> {
 
 fn bytes(alloc: Global, seat: &Seat, load: Load) -> Result<Bytes, Fail> {
     match load {
-        Load::Noise => noise(alloc),
-        Load::Paper(paper) => bytes_of(alloc, paper),
+        Load::Noise => Ok(noise(alloc)?),
+        Load::Paper(paper) => Ok(bytes_of(alloc, paper)?),
         Load::Notarize {
             signer,
             epoch,
@@ -108,7 +108,7 @@ fn bytes(alloc: Global, seat: &Seat, load: Load) -> Result<Bytes, Fail> {
         Load::Answer => {
             let (_, id, _) = last_asked(alloc, seat)?;
             let bytes = noise(alloc)?;
-            message(alloc, id, ResolverBody::Response { bytes })
+            Ok(message(alloc, id, ResolverBody::Response { bytes })?)
         }
     }
 }

@@ -37,8 +37,8 @@ pub(super) fn last_asked(alloc: Global, seat: &Seat) -> Result<(Participant, u64
 
 fn bytes(alloc: Global, answer: Answer) -> Result<Bytes, Fail> {
     match answer {
-        Answer::Garbage => noise(alloc),
-        Answer::Paper(paper) => bytes_of(alloc, paper),
+        Answer::Garbage => Ok(noise(alloc)?),
+        Answer::Paper(paper) => Ok(bytes_of(alloc, paper)?),
     }
 }
 
