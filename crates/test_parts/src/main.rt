@@ -7,6 +7,8 @@
 #![tactic(auto)]
 
 mod fetcher;
+mod gives;
+mod mail;
 mod repair;
 mod resolver;
 mod told;

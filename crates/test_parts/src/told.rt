@@ -1,5 +1,5 @@
 //! A script of a part with what came out.
-use crate::{fetcher, repair, resolver};
+use crate::{fetcher, gives, mail, repair, resolver};
 use std::alloc::{AllocError, Global};
 use test_support::{Script, Told, words_in};
 
@@ -13,6 +13,8 @@ pub(crate) fn told(alloc: Global, script: &Script) -> Result<Told, AllocError> {
     let words = words_in(alloc, first.as_str())?;
     match words.as_slice() {
         ["fetcher", how @ ..] => fetcher::run(how, script, &mut told)?,
+        ["step"] => gives::run(script, &mut told)?,
+        ["mailbox", "of", how @ ..] => mail::run(how, script, &mut told)?,
         ["repair", how @ ..] => repair::run(how, script, &mut told)?,
         ["resolver", how @ ..] => resolver::run(how, script, &mut told)?,
         _ => told.says("there is no such part")?,
