@@ -1,6 +1,7 @@
 //! What the tests of several crates share: certificates, messages, a journal that fails, a program over memory, and the text of scripts.
 #![tactic(auto)]
 
+mod bytes;
 mod desk;
 mod letter;
 mod numbers;
@@ -10,9 +11,10 @@ mod script;
 pub mod unsigned;
 mod untold;
 
+pub use bytes::{bytes_in, bytes_text};
 pub use desk::{Desk, desk_of, words_of};
 pub use letter::Letter;
-pub use numbers::{member, number, timed};
+pub use numbers::{member, number, payload, payload_text, timed};
 pub use part::{Part, play, play_made, words_in};
 pub use script::{Script, Told, scripts};
 pub use untold::Untold;

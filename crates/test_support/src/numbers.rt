@@ -1,4 +1,6 @@
-//! The numbers that words of scripts are.
+//! The numbers and payloads that words of scripts name.
+use simplex_values::Digest;
+use std::alloc::{AllocError, Global};
 
 /// The number that the word is.
 pub fn number(word: &str) -> Option<u64> {
@@ -15,5 +17,20 @@ pub fn timed<'a>(words: &'a [&'a str], before: u64) -> Option<(u64, &'a [&'a str
     match words {
         ["at", time, words @ ..] => Some((number(time)?, words)),
         _ => Some((before, words)),
+    }
+}
+
+/// The payload that a word of two digits names: this byte, 32 times.
+pub fn payload(word: &str) -> Option<Digest> {
+    Some(Digest([u8::from_str_radix(word, 16).ok()?; 32]))
+}
+
+/// The name of a payload: its byte, where all its bytes are the same.
+pub fn payload_text(alloc: Global, payload: &Digest) -> Result<String, AllocError> {
+    match payload.0.as_slice() {
+        [first, rest @ ..] if rest.iter().all(|byte| byte == first) => {
+            format!(in alloc; "{first:02x}")
+        }
+        _ => format!(in alloc; "{payload}"),
     }
 }
