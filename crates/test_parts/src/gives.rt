@@ -135,6 +135,35 @@ impl Desk {
         let certificate = Certificate::Finalization(finalization(self.alloc, view, 0));
         self.out.added.push(certificate)
     }
+
+    fn give(&mut self, given: Given) -> Result<(), AllocError> {
+        match given {
+            Given::Finalization(view) => self.add(view),
+            Given::Sync(section) => self.out.calls.push(Call::Sync(section)),
+            Given::Block(who) => self
+                .out
+                .block(Participant(who), BlockCause::InvalidSignature),
+        }
+    }
+}
+
+/// What a step gives.
+#[derive(Clone, Copy)]
+enum Given {
+    /// A finalization of the view is added.
+    Finalization(u64),
+    Sync(u64),
+    /// The member is blocked.
+    Block(u32),
+}
+
+fn given_of(words: &[&str]) -> Option<Given> {
+    match words {
+        ["add", "finalization", view] => Some(Given::Finalization(number(view)?)),
+        ["sync", section] => Some(Given::Sync(number(section)?)),
+        ["block", who] => Some(Given::Block(member(who)?)),
+        _ => None,
+    }
 }
 
 impl Part for Desk {
@@ -142,17 +171,11 @@ impl Part for Desk {
         match words {
             ["copy", "call", kind] => told.says(copy_of_call(self.alloc, kind)?),
             ["copy", "message", "to", actor] => told.says(copy_of_message(self.alloc, actor)?),
-            ["add", "finalization", view] => self.add(number(view).unwrap_or(0)),
-            ["sync", section] => self
-                .out
-                .calls
-                .push(Call::Sync(number(section).unwrap_or(0))),
-            ["block", who] => {
-                let who = Participant(member(who).unwrap_or(0));
-                self.out.block(who, BlockCause::InvalidSignature)
-            }
             ["tell"] => self.tell(told),
-            _ => told.says("not a command"),
+            _ => match given_of(words) {
+                Some(given) => self.give(given),
+                None => told.says("not a command"),
+            },
         }
     }
 }

@@ -8,7 +8,7 @@ mod voter;
 
 use crate::mail::pairs::tell_pairs;
 use crate::mail::spelled::{Spelled, read};
-use simplex_mailbox::Mailbox;
+use simplex_mailbox::{Mailbox, Policy};
 use simplex_messages::resolver::{HandlerMessage, MailboxMessage};
 use simplex_messages::{batcher as to_batcher, voter as to_voter};
 use std::alloc::{AllocError, Global};
@@ -19,13 +19,13 @@ const MANY: u64 = 1_000_000;
 
 /// A mailbox. It is none only while a message is put.
 #[derive(Drop)]
-struct Desk<M: Spelled> {
+struct Desk<M: Policy> {
     alloc: Global,
     mailbox: Option<Mailbox<M>>,
 }
 
 /// A mailbox with room for so many messages, where that is more than none.
-fn desk_of<M: Spelled>(alloc: Global, room: u32) -> Result<Option<Desk<M>>, AllocError> {
+fn desk_of<M: Policy>(alloc: Global, room: u32) -> Result<Option<Desk<M>>, AllocError> {
     if room == 0 {
         return Ok(None);
     }
@@ -35,7 +35,11 @@ fn desk_of<M: Spelled>(alloc: Global, room: u32) -> Result<Option<Desk<M>>, Allo
     }))
 }
 
-fn play<M: Spelled + Drop>(room: u32, script: &Script, told: &mut Told) -> Result<(), AllocError> {
+fn play<M: Spelled + Policy + Drop>(
+    room: u32,
+    script: &Script,
+    told: &mut Told,
+) -> Result<(), AllocError> {
     let desk: Option<Desk<M>> = desk_of(told.alloc(), room)?;
     play_made(desk, script, told)
 }
@@ -55,7 +59,7 @@ pub(crate) fn run(words: &[&str], script: &Script, told: &mut Told) -> Result<()
     }
 }
 
-impl<M: Spelled + Drop> Desk<M> {
+impl<M: Spelled + Policy + Drop> Desk<M> {
     /// Puts the message, and tells the answer.
     fn put(&mut self, message: M, told: &mut Told) -> Result<(), AllocError> {
         let Some(mailbox) = self.mailbox.take() else {
@@ -97,23 +101,25 @@ impl<M: Spelled + Drop> Desk<M> {
         Ok(())
     }
 
-    fn leave(&mut self, id: u64) {
-        if let Some(mailbox) = &mut self.mailbox {
-            mailbox.leave(id);
+    /// Who asked for it waits no more.
+    fn leave(&mut self, id: Option<u64>, told: &mut Told) -> Result<(), AllocError> {
+        match (id, &mut self.mailbox) {
+            (Some(id), Some(mailbox)) => {
+                mailbox.leave(id);
+                Ok(())
+            }
+            _ => told.says("not a command"),
         }
     }
 }
 
-impl<M: Spelled + Drop> Part for Desk<M> {
+impl<M: Spelled + Policy + Drop> Part for Desk<M> {
     fn take(&mut self, words: &[&str], told: &mut Told) -> Result<(), AllocError> {
         match words {
             ["take"] => self.take_up_to(1, told),
             ["take", "all"] => self.take_up_to(MANY, told),
             ["every", "pair"] => tell_pairs::<M>(told),
-            ["leave", id] => {
-                self.leave(number(id).unwrap_or(0));
-                Ok(())
-            }
+            ["leave", id] => self.leave(number(id), told),
             _ => match M::of(self.alloc, words) {
                 Some(message) => self.put(message, told),
                 None => told.says("not a command"),

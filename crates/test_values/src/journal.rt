@@ -138,6 +138,17 @@ impl Desk {
         Ok(())
     }
 
+    /// The call of this number is to fail.
+    fn fail(&mut self, place: Option<u64>, told: &mut Told) -> Result<(), AllocError> {
+        match place {
+            Some(place) => {
+                self.journal.fail_next(place, 0);
+                Ok(())
+            }
+            None => told.says("not a command"),
+        }
+    }
+
     fn make(&mut self, call: Call, told: &mut Told) -> Result<(), AllocError> {
         self.calls.push(call)?;
         told.says(make(&mut self.journal, self.alloc, call)?.as_str())
@@ -147,10 +158,7 @@ impl Desk {
 impl Part for Desk {
     fn take(&mut self, words: &[&str], told: &mut Told) -> Result<(), AllocError> {
         match words {
-            ["fail", "call", place] => {
-                self.journal.fail_next(number(place).unwrap_or(0), 0);
-                Ok(())
-            }
+            ["fail", "call", place] => self.fail(number(place), told),
             ["fail", "none"] => {
                 self.journal.fail_next(0, 0);
                 Ok(())

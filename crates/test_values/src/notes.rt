@@ -95,33 +95,69 @@ impl Desk {
     }
 }
 
-impl Part for Desk {
-    fn take(&mut self, words: &[&str], told: &mut Told) -> Result<(), AllocError> {
-        match words {
-            ["plain", writer] => self.put(Note::plain(number(writer).unwrap_or(0)), told),
-            ["urgent", writer] => self.put(Note::urgent(number(writer).unwrap_or(0)), told),
-            ["plain", "of", writers, "writers"] => {
-                put_all(&mut self.mailbox, number(writers).unwrap_or(0))
-            }
-            ["take"] => {
+/// What is done with the mailbox.
+#[derive(Clone, Copy)]
+enum Command {
+    Put(Note),
+    /// A plain note of each of so many writers is put.
+    PutAll(u64),
+    Take,
+    /// The next note is copied.
+    Next,
+    TakeAll,
+    /// The writer leaves.
+    Leave(u64),
+    Close,
+    State,
+}
+
+fn command_of(words: &[&str]) -> Option<Command> {
+    match words {
+        ["plain", writer] => Some(Command::Put(Note::plain(number(writer)?))),
+        ["urgent", writer] => Some(Command::Put(Note::urgent(number(writer)?))),
+        ["plain", "of", writers, "writers"] => Some(Command::PutAll(number(writers)?)),
+        ["take"] => Some(Command::Take),
+        ["next"] => Some(Command::Next),
+        ["take", "all"] => Some(Command::TakeAll),
+        ["leave", writer] => Some(Command::Leave(number(writer)?)),
+        ["close"] => Some(Command::Close),
+        ["state"] => Some(Command::State),
+        _ => None,
+    }
+}
+
+impl Desk {
+    fn run(&mut self, command: Command, told: &mut Told) -> Result<(), AllocError> {
+        match command {
+            Command::Put(note) => self.put(note, told),
+            Command::PutAll(writers) => put_all(&mut self.mailbox, writers),
+            Command::Take => {
                 let note = self.mailbox.recv();
                 self.tell(note, told)
             }
-            ["next"] => {
+            Command::Next => {
                 let note = self.mailbox.copy_front(self.alloc)?;
                 self.tell(note, told)
             }
-            ["take", "all"] => self.count(told),
-            ["leave", id] => {
-                self.mailbox.leave(number(id).unwrap_or(0));
+            Command::TakeAll => self.count(told),
+            Command::Leave(writer) => {
+                self.mailbox.leave(writer);
                 Ok(())
             }
-            ["close"] => {
+            Command::Close => {
                 self.mailbox.close();
                 Ok(())
             }
-            ["state"] => self.tell_state(told),
-            _ => told.says("not a command"),
+            Command::State => self.tell_state(told),
+        }
+    }
+}
+
+impl Part for Desk {
+    fn take(&mut self, words: &[&str], told: &mut Told) -> Result<(), AllocError> {
+        match command_of(words) {
+            Some(command) => self.run(command, told),
+            None => told.says("not a command"),
         }
     }
 }

@@ -65,24 +65,57 @@ fn plan_of(alloc: Global, words: &[&str]) -> Result<Option<Plan>, AllocError> {
     })
 }
 
+/// A value that a line names.
+#[derive(Clone, Copy)]
+enum Value {
+    Byte(u8),
+    Round(Round),
+    Member(Participant),
+    Epoch(Epoch),
+    Digest(Digest),
+    Attestation(Attestation),
+    /// The genesis digest of the epoch.
+    Genesis(Epoch),
+}
+
+fn value_of(words: &[&str]) -> Option<Value> {
+    match words {
+        ["byte", byte] => Some(Value::Byte(byte.parse::<u8>().ok()?)),
+        ["round", epoch, view] => Some(Value::Round(round_of(epoch, view)?)),
+        ["member", name] => Some(Value::Member(Participant(member(name)?))),
+        ["epoch", epoch] => Some(Value::Epoch(Epoch(number(epoch)?))),
+        ["digest", name] => Some(Value::Digest(payload(name)?)),
+        ["attestation", signer, signature] => Some(Value::Attestation(Attestation {
+            signer: Participant(member(signer)?),
+            signature: payload(signature)?.0,
+        })),
+        ["genesis", epoch] => Some(Value::Genesis(Epoch(number(epoch)?))),
+        _ => None,
+    }
+}
+
+/// Whether a copy of the value is the same. Rounds and epochs are no values of which copies are made so.
+fn copy_of_value(alloc: Global, value: Value) -> Result<&'static str, AllocError> {
+    match value {
+        Value::Byte(byte) => copy(alloc, &byte),
+        Value::Member(member) => copy(alloc, &member),
+        Value::Digest(digest) => copy(alloc, &digest),
+        Value::Attestation(attestation) => copy(alloc, &attestation),
+        Value::Round(_) | Value::Epoch(_) | Value::Genesis(_) => Ok("not a command"),
+    }
+}
+
 fn copy_of(alloc: Global, words: &[&str]) -> Result<&'static str, AllocError> {
     match words {
         ["recipients", words @ ..] => copy(alloc, &Recipients::Some(members_of(alloc, words)?)),
-        ["byte", byte] => copy(alloc, &byte.parse::<u8>().unwrap_or(0)),
-        ["member", name] => copy(alloc, &Participant(member(name).unwrap_or(0))),
-        ["digest", name] => copy(alloc, &payload(name).unwrap_or(Digest([0; 32]))),
-        ["attestation", signer, signature] => copy(
-            alloc,
-            &Attestation {
-                signer: Participant(member(signer).unwrap_or(0)),
-                signature: payload(signature).unwrap_or(Digest([0; 32])).0,
-            },
-        ),
         ["plan", words @ ..] => match plan_of(alloc, words)? {
             Some(plan) => copy(alloc, &plan),
             None => Ok("not a command"),
         },
-        _ => Ok("not a command"),
+        _ => match value_of(words) {
+            Some(value) => copy_of_value(alloc, value),
+            None => Ok("not a command"),
+        },
     }
 }
 
@@ -104,13 +137,19 @@ fn half(number: u32) -> u32 {
     number / 2
 }
 
+fn handoff_of(words: &[&str]) -> Option<Handoff<u32>> {
+    match words {
+        ["wait"] => Some(Handoff::Wait),
+        ["stage", value] => Some(Handoff::Stage(member(value)?)),
+        ["vote", value] => Some(Handoff::Vote(member(value)?)),
+        _ => None,
+    }
+}
+
 /// A handoff of a number: half of it, and whether it waits.
 fn handoff_text(alloc: Global, words: &[&str]) -> Result<String, AllocError> {
-    let handoff = match words {
-        ["wait"] => Handoff::Wait,
-        ["stage", value] => Handoff::Stage(member(value).unwrap_or(0)),
-        ["vote", value] => Handoff::Vote(member(value).unwrap_or(0)),
-        _ => return String::from_str(alloc, "not a command"),
+    let Some(handoff) = handoff_of(words) else {
+        return String::from_str(alloc, "not a command");
     };
     let waits = handoff.is_wait();
     let halved = handoff.map(half);
@@ -118,32 +157,28 @@ fn handoff_text(alloc: Global, words: &[&str]) -> Result<String, AllocError> {
 }
 
 /// A value as it is printed.
-fn printed(alloc: Global, words: &[&str]) -> Result<Option<String>, AllocError> {
-    Ok(Some(match words {
-        ["round", epoch, view] => match round_of(epoch, view) {
-            Some(round) => format!(in alloc; "{round}")?,
-            None => return Ok(None),
-        },
-        ["member", name] => format!(in alloc; "{}", Participant(member(name).unwrap_or(0)))?,
-        ["epoch", epoch] => format!(in alloc; "{}", Epoch(number(epoch).unwrap_or(0)))?,
-        ["digest", name] => format!(in alloc; "{}", payload(name).unwrap_or(Digest([0; 32])))?,
-        ["genesis", epoch] => {
-            format!(in alloc; "{}", genesis(Epoch(number(epoch).unwrap_or(0))))?
-        }
-        _ => return Ok(None),
-    }))
+fn printed(alloc: Global, value: Value) -> Result<String, AllocError> {
+    match value {
+        Value::Byte(byte) => format!(in alloc; "{byte}"),
+        Value::Round(round) => format!(in alloc; "{round}"),
+        Value::Member(member) => format!(in alloc; "{member}"),
+        Value::Epoch(epoch) => format!(in alloc; "{epoch}"),
+        Value::Digest(digest) => format!(in alloc; "{digest}"),
+        Value::Attestation(it) => format!(in alloc; "{}", it.signer),
+        Value::Genesis(epoch) => format!(in alloc; "{}", genesis(epoch)),
+    }
 }
 
 impl Part for Desk {
     fn take(&mut self, words: &[&str], told: &mut Told) -> Result<(), AllocError> {
-        if let Some(text) = printed(self.alloc, words)? {
-            return told.says(text.as_str());
-        }
         match words {
             ["copy", words @ ..] => told.says(copy_of(self.alloc, words)?),
             ["policy", word] => told.says(policy_text(word)),
             ["handoff", words @ ..] => told.says(handoff_text(self.alloc, words)?.as_str()),
-            _ => told.says("not a command"),
+            _ => match value_of(words) {
+                Some(value) => told.says(printed(self.alloc, value)?.as_str()),
+                None => told.says("not a command"),
+            },
         }
     }
 }

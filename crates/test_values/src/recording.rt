@@ -253,32 +253,55 @@ impl Desk {
         format!(in self.alloc; "final last: {latest}, to a monitor: {watched}")
     }
 
-    /// The answer to a question, if it is one.
-    fn answer(&self, words: &[&str]) -> Result<Option<String>, AllocError> {
-        let text = match words {
-            ["latest"] => self.latest_text()?,
-            ["state"] => self.state_text()?,
-            ["leader", view] => self.leader_text(View(number(view).unwrap_or(0)))?,
-            ["view", view] => self.view_text(View(number(view).unwrap_or(0)))?,
-            ["evidence", view] => self.faults_text(View(number(view).unwrap_or(0)))?,
-            ["votes", view, name] => {
-                let payload = payload(name).unwrap_or(Digest([0; 32]));
-                self.votes_text(View(number(view).unwrap_or(0)), &payload)?
-            }
-            ["seen", "from", place] => {
-                let place = number(place).unwrap_or(0);
-                views_text(self.alloc, self.reporter.seen_from(place))?
-            }
-            _ => return Ok(None),
-        };
-        Ok(Some(text))
+    fn answer(&self, question: Question) -> Result<String, AllocError> {
+        match question {
+            Question::Latest => self.latest_text(),
+            Question::State => self.state_text(),
+            Question::Leader(view) => self.leader_text(View(view)),
+            Question::View(view) => self.view_text(View(view)),
+            Question::Evidence(view) => self.faults_text(View(view)),
+            Question::Votes(view, payload) => self.votes_text(View(view), &payload),
+            Question::Seen(place) => views_text(self.alloc, self.reporter.seen_from(place)),
+        }
+    }
+}
+
+/// What the reporter is asked.
+#[derive(Clone, Copy)]
+enum Question {
+    /// Which view was final last.
+    Latest,
+    /// What did not verify, and whether there is evidence.
+    State,
+    /// Who leads the view, if that is known.
+    Leader(u64),
+    /// Which certificates of the view are kept.
+    View(u64),
+    /// How much evidence there is of the view.
+    Evidence(u64),
+    /// Who voted for the payload in the view.
+    Votes(u64, Digest),
+    /// Which views were final, from this place on.
+    Seen(u64),
+}
+
+fn question_of(words: &[&str]) -> Option<Question> {
+    match words {
+        ["latest"] => Some(Question::Latest),
+        ["state"] => Some(Question::State),
+        ["leader", view] => Some(Question::Leader(number(view)?)),
+        ["view", view] => Some(Question::View(number(view)?)),
+        ["evidence", view] => Some(Question::Evidence(number(view)?)),
+        ["votes", view, name] => Some(Question::Votes(number(view)?, payload(name)?)),
+        ["seen", "from", place] => Some(Question::Seen(number(place)?)),
+        _ => None,
     }
 }
 
 impl Part for Desk {
     fn take(&mut self, words: &[&str], told: &mut Told) -> Result<(), AllocError> {
-        if let Some(text) = self.answer(words)? {
-            return told.says(text.as_str());
+        if let Some(question) = question_of(words) {
+            return told.says(self.answer(question)?.as_str());
         }
         match activity_of(self.alloc, words)? {
             Some(activity) => {

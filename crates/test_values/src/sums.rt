@@ -43,12 +43,19 @@ pub(crate) fn run(words: &[&str], script: &Script, told: &mut Told) -> Result<()
     play(&mut desk, script, told)
 }
 
+fn activity_of(words: &[&str]) -> Option<u32> {
+    match words {
+        ["report", activity] => member(activity),
+        _ => None,
+    }
+}
+
 impl Part for Desk {
     fn take(&mut self, words: &[&str], told: &mut Told) -> Result<(), AllocError> {
-        let ["report", activity] = words else {
+        let Some(activity) = activity_of(words) else {
             return told.says("not a command");
         };
-        let answer = self.reporter.report(member(activity).unwrap_or(0))?;
+        let answer = self.reporter.report(activity)?;
         let text = match &self.reporter {
             Some(sum) => {
                 let total = sum.total;

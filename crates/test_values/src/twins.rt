@@ -19,6 +19,10 @@ struct Desk {
     scenario: Scenario,
 }
 
+fn length_of(word: &str) -> Option<TermLength> {
+    TermLength::new(number(word)?)
+}
+
 /// `VIEWS of MEMBER..`: how many views a term has, and the members in the order of their places.
 fn desk_of(alloc: Global, words: &[&str]) -> Result<Option<Desk>, AllocError> {
     let ["terms", "of", length, "members", words @ ..] = words else {
@@ -26,9 +30,12 @@ fn desk_of(alloc: Global, words: &[&str]) -> Result<Option<Desk>, AllocError> {
     };
     let mut members = Vec::new(alloc);
     for word in words {
-        members.push(Participant(member(word).unwrap_or(0)))?;
+        let Some(member) = member(word) else {
+            return Ok(None);
+        };
+        members.push(Participant(member))?;
     }
-    let Some(length) = TermLength::new(number(length).unwrap_or(0)) else {
+    let Some(length) = length_of(length) else {
         return Ok(None);
     };
     Ok(Some(Desk {
@@ -164,59 +171,102 @@ impl Desk {
         })
     }
 
-    /// The answer to a question that names a view, if it is one.
-    fn answer(&self, words: &[&str]) -> Result<Option<String>, AllocError> {
-        let of = |word: &str| number(word).unwrap_or(0);
-        let who = |word: &str| member(word).unwrap_or(0);
-        Ok(Some(match words {
-            ["halves", "at", view] => self.halves(of(view))?,
-            ["cut", "at", view] => self.cut(of(view))?,
-            ["route", name, "at", view] => {
-                String::from_str(self.alloc, self.route(who(name), of(view)))?
+    fn answer(&self, question: Question) -> Result<String, AllocError> {
+        match question {
+            Question::Halves(view) => self.halves(view),
+            Question::Cut(view) => self.cut(view),
+            Question::Route(who, view) => String::from_str(self.alloc, self.route(who, view)),
+            Question::CutRoute(who, view) => {
+                String::from_str(self.alloc, self.cut_route(who, view))
             }
-            ["cut", "route", name, "at", view] => {
-                String::from_str(self.alloc, self.cut_route(who(name), of(view)))?
-            }
-            ["leader", epoch, view, "of", n] => self.leader(who(n), of(epoch), of(view))?,
-            _ => return Ok(None),
-        }))
+            Question::Leader(epoch, view, n) => self.leader(n, epoch, view),
+        }
+    }
+
+    fn run(&mut self, command: Command, told: &mut Told) -> Result<(), AllocError> {
+        match command {
+            Command::Ask(question) => told.says(self.answer(question)?.as_str()),
+            Command::Round(leader, first, second) => self.round(leader, first, second, told),
+            Command::Copy => told.says(self.copy()?),
+            Command::EveryRound(n) => tell_every_round(n, &self.members, told),
+            Command::All(n, rounds, limit) => tell_scenarios(n, rounds as usize, limit, told),
+        }
+    }
+}
+
+/// A question about a view.
+#[derive(Clone, Copy)]
+enum Question {
+    /// With whom each half talks, by the script.
+    Halves(u64),
+    /// The same by the views alone.
+    Cut(u64),
+    /// Whom a message of the member reaches, by the script.
+    Route(u32, u64),
+    /// The same by the views alone.
+    CutRoute(u32, u64),
+    /// Who leads in the epoch, where there are so many members.
+    Leader(u64, u64, u32),
+}
+
+/// What a line of a script wants.
+#[derive(Clone, Copy)]
+enum Command {
+    Ask(Question),
+    /// A round is added: its leader, and its masks.
+    Round(u32, u64, u64),
+    /// The script is copied.
+    Copy,
+    /// Every round among so many members.
+    EveryRound(u32),
+    /// All scripts among so many members of so many rounds, at most so many.
+    All(u32, u64, u64),
+}
+
+fn question_of(words: &[&str]) -> Option<Question> {
+    match words {
+        ["halves", "at", view] => Some(Question::Halves(number(view)?)),
+        ["cut", "at", view] => Some(Question::Cut(number(view)?)),
+        ["route", who, "at", view] => Some(Question::Route(member(who)?, number(view)?)),
+        ["cut", "route", who, "at", view] => {
+            Some(Question::CutRoute(member(who)?, number(view)?))
+        }
+        ["leader", epoch, view, "of", n] => {
+            Some(Question::Leader(number(epoch)?, number(view)?, member(n)?))
+        }
+        _ => None,
+    }
+}
+
+fn command_of(words: &[&str]) -> Option<Command> {
+    match words {
+        ["round", leader, first, second] => Some(Command::Round(
+            member(leader)?,
+            mask_of(first)?,
+            mask_of(second)?,
+        )),
+        ["copy"] => Some(Command::Copy),
+        ["every", "round", "of", n] => Some(Command::EveryRound(member(n)?)),
+        [
+            "all",
+            "of",
+            n,
+            "members",
+            rounds,
+            "rounds",
+            "at",
+            "most",
+            limit,
+        ] => { Some(Command::All(member(n)?, number(rounds)?, number(limit)?)) }
+        _ => Some(Command::Ask(question_of(words)?)),
     }
 }
 
 impl Part for Desk {
     fn take(&mut self, words: &[&str], told: &mut Told) -> Result<(), AllocError> {
-        if let Some(text) = self.answer(words)? {
-            return told.says(text.as_str());
-        }
-        match words {
-            ["round", leader, first, second] => {
-                match (member(leader), mask_of(first), mask_of(second)) {
-                    (Some(leader), Some(first), Some(second)) => {
-                        self.round(leader, first, second, told)
-                    }
-                    _ => told.says("not a command"),
-                }
-            }
-            ["copy"] => told.says(self.copy()?),
-            ["every", "round", "of", n] => {
-                tell_every_round(member(n).unwrap_or(0), &self.members, told)
-            }
-            [
-                "all",
-                "of",
-                n,
-                "members",
-                rounds,
-                "rounds",
-                "at",
-                "most",
-                limit,
-            ] => {
-                let rounds = number(rounds).unwrap_or(0) as usize;
-                let limit = number(limit).unwrap_or(0);
-                tell_scenarios(member(n).unwrap_or(0), rounds, limit, told)
-            }
-            _ => told.says("not a command"),
+        match command_of(words) {
+            Some(command) => self.run(command, told),
+            None => told.says("not a command"),
         }
     }
 }

@@ -129,15 +129,23 @@ fn leader_text(
     format!(in alloc; "{leader} leads; terms of {length}, lookahead {lookahead}")
 }
 
+/// A view, and maybe an epoch.
+fn view_of(words: &[&str]) -> Option<(u64, Option<u64>)> {
+    match words {
+        ["view", view] => Some((number(view)?, None)),
+        ["view", view, "of", "epoch", epoch] => Some((number(view)?, Some(number(epoch)?))),
+        _ => None,
+    }
+}
+
 impl Part for Desk {
     fn take(&mut self, words: &[&str], told: &mut Told) -> Result<(), AllocError> {
         let alloc = self.alloc;
-        let of = |word: &str| number(word).unwrap_or(0);
-        let text = match (self.asked, words) {
-            (Asked::Terms(terms), ["view", view]) => term_text(alloc, &terms, View(of(view)))?,
-            (Asked::Port(port), ["view", view]) => port_text(alloc, &port, View(of(view)))?,
-            (Asked::Leaders(terms, n), ["view", view, "of", "epoch", epoch]) => {
-                leader_text(alloc, terms, n, of(epoch), of(view))?
+        let text = match (self.asked, view_of(words)) {
+            (Asked::Terms(terms), Some((view, None))) => term_text(alloc, &terms, View(view))?,
+            (Asked::Port(port), Some((view, None))) => port_text(alloc, &port, View(view))?,
+            (Asked::Leaders(terms, n), Some((view, Some(epoch)))) => {
+                leader_text(alloc, terms, n, epoch, view)?
             }
             _ => String::from_str(alloc, "not a command")?,
         };

@@ -1,6 +1,6 @@
 //! Messages to a batcher.
 use crate::mail::spelled::{Spelled, own, proposal, round};
-use simplex_mailbox::Mailbox;
+use simplex_mailbox::Post;
 use simplex_messages::batcher;
 use simplex_messages::batcher::Message;
 use simplex_types::{Feedback, Finalize, Notarize, Nullify, Participant, View, Vote};
@@ -78,11 +78,8 @@ impl Spelled for Message {
         }
     }
 
-    fn put_into(
-        self,
-        mailbox: Mailbox<Message>,
-    ) -> Result<(Mailbox<Message>, Feedback), AllocError> {
-        let mut post = batcher::Mailbox::new(mailbox);
+    fn put_into<P: Post<Message> + Drop>(self, post: P) -> Result<(P, Feedback), AllocError> {
+        let mut post = batcher::Mailbox::new(post);
         let feedback = match self {
             Message::Update {
                 current,

@@ -1,6 +1,6 @@
 //! Messages of a resolver's fetcher to it.
 use crate::mail::spelled::Spelled;
-use simplex_mailbox::Mailbox;
+use simplex_mailbox::Post;
 use simplex_messages::resolver;
 use simplex_messages::resolver::HandlerMessage;
 use simplex_types::{Feedback, Sequence, View};
@@ -37,11 +37,11 @@ impl Spelled for HandlerMessage {
         }
     }
 
-    fn put_into(
+    fn put_into<P: Post<HandlerMessage> + Drop>(
         self,
-        mailbox: Mailbox<HandlerMessage>,
-    ) -> Result<(Mailbox<HandlerMessage>, Feedback), AllocError> {
-        let mut post = resolver::Handler::new(mailbox);
+        post: P,
+    ) -> Result<(P, Feedback), AllocError> {
+        let mut post = resolver::Handler::new(post);
         let feedback = match self {
             HandlerMessage::Deliver {
                 id,

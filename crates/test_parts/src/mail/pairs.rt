@@ -1,6 +1,6 @@
 //! Every pair of messages of views around each other.
 use crate::mail::spelled::Spelled;
-use simplex_mailbox::Mailbox;
+use simplex_mailbox::{Mailbox, Policy};
 use std::alloc::{AllocError, Global};
 use test_support::{Told, words_in};
 
@@ -21,7 +21,7 @@ fn sample<M: Spelled>(alloc: Global, kind: &str, view: &str) -> Result<Option<M>
 }
 
 /// Which of the two a mailbox hands out: the first by 1, the second by 2, another by a mark.
-fn handed_out<M: Spelled + Drop>(
+fn handed_out<M: Spelled + Policy + Drop>(
     alloc: Global,
     mailbox: &mut Mailbox<M>,
     first: &M,
@@ -49,7 +49,7 @@ fn handed_out<M: Spelled + Drop>(
 }
 
 /// Which of the two are left of those that come to a mailbox that is full.
-fn left<M: Spelled + Drop>(
+fn left<M: Spelled + Policy + Drop>(
     alloc: Global,
     first: (&str, &str),
     second: (&str, &str),
@@ -72,7 +72,7 @@ fn left<M: Spelled + Drop>(
 }
 
 /// The same where the first is of this view, and the second of each.
-fn push_left<M: Spelled + Drop>(
+fn push_left<M: Spelled + Policy + Drop>(
     alloc: Global,
     text: &mut String,
     first: (&str, &str),
@@ -86,7 +86,7 @@ fn push_left<M: Spelled + Drop>(
 }
 
 /// A message of one kind, then one of another, of each two views.
-fn pair_text<M: Spelled + Drop>(
+fn pair_text<M: Spelled + Policy + Drop>(
     alloc: Global,
     first: &str,
     second: &str,
@@ -102,7 +102,7 @@ fn pair_text<M: Spelled + Drop>(
 }
 
 /// Tells of each two kinds which are left of two messages that come to a mailbox that is full.
-pub(super) fn tell_pairs<M: Spelled + Drop>(told: &mut Told) -> Result<(), AllocError> {
+pub(super) fn tell_pairs<M: Spelled + Policy + Drop>(told: &mut Told) -> Result<(), AllocError> {
     let alloc = told.alloc();
     told.says(
         "1 is the first and 2 the second, as they go; the first of view 4, of 5, of 6, each with the second of 4, of 5, of 6",

@@ -1,7 +1,7 @@
 //! Messages of a voter to its resolver.
 use crate::mail::spelled::{Spelled, certificate_text, proposal};
 use crate::mail::voter::certificate_of;
-use simplex_mailbox::Mailbox;
+use simplex_mailbox::Post;
 use simplex_messages::resolver;
 use simplex_messages::resolver::MailboxMessage;
 use simplex_types::{Feedback, Kind, Notarization, Participant, Signatures, View};
@@ -77,11 +77,11 @@ impl Spelled for MailboxMessage {
         }
     }
 
-    fn put_into(
+    fn put_into<P: Post<MailboxMessage> + Drop>(
         self,
-        mailbox: Mailbox<MailboxMessage>,
-    ) -> Result<(Mailbox<MailboxMessage>, Feedback), AllocError> {
-        let mut post = resolver::Mailbox::new(mailbox);
+        post: P,
+    ) -> Result<(P, Feedback), AllocError> {
+        let mut post = resolver::Mailbox::new(post);
         let feedback = match self {
             MailboxMessage::Updated { certificate } => post.updated(certificate)?,
             MailboxMessage::Certified {

@@ -1,5 +1,5 @@
 //! Messages in words.
-use simplex_mailbox::{Mailbox, Policy};
+use simplex_mailbox::Post;
 use simplex_types::{
     Attestation, Certificate, CertificateKind, Digest, Epoch, Feedback, Participant, Proposal,
     Round, View,
@@ -8,7 +8,7 @@ use std::alloc::{AllocError, Global};
 use test_support::words_in;
 
 /// A message of a mailbox, which words tell.
-pub(super) trait Spelled: Policy + PartialEq + Sized {
+pub(super) trait Spelled: PartialEq + Sized {
     /// Messages of each kind: their words but for the view, which stands behind the first one.
     fn kinds() -> &'static [&'static str];
 
@@ -19,7 +19,7 @@ pub(super) trait Spelled: Policy + PartialEq + Sized {
     fn text(&self, alloc: Global) -> Result<String, AllocError>;
 
     /// Puts the message by the call that is for it.
-    fn put_into(self, mailbox: Mailbox<Self>) -> Result<(Mailbox<Self>, Feedback), AllocError>;
+    fn put_into<P: Post<Self> + Drop>(self, post: P) -> Result<(P, Feedback), AllocError>;
 }
 
 /// The message of a text, if there is one.

@@ -1,6 +1,6 @@
 //! Messages to a voter.
 use crate::mail::spelled::{Spelled, certificate_text, proposal, round};
-use simplex_mailbox::Mailbox;
+use simplex_mailbox::Post;
 use simplex_messages::voter;
 use simplex_messages::voter::Message;
 use simplex_types::{
@@ -87,11 +87,8 @@ impl Spelled for Message {
         }
     }
 
-    fn put_into(
-        self,
-        mailbox: Mailbox<Message>,
-    ) -> Result<(Mailbox<Message>, Feedback), AllocError> {
-        let mut post = voter::Mailbox::new(mailbox);
+    fn put_into<P: Post<Message> + Drop>(self, post: P) -> Result<(P, Feedback), AllocError> {
+        let mut post = voter::Mailbox::new(post);
         let feedback = match self {
             Message::Proposal { proposal } => post.proposal(proposal)?,
             Message::Timeout { round, reason } => post.timeout(round, reason)?,
