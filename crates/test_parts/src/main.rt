@@ -8,6 +8,11 @@
 
 mod engine;
 mod limits;
+mod fetcher;
+mod gives;
+mod mail;
+mod repair;
+mod resolver;
 mod told;
 
 use crate::told::told;

@@ -1,5 +1,5 @@
 //! A script of a part with what came out.
-use crate::{engine, limits};
+use crate::{engine, fetcher, gives, limits, mail, repair, resolver};
 use std::alloc::{AllocError, Global};
 use test_support::{Script, Told, words_in};
 
@@ -14,6 +14,11 @@ pub(crate) fn told(alloc: Global, script: &Script) -> Result<Told, AllocError> {
     match words.as_slice() {
         ["engine", ..] => engine::tell(script, &words, &mut told)?,
         ["limits"] => limits::tell(script, &mut told)?,
+        ["fetcher", how @ ..] => fetcher::run(how, script, &mut told)?,
+        ["step"] => gives::run(script, &mut told)?,
+        ["mailbox", "of", how @ ..] => mail::run(how, script, &mut told)?,
+        ["repair", how @ ..] => repair::run(how, script, &mut told)?,
+        ["resolver", how @ ..] => resolver::run(how, script, &mut told)?,
         _ => told.says("there is no such part")?,
     }
     Ok(told)

@@ -29,3 +29,15 @@ pub fn play<P: Part>(part: &mut P, script: &Script, told: &mut Told) -> Result<(
     }
     Ok(())
 }
+
+/// Plays a script for the part that its first line makes, if it makes one.
+pub fn play_made<P: Part + Drop>(
+    made: Option<P>,
+    script: &Script,
+    told: &mut Told,
+) -> Result<(), AllocError> {
+    match made {
+        Some(mut part) => play(&mut part, script, told),
+        None => told.says("not a command"),
+    }
+}

@@ -6,7 +6,20 @@
 //! It owes nothing but that it is safe and ends.
 #![tactic(auto)]
 
+mod certificates;
+mod journal;
+mod log;
+mod notes;
+mod plain;
+mod recording;
+mod report;
+mod schemes;
+mod signed;
+mod sums;
 mod told;
+mod twins;
+mod views;
+mod wire;
 
 use crate::told::told;
 use simplex_io::{ReaderSource, read_bytes};

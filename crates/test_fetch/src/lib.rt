@@ -1,5 +1,0 @@
-//! Tests of the certificate fetcher.
-#![tactic(auto)]
-
-#[cfg(test)]
-mod tests;

@@ -1,5 +1,0 @@
-//! Tests of the resolver's actor.
-#![tactic(auto)]
-
-#[cfg(test)]
-mod tests;
