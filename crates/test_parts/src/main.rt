@@ -6,7 +6,9 @@
 //! It owes nothing but that it is safe and ends.
 #![tactic(auto)]
 
+mod round;
 mod told;
+mod verifier;
 
 use crate::told::told;
 use simplex_io::{ReaderSource, read_bytes};

@@ -1,4 +1,5 @@
 //! A script of a part with what came out.
+use crate::{round, verifier};
 use std::alloc::{AllocError, Global};
 use test_support::{Script, Told, words_in};
 
@@ -10,8 +11,9 @@ pub(crate) fn told(alloc: Global, script: &Script) -> Result<Told, AllocError> {
     };
     told.line(first.as_str())?;
     let words = words_in(alloc, first.as_str())?;
-    match words.first() {
-        // A part is made here by the words of its name, and given the script by `play`.
+    match words.as_slice() {
+        ["round", ..] => round::tell(script, &words, &mut told)?,
+        ["verifier", ..] => verifier::tell(script, &words, &mut told)?,
         _ => told.says("there is no such part")?,
     }
     Ok(told)

@@ -5,7 +5,10 @@ mod desk;
 mod letter;
 pub mod papers;
 mod part;
+pub mod reading;
 mod script;
+pub mod signing;
+pub mod telling;
 pub mod unsigned;
 mod untold;
 
