@@ -6,7 +6,10 @@
 //! It owes nothing but that it is safe and ends.
 #![tactic(auto)]
 
+mod batcher;
 mod round;
+mod signed;
+mod step;
 mod told;
 mod verifier;
 

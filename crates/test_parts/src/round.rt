@@ -6,12 +6,12 @@ use crate::round::command::{Command, command_of};
 use crate::round::orders::tally_of;
 use simplex_round::{Batch, Round, RoundOut};
 use simplex_types::Keyed;
-use simplex_values::{Epoch, Participant, Proposal, Round as ViewRound, Subject, quorum};
+use simplex_values::{Participant, Proposal, Round as ViewRound, Subject, quorum};
 use simplex_wire::{
     Certificate, CertificateKind, Finalization, Notarization, Nullification, Signatures, Vote,
 };
 use std::alloc::{AllocError, Global};
-use test_support::reading::{member, view};
+use test_support::reading::{member, round};
 use test_support::signing::{KEYS, OTHER_KEYS, signed_vote};
 use test_support::telling::{
     Items, activity_text, block_text, certificate_text, members_text, proposal_text, yes_or_no,
@@ -23,7 +23,6 @@ use test_support::{Part, Script, Told, play};
 struct Table {
     alloc: Global,
     scheme: Keyed,
-    view: ViewRound,
     round: Round,
 }
 
@@ -46,12 +45,8 @@ fn setup_of(words: &[&str]) -> Option<Setup> {
         ["led", "by", leader, "and", "skipped"] => (Some(member(leader)?), true),
         _ => return None,
     };
-    let view = ViewRound {
-        epoch: Epoch(0),
-        view: view(number)?,
-    };
     Some(Setup {
-        view,
+        view: round(number)?,
         members: member(members)?.0,
         leader,
         is_skipped,
@@ -78,7 +73,6 @@ pub(crate) fn tell(script: &Script, words: &[&str], told: &mut Told) -> Result<(
     let mut table = Table {
         alloc,
         scheme: Keyed::new(alloc, KEYS, setup.members, None)?,
-        view: setup.view,
         round: made(alloc, &setup)?,
     };
     if let Some(leader) = setup.leader {
@@ -277,7 +271,7 @@ impl Table {
 
 impl Part for Table {
     fn take(&mut self, words: &[&str], told: &mut Told) -> Result<(), AllocError> {
-        let Some(command) = command_of(self.view, words) else {
+        let Some(command) = command_of(words) else {
             return told.says("not a command");
         };
         let mut items = Items::new(told.alloc());

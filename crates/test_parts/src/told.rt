@@ -1,5 +1,5 @@
 //! A script of a part with what came out.
-use crate::{round, verifier};
+use crate::{batcher, round, verifier};
 use std::alloc::{AllocError, Global};
 use test_support::{Script, Told, words_in};
 
@@ -12,6 +12,7 @@ pub(crate) fn told(alloc: Global, script: &Script) -> Result<Told, AllocError> {
     told.line(first.as_str())?;
     let words = words_in(alloc, first.as_str())?;
     match words.as_slice() {
+        ["batcher", ..] => batcher::tell(script, &words, &mut told)?,
         ["round", ..] => round::tell(script, &words, &mut told)?,
         ["verifier", ..] => verifier::tell(script, &words, &mut told)?,
         _ => told.says("there is no such part")?,
