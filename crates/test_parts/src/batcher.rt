@@ -10,7 +10,7 @@ use simplex_types::{
     SkipPolicy, Subject, TermLength, View, ViewDelta,
 };
 use std::alloc::{AllocError, Global};
-use test_support::reading::{member, number, proposal, subject, view};
+use test_support::reading::{certified, member, number, proposal, subject, view};
 use test_support::signing::{KEYS, OTHER_KEYS, signed_vote};
 use test_support::telling::yes_or_no;
 use test_support::{Part, Script, Told, play};
@@ -144,7 +144,7 @@ enum Command {
     /// `vote 3 notarize 1 aa`: a packet of the member with its vote. `vote 3 of 1 ..`: with another's. `forged 3 ..`: with a wrong
     /// signature.
     Vote(Participant, Participant, u64, Subject),
-    /// `certificate 0 notarize 1 aa`: a packet of the member with the certificate of all members' votes.
+    /// `certificate 0 notarization 1 aa`: a packet of the member with the certificate, which all members signed.
     Certificate(Participant, Subject),
     /// `active 1 at 1100`: whether the member was seen for 100 milliseconds.
     Active(Participant, u64),
@@ -181,7 +181,7 @@ fn command_of(words: &[&str]) -> Option<Command> {
     match words {
         ["update", ..] => update_of(words),
         ["certificate", sender, what @ ..] => {
-            Some(Command::Certificate(member(sender)?, subject(what)?))
+            Some(Command::Certificate(member(sender)?, certified(what)?))
         }
         ["active", who, "at", now] => Some(Command::Active(member(who)?, number(now)?)),
         _ => vote_of(words),

@@ -9,9 +9,12 @@
 mod batcher;
 mod round;
 mod signed;
+mod state;
 mod step;
+mod terms;
 mod told;
 mod verifier;
+mod voter;
 
 use crate::told::told;
 use simplex_io::{ReaderSource, read_bytes};

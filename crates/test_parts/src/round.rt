@@ -7,15 +7,14 @@ use crate::round::orders::tally_of;
 use simplex_round::{Batch, Round, RoundOut};
 use simplex_types::Keyed;
 use simplex_values::{Participant, Proposal, Round as ViewRound, Subject, quorum};
-use simplex_wire::{
-    Certificate, CertificateKind, Finalization, Notarization, Nullification, Signatures, Vote,
-};
+use simplex_wire::{CertificateKind, Vote};
 use std::alloc::{AllocError, Global};
 use test_support::reading::{member, round};
 use test_support::signing::{KEYS, OTHER_KEYS, signed_vote};
 use test_support::telling::{
     Items, activity_text, block_text, certificate_text, members_text, proposal_text, yes_or_no,
 };
+use test_support::unsigned::certificate_on;
 use test_support::{Part, Script, Told, play};
 
 /// A round, and what verifies its votes.
@@ -81,24 +80,6 @@ pub(crate) fn tell(script: &Script, words: &[&str], told: &mut Told) -> Result<(
     play(&mut table, script, told)
 }
 
-/// A certificate on the subject that nobody signed.
-fn certificate(alloc: Global, subject: Subject) -> Certificate {
-    let certificate = Signatures::new(Vec::new(alloc));
-    match subject {
-        Subject::Notarize(proposal) => Certificate::Notarization(Notarization {
-            proposal,
-            certificate,
-        }),
-        Subject::Nullify(round) => {
-            Certificate::Nullification(Nullification { round, certificate })
-        }
-        Subject::Finalize(proposal) => Certificate::Finalization(Finalization {
-            proposal,
-            certificate,
-        }),
-    }
-}
-
 fn push_out(alloc: Global, items: &mut Items, out: &RoundOut) -> Result<(), AllocError> {
     for activity in out.reports.as_slice() {
         let activity = activity_text(alloc, activity)?;
@@ -159,7 +140,7 @@ impl Table {
     }
 
     fn certified(&mut self, items: &mut Items, subject: Subject) -> Result<(), AllocError> {
-        let certificate = certificate(self.alloc, subject);
+        let certificate = certificate_on(self.alloc, subject);
         if self.round.record_certificate(self.alloc, &certificate)? {
             items.push("another proposal")?;
         }

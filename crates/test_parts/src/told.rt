@@ -1,5 +1,5 @@
 //! A script of a part with what came out.
-use crate::{batcher, round, verifier};
+use crate::{batcher, round, state, terms, verifier, voter};
 use std::alloc::{AllocError, Global};
 use test_support::{Script, Told, words_in};
 
@@ -14,7 +14,10 @@ pub(crate) fn told(alloc: Global, script: &Script) -> Result<Told, AllocError> {
     match words.as_slice() {
         ["batcher", ..] => batcher::tell(script, &words, &mut told)?,
         ["round", ..] => round::tell(script, &words, &mut told)?,
+        ["state", ..] => state::tell(script, &words, &mut told)?,
+        ["terms", ..] => terms::tell(script, &words, &mut told)?,
         ["verifier", ..] => verifier::tell(script, &words, &mut told)?,
+        ["voter", ..] => voter::tell(script, &words, &mut told)?,
         _ => told.says("there is no such part")?,
     }
     Ok(told)

@@ -66,6 +66,16 @@ pub fn subject(words: &[&str]) -> Option<Subject> {
     }
 }
 
+/// What a certificate is for: `notarization 3 aa`, `nullification 3` or `finalization 3 aa`.
+pub fn certified(words: &[&str]) -> Option<Subject> {
+    match words {
+        ["notarization", what @ ..] => Some(Subject::Notarize(proposal(what)?)),
+        ["nullification", number] => Some(Subject::Nullify(round(number)?)),
+        ["finalization", what @ ..] => Some(Subject::Finalize(proposal(what)?)),
+        _ => None,
+    }
+}
+
 /// Why a view expires.
 pub fn reason(words: &[&str]) -> Option<TimeoutReason> {
     match words {

@@ -1,6 +1,6 @@
 //! What the lines of a script say of a round.
 use simplex_values::{Participant, Proposal, Subject};
-use test_support::reading::{member, number, proposal, subject};
+use test_support::reading::{certified, member, number, proposal, subject};
 
 /// What is done with a round.
 #[derive(Clone, Copy)]
@@ -15,7 +15,7 @@ pub(crate) enum Command {
     },
     /// `own 3 notarize 1 aa`: the member takes its own vote.
     Own(Participant, Subject),
-    /// `certificate notarize 1 aa`: a certificate of such votes comes.
+    /// `notarization 1 aa`: the certificate comes.
     Certificate(Subject),
     /// `check`: the votes of a kind are checked.
     Check,
@@ -33,7 +33,7 @@ pub(crate) enum Command {
     Orders(Proposal, usize),
 }
 
-fn vote(words: &[&str]) -> Option<Command> {
+fn vote_of(words: &[&str]) -> Option<Command> {
     let (sender, signer, is_forged, what) = match words {
         ["vote", sender, "of", signer, what @ ..] => (sender, signer, false, what),
         ["vote", sender, what @ ..] => (sender, sender, false, what),
@@ -52,7 +52,6 @@ fn vote(words: &[&str]) -> Option<Command> {
 pub(crate) fn command_of(words: &[&str]) -> Option<Command> {
     match words {
         ["own", signer, what @ ..] => Some(Command::Own(member(signer)?, subject(what)?)),
-        ["certificate", what @ ..] => Some(Command::Certificate(subject(what)?)),
         ["check"] => Some(Command::Check),
         ["forward", "to", me] => Some(Command::Forward(member(me)?)),
         ["lacking", what @ ..] => Some(Command::Lacking(proposal(what)?)),
@@ -63,6 +62,7 @@ pub(crate) fn command_of(words: &[&str]) -> Option<Command> {
             let leap = usize::try_from(number(leap)?).ok()?;
             Some(Command::Orders(proposal(what)?, leap))
         }
-        _ => vote(words),
+        ["vote" | "forged", ..] => vote_of(words),
+        _ => Some(Command::Certificate(certified(words)?)),
     }
 }
