@@ -6,14 +6,22 @@
 //! It owes nothing but that it is safe and ends.
 #![tactic(auto)]
 
+mod batcher;
 mod engine;
-mod limits;
 mod fetcher;
 mod gives;
+mod limits;
 mod mail;
 mod repair;
 mod resolver;
+mod round;
+mod signed;
+mod state;
+mod step;
+mod terms;
 mod told;
+mod verifier;
+mod voter;
 
 use crate::told::told;
 use simplex_io::{ReaderSource, read_bytes};

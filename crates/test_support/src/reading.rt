@@ -1,5 +1,5 @@
 //! What the words of a script stand for.
-use simplex_values::{Digest, Participant, View};
+use simplex_values::{Digest, Epoch, Participant, Proposal, Round, Subject, TimeoutReason, View};
 
 /// The number that a word is.
 pub fn number(word: &str) -> Option<u64> {
@@ -32,4 +32,62 @@ pub fn payload(word: &str) -> Option<Digest> {
     };
     let byte = digit(*high)?.checked_mul(16)?.checked_add(digit(*low)?)?;
     Some(Digest([byte; 32]))
+}
+
+/// The round of this view, of epoch 0.
+pub fn round(word: &str) -> Option<Round> {
+    Some(Round {
+        epoch: Epoch(0),
+        view: view(word)?,
+    })
+}
+
+/// The proposal of a view and a payload, `3 aa`, on genesis; or on another view, `3 aa on 2`.
+pub fn proposal(words: &[&str]) -> Option<Proposal> {
+    let (number, name, parent) = match words {
+        [number, name] => (number, name, View(0)),
+        [number, name, "on", parent] => (number, name, view(parent)?),
+        _ => return None,
+    };
+    Some(Proposal {
+        round: round(number)?,
+        parent,
+        payload: payload(name)?,
+    })
+}
+
+/// What a vote is for: `notarize 3 aa`, `nullify 3` or `finalize 3 aa`.
+pub fn subject(words: &[&str]) -> Option<Subject> {
+    match words {
+        ["notarize", what @ ..] => Some(Subject::Notarize(proposal(what)?)),
+        ["nullify", number] => Some(Subject::Nullify(round(number)?)),
+        ["finalize", what @ ..] => Some(Subject::Finalize(proposal(what)?)),
+        _ => None,
+    }
+}
+
+/// What a certificate is for: `notarization 3 aa`, `nullification 3` or `finalization 3 aa`.
+pub fn certified(words: &[&str]) -> Option<Subject> {
+    match words {
+        ["notarization", what @ ..] => Some(Subject::Notarize(proposal(what)?)),
+        ["nullification", number] => Some(Subject::Nullify(round(number)?)),
+        ["finalization", what @ ..] => Some(Subject::Finalize(proposal(what)?)),
+        _ => None,
+    }
+}
+
+/// Why a view expires.
+pub fn reason(words: &[&str]) -> Option<TimeoutReason> {
+    match words {
+        ["leader", "timeout"] => Some(TimeoutReason::LeaderTimeout),
+        ["certification", "timeout"] => Some(TimeoutReason::CertificationTimeout),
+        ["stall", "timeout"] => Some(TimeoutReason::StallTimeout),
+        ["leader", "nullify"] => Some(TimeoutReason::LeaderNullify),
+        ["inactivity"] => Some(TimeoutReason::Inactivity),
+        ["missing", "proposal"] => Some(TimeoutReason::MissingProposal),
+        ["ignored", "proposal"] => Some(TimeoutReason::IgnoredProposal),
+        ["invalid", "proposal"] => Some(TimeoutReason::InvalidProposal),
+        ["failed", "certification"] => Some(TimeoutReason::FailedCertification),
+        _ => None,
+    }
 }

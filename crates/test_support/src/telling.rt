@@ -1,6 +1,6 @@
 //! What came out, in words: votes, certificates and evidence with their views, payloads and signers.
 use simplex_types::{Activity, BlockCause};
-use simplex_values::{Digest, Participant, Proposal, View};
+use simplex_values::{Digest, Participant, Proposal, TimeoutReason, View};
 use simplex_wire::{
     Artifact, Attestation, Certificate, Finalization, Finalize, Notarization, Notarize,
     Nullification, Nullify, Vote,
@@ -228,4 +228,19 @@ pub fn block_text(
 ) -> Result<String, AllocError> {
     let cause = cause_text(cause);
     format!(in alloc; "block {member} for {cause}")
+}
+
+/// Why a view expires.
+pub fn reason_text(reason: TimeoutReason) -> &'static str {
+    match reason {
+        TimeoutReason::LeaderTimeout => "leader timeout",
+        TimeoutReason::CertificationTimeout => "certification timeout",
+        TimeoutReason::StallTimeout => "stall timeout",
+        TimeoutReason::LeaderNullify => "leader nullify",
+        TimeoutReason::Inactivity => "inactivity",
+        TimeoutReason::MissingProposal => "missing proposal",
+        TimeoutReason::IgnoredProposal => "ignored proposal",
+        TimeoutReason::InvalidProposal => "invalid proposal",
+        TimeoutReason::FailedCertification => "failed certification",
+    }
 }

@@ -1,6 +1,6 @@
 //! Proposals of epoch 0, and certificates of them that nobody signed, for those who verify nothing.
-use simplex_values::{Digest, Epoch, Proposal, Round, View};
-use simplex_wire::{Finalization, Notarization, Nullification, Signatures};
+use simplex_values::{Digest, Epoch, Proposal, Round, Subject, View};
+use simplex_wire::{Certificate, Finalization, Notarization, Nullification, Signatures};
 use std::alloc::Global;
 
 /// The round of the view.
@@ -41,5 +41,23 @@ pub fn finalization(alloc: Global, view: u64, parent: u64) -> Finalization {
     Finalization {
         proposal: block(view, parent),
         certificate: Signatures::new(Vec::new(alloc)),
+    }
+}
+
+/// The certificate of votes for this.
+pub fn certificate_on(alloc: Global, subject: Subject) -> Certificate {
+    let certificate = Signatures::new(Vec::new(alloc));
+    match subject {
+        Subject::Notarize(proposal) => Certificate::Notarization(Notarization {
+            proposal,
+            certificate,
+        }),
+        Subject::Nullify(round) => {
+            Certificate::Nullification(Nullification { round, certificate })
+        }
+        Subject::Finalize(proposal) => Certificate::Finalization(Finalization {
+            proposal,
+            certificate,
+        }),
     }
 }

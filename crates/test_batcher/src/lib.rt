@@ -1,5 +1,0 @@
-//! Tests of the batcher's actor.
-#![tactic(auto)]
-
-#[cfg(test)]
-mod tests;

@@ -1,5 +1,0 @@
-//! Tests of the voter's actor.
-#![tactic(auto)]
-
-#[cfg(test)]
-mod tests;
