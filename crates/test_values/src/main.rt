@@ -6,6 +6,8 @@
 //! It owes nothing but that it is safe and ends.
 #![tactic(auto)]
 
+mod form;
+mod naming;
 mod told;
 
 use crate::told::told;

@@ -1,4 +1,5 @@
 //! A script of a part with what came out.
+use crate::form::play_form;
 use std::alloc::{AllocError, Global};
 use test_support::{Script, Told, words_in};
 
@@ -10,7 +11,8 @@ pub(crate) fn told(alloc: Global, script: &Script) -> Result<Told, AllocError> {
     };
     told.line(first.as_str())?;
     let words = words_in(alloc, first.as_str())?;
-    match words.first() {
+    match words.as_slice() {
+        ["form"] => play_form(script, &mut told)?,
         // A part is made here by the words of its name, and given the script by `play`.
         _ => told.says("there is no such part")?,
     }
