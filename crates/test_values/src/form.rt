@@ -2,11 +2,13 @@
 //!
 //! `let NAME TEXT` lets a name stand for a text in the lines below it; `<newline>`, `<tab>` and `<return>` stand for those characters.
 //! `input TEXT` reads a whole input; `events TEXT` one with the setup that the name SETUP stands for, and tells its events; `usual TEXT` reads one with which later ones are compared by `same TEXT`; `chain TEXT` reads the
-//! epochs of a chain; `value TEXT` reads a setup or an event alone; `run TEXT` reads a run.
+//! epochs of a chain; `why TEXT` tells why a whole input is not of the form, and `explain PLACE TEXT` why the part at this place would
+//! not be; `value TEXT` reads a setup or an event alone; `run TEXT` reads a run.
 mod events;
 
 pub(crate) use events::event_text;
 
+use simplex_diagnosis::explain;
 use simplex_epochs::{ChainInput, read_chain_input};
 use simplex_form::{Input, InputFault, read_event, read_input, read_run, read_setup, read_value};
 use simplex_transcript::{Event, Setup};
@@ -132,6 +134,23 @@ fn take_value(told: &mut Told, text: &str) -> Result<(), AllocError> {
     }
 }
 
+fn take_why(told: &mut Told, text: &str) -> Result<(), AllocError> {
+    let alloc = told.alloc();
+    match read_input(alloc, text.as_bytes())? {
+        Ok(_) => told.says("it is of the form"),
+        Err(place) => told.says(explain(alloc, text.as_bytes(), place)?.as_str()),
+    }
+}
+
+fn take_explain(told: &mut Told, text: &str) -> Result<(), AllocError> {
+    let alloc = told.alloc();
+    let (place, text) = text.split_once(" ").unwrap_or((text, ""));
+    match place.parse::<u64>() {
+        Ok(place) => told.says(explain(alloc, text.as_bytes(), place)?.as_str()),
+        Err(_) => told.says("not a command"),
+    }
+}
+
 fn take_run(told: &mut Told, text: &str) -> Result<(), AllocError> {
     match read_run(told.alloc(), text.as_bytes()) {
         Ok(input) => tell_input(told, &input),
@@ -167,6 +186,8 @@ fn take(form: &mut Form, told: &mut Told, line: &str) -> Result<(), AllocError> 
         "usual" => take_usual(form, told, text.as_str()),
         "same" => take_same(form, told, text.as_str()),
         "chain" => take_chain(told, text.as_str()),
+        "why" => take_why(told, text.as_str()),
+        "explain" => take_explain(told, text.as_str()),
         "value" => take_value(told, text.as_str()),
         "run" => take_run(told, text.as_str()),
         _ => told.says("not a command"),

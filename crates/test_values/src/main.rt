@@ -6,8 +6,13 @@
 //! It owes nothing but that it is safe and ends.
 #![tactic(auto)]
 
+mod audit;
+mod epochs;
 mod form;
+mod members;
 mod naming;
+mod printed;
+mod scripting;
 mod told;
 
 use crate::told::told;

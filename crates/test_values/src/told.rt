@@ -1,7 +1,19 @@
 //! A script of a part with what came out.
+use crate::audit::play_audit;
+use crate::epochs::Epochs;
 use crate::form::play_form;
+use crate::members::Members;
+use crate::printed::Printed;
+use crate::scripting::play_scripting;
 use std::alloc::{AllocError, Global};
-use test_support::{Script, Told, words_in};
+use test_support::{Script, Told, play, words_in};
+
+fn play_epochs(height: &str, script: &Script, told: &mut Told) -> Result<(), AllocError> {
+    match height.parse::<u64>() {
+        Ok(height) => play(&mut Epochs::new(told.alloc(), height), script, told),
+        Err(_) => told.says("no height"),
+    }
+}
 
 /// The script with what came out. Its first line names the part, and tells how it is made.
 pub(crate) fn told(alloc: Global, script: &Script) -> Result<Told, AllocError> {
@@ -12,7 +24,12 @@ pub(crate) fn told(alloc: Global, script: &Script) -> Result<Told, AllocError> {
     told.line(first.as_str())?;
     let words = words_in(alloc, first.as_str())?;
     match words.as_slice() {
+        ["audit"] => play_audit(script, &mut told)?,
+        ["epochs", "closed", "at", height] => play_epochs(height, script, &mut told)?,
         ["form"] => play_form(script, &mut told)?,
+        ["members"] => play(&mut Members::new(alloc), script, &mut told)?,
+        ["printed"] => play(&mut Printed::new(alloc), script, &mut told)?,
+        ["script"] => play_scripting(script, &mut told)?,
         // A part is made here by the words of its name, and given the script by `play`.
         _ => told.says("there is no such part")?,
     }

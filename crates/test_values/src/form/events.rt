@@ -110,7 +110,7 @@ pub(crate) fn event_text(alloc: Global, event: &Event) -> Result<String, AllocEr
             let nodes = nodes_text(alloc, to.as_slice())?;
             let bytes = hex::encode(alloc, bytes.as_slice())?;
             let channel = channel_word(*channel);
-            format!(in alloc; "{member} inject {channel} to{nodes}: {bytes}")
+            format!(in alloc; "{member} inject {channel} to{nodes}: \"{bytes}\"")
         }
     }
 }

@@ -1,5 +1,7 @@
-//! Runs that a number makes: the same events as the input of a run, and one event more.
+//! Runs that a number makes: the same events as the input of a run, of a record and of logs, and one event more.
+use simplex_audits::audit_program;
 use simplex_generator::gen_run;
+use simplex_logs::log_program;
 use simplex_network::run_network;
 use simplex_program::{Exit, program};
 use simplex_transcript::{Event, Node, Ref, RunError, Setup};
@@ -10,9 +12,6 @@ use std::thread::Threads;
 use test_support::desk_of;
 
 const NUMBER: u64 = 7;
-
-// What `gen 7 2000` says.
-const SUMMARY: &str = "events 2000 finalized 0 greatest 0 evidence 10 stops 3\n";
 
 // The input that has these events.
 fn input_of(alloc: Global, setup: &Setup, events: &[Event]) -> Result<Vec<u8>, AllocError> {
@@ -51,42 +50,6 @@ fn the_input_that_has_the_events_of_a_number_has_the_same_entries(rt: HostRuntim
     }
 }
 
-// What these words write of this many events of the number, and with which status.
-fn told<R: Abort + Threads + Sync>(
-    rt: &R,
-    alloc: Global,
-    words: &[&str],
-    count: u64,
-) -> (Vec<u8>, u8) {
-    let (setup, events) = gen_run(alloc, NUMBER, count).expect(rt, "room");
-    let input = input_of(alloc, &setup, &events).expect(rt, "room");
-    let (exit, written) = ended(rt, alloc, words, input);
-    (written, exit.status())
-}
-
-#[test]
-fn workers_tell_of_a_long_list_what_one_tells(rt: HostRuntime) {
-    let alloc = rt.alloc();
-    let one = told(&rt, alloc, &["run"], 700);
-    assert!(rt; !one.0.is_empty());
-    assert_eq!(rt; one.1, 0);
-    for workers in ["2", "64"] {
-        let more = told(&rt, alloc, &["par", workers], 700);
-        assert_eq!(rt; more, one, "{workers} workers");
-    }
-}
-
-#[test]
-fn a_number_makes_one_list(rt: HostRuntime) {
-    let alloc = rt.alloc();
-    let words = ["gen", "7", "2000"];
-    for _turn in 0..2 {
-        let (exit, written) = ended(&rt, alloc, &words, Vec::new(alloc));
-        assert_eq!(rt; exit.status(), 0);
-        assert_eq!(rt; written.as_slice(), SUMMARY.as_bytes());
-    }
-}
-
 #[test]
 fn a_packet_of_no_event_behind_them_is_refused(rt: HostRuntime) {
     let alloc = rt.alloc();
@@ -109,4 +72,37 @@ fn a_packet_of_no_event_behind_them_is_refused(rt: HostRuntime) {
             assert_eq!(rt; refusal.event, 2001);
         }
     }
+}
+
+// The bytes of the input of 2,000 events.
+fn long_input(rt: &impl Abort, alloc: Global) -> Vec<u8> {
+    let (setup, events) = gen_run(alloc, NUMBER, 2000).expect(rt, "room");
+    input_of(alloc, &setup, &events).expect(rt, "room")
+}
+
+// What the program of records writes with this word, and with which status.
+fn audited(rt: &impl Abort, alloc: Global, word: &str, input: &[u8]) -> (Vec<u8>, u8) {
+    let mut desk = desk_of(alloc, &[word], input).expect(rt, "room");
+    let exit = audit_program(alloc, &desk.words, &mut desk.source, &mut desk.sink);
+    let written = desk.sink.bytes().to_vec(alloc).expect(rt, "room");
+    (written, exit.status())
+}
+
+#[test]
+fn the_record_of_generated_events_is_sound(rt: HostRuntime) {
+    let alloc = rt.alloc();
+    let input = long_input(&rt, alloc);
+    let (record, _status) = audited(&rt, alloc, "record", &input);
+    let (verdict, status) = audited(&rt, alloc, "check", &record);
+    assert_eq!(rt; (verdict.as_slice(), status), ("sound\n".as_bytes(), 0));
+}
+
+// In these 2,000 events nothing becomes final, so that no node has a log.
+#[test]
+fn events_that_finalize_nothing_give_no_logs(rt: HostRuntime) {
+    let alloc = rt.alloc();
+    let input = long_input(&rt, alloc);
+    let mut desk = desk_of(alloc, &["logs"], &input).expect(&rt, "room");
+    let exit = log_program(alloc, &desk.words, &mut desk.source, &mut desk.sink);
+    assert_eq!(rt; (desk.sink.bytes(), exit.status()), ("".as_bytes(), 0));
 }

@@ -1,0 +1,14 @@
+//! Tests of what no script can bring about: reads and writes that fail, streams that are cut, runs that a number makes, and what has a
+//! second rendering.
+#![tactic(auto)]
+
+#[cfg(test)]
+mod faulty;
+#[cfg(test)]
+mod generated;
+#[cfg(test)]
+mod kept;
+#[cfg(test)]
+mod program;
+#[cfg(test)]
+mod streams;
