@@ -39,12 +39,12 @@ count() {
     fi
 }
 
-# Why the program does not do what the example says, or nothing.
-fault() {
-    local example=$1 status=0 wanted words=(run) input=$1.json output=$1.out runs=$program
-    if [[ -f $example.words ]]; then
-        read -ra words <"$example.words"
-        [[ -f $input ]] || input=/dev/null
+# Why the program does not do what the example says, with one line of its words, or nothing.
+fault_with() {
+    local example=$1 line=$2 status=0 wanted words input=$1.json output=$1.out runs=$program
+    mapfile -t words < <(xargs -r -n 1 printf '%s\n' <<<"$line")
+    if [[ -f $example.words && ! -f $input ]]; then
+        input=/dev/null
     fi
     if [[ -f $example.script ]]; then
         input=$example.script
@@ -61,6 +61,19 @@ fault() {
     elif ! cmp -s "$written" "$output"; then
         echo "it wrote otherwise, beginning '$(head -n 1 "$written" | head -c 200)'"
     fi
+}
+
+# Why the program does not do what the example says, or nothing.
+fault() {
+    local example=$1 lines=(run) line why
+    [[ ! -f $example.words ]] || mapfile -t lines <"$example.words"
+    for line in "${lines[@]}"; do
+        why=$(fault_with "$example" "$line")
+        if [[ -n $why ]]; then
+            echo "$why, with the words '$line'"
+            return
+        fi
+    done
 }
 
 # Why the program does not end with this status, and this line on standard error, with these standard streams, or nothing.

@@ -1,8 +1,19 @@
-//! Tests of what goes wrong below the protocol: calls of a disk that fail, images of a disk, and steps that stop before each of their calls.
+//! Tests of what no script can bring about: reads and writes that fail, streams that are cut, calls of a disk that fail and images of a
+//! disk, steps that stop before each of their calls, runs that a number makes, and what has a second rendering.
 #![tactic(auto)]
 
 mod disk;
 #[cfg(test)]
+mod faulty;
+#[cfg(test)]
+mod generated;
+#[cfg(test)]
+mod kept;
+#[cfg(test)]
+mod program;
+#[cfg(test)]
 mod stops;
+#[cfg(test)]
+mod streams;
 
 pub use disk::two_records;

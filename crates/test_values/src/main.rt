@@ -6,14 +6,21 @@
 //! It owes nothing but that it is safe and ends.
 #![tactic(auto)]
 
+mod audit;
 mod certificates;
+mod epochs;
+mod form;
 mod journal;
 mod log;
+mod members;
+mod naming;
 mod notes;
 mod plain;
+mod printed;
 mod recording;
 mod report;
 mod schemes;
+mod scripting;
 mod signed;
 mod sums;
 mod told;
