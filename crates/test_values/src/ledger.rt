@@ -43,7 +43,11 @@ fn tell_block(told: &mut Told, word: &str) -> Result<(), AllocError> {
     }
     let spelled = encode_block(alloc, transfers.as_slice())?;
     let same = spelled.as_slice() == bytes.as_slice();
-    told.says(if same { "spelled so" } else { "spelled otherwise" })
+    told.says(if same {
+        "spelled so"
+    } else {
+        "spelled otherwise"
+    })
 }
 
 fn tell_error(told: &mut Told, error: LedgerError) -> Result<(), AllocError> {
