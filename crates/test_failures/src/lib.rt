@@ -1,5 +1,5 @@
-//! Tests of what no script can bring about: reads and writes that fail, streams that are cut, runs that a number makes, and what has a
-//! second rendering.
+//! Tests of what no script can bring about: reads and writes that fail, streams that are cut, runs that a number makes, a ledger of a million transfers,
+//! and what has a second rendering.
 #![tactic(auto)]
 
 #[cfg(test)]
@@ -8,6 +8,8 @@ mod faulty;
 mod generated;
 #[cfg(test)]
 mod kept;
+#[cfg(test)]
+mod large_ledger;
 #[cfg(test)]
 mod program;
 #[cfg(test)]

@@ -3,10 +3,7 @@
 //! The texts were made by a short script over Python's `hashlib.sha256` and a ChaCha with 8 rounds written from its
 //! public description, and not by these crates.
 
-mod members;
-mod packets;
 mod payloads;
-mod rendering;
 
 use rand_chacha::ChaCha8Rng;
 use rand_core::SeedableRng;

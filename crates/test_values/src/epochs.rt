@@ -55,8 +55,9 @@ fn rooted(run: &EpochRun, digest: Digest) -> (u64, u64) {
 fn run_text(alloc: Global, run: &EpochRun) -> Result<String, AllocError> {
     let genesis = digest_name(alloc, &run.genesis)?;
     let (named, others) = rooted(run, run.genesis);
-    let mut text =
-        format!(in alloc; "begins at {genesis}: requests on it {named}, on another {others}; logs")?;
+    let mut text = format!(in alloc;
+        "begins at {genesis}: requests on it {named}, on another {others}; logs"
+    )?;
     for (node, log) in run.logs.as_slice() {
         text.push_str(format!(in alloc; " {node}: {}", log.len())?.as_str())?;
     }

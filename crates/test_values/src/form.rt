@@ -7,7 +7,6 @@
 mod events;
 
 pub(crate) use events::event_text;
-
 use simplex_diagnosis::explain;
 use simplex_epochs::{ChainInput, read_chain_input};
 use simplex_form::{Input, InputFault, read_event, read_input, read_run, read_setup, read_value};

@@ -6,11 +6,15 @@
 //! It owes nothing but that it is safe and ends.
 #![tactic(auto)]
 
+mod application;
 mod audit;
 mod epochs;
 mod form;
+mod ledger;
 mod members;
+mod mocks;
 mod naming;
+mod picture;
 mod printed;
 mod scripting;
 mod told;

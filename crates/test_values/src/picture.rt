@@ -115,7 +115,11 @@ fn tell_held(told: &mut Told, scene: &Scene, cut: &Cut, text: &str) -> Result<()
     let picture = drawn(alloc, cut, scene)?;
     let (events, entries) = (scene.events.as_slice(), scene.entries.as_slice());
     let page = svg(alloc, cut, &picture, events, entries, Some("a < b"))?;
-    told.says(if page.as_str().contains(text) { "yes" } else { "no" })
+    told.says(if page.as_str().contains(text) {
+        "yes"
+    } else {
+        "no"
+    })
 }
 
 fn take(told: &mut Told, scene: &Scene, line: &str) -> Result<(), AllocError> {

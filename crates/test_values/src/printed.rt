@@ -67,18 +67,14 @@ fn call_of(alloc: Global, word: &str) -> Option<Call> {
             proposal: PROPOSAL,
             certificate: Signatures::new(Vec::new(alloc)),
         }))),
-        "two-notarizes" => Some(Call::Report(Activity::ConflictingNotarize(
-            ConflictingNotarize {
-                first: notarize(),
-                second: notarize(),
-            },
-        ))),
-        "two-finalizes" => Some(Call::Report(Activity::ConflictingFinalize(
-            ConflictingFinalize {
-                first: finalize(),
-                second: finalize(),
-            },
-        ))),
+        "two-notarizes" => Some(Call::Report(Activity::ConflictingNotarize(ConflictingNotarize {
+            first: notarize(),
+            second: notarize(),
+        }))),
+        "two-finalizes" => Some(Call::Report(Activity::ConflictingFinalize(ConflictingFinalize {
+            first: finalize(),
+            second: finalize(),
+        }))),
         "nullify-and-finalize" => Some(Call::Report(Activity::NullifyFinalize(NullifyFinalize {
             nullify: nullify(),
             finalize: finalize(),

@@ -59,7 +59,12 @@ fn following(word: &str, node: Node, place: Ref) -> Option<Event> {
     }
 }
 
-fn answered(alloc: Global, node: Node, place: Ref, word: &str) -> Result<Option<Event>, AllocError> {
+fn answered(
+    alloc: Global,
+    node: Node,
+    place: Ref,
+    word: &str,
+) -> Result<Option<Event>, AllocError> {
     let Some(payload) = digest_of(alloc, word)? else {
         return Ok(None);
     };

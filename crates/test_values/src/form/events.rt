@@ -45,11 +45,7 @@ fn start_text(alloc: Global, floor: Option<&Finalization>) -> Result<String, All
     }
 }
 
-fn with_payload(
-    alloc: Global,
-    word: &str,
-    payload: &Digest,
-) -> Result<String, AllocError> {
+fn with_payload(alloc: Global, word: &str, payload: &Digest) -> Result<String, AllocError> {
     let payload = digest_name(alloc, payload)?;
     format!(in alloc; "{word} {payload}")
 }
