@@ -11,7 +11,7 @@
 //! | keep its journal in files, on a disk of one's own | [`journal::DiskJournal`], over a [`journal::Disk`] | `crates/example_disk` |
 //! | propose, verify and certify by an application | [`Network::apply`], answering what an [`Entry`] asked; or [`mocks::application`] | `crates/example_application` |
 //! | be told what a member reports | [`types::Reporter`], [`hand_reports`], [`mocks::reporter`] | `crates/test_recording` |
-//! | try members that break the rules | [`mocks`], [`twins`], [`MemberKind`] | `crates/test_mocks` |
+//! | try members that break the rules | [`mocks`], [`twins`], [`MemberKind`] | `crates/test_failures` |
 //! | read an input, and print its run | [`form::read_run`], [`text::printed_run`], or both by [`program`] | `crates/simplex_net` |
 //! | keep the finalized log, or get those of a run | [`log::FinalizedLog`], [`log::logs`], [`log::log_program`] | `crates/simplex_log_cli` |
 //! | apply the blocks of a log to accounts | [`ledger::Ledger`], [`ledger::ledger_program`] | `crates/simplex_ledger_cli` |
@@ -19,7 +19,7 @@
 //! | keep the record of a run, by which it can be judged without an engine | [`audit::record_of`], [`laws::audits`] | `crates/simplex_audit_cli` |
 //! | be told what each event did, also up to a refusal | [`lab::lines`], [`lab::lab_program`] | `crates/simplex_lab_cli` |
 //! | rest on evidence: whoever is named is faulty | [`run_network`], [`laws::runs::transcripts_blame_no_honest_member`] | `crates/example_monitor` |
-//! | make an input from a number | [`gen_run`] | `crates/test_program` |
+//! | make an input from a number | [`gen_run`] | `crates/test_failures` |
 //! | cite why no two members disagree | [`laws::runs`], `runs_are_safe` and `transcripts_report_one_chain` | docs/AGREEMENT.md |
 //!
 //! Nothing is made or decided here. It hands on:

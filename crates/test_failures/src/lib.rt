@@ -1,5 +1,6 @@
 //! Tests of what no script can bring about: reads and writes that fail, streams that are cut, calls of a disk that fail and images of a
-//! disk, steps that stop before each of their calls, runs that a number makes, and what has a second rendering.
+//! disk, steps that stop before each of their calls, runs that a number makes, a ledger of a million transfers, and what has a second
+//! rendering.
 #![tactic(auto)]
 
 mod disk;
@@ -9,6 +10,8 @@ mod faulty;
 mod generated;
 #[cfg(test)]
 mod kept;
+#[cfg(test)]
+mod large_ledger;
 #[cfg(test)]
 mod program;
 #[cfg(test)]

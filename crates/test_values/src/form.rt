@@ -1,9 +1,10 @@
 //! The part `form`: inputs as texts, and what is read of them, or the place of the first fault.
 //!
 //! `let NAME TEXT` lets a name stand for a text in the lines below it; `<newline>`, `<tab>` and `<return>` stand for those characters.
-//! `input TEXT` reads a whole input; `events TEXT` one with the setup that the name SETUP stands for, and tells its events; `usual TEXT` reads one with which later ones are compared by `same TEXT`; `chain TEXT` reads the
-//! epochs of a chain; `why TEXT` tells why a whole input is not of the form, and `explain PLACE TEXT` why the part at this place would
-//! not be; `value TEXT` reads a setup or an event alone; `run TEXT` reads a run.
+//! `input TEXT` reads a whole input; `events TEXT` one with the setup that the name SETUP stands for, and tells its events; `usual TEXT`
+//! reads one with which later ones are compared by `same TEXT`; `chain TEXT` reads the epochs of a chain; `why TEXT` tells why a whole
+//! input is not of the form, and `explain PLACE TEXT` why the part at this place would not be; `value TEXT` reads a setup or an event
+//! alone; `run TEXT` reads a run.
 mod events;
 
 pub(crate) use events::event_text;

@@ -2,12 +2,9 @@
 //!
 //! `block BYTES` reads a block, and writes it again. `blocks BYTES..` takes blocks; `sound DIGEST` and `sound of BYTES` tell whether one
 //! that can be read has the digest; `accounts BALANCE..` gives accounts, `entry VIEW DIGEST` a further entry of the log; `covers COUNT`
-//! tells whether the blocks have the first entries, `extend COUNT` extends a ledger by so many, then by all, and by all again. `large` does
-//! it with 65,536 accounts and a thousand blocks of a thousand transfers.
-mod large;
+//! tells whether the blocks have the first entries, `extend COUNT` extends a ledger by so many, then by all, and by all again.
 mod parts;
 
-use crate::ledger::large::tell_large;
 use crate::ledger::parts::tell_parts;
 use crate::naming::digest_of;
 use model_log::LogEntry;
@@ -169,7 +166,6 @@ impl Part for Books {
             ["entry", view, digest] => self.enter(view, digest, told),
             ["covers", count] => self.tell_covered(count, told),
             ["extend", count] => self.extend(count, told),
-            ["large"] => tell_large(told),
             _ => told.says("not a command"),
         }
     }

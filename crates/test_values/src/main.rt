@@ -6,15 +6,19 @@
 //! It owes nothing but that it is safe and ends.
 #![tactic(auto)]
 
+mod application;
 mod audit;
 mod certificates;
 mod epochs;
 mod form;
 mod journal;
+mod ledger;
 mod log;
 mod members;
+mod mocks;
 mod naming;
 mod notes;
+mod picture;
 mod plain;
 mod printed;
 mod recording;

@@ -1,8 +1,12 @@
 //! A script of a part with what came out.
+use crate::application::Applications;
 use crate::audit::play_audit;
 use crate::epochs::Epochs;
 use crate::form::play_form;
+use crate::ledger::Books;
 use crate::members::Members;
+use crate::mocks::Mocks;
+use crate::picture::play_picture;
 use crate::printed::Printed;
 use crate::scripting::play_scripting;
 use crate::{
@@ -27,14 +31,18 @@ pub(crate) fn told(alloc: Global, script: &Script) -> Result<Told, AllocError> {
     told.line(first.as_str())?;
     let words = words_in(alloc, first.as_str())?;
     match words.as_slice() {
+        ["application"] => play(&mut Applications::new(alloc), script, &mut told)?,
         ["audit"] => play_audit(script, &mut told)?,
         ["bytes"] => wire::run(script, &mut told)?,
         ["epochs", "closed", "at", height] => play_epochs(height, script, &mut told)?,
         ["form"] => play_form(script, &mut told)?,
         ["journal"] => journal::run(script, &mut told)?,
+        ["ledger"] => play(&mut Books::new(alloc), script, &mut told)?,
         ["log"] => log::run(script, &mut told)?,
         ["members"] => play(&mut Members::new(alloc), script, &mut told)?,
+        ["mocks"] => play(&mut Mocks::new(alloc), script, &mut told)?,
         ["notes", how @ ..] => notes::run(how, script, &mut told)?,
+        ["picture"] => play_picture(script, &mut told)?,
         ["printed"] => play(&mut Printed::new(alloc), script, &mut told)?,
         ["recording"] => recording::run(script, &mut told)?,
         ["reporters"] => report::run(script, &mut told)?,

@@ -98,13 +98,15 @@ fn signed(alloc: Global, signer: u32) -> Result<Option<Attestation>, AllocError>
 
 /// The signatures of three members on it.
 fn signatures(alloc: Global) -> Result<Signatures, AllocError> {
-    let mut all = Vec::new(alloc);
-    for signer in 0..3 {
-        if let Some(signed) = signed(alloc, signer)? {
-            all.push(signed)?;
+    let first = signed(alloc, 0)?;
+    let second = signed(alloc, 1)?;
+    let third = signed(alloc, 2)?;
+    match (first, second, third) {
+        (Some(first), Some(second), Some(third)) => {
+            Ok(Signatures::new(vec![in alloc; first, second, third]?))
         }
+        _ => Ok(Signatures::new(Vec::new(alloc))),
     }
-    Ok(Signatures::new(all))
 }
 
 fn rival(alloc: Global) -> Result<Certificate, AllocError> {

@@ -51,23 +51,32 @@ fn tell_bad(told: &mut Told, setup: &Setup) -> Result<(), AllocError> {
     }
 }
 
-/// Tells which item is bad where these items are set to these values, in a setup of one member.
+// Sets the item to the number that the word is, if both are such.
+fn set_word(setup: &mut Setup, item: &str, value: &str) -> bool {
+    match value.parse::<u64>() {
+        Ok(value) => set(setup, item, value),
+        Err(_) => false,
+    }
+}
+
+/// Tells which item is bad where one item is set to a value, or two are, in a setup of one member.
 pub(super) fn tell_set(told: &mut Told, pairs: &[&str]) -> Result<(), AllocError> {
     let alloc = told.alloc();
     let mut setup = Setup::usual(alloc, vec![in alloc; MemberKind::Honest]?);
-    for pair in pairs.chunks(2) {
-        let is_set = match pair {
-            [item, value] => match value.parse::<u64>() {
-                Ok(value) => set(&mut setup, item, value),
-                Err(_) => false,
-            },
-            _ => false,
-        };
-        if !is_set {
-            return told.says("not a command");
+    let is_set = match pairs {
+        [item, value] => set_word(&mut setup, item, value),
+        [item, value, other, second] => {
+            let first = set_word(&mut setup, item, value);
+            let second = set_word(&mut setup, other, second);
+            first && second
         }
+        _ => false,
+    };
+    if is_set {
+        tell_bad(told, &setup)
+    } else {
+        told.says("not a command")
     }
-    tell_bad(told, &setup)
 }
 
 /// The numbers that the words are, or none where one of them is no number.
