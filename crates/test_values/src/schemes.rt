@@ -35,21 +35,15 @@ fn setup_of(words: &[&str]) -> Option<Setup> {
     })
 }
 
-fn is_member(setup: Setup) -> bool {
-    match setup.me {
-        Some(me) => me.0 < setup.n,
-        None => true,
-    }
-}
-
 fn keyed_of(alloc: Global, setup: Setup) -> Result<Option<Keyed>, AllocError> {
     let Setup { base, n, me } = setup;
     if n == 0 {
         return Ok(None);
     }
     match me {
-        Some(me) if me.0 >= n => Ok(None),
-        me => Ok(Some(Keyed::new(alloc, base, n, me)?)),
+        None => Ok(Some(Keyed::new(alloc, base, n, None)?)),
+        Some(me) if me.0 < n => Ok(Some(Keyed::new(alloc, base, n, Some(me))?)),
+        Some(_) => Ok(None),
     }
 }
 
@@ -61,8 +55,8 @@ pub(crate) fn run(words: &[&str], script: &Script, told: &mut Told) -> Result<()
         [] => ("", None),
     };
     let inner = match setup {
-        Some(setup) if is_member(setup) => keyed_of(alloc, setup)?,
-        _ => None,
+        Some(setup) => keyed_of(alloc, setup)?,
+        None => None,
     };
     match kind {
         "keyed" => play_made(inner.map(|scheme| Desk { alloc, scheme }), script, told),
