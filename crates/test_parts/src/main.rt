@@ -7,6 +7,7 @@
 #![tactic(auto)]
 
 mod batcher;
+mod records;
 mod round;
 mod signed;
 mod state;

@@ -1,5 +1,5 @@
 //! A script of a part with what came out.
-use crate::{batcher, round, state, terms, verifier, voter};
+use crate::{batcher, records, round, state, terms, verifier, voter};
 use std::alloc::{AllocError, Global};
 use test_support::{Script, Told, words_in};
 
@@ -13,6 +13,7 @@ pub(crate) fn told(alloc: Global, script: &Script) -> Result<Told, AllocError> {
     let words = words_in(alloc, first.as_str())?;
     match words.as_slice() {
         ["batcher", ..] => batcher::tell(script, &words, &mut told)?,
+        ["records", ..] => records::tell(script, &words, &mut told)?,
         ["round", ..] => round::tell(script, &words, &mut told)?,
         ["state", ..] => state::tell(script, &words, &mut told)?,
         ["terms", ..] => terms::tell(script, &words, &mut told)?,
