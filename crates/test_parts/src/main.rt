@@ -12,6 +12,7 @@ mod fetcher;
 mod gives;
 mod limits;
 mod mail;
+mod records;
 mod repair;
 mod resolver;
 mod round;

@@ -5,6 +5,7 @@ use simplex_values::{Participant, Subject};
 use simplex_wire::Certificate;
 use std::alloc::{AllocError, Global};
 use test_support::signing::signed_vote;
+use test_support::unsigned::certificate_on;
 
 /// The view that a vote is for.
 fn round_of(subject: &Subject) -> simplex_values::Round {
@@ -46,6 +47,11 @@ pub(crate) fn certificate_by(
     let scheme = Keyed::new(alloc, keys, members, None)?;
     let mut round = Round::new(alloc, round_of(subject), members, signers, true)?;
     round.set_leader(Participant(0));
+    if let Subject::Finalize(proposal) = *subject {
+        // A round finalizes what was notarized.
+        let notarization = certificate_on(alloc, Subject::Notarize(proposal));
+        let _proposes = round.record_certificate(alloc, &notarization)?;
+    }
     vote(alloc, &mut round, keys, members, signers, subject)?;
     match round.try_construct(alloc, &scheme)? {
         Some(batch) => Ok(batch.certificate),

@@ -1,7 +1,7 @@
 //! A script of a part with what came out.
 use crate::{
-    batcher, engine, fetcher, gives, limits, mail, repair, resolver, round, state, terms, verifier,
-    voter,
+    batcher, engine, fetcher, gives, limits, mail, records, repair, resolver, round, state, terms,
+    verifier, voter,
 };
 use std::alloc::{AllocError, Global};
 use test_support::{Script, Told, words_in};
@@ -20,6 +20,7 @@ pub(crate) fn told(alloc: Global, script: &Script) -> Result<Told, AllocError> {
         ["fetcher", how @ ..] => fetcher::run(how, script, &mut told)?,
         ["limits"] => limits::tell(script, &mut told)?,
         ["mailbox", "of", how @ ..] => mail::run(how, script, &mut told)?,
+        ["records", ..] => records::tell(script, &words, &mut told)?,
         ["repair", how @ ..] => repair::run(how, script, &mut told)?,
         ["resolver", how @ ..] => resolver::run(how, script, &mut told)?,
         ["round", ..] => round::tell(script, &words, &mut told)?,
