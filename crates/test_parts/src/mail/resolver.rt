@@ -18,13 +18,28 @@ fn certified(alloc: Global, view: u64, success: bool) -> MailboxMessage {
     }
 }
 
-/// The notarization of the view is missing for the proposal of view 10.
-fn missing(view: u64, target: Option<Participant>) -> MailboxMessage {
+/// A certificate of this kind of the view is missing for the proposal of view 10.
+fn missing(kind: Kind, view: u64, target: Option<Participant>) -> MailboxMessage {
     MailboxMessage::Resolve {
         proposal: View(10),
         view: View(view),
-        kind: Kind::Notarization,
+        kind,
         target,
+    }
+}
+
+/// What is missing: the notarization of a view, `3`, or its nullification, `nullification 3`; behind it may stand of whom it is asked, `of 2`.
+fn missing_of(words: &[&str]) -> Option<MailboxMessage> {
+    let (kind, words) = match words {
+        ["nullification", words @ ..] => (Kind::Nullification, words),
+        words => (Kind::Notarization, words),
+    };
+    match words {
+        [view] => Some(missing(kind, number(view)?, None)),
+        [view, "of", target] => {
+            Some(missing(kind, number(view)?, Some(Participant(member(target)?))))
+        }
+        _ => None,
     }
 }
 
@@ -47,10 +62,7 @@ impl Spelled for MailboxMessage {
             ["replayed", ..] => Some(MailboxMessage::Replayed),
             ["certified", view] => Some(certified(alloc, number(view)?, true)),
             ["failed", view] => Some(certified(alloc, number(view)?, false)),
-            ["missing", view] => Some(missing(number(view)?, None)),
-            ["missing", view, "of", target] => {
-                Some(missing(number(view)?, Some(Participant(member(target)?))))
-            }
+            ["missing", words @ ..] => missing_of(words),
             [kind, view] => Some(MailboxMessage::Updated {
                 certificate: certificate_of(alloc, kind, number(view)?)?,
             }),
@@ -69,10 +81,21 @@ impl Spelled for MailboxMessage {
                 let verdict = if *success { "certified" } else { "failed" };
                 format!(in alloc; "{verdict} {view}")
             }
-            MailboxMessage::Resolve { view, target, .. } => match target {
-                None => format!(in alloc; "missing {view}"),
-                Some(member) => format!(in alloc; "missing {view} of {member}"),
-            },
+            MailboxMessage::Resolve {
+                view,
+                kind,
+                target,
+                ..
+            } => {
+                let kind = match kind {
+                    Kind::Notarization => "",
+                    Kind::Nullification => "nullification ",
+                };
+                match target {
+                    None => format!(in alloc; "missing {kind}{view}"),
+                    Some(member) => format!(in alloc; "missing {kind}{view} of {member}"),
+                }
+            }
             MailboxMessage::Replayed => String::from_str(alloc, "replayed"),
         }
     }
