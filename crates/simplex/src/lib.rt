@@ -4,13 +4,13 @@
 //! | I want to | Call | Example |
 //! |---|---|---|
 //! | run members under a list of events, and rest a promise on the run | [`Setup::usual`], [`run_network`] | `crates/example_run` |
-//! | look at the network between two events | [`Network::new`], [`Network::apply`] | `crates/test_network` |
-//! | run the same by several threads, or from another genesis digest | [`run_network_par`], [`run_network_from`] | `crates/test_par` |
-//! | step the engine of one member | [`Engine::new`], [`Engine::start`], [`Engine::poll`] | `crates/test_engine` |
+//! | look at the network between two events | [`Network::new`], [`Network::apply`] | `crates/test_failures` |
+//! | run the same by several threads, or from another genesis digest | [`run_network_par`], [`run_network_from`] | `crates/test_threads` |
+//! | step the engine of one member | [`Engine::new`], [`Engine::start`], [`Engine::poll`] | `crates/test_parts`, its part `engine` |
 //! | let its actors run on threads | [`threads::start_threads`] | `crates/test_threads` |
 //! | keep its journal in files, on a disk of one's own | [`journal::DiskJournal`], over a [`journal::Disk`] | `crates/example_disk` |
 //! | propose, verify and certify by an application | [`Network::apply`], answering what an [`Entry`] asked; or [`mocks::application`] | `crates/example_application` |
-//! | be told what a member reports | [`types::Reporter`], [`hand_reports`], [`mocks::reporter`] | `crates/test_recording` |
+//! | be told what a member reports | [`types::Reporter`], [`hand_reports`], [`mocks::reporter`] | `crates/test_values`, its part `recording` |
 //! | try members that break the rules | [`mocks`], [`twins`], [`MemberKind`] | `crates/test_failures` |
 //! | read an input, and print its run | [`form::read_run`], [`text::printed_run`], or both by [`program`] | `crates/simplex_net` |
 //! | keep the finalized log, or get those of a run | [`log::FinalizedLog`], [`log::logs`], [`log::log_program`] | `crates/simplex_log_cli` |
