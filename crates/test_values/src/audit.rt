@@ -4,7 +4,7 @@
 //! for twenty entries from the first to the last.
 mod change;
 
-use crate::audit::change::{Change, change, change_of};
+use crate::audit::change::{Change, change_entry, change_of};
 use model_audit::{AuditEntry, Verdict};
 use simplex_audit::record_of;
 use simplex_form::{Input, InputFault, read_run};
@@ -37,7 +37,7 @@ fn changed(
     if matches!(how, Change::IsMissing) {
         record.remove(place);
     } else if let Some(entry) = record.get_mut(place) {
-        change(alloc, entry, how)?;
+        change_entry(alloc, entry, how)?;
     }
     Ok(record)
 }

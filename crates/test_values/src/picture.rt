@@ -46,7 +46,7 @@ fn entry(alloc: Global, event: u64, who: Node, took: Option<Took>, packets: Vec<
     }
 }
 
-fn scene(alloc: Global) -> Result<Scene, AllocError> {
+fn two_nodes(alloc: Global) -> Result<Scene, AllocError> {
     let first = Ref { event: 1, place: 0 };
     let members = vec![in alloc; MemberKind::Honest, MemberKind::Honest]?;
     let events = vec![in alloc;
@@ -139,7 +139,7 @@ fn take(told: &mut Told, scene: &Scene, line: &str) -> Result<(), AllocError> {
 
 /// Tells what a script asks of the picture.
 pub(crate) fn play_picture(script: &Script, told: &mut Told) -> Result<(), AllocError> {
-    let scene = scene(told.alloc())?;
+    let scene = two_nodes(told.alloc())?;
     for line in script.lines.iter().skip(1) {
         told.line(line.as_str())?;
         take(told, &scene, line.as_str())?;

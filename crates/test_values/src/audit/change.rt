@@ -125,7 +125,7 @@ fn blame(alloc: Global, entry: &mut AuditEntry) {
 }
 
 /// Changes the entry. One that is missing is left to who has the record.
-pub(crate) fn change(
+pub(crate) fn change_entry(
     alloc: Global,
     entry: &mut AuditEntry,
     change: Change,
