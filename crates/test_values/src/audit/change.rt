@@ -1,5 +1,5 @@
 //! Changes to one entry of a record.
-ghost use Rattle.std.specs.Prelude.{◌≡◌, ◌<◌};
+ghost use Rattle.std.specs.Prelude.{◌≡◌, ◌<◌, IfOk};
 
 use model_audit::AuditEntry;
 use simplex_messages::Outcome;
@@ -89,11 +89,20 @@ fn rival_proposal() -> Proposal {
     }
 }
 
-fn signed(alloc: Global, signer: u32) -> Result<Option<Attestation>, AllocError>
+/// The signature of one of four members on it.
+fn signed(alloc: Global, signer: u32) -> Result<Attestation, AllocError>
     requires { signer < 4 }
+    ensures { IfOk result (λ a. a.signer ≡ signer) }
 {
     let scheme = Keyed::new(alloc, 1, 4, Some(Participant(signer)))?;
-    Ok(scheme.sign(&Subject::Notarize(rival_proposal())))
+    let signature = match scheme.sign(&Subject::Notarize(rival_proposal())) {
+        Some(signed) => signed.signature,
+        None => [0; 32],
+    };
+    Ok(Attestation {
+        signer: Participant(signer),
+        signature,
+    })
 }
 
 /// The signatures of three members on it.
@@ -101,12 +110,8 @@ fn signatures(alloc: Global) -> Result<Signatures, AllocError> {
     let first = signed(alloc, 0)?;
     let second = signed(alloc, 1)?;
     let third = signed(alloc, 2)?;
-    match (first, second, third) {
-        (Some(first), Some(second), Some(third)) => {
-            Ok(Signatures::new(vec![in alloc; first, second, third]?))
-        }
-        _ => Ok(Signatures::new(Vec::new(alloc))),
-    }
+    let attestations = vec![in alloc; first, second, third]?;
+    Ok(Signatures::new(attestations))
 }
 
 fn rival(alloc: Global) -> Result<Certificate, AllocError> {

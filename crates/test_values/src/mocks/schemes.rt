@@ -1,5 +1,6 @@
 //! Wrapped schemes, which fail in one way, and the wrapped elector.
-ghost use Rattle.std.specs.Prelude.{◌<◌};
+ghost use Rattle.std.specs.Prelude.{◌<◌, ◌≡◌};
+ghost use Rattle.simplex_wire.specs.Signatures.{IsSignatures};
 
 use simplex_mocks::wrapped::{Behavior, Config, Scheme as Wrapped};
 use simplex_types::elector::{Config as Electing, Elector};
@@ -17,7 +18,9 @@ fn round(view: u64) -> Round {
     }
 }
 
-fn listed(signer: u32) -> Attestation {
+fn listed(signer: u32) -> Attestation
+    ensures { result.signer ≡ signer }
+{
     Attestation {
         signer: Participant(signer),
         signature: [5; 32],
@@ -28,7 +31,9 @@ fn tell_assembled(
     told: &mut Told,
     scheme: &Wrapped<Keyed>,
     listed: &[Attestation],
-) -> Result<(), AllocError> {
+) -> Result<(), AllocError>
+    requires { IsSignatures listed.now }
+{
     let alloc = told.alloc();
     let count = listed.len();
     let line = match scheme.assemble(alloc, listed) {
