@@ -254,11 +254,12 @@ fn both_ways_text(alloc: Global, scheme: &Keyed, pair: Pair) -> Result<String, A
 fn notarization_text(
     alloc: Global,
     scheme: &Keyed,
-    made: Notarization,
+    made: &Notarization,
 ) -> Result<String, AllocError> {
     let verifies = made.verify(scheme);
     let round = made.proposal.round;
-    let reported = reported(alloc, scheme, &Activity::Certification(made))?;
+    let activity = Activity::Certification(made.keep(alloc)?);
+    let reported = reported(alloc, scheme, &activity)?;
     format!(in alloc; "of {round}: verifies {verifies}; {}", reported.as_str())
 }
 
@@ -336,11 +337,11 @@ impl Desk {
         let text = match words {
             ["notarization", "by", "0", "2", "3"] => {
                 let made = notarization(alloc, &self.keyed, &about)?;
-                notarization_text(alloc, &self.keyed, made)?
+                notarization_text(alloc, &self.keyed, &made)?
             }
             ["notarization", "by", "0", "3"] => {
                 let made = thin_notarization(alloc, &self.keyed, &about)?;
-                notarization_text(alloc, &self.keyed, made)?
+                notarization_text(alloc, &self.keyed, &made)?
             }
             ["nullification", "by", "1", "2", "3"] => {
                 let made = nullification(alloc, &self.hidden, &about.round)?;

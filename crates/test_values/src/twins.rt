@@ -1,12 +1,18 @@
 //! Scripts about scripted rounds, in which a faulty member runs two engines: with whom each half talks, and who leads.
+ghost use Rattle.std.specs.Prelude.{◌<◌};
+
 mod every;
 mod rounds;
 
 use crate::twins::every::{tell_every_round, tell_scenarios};
 use crate::twins::rounds::{mask_of, members_text, target_word};
-use simplex_twins::{Elector, RoundScenario, Scenario, TwinsError, view_partitions, view_route};
+use simplex_twins::{
+    Elector, ElectorState, RoundScenario, Scenario, TwinsError, view_partitions, view_route,
+};
 use simplex_types::elector::{Config, Elector as Elects};
-use simplex_types::{Epoch, Keep, Participant, Round, RoundRobin, TermLength, Terms, View};
+use simplex_types::{
+    Epoch, Keep, Participant, Round, RoundRobin, RoundRobinElector, TermLength, Terms, View,
+};
 use std::alloc::{AllocError, Global};
 use test_support::{Part, Script, Told, member, number, play_made};
 
@@ -49,6 +55,39 @@ fn desk_of(alloc: Global, words: &[&str]) -> Result<Option<Desk>, AllocError> {
 /// Plays a script whose first line is `twins`, and these words.
 pub(crate) fn run(words: &[&str], script: &Script, told: &mut Told) -> Result<(), AllocError> {
     play_made(desk_of(told.alloc(), words)?, script, told)
+}
+
+/// Who leads where members take turns, in terms of this length.
+fn turns_of(length: TermLength) -> RoundRobin {
+    RoundRobin::new(Terms {
+        length,
+        lookahead: 1,
+        stall_timeout: None,
+    })
+}
+
+/// The elector of so many members where nothing is scripted.
+fn unscripted(alloc: Global, length: TermLength, n: u32) -> ElectorState<RoundRobinElector>
+    requires { 0 < n }
+{
+    let turns = turns_of(length);
+    Elector::unscripted(alloc, turns).build(n)
+}
+
+/// The elector of so many members by the script.
+fn scripted(
+    alloc: Global,
+    length: TermLength,
+    scenario: &Scenario,
+    n: u32,
+) -> Result<ElectorState<RoundRobinElector>, TwinsError>
+    requires { 0 < n }
+{
+    let turns = turns_of(length);
+    match Elector::new(alloc, turns, scenario, n) {
+        Ok(elector) => Ok(elector.build(n)),
+        Err(error) => Err(error),
+    }
 }
 
 /// The leader of the view in this epoch.
@@ -150,14 +189,9 @@ impl Desk {
         if n == 0 {
             return String::from_str(self.alloc, "not allowed: there is no member");
         }
-        let terms = Terms {
-            length: self.length,
-            lookahead: 1,
-            stall_timeout: None,
-        };
-        let plain = Elector::unscripted(self.alloc, RoundRobin::new(terms)).build(n);
-        match Elector::new(self.alloc, RoundRobin::new(terms), &self.scenario, n) {
-            Ok(scripted) => { leaders_text(self.alloc, &scripted.build(n), &plain, epoch, view) }
+        let plain = unscripted(self.alloc, self.length, n);
+        match scripted(self.alloc, self.length, &self.scenario, n) {
+            Ok(scripted) => leaders_text(self.alloc, &scripted, &plain, epoch, view),
             Err(error) => refusal_text(self.alloc, error),
         }
     }
