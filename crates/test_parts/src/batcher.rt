@@ -78,12 +78,13 @@ fn setup_of(words: &[&str]) -> Option<Setup> {
         length: TermLength::ONE,
         ahead: 0,
     };
-    let mut rest = settings;
-    while let [name, value, after @ ..] = rest {
+    for setting in settings.chunks(2) {
+        let [name, value] = setting else {
+            return None;
+        };
         setup = setup.with(name, value)?;
-        rest = after;
     }
-    rest.is_empty().then_some(setup)
+    Some(setup)
 }
 
 /// The scheme of the member, if there is such a one.

@@ -79,6 +79,21 @@ fn forgery_text(alloc: Global, forgery: &Forgery) -> Result<String, AllocError> 
     format!(in alloc; "{kind} {} by {member}", proposal.as_str())
 }
 
+/// A step that asks so many requests.
+fn asking(alloc: Global, count: u64) -> Result<StepOut, AllocError> {
+    let mut out = StepOut::new(alloc);
+    for _ in 0..count {
+        out.asked.push(Asked::Certify(
+            Round {
+                epoch: Epoch(0),
+                view: View(1),
+            },
+            Digest([0xaa; 32]),
+        ))?;
+    }
+    Ok(out)
+}
+
 impl Table {
     /// What an engine of the node did is entered: the event's number, and how many packets it sent.
     fn enter(
@@ -118,14 +133,7 @@ impl Table {
         starts: bool,
         count: u64,
     ) -> Result<(), AllocError> {
-        let mut out = StepOut::new(self.alloc);
-        let round = Round {
-            epoch: Epoch(0),
-            view: View(1),
-        };
-        for _ in 0..count {
-            out.asked.push(Asked::Certify(round, Digest([0xaa; 32])))?;
-        }
+        let out = asking(self.alloc, count)?;
         self.enter(items, node, starts, out)
     }
 
@@ -212,6 +220,15 @@ impl Table {
         self.enter(items, node, false, out)
     }
 
+    /// The first that is forged in these packets.
+    fn forged(&self, packets: &[Packet]) -> Result<Option<String>, AllocError> {
+        match self.records.first_forged(self.alloc, &self.setup, packets) {
+            Ok(Some(forgery)) => Ok(Some(forgery_text(self.alloc, &forgery)?)),
+            Ok(None) => Ok(None),
+            Err(error) => Err(error),
+        }
+    }
+
     fn forges(
         &self,
         items: &mut Items,
@@ -220,11 +237,9 @@ impl Table {
         paper: &Paper,
     ) -> Result<(), AllocError> {
         let packets = self.packets(node, channel, paper)?;
-        let found = self
-            .records
-            .first_forged(self.alloc, &self.setup, packets.as_slice())?;
-        match &found {
-            Some(forgery) => items.push(&forgery_text(self.alloc, forgery)?),
+        let forged = self.forged(packets.as_slice())?;
+        match &forged {
+            Some(forged) => items.push(forged.as_str()),
             None => Ok(()),
         }
     }

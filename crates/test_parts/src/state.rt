@@ -6,7 +6,7 @@ mod command;
 mod giving;
 mod made;
 
-use crate::state::command::{Command, command_of, question_of};
+use crate::state::command::{Command, Question, command_of, question_of};
 use crate::state::made::{Member, first_of, made};
 use simplex_types::Context;
 use std::alloc::{AllocError, Global};
@@ -59,25 +59,37 @@ impl Table {
             _ => self.ask(items, command),
         }
     }
+
+    fn obey(&mut self, command: &Command, told: &mut Told) -> Result<(), AllocError> {
+        if let Command::At(clock) = *command {
+            self.clock = clock;
+            return Ok(());
+        }
+        let mut items = Items::new(told.alloc());
+        self.act(&mut items, command)?;
+        told.says(items.text())
+    }
+
+    fn tell_each(
+        &self,
+        question: Question,
+        views: &[&str],
+        told: &mut Told,
+    ) -> Result<(), AllocError> {
+        let mut items = Items::new(told.alloc());
+        self.each(&mut items, question, views)?;
+        told.says(items.text())
+    }
 }
 
 impl Part for Table {
     fn take(&mut self, words: &[&str], told: &mut Told) -> Result<(), AllocError> {
-        let mut items = Items::new(told.alloc());
         if let Some((question, views)) = question_of(words) {
-            self.each(&mut items, question, views)?;
-            return told.says(items.text());
+            return self.tell_each(question, views, told);
         }
-        match command_of(words) {
-            None => told.says("not a command"),
-            Some(Command::At(clock)) => {
-                self.clock = clock;
-                Ok(())
-            }
-            Some(command) => {
-                self.act(&mut items, &command)?;
-                told.says(items.text())
-            }
-        }
+        let Some(command) = command_of(words) else {
+            return told.says("not a command");
+        };
+        self.obey(&command, told)
     }
 }

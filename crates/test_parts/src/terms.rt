@@ -73,20 +73,26 @@ impl Table {
         let text = format!(in told.alloc(); "up to {limit}: {last}, itself: {own}")?;
         told.says(&text)
     }
+
+    fn answer(&self, question: &Question, told: &mut Told) -> Result<(), AllocError> {
+        match *question {
+            Question::Term(view) => self.term(view, told),
+            Question::Covers(first, second) => {
+                told.says(yes_or_no(first.covers(second, self.window.length)))
+            }
+            Question::Window(current) => self.limit(current, told),
+            Question::Admits(current, view) => {
+                told.says(yes_or_no(self.window.admits(current, view)))
+            }
+        }
+    }
 }
 
 impl Part for Table {
     fn take(&mut self, words: &[&str], told: &mut Told) -> Result<(), AllocError> {
-        match question_of(words) {
-            None => told.says("not a command"),
-            Some(Question::Term(view)) => self.term(view, told),
-            Some(Question::Covers(first, second)) => {
-                told.says(yes_or_no(first.covers(second, self.window.length)))
-            }
-            Some(Question::Window(current)) => self.limit(current, told),
-            Some(Question::Admits(current, view)) => {
-                told.says(yes_or_no(self.window.admits(current, view)))
-            }
-        }
+        let Some(question) = question_of(words) else {
+            return told.says("not a command");
+        };
+        self.answer(&question, told)
     }
 }

@@ -73,12 +73,13 @@ fn first_of(words: &[&str]) -> Option<First> {
         floor: None,
         is_watched: false,
     };
-    let mut rest = settings;
-    while let [name, value, after @ ..] = rest {
+    for setting in settings.chunks(2) {
+        let [name, value] = setting else {
+            return None;
+        };
         first = first.with(name, value)?;
-        rest = after;
     }
-    rest.is_empty().then_some(first)
+    Some(first)
 }
 
 /// Tells the script of a voter.
@@ -132,22 +133,44 @@ fn read(alloc: Global, voter: &Voter<MemoryJournal>, now: u64) -> Result<String,
     Ok(text)
 }
 
+/// Makes the move, and tells what comes of it. Whether it was made.
+fn make(
+    voter: &mut Voter<MemoryJournal>,
+    next: &Move,
+    now: u64,
+    stop: &Stop,
+    is_watched: bool,
+    told: &mut Told,
+) -> Result<bool, AllocError> {
+    if now >= 1 << 63 {
+        told.says("not allowed: so late a clock")?;
+        return Ok(false);
+    }
+    let came = comes(told.alloc(), voter, next, now, stop)?;
+    told.says(came.items.text())?;
+    if is_watched {
+        let state = read(told.alloc(), voter, now)?;
+        told.says(state.as_str())?;
+    }
+    Ok(true)
+}
+
 impl Table {
     /// Makes the move, and tells what comes of it.
-    fn go(&mut self, next: Move, stop: Stop, told: &mut Told) -> Result<(), AllocError> {
+    fn go(&mut self, next: &Move, stop: &Stop, told: &mut Told) -> Result<(), AllocError> {
         let now = self.clock;
+        let is_watched = self.is_watched;
         let Some(voter) = &mut self.voter else {
             return told.says("not allowed: there is no voter");
         };
-        if now >= 1 << 63 {
-            return told.says("not allowed: so late a clock");
+        if make(voter, next, now, stop, is_watched, told)? {
+            return self.keep(now, next);
         }
-        let came = comes(told.alloc(), voter, &next, now, &stop)?;
-        told.says(came.items.text())?;
-        if self.is_watched {
-            told.says(&read(told.alloc(), voter, now)?)?;
-        }
-        self.moves.push((now, next))?;
+        Ok(())
+    }
+
+    fn keep(&mut self, now: u64, next: &Move) -> Result<(), AllocError> {
+        self.moves.push((now, *next))?;
         Ok(())
     }
 
@@ -173,28 +196,34 @@ impl Table {
             None => failures(&self.setup, &self.moves, told),
         }
     }
+
+    fn obey(&mut self, command: &Command, told: &mut Told) -> Result<(), AllocError> {
+        match *command {
+            Command::Whole(next) => self.go(&next, &Stop::None, told),
+            Command::Cut { call, keep, last } => {
+                self.is_first = false;
+                self.go(&last, &Stop::Cut { call, keep }, told)
+            }
+            Command::Fail { call, keep, last } => {
+                self.is_first = false;
+                self.go(&last, &Stop::Fail { call, keep }, told)
+            }
+            Command::At(clock) => {
+                self.clock = clock;
+                Ok(())
+            }
+            Command::Restart(floor) => self.restart(floor, told),
+            Command::Cuts(last) => self.again(Some(last), told),
+            Command::Failures => self.again(None, told),
+        }
+    }
 }
 
 impl Part for Table {
     fn take(&mut self, words: &[&str], told: &mut Told) -> Result<(), AllocError> {
-        match command_of(words) {
-            None => told.says("not a command"),
-            Some(Command::Whole(next)) => self.go(next, Stop::None, told),
-            Some(Command::Cut { call, keep, last }) => {
-                self.is_first = false;
-                self.go(last, Stop::Cut { call, keep }, told)
-            }
-            Some(Command::Fail { call, keep, last }) => {
-                self.is_first = false;
-                self.go(last, Stop::Fail { call, keep }, told)
-            }
-            Some(Command::At(clock)) => {
-                self.clock = clock;
-                Ok(())
-            }
-            Some(Command::Restart(floor)) => self.restart(floor, told),
-            Some(Command::Cuts(last)) => self.again(Some(last), told),
-            Some(Command::Failures) => self.again(None, told),
-        }
+        let Some(command) = command_of(words) else {
+            return told.says("not a command");
+        };
+        self.obey(&command, told)
     }
 }

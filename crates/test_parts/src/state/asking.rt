@@ -175,10 +175,23 @@ impl Table {
     }
 
     fn payload(&mut self, items: &mut Items, payload: Digest) -> Result<(), AllocError> {
-        match self.asked {
-            Some(context) => items.push(yes_or_no(self.member.proposed(&context, payload)?)),
-            None => items.push("not allowed: nothing was asked"),
-        }
+        let Some(context) = self.asked else {
+            return items.push("not allowed: nothing was asked");
+        };
+        let is_taken = self.member.proposed(&context, payload)?;
+        items.push(yes_or_no(is_taken))
+    }
+
+    /// The leader's proposal comes.
+    fn led(&mut self, items: &mut Items, proposal: &Proposal) -> Result<(), AllocError> {
+        let is_taken = self.member.set_proposal(proposal.round.view, proposal)?;
+        items.push(yes_or_no(is_taken))
+    }
+
+    fn verify(&mut self, items: &mut Items) -> Result<(), AllocError> {
+        let verify = self.member.try_verify()?;
+        let verify = verify_text(self.alloc, &verify)?;
+        items.push(verify.as_str())
     }
 
     fn prune(&mut self, items: &mut Items) -> Result<(), AllocError> {
@@ -201,10 +214,7 @@ impl Table {
     /// The member's requests, and what it votes.
     fn request(&mut self, items: &mut Items, command: &Command) -> Result<(), AllocError> {
         match *command {
-            Command::Proposal(proposal) => {
-                let view = proposal.round.view;
-                items.push(yes_or_no(self.member.set_proposal(view, &proposal)?))
-            }
+            Command::Proposal(proposal) => self.led(items, &proposal),
             Command::Propose => self.propose(items),
             Command::Payload(payload) => self.payload(items, payload),
             Command::Release(view) => {
@@ -213,7 +223,7 @@ impl Table {
             }
             Command::Superseded => self.superseded(items),
             Command::Abandoned => self.abandoned(items),
-            Command::Verify => items.push(&verify_text(self.alloc, &self.member.try_verify()?)?),
+            Command::Verify => self.verify(items),
             Command::Verified(view) => self.member.verified(view),
             Command::Candidates => self.candidates(items),
             Command::Notarize(view) => self.notarize(items, view),

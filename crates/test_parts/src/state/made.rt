@@ -1,5 +1,5 @@
 //! How a state is made.
-ghost use Rattle.std.specs.Prelude.{◌<◌, ◌≤◌};
+ghost use Rattle.std.specs.Prelude.{◌<◌, ◌≤◌, ◌^◌};
 
 use simplex_state::{State, StateConfig};
 use simplex_types::elector::Config as _;

@@ -48,10 +48,14 @@ fn stopped(
     let Some(mut voter) = made(alloc, setup, None, MemoryJournal::new(alloc))? else {
         return Ok(None);
     };
-    if last.0 >= 1 << 63 || lived(alloc, &mut voter, moves)?.is_some() {
+    if lived(alloc, &mut voter, moves)?.is_some() {
         return Ok(None);
     }
-    let came = comes(alloc, &mut voter, &last.1, last.0, stop)?;
+    let (now, next) = *last;
+    if now >= 1 << 63 {
+        return Ok(None);
+    }
+    let came = comes(alloc, &mut voter, &next, now, stop)?;
     let records = count(alloc, &mut voter.into_journal());
     Ok(Some(Left { came, records }))
 }
