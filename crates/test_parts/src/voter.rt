@@ -170,8 +170,7 @@ impl Table {
     }
 
     fn keep(&mut self, now: u64, next: &Move) -> Result<(), AllocError> {
-        self.moves.push((now, *next))?;
-        Ok(())
+        self.moves.push(Moved { now, next: *next })
     }
 
     /// A new voter over the journal of the one before.
@@ -192,7 +191,13 @@ impl Table {
             return told.says("not allowed: it is not the first life from genesis on");
         }
         match last {
-            Some(last) => cuts(&self.setup, &self.moves, &(self.clock, last), told),
+            Some(next) => {
+                let last = Moved {
+                    now: self.clock,
+                    next,
+                };
+                cuts(&self.setup, &self.moves, &last, told)
+            }
             None => failures(&self.setup, &self.moves, told),
         }
     }

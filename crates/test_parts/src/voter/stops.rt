@@ -10,7 +10,11 @@ use test_support::{Told, Untold};
 const MANY: u64 = 1000;
 
 /// A move, and the clock of it.
-pub(crate) type Moved = (u64, Move);
+#[derive(Clone, Copy)]
+pub(crate) struct Moved {
+    pub(crate) now: u64,
+    pub(crate) next: Move,
+}
 
 /// The voter makes the moves, up to the one that the journal stops. What came of that, if there is one.
 fn lived<J: Journal + Drop>(
@@ -18,7 +22,7 @@ fn lived<J: Journal + Drop>(
     voter: &mut Voter<J>,
     moves: &[Moved],
 ) -> Result<Option<Came>, AllocError> {
-    for (now, next) in moves {
+    for Moved { now, next } in moves {
         if *now >= 1 << 63 {
             continue;
         }
@@ -51,11 +55,11 @@ fn stopped(
     if lived(alloc, &mut voter, moves)?.is_some() {
         return Ok(None);
     }
-    let (now, next) = *last;
-    if now >= 1 << 63 {
+    let Moved { now, next } = last;
+    if *now >= 1 << 63 {
         return Ok(None);
     }
-    let came = comes(alloc, &mut voter, &next, now, stop)?;
+    let came = comes(alloc, &mut voter, next, *now, stop)?;
     let records = count(alloc, &mut voter.into_journal());
     Ok(Some(Left { came, records }))
 }
