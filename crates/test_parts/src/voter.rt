@@ -170,7 +170,8 @@ impl Table {
     }
 
     fn keep(&mut self, now: u64, next: &Move) -> Result<(), AllocError> {
-        self.moves.push(Moved { now, next: *next })
+        self.moves.push(Moved { now, next: *next })?;
+        Ok(())
     }
 
     /// A new voter over the journal of the one before.
