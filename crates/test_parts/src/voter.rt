@@ -8,7 +8,7 @@ mod stops;
 
 use crate::voter::command::{Command, Move, command_of};
 use crate::voter::life::{Setup, Voter, comes, made, records};
-use crate::voter::stops::{Moved, cuts, failures};
+use crate::voter::stops::{Last, Moved, cuts, failures};
 use model_rules::ProposalState;
 use simplex_journal::MemoryJournal;
 use simplex_messages::{Stop, VoterInput};
@@ -156,21 +156,41 @@ fn make(
 }
 
 impl Table {
-    /// Makes the move, and tells what comes of it.
-    fn go(&mut self, next: &Move, stop: &Stop, told: &mut Told) -> Result<(), AllocError> {
+    /// Makes the move, and tells what comes of it. Whether it was made.
+    fn go(&mut self, next: &Move, stop: &Stop, told: &mut Told) -> Result<bool, AllocError> {
         let now = self.clock;
         let is_watched = self.is_watched;
         let Some(voter) = &mut self.voter else {
-            return told.says("not allowed: there is no voter");
+            told.says("not allowed: there is no voter")?;
+            return Ok(false);
         };
-        if make(voter, next, now, stop, is_watched, told)? {
-            return self.keep(now, next);
+        make(voter, next, now, stop, is_watched, told)
+    }
+
+    /// Keeps the line of a move that was made.
+    fn keep(&mut self, alloc: Global, words: &[&str]) -> Result<(), AllocError> {
+        let mut line = String::new(alloc);
+        for word in words {
+            line.push_str(word)?;
+            line.push_str(" ")?;
+        }
+        let now = self.clock;
+        self.moves.push(Moved { now, line })?;
+        Ok(())
+    }
+
+    /// Makes the move of a line, and keeps the line.
+    fn whole(&mut self, next: &Move, words: &[&str], told: &mut Told) -> Result<(), AllocError> {
+        if self.go(next, &Stop::None, told)? {
+            self.keep(told.alloc(), words)?;
         }
         Ok(())
     }
 
-    fn keep(&mut self, now: u64, next: &Move) -> Result<(), AllocError> {
-        self.moves.push(Moved { now, next: *next })?;
+    /// Makes a move that stops so: from then on it is no life that can be told again.
+    fn broken(&mut self, last: &Move, stop: &Stop, told: &mut Told) -> Result<(), AllocError> {
+        self.is_first = false;
+        self.go(last, stop, told)?;
         Ok(())
     }
 
@@ -187,38 +207,46 @@ impl Table {
         Ok(())
     }
 
-    fn again(&self, last: Option<Move>, told: &mut Told) -> Result<(), AllocError> {
+    fn again(&self, last: Option<&Move>, told: &mut Told) -> Result<(), AllocError> {
         if !self.is_first {
             return told.says("not allowed: it is not the first life from genesis on");
         }
         match last {
             Some(next) => {
-                let last = Moved {
-                    now: self.clock,
-                    next,
-                };
-                cuts(&self.setup, &self.moves, &last, told)
+                let now = self.clock;
+                cuts(&self.setup, &self.moves, Last { now, next }, told)
             }
             None => failures(&self.setup, &self.moves, told),
         }
     }
 
-    fn obey(&mut self, command: &Command, told: &mut Told) -> Result<(), AllocError> {
-        match *command {
-            Command::Whole(next) => self.go(&next, &Stop::None, told),
+    fn obey(
+        &mut self,
+        command: &Command,
+        words: &[&str],
+        told: &mut Told,
+    ) -> Result<(), AllocError> {
+        match command {
+            Command::Whole(next) => self.whole(next, words, told),
             Command::Cut { call, keep, last } => {
-                self.is_first = false;
-                self.go(&last, &Stop::Cut { call, keep }, told)
+                let stop = Stop::Cut {
+                    call: *call,
+                    keep: *keep,
+                };
+                self.broken(last, &stop, told)
             }
             Command::Fail { call, keep, last } => {
-                self.is_first = false;
-                self.go(&last, &Stop::Fail { call, keep }, told)
+                let stop = Stop::Fail {
+                    call: *call,
+                    keep: *keep,
+                };
+                self.broken(last, &stop, told)
             }
             Command::At(clock) => {
-                self.clock = clock;
+                self.clock = *clock;
                 Ok(())
             }
-            Command::Restart(floor) => self.restart(floor, told),
+            Command::Restart(floor) => self.restart(*floor, told),
             Command::Cuts(last) => self.again(Some(last), told),
             Command::Failures => self.again(None, told),
         }
@@ -230,6 +258,6 @@ impl Part for Table {
         let Some(command) = command_of(words) else {
             return told.says("not a command");
         };
-        self.obey(&command, told)
+        self.obey(&command, words, told)
     }
 }

@@ -64,7 +64,8 @@ fn answer_of(words: &[&str]) -> Option<Answer> {
     }
 }
 
-fn move_of(words: &[&str]) -> Option<Move> {
+/// The move that the words are.
+pub(crate) fn move_of(words: &[&str]) -> Option<Move> {
     match words {
         ["start"] => Some(Move::Start),
         ["answer", request, what @ ..] => Some(Move::Answer(number(request)?, answer_of(what)?)),

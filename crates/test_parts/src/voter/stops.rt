@@ -1,19 +1,26 @@
 //! The same life again and again: cut off before each call of its last move, and over a journal whose calls fail in turn.
-use crate::voter::command::Move;
+use crate::voter::command::{Move, move_of};
 use crate::voter::life::{Came, Setup, Voter, comes, count, made};
 use simplex_journal::{Journal, MemoryJournal};
 use simplex_messages::{Outcome, Stop};
 use std::alloc::{AllocError, Global};
-use test_support::{Told, Untold};
+use test_support::{Told, Untold, words_in};
 
 /// No move makes as many calls, and no life of a script.
 const MANY: u64 = 1000;
 
-/// A move, and the clock of it.
-#[derive(Clone, Copy)]
+/// The line of a move, and the clock of it.
+#[derive(Drop)]
 pub(crate) struct Moved {
     pub(crate) now: u64,
-    pub(crate) next: Move,
+    pub(crate) line: String,
+}
+
+/// The last move of a life, and the clock of it.
+#[derive(Clone, Copy)]
+pub(crate) struct Last<'a> {
+    pub(crate) now: u64,
+    pub(crate) next: &'a Move,
 }
 
 /// The voter makes the moves, up to the one that the journal stops. What came of that, if there is one.
@@ -22,11 +29,15 @@ fn lived<J: Journal + Drop>(
     voter: &mut Voter<J>,
     moves: &[Moved],
 ) -> Result<Option<Came>, AllocError> {
-    for Moved { now, next } in moves {
-        if *now >= 1 << 63 {
+    for moved in moves {
+        let words = words_in(alloc, moved.line.as_str())?;
+        let Some(next) = move_of(words.as_slice()) else {
+            continue;
+        };
+        if moved.now >= 1 << 63 {
             continue;
         }
-        let came = comes(alloc, voter, next, *now, &Stop::None)?;
+        let came = comes(alloc, voter, &next, moved.now, &Stop::None)?;
         if came.outcome == Outcome::Journal {
             return Ok(Some(came));
         }
@@ -46,7 +57,7 @@ fn stopped(
     alloc: Global,
     setup: &Setup,
     moves: &[Moved],
-    last: &Moved,
+    last: Last<'_>,
     stop: &Stop,
 ) -> Result<Option<Left>, AllocError> {
     let Some(mut voter) = made(alloc, setup, None, MemoryJournal::new(alloc))? else {
@@ -55,11 +66,10 @@ fn stopped(
     if lived(alloc, &mut voter, moves)?.is_some() {
         return Ok(None);
     }
-    let Moved { now, next } = last;
-    if *now >= 1 << 63 {
+    if last.now >= 1 << 63 {
         return Ok(None);
     }
-    let came = comes(alloc, &mut voter, next, *now, stop)?;
+    let came = comes(alloc, &mut voter, last.next, last.now, stop)?;
     let records = count(alloc, &mut voter.into_journal());
     Ok(Some(Left { came, records }))
 }
@@ -70,7 +80,7 @@ fn cut(
     alloc: Global,
     setup: &Setup,
     moves: &[Moved],
-    last: &Moved,
+    last: Last<'_>,
     call: u64,
     told: &mut Told,
 ) -> Result<bool, AllocError> {
@@ -96,7 +106,7 @@ fn cut(
 pub(crate) fn cuts(
     setup: &Setup,
     moves: &[Moved],
-    last: &Moved,
+    last: Last<'_>,
     told: &mut Told,
 ) -> Result<(), AllocError> {
     for call in 1..MANY {
