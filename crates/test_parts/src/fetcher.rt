@@ -21,26 +21,40 @@ struct Desk {
     now: u64,
 }
 
-/// `ME of N`, and where it is not a tenth of a second, how long a view waits: `retry MS`. Peers have a second to answer.
-fn config_of(words: &[&str]) -> Option<FetchConfig> {
+/// Whose fetcher it is, of how many members, and how long a view waits.
+#[derive(Clone, Copy)]
+struct Setup {
+    me: u32,
+    n: u32,
+    delay: u64,
+}
+
+/// `ME of N`, and where it is not a tenth of a second, how long a view waits: `retry MS`.
+fn setup_of(words: &[&str]) -> Option<Setup> {
     let (me, n, delay) = match words {
         [me, "of", n] => (me, n, 100),
         [me, "of", n, "retry", delay] => (me, n, number(delay)?),
         _ => return None,
     };
-    Some(FetchConfig {
-        me: Participant(member(me)?),
+    Some(Setup {
+        me: member(me)?,
         n: member(n)?,
-        fetch_timeout: 1000,
-        fetch_retry_delay: delay,
+        delay,
     })
 }
 
+/// A fetcher whose peers have a second to answer.
 fn desk_of(alloc: Global, words: &[&str]) -> Option<Desk> {
-    let config = config_of(words)?;
-    if config.me.0 >= config.n || config.fetch_retry_delay > 1 << 62 {
+    let Setup { me, n, delay } = setup_of(words)?;
+    if me >= n || delay > 1 << 62 {
         return None;
     }
+    let config = FetchConfig {
+        me: Participant(me),
+        n,
+        fetch_timeout: 1000,
+        fetch_retry_delay: delay,
+    };
     Some(Desk {
         alloc,
         fetcher: Fetcher::new(alloc, config),
