@@ -1,0 +1,5 @@
+//! Tests of the application.
+#![tactic(auto)]
+
+#[cfg(test)]
+mod tests;

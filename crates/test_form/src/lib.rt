@@ -1,0 +1,5 @@
+//! Tests of the form of an input.
+#![tactic(auto)]
+
+#[cfg(test)]
+mod tests;

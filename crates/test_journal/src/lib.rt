@@ -1,0 +1,5 @@
+//! Tests of the journal in memory.
+#![tactic(auto)]
+
+#[cfg(test)]
+mod tests;

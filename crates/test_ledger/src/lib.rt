@@ -1,0 +1,5 @@
+//! Tests of the ledger.
+#![tactic(auto)]
+
+#[cfg(test)]
+mod tests;

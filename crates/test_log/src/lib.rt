@@ -1,0 +1,5 @@
+//! Tests of the finalized log.
+#![tactic(auto)]
+
+#[cfg(test)]
+mod tests;

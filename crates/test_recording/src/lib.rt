@@ -1,0 +1,5 @@
+//! Tests of the recording reporter.
+#![tactic(auto)]
+
+#[cfg(test)]
+mod tests;

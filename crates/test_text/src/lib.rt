@@ -1,0 +1,5 @@
+//! Tests of what is printed of a run.
+#![tactic(auto)]
+
+#[cfg(test)]
+mod tests;
