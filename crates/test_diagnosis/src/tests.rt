@@ -1,7 +1,6 @@
 //! Inputs with one mistake each, and what is said of it.
-use simplex_diagnosis::{KeptSource, explain};
+use simplex_diagnosis::explain;
 use simplex_form::read_input;
-use simplex_io::{MemorySource, read_bytes};
 use std::alloc::Global;
 use std::process::Abort;
 use std::test::Fail;
@@ -171,20 +170,5 @@ fn an_event_of_the_form_that_is_not_wanted(rt: HostRuntime) -> Result<(), Fail> 
         "event 1, byte {FIRST}: this is of the form, but not wanted here"
     )?;
     assert_eq!(rt; got.as_str(), wanted.as_str());
-    Ok(())
-}
-
-#[test]
-fn what_is_read_is_kept(rt: HostRuntime) -> Result<(), Fail> {
-    let alloc = rt.alloc();
-    let bytes = vec![in alloc; 7u8; 10_000]?;
-    let mut source = KeptSource::new(alloc, MemorySource::new(bytes, Vec::new(alloc)));
-    let read = read_bytes(alloc, &mut source).ok().ok_or("bytes")?;
-    assert!(rt; source.bytes() == Some(read.as_slice()));
-    let bytes = vec![in alloc; 7u8; 5_000_000]?;
-    let mut source = KeptSource::new(alloc, MemorySource::new(bytes, Vec::new(alloc)));
-    let read = read_bytes(alloc, &mut source).ok().ok_or("bytes")?;
-    assert_eq!(rt; read.len(), 5_000_000);
-    assert!(rt; source.bytes().is_none());
     Ok(())
 }

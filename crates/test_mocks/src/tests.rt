@@ -1,12 +1,10 @@
-//! What members that break the rules send, and how wrapped schemes fail.
+//! What members that break the rules send in some cases, and how wrapped schemes fail. That each kind answers as it is meant to is tried in
+//! `test_failures`, against a second rendering.
 //!
 //! The texts were made by a short script over Python's `hashlib.sha256` and a ChaCha with 8 rounds written from its
 //! public description, and not by these crates.
 
-mod members;
-mod packets;
 mod payloads;
-mod rendering;
 
 use rand_chacha::ChaCha8Rng;
 use rand_core::SeedableRng;
