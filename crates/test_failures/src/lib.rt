@@ -1,9 +1,7 @@
-//! Tests of what no script can bring about: reads and writes that fail, streams that are cut, calls of a disk that fail and images of a
-//! disk, steps that stop before each of their calls, runs that a number makes, a ledger of a million transfers, and what has a second
-//! rendering.
+//! Tests of what no script can bring about: reads and writes that fail, streams that are cut, steps that stop before each of their calls,
+//! runs that a number makes, a ledger of a million transfers, and what has a second rendering.
 #![tactic(auto)]
 
-mod disk;
 #[cfg(test)]
 mod faulty;
 #[cfg(test)]
@@ -18,5 +16,3 @@ mod program;
 mod stops;
 #[cfg(test)]
 mod streams;
-
-pub use disk::two_records;

@@ -1,4 +1,5 @@
-//! Runs the scripts of standard input, each about one part of an engine and behind a line `== NAME`, and writes each with what came out.
+//! Runs the scripts of standard input, each behind a line `== NAME` and about one part of an engine, an engine, or a network, and writes
+//! each with what came out.
 //! As long as no rule changes, what is written is what was read: the gate gives the program crates/test_parts/stdin, and compares what it
 //! writes with crates/test_parts/stdout, which has the same text. `rewrite.sh` writes both anew, so that a rule that changes is a
 //! difference to read.
@@ -12,6 +13,7 @@ mod fetcher;
 mod gives;
 mod limits;
 mod mail;
+mod network;
 mod records;
 mod repair;
 mod resolver;

@@ -1,5 +1,0 @@
-//! Tests of the application.
-#![tactic(auto)]
-
-#[cfg(test)]
-mod tests;

@@ -1,5 +1,0 @@
-//! Tests of the journal in memory.
-#![tactic(auto)]
-
-#[cfg(test)]
-mod tests;

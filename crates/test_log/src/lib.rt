@@ -1,5 +1,0 @@
-//! Tests of the finalized log.
-#![tactic(auto)]
-
-#[cfg(test)]
-mod tests;

@@ -1,5 +1,0 @@
-//! Tests of the recording reporter.
-#![tactic(auto)]
-
-#[cfg(test)]
-mod tests;

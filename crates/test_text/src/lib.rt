@@ -1,5 +1,0 @@
-//! Tests of what is printed of a run.
-#![tactic(auto)]
-
-#[cfg(test)]
-mod tests;

@@ -1,0 +1,95 @@
+//! A relay, its inboxes, and what they give.
+use crate::naming::digest_name;
+use simplex_mocks::relay::{Inbox, Relay};
+use simplex_types::{Digest, Members, Participant, Recipients};
+use std::alloc::{AllocError, Global};
+use test_support::Told;
+
+/// A relay with the inboxes that were registered.
+#[derive(Drop)]
+pub(super) struct Relays {
+    relay: Relay,
+    inboxes: Vec<Inbox>,
+}
+
+// Those that a word names: `all`, a member, or members with commas between them.
+fn recipients_of(alloc: Global, word: &str) -> Result<Option<Recipients>, AllocError> {
+    if word == "all" {
+        return Ok(Some(Recipients::All));
+    }
+    if let Ok(member) = word.parse::<u32>() {
+        return Ok(Some(Recipients::One(Participant(member))));
+    }
+    let mut members = Members::new(alloc);
+    for part in word.split(',') {
+        match part.parse::<u32>() {
+            Ok(member) => members.push(Participant(member))?,
+            Err(_) => return Ok(None),
+        }
+    }
+    Ok(Some(Recipients::Some(members)))
+}
+
+impl Relays {
+    pub(super) fn new(alloc: Global) -> Relays {
+        Relays {
+            relay: Relay::new(alloc),
+            inboxes: Vec::new(alloc),
+        }
+    }
+
+    /// Registers an inbox of the member, and tells its number.
+    pub(super) fn register(&mut self, member: &str, told: &mut Told) -> Result<(), AllocError> {
+        let alloc = told.alloc();
+        let Ok(member) = member.parse::<u32>() else {
+            return told.says("not a command");
+        };
+        let inbox = self.relay.register(alloc, Participant(member))?;
+        told.says(format!(in alloc; "inbox {}", self.inboxes.len())?.as_str())?;
+        self.inboxes.push(inbox)?;
+        Ok(())
+    }
+
+    /// Member 0 relays the payload of this byte, whose contents are that byte three times.
+    pub(super) fn send(&mut self, to: &str, byte: &str, told: &mut Told) -> Result<(), AllocError> {
+        let alloc = told.alloc();
+        let (Some(to), Ok(byte)) = (recipients_of(alloc, to)?, byte.parse::<u8>()) else {
+            return told.says("not a command");
+        };
+        let payload = Digest([byte; 32]);
+        self.relay
+            .broadcast(alloc, Participant(0), &to, payload, &[byte; 3])
+    }
+
+    /// Tells what the inbox shows and gives, until it is empty.
+    pub(super) fn take_all(&mut self, number: &str, told: &mut Told) -> Result<(), AllocError> {
+        let alloc = told.alloc();
+        let inbox = match number.parse::<usize>() {
+            Ok(number) => self.inboxes.get(number).copied(),
+            Err(_) => None,
+        };
+        let Some(inbox) = inbox else {
+            return told.says("not a command");
+        };
+        for _ in 0..100 {
+            let shown = self.relay.front(inbox).map(|relayed| relayed.payload);
+            let Some((payload, contents)) = self.relay.take(inbox) else {
+                return told.says(if shown.is_none() {
+                    "empty"
+                } else {
+                    "shown, not given"
+                });
+            };
+            let same = shown == Some(payload);
+            let name = digest_name(alloc, &payload)?;
+            let contents = hex::encode(alloc, contents.as_slice())?;
+            told.says(format!(in alloc; "{name} with {contents}, shown {same}")?.as_str())?;
+        }
+        Ok(())
+    }
+
+    /// All inboxes are closed.
+    pub(super) fn deregister(&mut self) {
+        self.relay.deregister_all();
+    }
+}
