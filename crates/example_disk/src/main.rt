@@ -31,8 +31,10 @@ fn keep<D: StopDisk>(
     alloc: Global,
     verdict: &Artifact,
 ) -> Result<(), JournalError>
-    ensures kept { OnOk result (sections_kept D.contents journal.new ≡ synced_at 7 (appended 7 verdict.now (sections_kept D.contents journal.old))) }
-    ensures left { OnOk result ((calls : List Call) → IsOf D.StandsFor journal.new calls → LeavesJournal (sections_kept D.contents journal.new) journal.new.leaving calls calls) }
+    ensures kept { OnOk result (sections_kept D.contents journal.new
+        ≡ synced_at 7 (appended 7 verdict.now (sections_kept D.contents journal.old))) }
+    ensures left { OnOk result ((calls : List Call) → IsOf D.StandsFor journal.new calls
+        → LeavesJournal (sections_kept D.contents journal.new) journal.new.leaving calls calls) }
 {
     journal.append(alloc, 7, verdict)?;
     journal.sync(7)?;

@@ -43,7 +43,8 @@ fn accusation_by(event: u64, call: &Call) -> Option<Accusation>
 
 /// Adds what the entry's calls accuse members of.
 fn accuse(found: &mut Vec<Accusation>, entry: &Entry) -> Result<(), AllocError>
-    ensures { OnOk result (found.new.items ≡ found.old.items ++ filter_map (accusation_by entry.now.event) entry.now.calls) }
+    ensures { OnOk result (found.new.items
+        ≡ found.old.items ++ filter_map (accusation_by entry.now.event) entry.now.calls) }
 {
     for call in entry.calls.as_slice() {
         if let Some(accusation) = accusation_by(entry.event, call) {

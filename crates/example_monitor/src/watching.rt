@@ -21,7 +21,8 @@ pub enum Ended {
 
 /// Runs the events, and accuses whom the evidence in the run names: exactly these, and whoever is accused is faulty.
 pub fn watch(alloc: Global, setup: &Setup, events: &[Event]) -> Result<Vec<Accusation>, Ended>
-    ensures exact { IfOk result (λ found. (entries : List Entry) × (Run setup.now events.now ≡ Ok entries) × (found.items ≡ accusations_of entries)) }
+    ensures exact { IfOk result (λ found. (entries : List Entry)
+        × (Run setup.now events.now ≡ Ok entries) × (found.items ≡ accusations_of entries)) }
     ensures faulty { IfOk result (λ found. SparesHonest setup.now found.items) }
 {
     let transcript = match run_network(alloc, setup, events) {

@@ -82,7 +82,8 @@ has_verdict view known = list_any (is_verdict view) known
 abbrev pub is_taken : List Artifact → Artifact → Bool
 is_taken known (Own s) = true
 is_taken known (Proved c) = true
-is_taken known (Judged view verdict) = nat_lt (last_finalized known) view && has_notarization view known && not (has_verdict view known)
+is_taken known (Judged view verdict) =
+    nat_lt (last_finalized known) view && has_notarization view known && not (has_verdict view known)
 
 -- what is known once these records are replayed, in order
 abbrev pub replay : List Artifact → List Artifact → List Artifact

@@ -36,12 +36,16 @@ pub record IsGrounded (journal : List Section) (p : Proposal) : Type 0 where
 -- that a synced record makes final, and it knows each synced record above it. And where nothing is pending, as at a prune, a
 -- synced record makes it final, if any does
 pub record KeepsInvariant (floor : ℕ) (m : Member) : Type 0 where
-  pub stands : (s : Subject) → HasSent m s → Contains (kept m.journal) (Own s) ⊎ IsOutrun (kept m.journal) (subject_view s)
-  pub grounded : (p : Proposal) → HasSent m (Finalize p) → IsGrounded m.journal p ⊎ IsOutrun (kept m.journal) (view_of p)
+  pub stands : (s : Subject) → HasSent m s → Contains (kept m.journal) (Own s)
+      ⊎ IsOutrun (kept m.journal) (subject_view s)
+  pub grounded : (p : Proposal) → HasSent m (Finalize p)
+      → IsGrounded m.journal p ⊎ IsOutrun (kept m.journal) (view_of p)
   pub above : m.up ≡ true → floor ≤ last_finalized m.known
   pub finals : m.up ≡ true → (a : Artifact) → Contains (kept m.journal) a → finalized_view a ≤ last_finalized m.known
-  pub seen : m.up ≡ true → (a : Artifact) → Contains (kept m.journal) a → last_finalized m.known < artifact_view a → Contains m.known a
-  pub final : m.up ≡ true → waiting m.journal ≡ [] → 0 < last_finalized m.known → (a : Artifact) × Contains (kept m.journal) a × (finalized_view a ≡ last_finalized m.known)
+  pub seen : m.up ≡ true → (a : Artifact) → Contains (kept m.journal) a
+      → last_finalized m.known < artifact_view a → Contains m.known a
+  pub final : m.up ≡ true → waiting m.journal ≡ [] → 0 < last_finalized m.known
+      → (a : Artifact) × Contains (kept m.journal) a × (finalized_view a ≡ last_finalized m.known)
 
 -- the view of the floor of the last start: 0 of a start at genesis, and this one before any
 abbrev pub floor_from : ℕ → List Call → ℕ

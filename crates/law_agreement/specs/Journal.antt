@@ -38,7 +38,8 @@ sync view journal = map (λ s. if s.view == view then synced_section s else s) j
 
 -- what a crash leaves: all that is synced, and of each section as many pending records as it happens
 abbrev pub left : (ℕ → ℕ) → List Section → List Section
-left keep journal = map (λ s. record { view = s.view; synced = s.synced ++ take (keep s.view) s.pending; pending = [] }) journal
+left keep journal =
+    map (λ s. record { view = s.view; synced = s.synced ++ take (keep s.view) s.pending; pending = [] }) journal
 
 -- the sections from this view on
 abbrev pub prune : ℕ → List Section → List Section

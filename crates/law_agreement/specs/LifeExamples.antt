@@ -37,4 +37,5 @@ early_send =
 -- a vote is pruned before anything is final
 abbrev pub early_prune : List Call
 early_prune =
-    Start ∷ Vote (Notarize first) ∷ Sync 1 ∷ Send ∷ Prune 2 ∷ Crash (λ view. 0) ∷ Start ∷ Vote (Notarize rival) ∷ Sync 1 ∷ Send ∷ []
+    Start ∷ Vote (Notarize first) ∷ Sync 1 ∷ Send ∷ Prune 2 ∷ Crash (λ view. 0)
+    ∷ Start ∷ Vote (Notarize rival) ∷ Sync 1 ∷ Send ∷ []

@@ -1,10 +1,10 @@
 -- A member over all its lives, call by call.
-use Rattle.std.specs.Prelude.{ℕ, ◌≡◌, ◌≤◌, Bool, true, false, if◌then◌else◌, nat_lt, nat_le, List, [], ◌∷◌, ◌++◌, filter, Contains}
+use Rattle.std.specs.Prelude.{ℕ, ◌≡◌, ◌≤◌, Bool, true, false, if◌then◌else◌, nat_lt, nat_le, List, [], ◌∷◌, ◌++◌, filter, Contains, ◌<◌, All}
 use Rattle.simplex_values.specs.declared.proposal.Proposal.{Proposal}
 use Rattle.simplex_values.specs.declared.proposal.Subject.{Subject}
 use Rattle.simplex_values.specs.declared.proposal.Subject.TheVariants.{Nullify, Finalize}
 use Rattle.simplex_values.specs.declared.round.Round.{Round}
-use Rattle.law_agreement.specs.World.{Certificate, Sent, view_of}
+use Rattle.law_agreement.specs.World.{Certificate, Sent, World, IsBacked, view_of}
 use Rattle.law_agreement.specs.Artifacts.{Artifact, Own, Proved, Judged, artifact_view, last_finalized, certificates, is_taken, replay}
 use Rattle.law_agreement.specs.Journal.{Section, append, append_all, sync, left, prune, kept, waiting}
 use Rattle.law_agreement.specs.Votes.{MayVote}
@@ -121,3 +121,10 @@ brought (Sync view ∷ rest) = brought rest
 brought (Send ∷ rest) = brought rest
 brought (Prune min ∷ rest) = brought rest
 brought (Crash keep ∷ rest) = brought rest
+
+-- each member of a world that is not faulty lived lawfully, on backed certificates, and sent what its history says
+abbrev pub HonestLive : World → Type 0
+HonestLive w =
+    (i : ℕ) → i < w.members → ¬ (Contains w.faulty i)
+    → (calls : List Call) × IsLegal w.term_length newborn calls
+    × All (IsBacked w) (brought calls) × (w.history i ≡ (run newborn calls).sent)

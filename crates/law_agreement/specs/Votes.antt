@@ -27,4 +27,5 @@ MayVote length known (Finalize p) =
     × Contains known (Judged (view_of p) true)
     × Knows (certificates known) (Notarize p)
     × ((q : Proposal) → view_of q ≡ view_of p → ¬ (Contains known (Own (Finalize q))))
-    × ((r : Round) → last_finalized known < r.view → Covers length r.view (view_of p) → ¬ (Contains known (Own (Nullify r))))
+    × ((r : Round) → last_finalized known < r.view → Covers length r.view (view_of p)
+    → ¬ (Contains known (Own (Nullify r))))

@@ -32,7 +32,8 @@ view_of p = p.round.view
 
 -- the member sent a vote on the subject
 abbrev pub HasSent : World → ℕ → Subject → Type 0
-HasSent w member subject = (known : List Certificate) × Contains (w.history member) (record { subject = subject; known = known })
+HasSent w member subject = (known : List Certificate)
+    × Contains (w.history member) (record { subject = subject; known = known })
 
 -- a quorum signed the certificate, and each signer is faulty or sent the vote
 pub record IsBacked (w : World) (c : Certificate) : Type 0 where
@@ -67,7 +68,8 @@ MayFollow length (Notarize p) (Nullify s) known = Unit {0}
 MayFollow length (Notarize p) (Finalize q) known = Unit {0}
 MayFollow length (Nullify r) (Notarize q) known = Unit {0}
 MayFollow length (Nullify r) (Nullify s) known = Unit {0}
-MayFollow length (Nullify r) (Finalize q) known = Covers length r.view (view_of q) → KnowsFinalized known r.view (view_of q)
+MayFollow length (Nullify r) (Finalize q) known =
+    Covers length r.view (view_of q) → KnowsFinalized known r.view (view_of q)
 MayFollow length (Finalize p) (Notarize q) known = Unit {0}
 MayFollow length (Finalize p) (Nullify s) known = ¬ (Covers length s.view (view_of p))
 MayFollow length (Finalize p) (Finalize q) known = view_of p ≡ view_of q → p ≡ q

@@ -57,7 +57,8 @@ Unless false P = P
 -- the votes of a member that is honest but for one property
 pub record IsHonestBut (property : Property) (w : World) (sent : List Sent) : Type 0 where
   pub alone : All (λ s. Unless (is_on_vote property s.subject) (MayStand w.term_length s.subject s.known)) sent
-  pub order : AllPairs (λ s t. Unless (is_on_pair property s.subject t.subject) (MayFollow w.term_length s.subject t.subject t.known)) sent
+  pub order : AllPairs (λ s t. Unless (is_on_pair property s.subject t.subject)
+      (MayFollow w.term_length s.subject t.subject t.known)) sent
   pub backed : All (λ s. Unless (is_on_known property) (All (IsBacked w) s.known)) sent
 
 -- a world that is lawful but for one property
@@ -120,12 +121,14 @@ two_proposals = vote (Notarize first) [] ∷ vote (Notarize rival) [] ∷ []
 -- view 1 is finalized, and then nullified
 abbrev pub nullify_behind : List Sent
 nullify_behind =
-    vote (Notarize first) [] ∷ vote (Finalize first) (signed (Notarize first) ∷ []) ∷ vote (Nullify (round_of 1)) [] ∷ []
+    vote (Notarize first) [] ∷ vote (Finalize first) (signed (Notarize first) ∷ [])
+    ∷ vote (Nullify (round_of 1)) [] ∷ []
 
 -- view 1 is nullified, and then finalized
 abbrev pub finalize_behind : List Sent
 finalize_behind =
-    vote (Notarize first) [] ∷ vote (Nullify (round_of 1)) [] ∷ vote (Finalize first) (signed (Notarize first) ∷ []) ∷ []
+    vote (Notarize first) [] ∷ vote (Nullify (round_of 1)) []
+    ∷ vote (Finalize first) (signed (Notarize first) ∷ []) ∷ []
 
 -- view 1 is final, and a proposal for view 2 that stands on genesis is notarized
 abbrev pub parent_skipped : List Sent

@@ -7,7 +7,8 @@ ghost use Rattle.law_agreement.specs.Conflict.{Conflict};
 /// In a lawful world no two backed certificates conflict.
 pub fn no_conflict()
     ensures { (w : World) (certificates : List Certificate) (a b : Certificate)
-        → IsLawful w → All (IsBacked w) certificates → Contains certificates a → Contains certificates b
+        → IsLawful w → All (IsBacked w) certificates → Contains certificates a
+        → Contains certificates b
         → ¬ (Conflict w.term_length a.subject b.subject) }
 {}
 

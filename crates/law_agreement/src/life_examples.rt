@@ -9,7 +9,8 @@ ghost use Rattle.law_agreement.specs.LifeExamples.{sends, good_life, lost_vote, 
 /// A legal life has votes of each kind, over crashes. A vote that was lost was not sent, and one that was left is known.
 pub fn legal_lives_exist()
     ensures good { IsLegal 2 newborn good_life }
-    ensures good_sends { sends good_life ≡ Notarize first ∷ Finalize first ∷ Nullify (round_of 2) ∷ Nullify (round_of 2) ∷ Notarize third ∷ [] }
+    ensures good_sends { sends good_life ≡ Notarize first ∷ Finalize first
+        ∷ Nullify (round_of 2) ∷ Nullify (round_of 2) ∷ Notarize third ∷ [] }
     ensures lost { IsLegal 2 newborn lost_vote }
     ensures lost_sends { sends lost_vote ≡ Notarize rival ∷ [] }
     ensures left { IsLegal 2 newborn left_vote }

@@ -47,7 +47,8 @@ runs_in (Stopped sections) = false
 runs_in (Running made past) = true
 
 -- what a step took is read from its entry, and fits its source
-pub record IsTakenSo (before : List Noted) (node : Node) (s : Standing) (source : StepSource) (took : Option Took) (input : VoterInput) : Type 0 where
+pub record IsTakenSo (before : List Noted) (node : Node) (s : Standing)
+    (source : StepSource) (took : Option Took) (input : VoterInput) : Type 0 where
   pub taking : Taking
   pub read : taking_of (all_recorded before) source (took_for (took_of took)) ≡ Some taking
   pub fits : step_took_fits (all_recorded before) node source (took_of took) ≡ true
@@ -60,14 +61,17 @@ pub record IsStep (entry : Entry) (given : Performed) : Type 0 where
   pub outcome : entry.outcome ≡ given.outcome
 
 -- what is read behind it is what the step leaves
-pub record IsFollowed (made : Made) (now : ℕ) (stop : Stop) (entry : Entry) (r : Read) (taking : Taking) (d : Doing) (given : Performed) : Type 0 where
+pub record IsFollowed (made : Made) (now : ℕ) (stop : Stop) (entry : Entry)
+    (r : Read) (taking : Taking) (d : Doing) (given : Performed) : Type 0 where
   pub sections : (step_read made now stop entry r (Some taking)).sections ≡ given.sections
-  pub known : is_whole given.outcome ≡ true → AreAlike (step_read made now stop entry r (Some taking)).known d.desk.known
+  pub known : is_whole given.outcome ≡ true
+      → AreAlike (step_read made now stop entry r (Some taking)).known d.desk.known
 
 -- whether an engine that runs is too near the greatest view is read from the record
 abbrev pub AreEndsRead : Setting → List Noted → Type 0
 AreEndsRead setting before =
-    (node : Node) (made : EngineMade) (past : List Did) → runs_engine setting.setup node.member ≡ true → life_in setting before node ≡ Running made past
+    (node : Node) (made : EngineMade) (past : List Did) → runs_engine setting.setup node.member ≡ true
+    → life_in setting before node ≡ Running made past
     → is_at_end setting (all_recorded before) node ≡ entries.is_at_end setting.setup made past
 
 -- of an engine that runs the clock of its start, its journal, its rules, and what its voter knows, but for what no vote rests on

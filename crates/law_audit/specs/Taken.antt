@@ -9,12 +9,14 @@ use Rattle.model_rules.specs.declared.request.Asked.{Asked}
 use Rattle.model_rules.specs.declared.request.Asked.TheVariants as asks
 use Rattle.model_rules.specs.declared.request.ProposalState.{ProposalState}
 use Rattle.model_rules.specs.declared.request.ProposalState.TheVariants.{Held}
+use Rattle.model_rules.specs.Known.{Made, Fact}
 use Rattle.model_rules.specs.Requests.{verify_asked}
 use Rattle.model_rules.specs.Calls.{proposal_on}
 use Rattle.model_rules.specs.Pending.{Pending, Opened}
 use Rattle.simplex_messages.specs.declared.voter.VoterInput.{VoterInput}
 use Rattle.simplex_messages.specs.declared.voter.VoterInput.TheVariants as inputs
 use Rattle.model_steps.specs.Voter.{Standing, answer_to, first_answered}
+use Rattle.model_audit.specs.Alike.{AreAlike}
 use Rattle.model_audit.specs.Taking.{Taking, Deadline, Mail, Reply}
 
 -- the answer that came; of a held candidate the one that staged it
@@ -61,3 +63,8 @@ Takes s inputs.Timer taking = taking ≡ Deadline
 Takes s inputs.Propose taking = TakesProposal s taking
 Takes s inputs.Verify taking = TakesVerify s taking
 Takes s inputs.Certify taking = TakesCertify s taking
+
+module _ {V R : Type 0} where
+  -- members of whom what is known is alike answer alike by this rule
+  abbrev pub SameForAlike : (Made → List Fact → V → R) → Type 0
+  SameForAlike rule = (made : Made) (a b : List Fact) (value : V) → AreAlike a b → rule made a value ≡ rule made b value

@@ -40,27 +40,36 @@ ghost use Rattle.std.specs.Prelude.{ℕ, ◌≡◌, List, Some, ◌∷◌, false
 /// Of a run and of its record the clock, the packets, the numbers of requests, the floors and what is forged are the same.
 pub fn records_tell_the_same()
     ensures clock { (before : List Noted) → clock_of (all_recorded before) ≡ clock_of before }
-    ensures packet { (before : List Noted) (node : Node) (at : Ref) → packet_for (all_recorded before) node at ≡ packet_for before node at }
-    ensures request { (before : List Noted) (node : Node) (at : Ref) → request_number (all_recorded before) node at ≡ request_number before node at }
+    ensures packet { (before : List Noted) (node : Node) (at : Ref)
+        → packet_for (all_recorded before) node at ≡ packet_for before node at }
+    ensures request { (before : List Noted) (node : Node) (at : Ref)
+        → request_number (all_recorded before) node at ≡ request_number before node at }
     ensures floor { (setup : Setup) (before : List Noted) (floor : Option Finalization)
         → is_own_floor setup (all_recorded before) floor ≡ is_own_floor setup before floor }
     ensures forged { (setup : Setup) (before : List Noted) (entry : Entry)
-        → first_forged setup (all_recorded before) (rebuilt_entry (record_entry entry)) ≡ first_forged setup before entry }
+        → first_forged setup (all_recorded before) (rebuilt_entry (record_entry entry))
+        ≡ first_forged setup before entry }
 {}
 
 /// In the record of a run nothing is forged; and where no two certificates of a run conflict, none of its record do.
 pub fn records_of_runs_agree()
-    ensures genuine { (setting : Setting) (before : List Noted) (event : Event) (noted : Noted) → entry_of setting before event ≡ Ok noted
-        → IsNone (first_forged setting.setup (all_recorded before) (rebuilt_entry (record_entry noted.entry))) }
+    ensures genuine { (setting : Setting) (before : List Noted) (event : Event) (noted : Noted)
+        → entry_of setting before event ≡ Ok noted
+        → IsNone (first_forged setting.setup (all_recorded before)
+        (rebuilt_entry (record_entry noted.entry))) }
     ensures agrees { (setup : Setup) (before : List Noted) (noted : Noted) → AgreeAll setup (noted ∷ before)
-        → has_conflict setup (all_recorded before) (rebuilt_entry (record_entry noted.entry)) ≡ false }
+        → has_conflict setup (all_recorded before)
+        (rebuilt_entry (record_entry noted.entry)) ≡ false }
 {}
 
 /// The journal that is read of what a record tells of a step is the one that the step leaves, whole or broken, where the
 /// calls of the journal by the rules are as many as the step makes, with the same prunes at the same places.
 pub fn journals_are_read()
-    ensures { (stop : Stop) (doing : Doing) (sections : List Section) (ruled : List Call) → shape_of ruled ≡ shape_of doing.calls
-        → sections_behind (performed stop doing sections).outcome stop ruled (filter_map call_for (map call_of (performed stop doing sections).out.calls)) sections ≡ (performed stop doing sections).sections }
+    ensures { (stop : Stop) (doing : Doing) (sections : List Section) (ruled : List Call)
+        → shape_of ruled ≡ shape_of doing.calls
+        → sections_behind (performed stop doing sections).outcome stop ruled
+        (filter_map call_for (map call_of (performed stop doing sections).out.calls)) sections
+        ≡ (performed stop doing sections).sections }
 {}
 
 /// The journal that is read of what a record tells of a start is the one that the start leaves, by the calls that the rules make
@@ -68,14 +77,18 @@ pub fn journals_are_read()
 pub fn starts_are_read()
     ensures { (made : Made) (now : ℕ) (floor : Floor) (records : List Artifact) (stop : Stop) (sections : List Section)
         → (let doing = started made now floor records in let given = start_performed stop floor doing sections in
-        sections_behind given.outcome (behind_reading stop) doing.calls (filter_map call_for (map call_of given.out.calls)) sections ≡ given.sections) }
+        sections_behind given.outcome (behind_reading stop) doing.calls
+        (filter_map call_for (map call_of given.out.calls)) sections ≡ given.sections) }
 {}
 
 /// Where what is read before a step of the voter is alike to what the voter knows, and is its journal, so it is behind the step.
 /// The voter has pruned up to its least active view, as it has wherever it stands in a run.
 pub fn steps_are_followed()
-    ensures { (made : Made) (now : ℕ) (s : Standing) (input : VoterInput) (taking : Taking) (d : Doing) (stop : Stop) (sections : List Section) (r : Read) (entry : Entry) → Takes s input taking → stepped made now s input ≡ Some d
-        → IsStep entry (performed stop d sections) → AreAlike r.known s.desk.known → r.sections ≡ sections
+    ensures { (made : Made) (now : ℕ) (s : Standing) (input : VoterInput) (taking : Taking) (d : Doing) (stop : Stop)
+        (sections : List Section) (r : Read) (entry : Entry) → Takes s input taking
+        → stepped made now s input ≡ Some d
+        → IsStep entry (performed stop d sections) → AreAlike r.known s.desk.known
+        → r.sections ≡ sections
         → greatest_of pruned_view s.desk.known ≡ least_active made s.desk.known
         → IsFollowed made now stop entry r taking d (performed stop d sections) }
 {}

@@ -19,8 +19,10 @@ pub fn conflicts_are_tested()
 /// A record is found sound exactly where its setup keeps its limits and no entry has a fault; and no two certificates of
 /// such a record conflict.
 pub fn sound_records_hold()
-    ensures exactly { (setting : Setting) (events : List Event) (entries : List AuditEntry) → audited setting events entries ≡ Sound
+    ensures exactly { (setting : Setting) (events : List Event) (entries : List AuditEntry)
+        → audited setting events entries ≡ Sound
         ↔ IsSound setting events entries }
-    ensures agrees { (setting : Setting) (events : List Event) (entries : List AuditEntry) → IsSound setting events entries
+    ensures agrees { (setting : Setting) (events : List Event) (entries : List AuditEntry)
+        → IsSound setting events entries
         → AgreeAll setting.setup (all_rebuilt events entries) }
 {}

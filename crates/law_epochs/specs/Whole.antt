@@ -36,11 +36,13 @@ EachRooted (ran ∷ rest) = AllRooted ran.genesis ran.entries × EachRooted rest
 
 -- each log that reaches the height has the payload there that closes the epoch
 abbrev pub ClosesAs : ℕ → Setup → List Entry → List ℕ → Type 0
-ClosesAs height setup entries digest = (node : Node) → height ≤ length (log_at setup entries node) → payload_at height (log_at setup entries node) ≡ Some digest
+ClosesAs height setup entries digest = (node : Node) → height ≤ length (log_at setup entries node)
+    → payload_at height (log_at setup entries node) ≡ Some digest
 
 -- of the chains of any two members one begins the other
 abbrev pub ChainsAreFronts : ℕ → List Input → List Ran → Type 0
-ChainsAreFronts height inputs rans = (a b : ℕ) → AreFronts (chain_of height (member_logs inputs rans a)) (chain_of height (member_logs inputs rans b))
+ChainsAreFronts height inputs rans =
+    (a b : ℕ) → AreFronts (chain_of height (member_logs inputs rans a)) (chain_of height (member_logs inputs rans b))
 
 -- the runs of the epochs are safe, their requests name their genesis digests, and their chains are of one
 pub record AreChainsOf (height : ℕ) (inputs : List Input) (rans : List Ran) : Type 0 where

@@ -14,22 +14,28 @@ ghost use Rattle.law_epochs.specs.Whole.{AreEpochs, ClosesAs, AreChainsOf};
 
 /// Where of each epoch one log begins the other, one chain begins the other.
 pub fn chains_are_fronts()
-    ensures { (height : ℕ) (xs ys : List (ℕ × List LogEntry)) → AreAlike xs ys → AreFronts (chain_of height xs) (chain_of height ys) }
+    ensures { (height : ℕ) (xs ys : List (ℕ × List LogEntry))
+        → AreAlike xs ys → AreFronts (chain_of height xs) (chain_of height ys) }
 {}
 
 /// Logs of which one begins the other have one payload at each height that both reach.
 pub fn long_logs_agree()
-    ensures { (height : ℕ) (a b : List LogEntry) → 0 < height → height ≤ length a → height ≤ length b → AreFronts a b → payload_at height a ≡ payload_at height b }
+    ensures { (height : ℕ) (a b : List LogEntry) → 0 < height
+        → height ≤ length a → height ≤ length b → AreFronts a b
+        → payload_at height a ≡ payload_at height b }
 {}
 
 /// Whichever log reaches the height, its payload there is the one that closes the epoch.
 pub fn epochs_close_as_one()
-    ensures { (height : ℕ) (setup : Setup) (events : List Event) (entries : List Entry) (digest : List ℕ) → 0 < height → IsTranscript setup events entries
-        → closing_payload height (lists_of (logs_in setup entries)) ≡ Some digest → ClosesAs height setup entries digest }
+    ensures { (height : ℕ) (setup : Setup) (events : List Event) (entries : List Entry) (digest : List ℕ)
+        → 0 < height → IsTranscript setup events entries
+        → closing_payload height (lists_of (logs_in setup entries)) ≡ Some digest
+        → ClosesAs height setup entries digest }
 {}
 
 /// Where the run of each epoch is safe, each request on view 0 names its epoch's genesis digest, and of the chains of any two
 /// members one begins the other.
 pub fn chains_of_whole_runs()
-    ensures { (height : ℕ) (inputs : List Input) (rans : List Ran) → AreEpochs height inputs rans → AreChainsOf height inputs rans }
+    ensures { (height : ℕ) (inputs : List Input) (rans : List Ran)
+        → AreEpochs height inputs rans → AreChainsOf height inputs rans }
 {}

@@ -12,11 +12,13 @@ ghost use Rattle.law_ledger.specs.Whole.{ledger_fault, NoneIsMissing, IsLedgerOf
 /// Where no answer to an honest node is for a payload without a sound block, each payload of each log has one.
 pub fn no_block_is_missing()
     ensures { (setup : Setup) (events : List Event) (entries : List Entry) (blocks : List (List ℕ)) → IsTranscript setup events entries
-        → bad_answer (is_sound blocks) setup entries events ≡ None → NoneIsMissing setup entries blocks }
+        → bad_answer (is_sound blocks) setup entries events ≡ None
+        → NoneIsMissing setup entries blocks }
 {}
 
 /// Where nothing is wrong with accounts, blocks and answers, the logs of a whole run have a ledger.
 pub fn ledger_of_a_whole_run()
     ensures { (setup : Setup) (events : List Event) (entries : List Entry) (accounts : List ℕ) (blocks : List (List ℕ)) → IsTranscript setup events entries
-        → ledger_fault setup entries events accounts blocks ≡ None → IsLedgerOf setup entries blocks accounts (logs_in setup entries) }
+        → ledger_fault setup entries events accounts blocks ≡ None
+        → IsLedgerOf setup entries blocks accounts (logs_in setup entries) }
 {}

@@ -16,7 +16,8 @@ use Rattle.law_log.specs.Reports.{reported}
 
 -- whether an activity verifies by the keys of the setup's members
 abbrev pub verified_by : Setup → Activity → Bool
-verified_by setup activity = activity_verifies (keyed_verifies setup.key_base (members_of setup)) (members_of setup) activity
+verified_by setup activity =
+    activity_verifies (keyed_verifies setup.key_base (members_of setup)) (members_of setup) activity
 
 -- the log of what the node reported in these entries
 abbrev pub log_at : Setup → List Entry → Node → List LogEntry

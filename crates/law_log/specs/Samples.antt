@@ -19,7 +19,8 @@ use Rattle.model_run.specs.Entries.{blank_entry}
 
 -- an entry of the node with these reports, each behind a sync
 abbrev pub entry_with : Option Node → Activity → Activity → Entry
-entry_with who first second = record (blank_entry 1 who) { calls = calls.Sync 1 ∷ calls.Report first ∷ calls.Sync 2 ∷ calls.Report second ∷ [] }
+entry_with who first second =
+    record (blank_entry 1 who) { calls = calls.Sync 1 ∷ calls.Report first ∷ calls.Sync 2 ∷ calls.Report second ∷ [] }
 
 -- ---- a member alone, up to the finalization of its proposal
 
@@ -28,9 +29,11 @@ step source = events.Step at source stops.None
 
 abbrev pub finalizing : List Event
 finalizing =
-    events.Start at None stops.None ∷ events.Answer at (record { event = 1; place = 0 }) (answers.Payload (replicate 32 17))
+    events.Start at None stops.None
+    ∷ events.Answer at (record { event = 1; place = 0 }) (answers.Payload (replicate 32 17))
     ∷ step sources.Propose ∷ step sources.Batcher ∷ step sources.Batcher ∷ step sources.Voter
-    ∷ events.Answer at (record { event = 6; place = 0 }) (answers.Verdict true) ∷ step sources.Certify ∷ step sources.Batcher ∷ step sources.Voter ∷ []
+    ∷ events.Answer at (record { event = 6; place = 0 }) (answers.Verdict true)
+    ∷ step sources.Certify ∷ step sources.Batcher ∷ step sources.Voter ∷ []
 
 abbrev pub logs_of_run : Setup → Result (List Entry) Refusal → Option (List (Node × List LogEntry))
 logs_of_run setup (Ok entries) = Some (logs_in setup entries)

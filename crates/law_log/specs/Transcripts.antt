@@ -22,12 +22,14 @@ pub record IsTranscript (setup : Setup) (events : List Event) (entries : List En
 
 -- of the logs of any two nodes, at any two points, one begins the other
 abbrev pub LogsAreFronts : Setup → List Entry → Type 0
-LogsAreFronts setup entries = (a b : Node) (i j : ℕ) → AreFronts (log_at setup (take i entries) a) (log_at setup (take j entries) b)
+LogsAreFronts setup entries = (a b : Node) (i j : ℕ)
+    → AreFronts (log_at setup (take i entries) a) (log_at setup (take j entries) b)
 
 -- nothing that a node reported clashes with what it reported before
 abbrev pub ReportsDoNotClash : Setup → List Entry → Type 0
 ReportsDoNotClash setup entries =
-    (node : Node) (taken later : List Activity) (activity : Activity) → reported entries node ≡ taken ++ activity ∷ later → clash_of (verified_by setup) taken activity ≡ None
+    (node : Node) (taken later : List Activity) (activity : Activity)
+    → reported entries node ≡ taken ++ activity ∷ later → clash_of (verified_by setup) taken activity ≡ None
 
 -- these are the logs of the honest nodes, and they are of one chain
 pub record AreLogsOf (setup : Setup) (entries : List Entry) (logs : List (Node × List LogEntry)) : Type 0 where

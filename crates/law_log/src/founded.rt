@@ -12,5 +12,6 @@ ghost use Rattle.law_log.specs.Reports.{entries_of};
 /// Behind each entry of a log of a safe run is the notarize of an honest member, which appended it.
 pub fn logged_proposals_were_notarized()
     ensures { (setting : Setting) (noted : List Noted) (node : Node) (entry : LogEntry) → IsSafe setting noted
-        → Contains (log_at setting.setup (entries_of noted) node) entry → IsFounded setting.setup noted entry }
+        → Contains (log_at setting.setup (entries_of noted) node) entry
+        → IsFounded setting.setup noted entry }
 {}

@@ -8,6 +8,8 @@ ghost use Rattle.law_log.specs.Transcripts.{IsTranscript, ReportsDoNotClash, Are
 
 /// The logs of a whole run are of one chain, and nothing that a node reported clashes with what it reported before.
 pub fn logs_of_a_whole_run()
-    ensures logs { (setup : Setup) (events : List Event) (entries : List Entry) → IsTranscript setup events entries → AreLogsOf setup entries (logs_in setup entries) }
-    ensures clashes { (setup : Setup) (events : List Event) (entries : List Entry) → IsTranscript setup events entries → ReportsDoNotClash setup entries }
+    ensures logs { (setup : Setup) (events : List Event) (entries : List Entry)
+        → IsTranscript setup events entries → AreLogsOf setup entries (logs_in setup entries) }
+    ensures clashes { (setup : Setup) (events : List Event) (entries : List Entry)
+        → IsTranscript setup events entries → ReportsDoNotClash setup entries }
 {}

@@ -14,7 +14,8 @@ pub record Told : Type 0 where
 
 -- what an update tells
 abbrev pub told_by : BatcherInput → Option Told
-told_by (input.Mail (batcher.Update current leader finalized proposal)) = Some (record { current = current; leader = leader; finalized = finalized })
+told_by (input.Mail (batcher.Update current leader finalized proposal)) =
+    Some (record { current = current; leader = leader; finalized = finalized })
 told_by _ = None
 
 -- what the last update among these told

@@ -27,7 +27,8 @@ Came (given ∷ before) vote = Brings given.input vote ⊎ Came before vote
 -- own vote where its view is kept
 abbrev pub takes : Made → Standing → BatcherInput → Vote → Bool
 takes made standing (input.Vote sender bytes) vote =
-    vote_epoch vote == made.epoch && (retains_view made standing (vote_view vote) && admits_view made standing (vote_view vote))
+    vote_epoch vote == made.epoch
+    && (retains_view made standing (vote_view vote) && admits_view made standing (vote_view vote))
 takes made standing (input.Mail message) vote = retains_view made standing (vote_view vote)
 takes made standing (input.Certificate sender bytes) vote = false
 

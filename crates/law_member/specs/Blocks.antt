@@ -22,8 +22,10 @@ use Rattle.law_member.specs.Reports.{SignedBoth}
 
 -- the input is a packet of the member that is no vote and no certificate
 abbrev pub IsNoise : BatcherInput → ℕ → Type 0
-IsNoise (input.Vote sender bytes) member = (sender ≡ member) × (fault : DecodeError) × (whole format.vote bytes ≡ Err fault)
-IsNoise (input.Certificate sender bytes) member = (sender ≡ member) × (fault : DecodeError) × (whole format.certificate bytes ≡ Err fault)
+IsNoise (input.Vote sender bytes) member = (sender ≡ member)
+    × (fault : DecodeError) × (whole format.vote bytes ≡ Err fault)
+IsNoise (input.Certificate sender bytes) member =
+    (sender ≡ member) × (fault : DecodeError) × (whole format.certificate bytes ≡ Err fault)
 IsNoise (input.Mail message) member = ⊥
 
 -- it is a packet of the member that is this vote, and this certificate
@@ -32,7 +34,8 @@ IsVoteOf (input.Vote sender bytes) member vote = (sender ≡ member) × (whole f
 IsVoteOf _ member vote = ⊥
 
 abbrev pub IsCertificateOf : BatcherInput → ℕ → Certificate → Type 0
-IsCertificateOf (input.Certificate sender bytes) member certificate = (sender ≡ member) × (whole format.certificate bytes ≡ Ok certificate)
+IsCertificateOf (input.Certificate sender bytes) member certificate =
+    (sender ≡ member) × (whole format.certificate bytes ≡ Ok certificate)
 IsCertificateOf _ member certificate = ⊥
 
 -- what the member did, by the cause for which it is blocked. For the last two a batcher blocks nobody
@@ -46,11 +49,14 @@ Did made accepted came given member causes.InvalidCertificate =
     × (is_certified (made.scheme.verifies (certificate_subject c)) made.members (certificate_signatures c) ≡ false)
 Did made accepted came given member causes.WrongSender = (v : Vote) × IsVoteOf given member v × (vote_signer v ≢ member)
 Did made accepted came given member causes.ConflictingVotes =
-    (first second : Vote) × (vote_signer first ≡ member) × (vote_kind first ≡ vote_kind second) × SignedBoth accepted came first second
+    (first second : Vote) × (vote_signer first ≡ member) × (vote_kind first ≡ vote_kind second)
+    × SignedBoth accepted came first second
 Did made accepted came given member causes.NullifyAndFinalize =
-    (n : Nullify) × (f : Finalize) × (n.attestation.signer ≡ member) × SignedBoth accepted came (votes.Nullify n) (votes.Finalize f)
+    (n : Nullify) × (f : Finalize) × (n.attestation.signer ≡ member)
+    × SignedBoth accepted came (votes.Nullify n) (votes.Finalize f)
 Did made accepted came given member causes.InvalidSignature =
-    (v : Vote) × accepted v × (vote_signer v ≡ member) × (made.scheme.verifies (vote_subject v) (vote_attestation v) ≡ false)
+    (v : Vote) × accepted v × (vote_signer v ≡ member)
+    × (made.scheme.verifies (vote_subject v) (vote_attestation v) ≡ false)
 Did made accepted came given member causes.LeaderConflict = ⊥
 Did made accepted came given member causes.InvalidResponse = ⊥
 

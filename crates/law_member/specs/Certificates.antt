@@ -20,16 +20,19 @@ use Rattle.model_steps.specs.Batcher.{Made, Standing, holds_kind, retains_view, 
 -- the scheme is that of the batcher's members, and no signature of another verifies
 pub record IsSchemeOfMembers (made : Made) : Type 0 where
   pub members : made.scheme.members ≡ made.members
-  pub signers : (subject : Subject) (attestation : Attestation) → made.scheme.verifies subject attestation ≡ true → attestation.signer < made.members
+  pub signers : (subject : Subject) (attestation : Attestation)
+      → made.scheme.verifies subject attestation ≡ true → attestation.signer < made.members
 
 -- the input is the certificate, and the round of its view holds none of its kind
 abbrev pub BringsNew : Standing → BatcherInput → Certificate → Type 0
-BringsNew standing (input.Certificate sender bytes) certificate = (whole format.certificate bytes ≡ Ok certificate) × (holds_kind standing certificate ≡ false)
+BringsNew standing (input.Certificate sender bytes) certificate =
+    (whole format.certificate bytes ≡ Ok certificate) × (holds_kind standing certificate ≡ false)
 BringsNew standing (input.Vote sender bytes) certificate = ⊥
 BringsNew standing (input.Mail message) certificate = ⊥
 
 -- the signature is that of a vote on the subject, which was accepted and verifies
-pub record IsVoteOn (made : Made) (accepted : Vote → Type 0) (subject : Subject) (attestation : Attestation) : Type 0 where
+pub record IsVoteOn (made : Made) (accepted : Vote
+    → Type 0) (subject : Subject) (attestation : Attestation) : Type 0 where
   pub vote : Vote
   pub signature : vote_attestation vote ≡ attestation
   pub on : vote_subject vote ≡ subject
@@ -42,21 +45,26 @@ pub record IsMadeOfVotes (made : Made) (accepted : Vote → Type 0) (certificate
   pub each : All (IsVoteOn made accepted (certificate_subject certificate)) (certificate_signatures certificate)
 
 -- it verifies, and is new or made of votes
-pub record IsFoundedCertificate (made : Made) (accepted : Vote → Type 0) (is_new : Certificate → Type 0) (certificate : Certificate) : Type 0 where
-  pub verifies : is_certified (made.scheme.verifies (certificate_subject certificate)) made.members (certificate_signatures certificate) ≡ true
+pub record IsFoundedCertificate (made : Made) (accepted : Vote
+    → Type 0) (is_new : Certificate → Type 0) (certificate : Certificate) : Type 0 where
+  pub verifies : is_certified (made.scheme.verifies (certificate_subject certificate)) made.members
+      (certificate_signatures certificate) ≡ true
   pub source : is_new certificate ⊎ IsMadeOfVotes made accepted certificate
 
 -- the message is no certificate for the voter, or a founded one
 abbrev pub IsFoundedMessage : Made → (Vote → Type 0) → (Certificate → Type 0) → Handed → Type 0
-IsFoundedMessage made accepted is_new (handed.Voter (voter.Verified certificate)) = IsFoundedCertificate made accepted is_new certificate
+IsFoundedMessage made accepted is_new (handed.Voter (voter.Verified certificate)) =
+    IsFoundedCertificate made accepted is_new certificate
 IsFoundedMessage made accepted is_new _ = Unit {0}
 
 -- the input brings it anew, and it is of the batcher's epoch and of a view that is retained, and verifies
-pub record BringsVerified (made : Made) (standing : Standing) (given : BatcherInput) (certificate : Certificate) : Type 0 where
+pub record BringsVerified (made : Made) (standing : Standing)
+    (given : BatcherInput) (certificate : Certificate) : Type 0 where
   pub brings : BringsNew standing given certificate
   pub epoch : certificate_epoch certificate ≡ made.epoch
   pub retained : retains_view made standing (certificate_view certificate) ≡ true
-  pub verifies : is_certified (made.scheme.verifies (certificate_subject certificate)) made.members (certificate_signatures certificate) ≡ true
+  pub verifies : is_certified (made.scheme.verifies (certificate_subject certificate)) made.members
+      (certificate_signatures certificate) ≡ true
 
 -- the step hands it to the voter
 abbrev pub HandsOn : StepOut → Certificate → Type 0

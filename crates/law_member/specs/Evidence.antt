@@ -14,9 +14,12 @@ use Rattle.law_agreement.specs.World.{Sent, MayFollow}
 
 -- whether it is evidence, and the member is the signer of one of its two votes
 abbrev pub names : Activity → ℕ → Bool
-names (activities.ConflictingNotarize e) member = e.first.attestation.signer == member || e.second.attestation.signer == member
-names (activities.ConflictingFinalize e) member = e.first.attestation.signer == member || e.second.attestation.signer == member
-names (activities.NullifyFinalize e) member = e.nullify.attestation.signer == member || e.finalize.attestation.signer == member
+names (activities.ConflictingNotarize e) member =
+    e.first.attestation.signer == member || e.second.attestation.signer == member
+names (activities.ConflictingFinalize e) member =
+    e.first.attestation.signer == member || e.second.attestation.signer == member
+names (activities.NullifyFinalize e) member =
+    e.nullify.attestation.signer == member || e.finalize.attestation.signer == member
 names _ member = false
 
 -- whether the call reports evidence that names the member
@@ -38,4 +41,5 @@ AreInOrder length sent = AllPairs (λ s t. MayFollow length s.subject t.subject 
 
 -- each vote of the member that came in these inputs is on a subject of these votes
 abbrev pub IsAuthentic : ℕ → List Timed → List Sent → Type 0
-IsAuthentic member given sent = (vote : Vote) → Came given vote → vote_signer vote ≡ member → Contains (subjects_of sent) (vote_subject vote)
+IsAuthentic member given sent = (vote : Vote) → Came given vote
+    → vote_signer vote ≡ member → Contains (subjects_of sent) (vote_subject vote)

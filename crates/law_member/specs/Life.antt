@@ -38,7 +38,8 @@ use Rattle.law_member.specs.Storing.{IsOwn, AreStoredFirst}
 
 -- a certificate: what was signed, and by whom
 abbrev pub statement_of : Certificate → agreement.Certificate
-statement_of c = record { subject = certificate_subject c; signers = map (λ (a : Attestation). a.signer) (certificate_signatures c) }
+statement_of c =
+    record { subject = certificate_subject c; signers = map (λ (a : Attestation). a.signer) (certificate_signatures c) }
 
 -- a record of the journal: an own vote, a certificate or a verdict
 abbrev pub memory_of : Artifact → member.Artifact
@@ -71,7 +72,8 @@ journal_of sections = map section_of sections
 
 -- what is known is in order: each verdict is on a known notarization, and own nullifies are of the member's epoch
 pub record IsInOrder (made : Made) (known : List Fact) : Type 0 where
-  pub judged : (view : ℕ) (good : Bool) (now : ℕ) → Contains known (Judged view good now) → is_some (notarization_of known view) ≡ true
+  pub judged : (view : ℕ) (good : Bool) (now : ℕ) → Contains known (Judged view good now)
+      → is_some (notarization_of known view) ≡ true
   pub own : (v : Nullify) → Contains known (Voted (votes.Nullify v)) → v.round.epoch ≡ made.epoch
 
 -- so are the records of a journal: own nullifies are of the member's epoch
@@ -132,12 +134,14 @@ IsLowNullify made s = (r : Round) × (s ≡ subjects.Nullify r) × (r.epoch ≡ 
 unfoldable pub AreSent : List Call → List Subject → Type 0
 AreSent [] subjects = subjects ≡ []
 AreSent (calls.Send channels.Vote recipients bytes ∷ rest) subjects =
-    (v : Vote) × (others : List Subject) × (bytes ≡ format.vote.spelling v) × (subjects ≡ vote_subject v ∷ others) × AreSent rest others
+    (v : Vote) × (others : List Subject) × (bytes ≡ format.vote.spelling v)
+    × (subjects ≡ vote_subject v ∷ others) × AreSent rest others
 AreSent (_ ∷ rest) subjects = AreSent rest subjects
 
 -- each vote that is handed to the batcher as a constructed one is on a subject of these votes
 abbrev pub IsVoteSent : List Sent → Handed → Type 0
-IsVoteSent sent (handed.Batcher (batcher.Constructed v)) = Contains (map (λ (s : Sent). s.subject) sent) (vote_subject v)
+IsVoteSent sent (handed.Batcher (batcher.Constructed v)) =
+    Contains (map (λ (s : Sent). s.subject) sent) (vote_subject v)
 IsVoteSent sent _ = Unit {0}
 
 abbrev pub AreVotesSent : List Sent → List Handed → Type 0
@@ -146,7 +150,8 @@ AreVotesSent sent (h ∷ rest) = IsVoteSent sent h × AreVotesSent sent rest
 
 -- a nullify that the member made before, for a view above all that is final
 abbrev pub IsEarlier : Member → Nullify → Type 0
-IsEarlier m v = Contains m.known (member.Own (subjects.Nullify v.round)) × (member.last_finalized m.known < v.round.view)
+IsEarlier m v = Contains m.known (member.Own (subjects.Nullify v.round))
+    × (member.last_finalized m.known < v.round.view)
 
 -- where the member is behind a step: it runs where the step was made whole, and does not where a stop ended it
 abbrev pub IsLeft : Made → List Fact → Outcome → List Section → Member → Type 0
@@ -164,7 +169,8 @@ pub record IsLived (made : Made) (known : List Fact) (p : Performed) (m : Member
   pub sends : (life.run m calls).sent ≡ m.sent ++ sent
   pub votes : AreSent p.out.calls (map (λ (s : Sent). s.subject) sent)
   pub constructed : AreVotesSent (life.run m calls).sent p.out.handed
-  pub own : (s : Subject) → Contains (map (λ (x : Sent). x.subject) sent) s → Contains (voted p.out.calls) s ⊎ IsLowNullify made s
+  pub own : (s : Subject) → Contains (map (λ (x : Sent). x.subject) sent) s
+      → Contains (voted p.out.calls) s ⊎ IsLowNullify made s
   pub first : AreStoredFirst (IsEarlier m) (IsOwn made) p.out.calls
   pub left : IsLeft made known p.outcome p.sections (life.run m calls)
 

@@ -19,7 +19,8 @@ IsAdded known certificate = (now : ℕ) × Contains known (Added certificate now
 abbrev pub MayGoOut : List Fact → Call → Type 0
 MayGoOut known (calls.Send channels.Vote to bytes) = Unit {0}
 MayGoOut known (calls.Send channels.Certificate to bytes) =
-    (certificate : Certificate) × IsAdded known certificate × (bytes ≡ format.certificate.spelling certificate) × (to ≡ recipients.All)
+    (certificate : Certificate) × IsAdded known certificate
+    × (bytes ≡ format.certificate.spelling certificate) × (to ≡ recipients.All)
 MayGoOut known (calls.Send channels.Resolver to bytes) = ⊥
 MayGoOut known (calls.Report (activities.Notarization n)) = IsAdded known (certificates.Notarization n)
 MayGoOut known (calls.Report (activities.Certification n)) = IsAdded known (certificates.Notarization n)

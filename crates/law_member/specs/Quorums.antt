@@ -16,7 +16,8 @@ use Rattle.law_member.specs.Certificates.{HandsOn}
 
 -- whether the accepted vote is on the subject and verifies
 abbrev pub verifies_on : Made → Subject → Ballot → Bool
-verifies_on made subject b = is_same_subject (vote_subject b.vote) subject && made.scheme.verifies subject (vote_attestation b.vote)
+verifies_on made subject b =
+    is_same_subject (vote_subject b.vote) subject && made.scheme.verifies subject (vote_attestation b.vote)
 
 -- how many of these are
 abbrev pub verifying_on : Made → Subject → List Ballot → ℕ

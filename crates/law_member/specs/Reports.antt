@@ -31,9 +31,12 @@ abbrev pub IsFounded : (Vote → Type 0) → (Vote → Type 0) → Activity → 
 IsFounded accepted came (activities.Notarize v) = accepted (votes.Notarize v)
 IsFounded accepted came (activities.Nullify v) = accepted (votes.Nullify v)
 IsFounded accepted came (activities.Finalize v) = accepted (votes.Finalize v)
-IsFounded accepted came (activities.ConflictingNotarize e) = SignedBoth accepted came (votes.Notarize e.first) (votes.Notarize e.second)
-IsFounded accepted came (activities.ConflictingFinalize e) = SignedBoth accepted came (votes.Finalize e.first) (votes.Finalize e.second)
-IsFounded accepted came (activities.NullifyFinalize e) = SignedBoth accepted came (votes.Nullify e.nullify) (votes.Finalize e.finalize)
+IsFounded accepted came (activities.ConflictingNotarize e) =
+    SignedBoth accepted came (votes.Notarize e.first) (votes.Notarize e.second)
+IsFounded accepted came (activities.ConflictingFinalize e) =
+    SignedBoth accepted came (votes.Finalize e.first) (votes.Finalize e.second)
+IsFounded accepted came (activities.NullifyFinalize e) =
+    SignedBoth accepted came (votes.Nullify e.nullify) (votes.Finalize e.finalize)
 IsFounded accepted came (activities.Notarization c) = ⊥
 IsFounded accepted came (activities.Certification c) = ⊥
 IsFounded accepted came (activities.Nullification c) = ⊥

@@ -14,9 +14,11 @@ IsUnsettled length held view ask = is_settled length held view ask.kind ≡ fals
 
 -- where the ask stands until the floor, it is for the nullification of the view, and the view is a gap
 abbrev pub IsForGap : ℕ → List RepairCall → ℕ → Ask → Type 0
-IsForGap length held view ask = ask.until ≡ untils.Floor → (ask.kind ≡ kinds.Nullification) × (is_gap length held view ≡ true)
+IsForGap length held view ask = ask.until ≡ untils.Floor
+    → (ask.kind ≡ kinds.Nullification) × (is_gap length held view ≡ true)
 
 -- each ask for the view that a resolver has given its fetcher, and that still stands, is so
 abbrev pub AllAsks : Made → Standing → ℕ → (ℕ → List RepairCall → ℕ → Ask → Type 0) → Type 0
 AllAsks made standing view Is =
-    IfSome (entry_at standing.fetcher.views view) (λ entry. All (λ arrival. Is made.term standing.held view arrival.ask) entry.arrivals)
+    IfSome (entry_at standing.fetcher.views view)
+    (λ entry. All (λ arrival. Is made.term standing.held view arrival.ask) entry.arrivals)

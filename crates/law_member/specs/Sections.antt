@@ -14,6 +14,7 @@ touched_view made now standing input = option_and_then (λ outcome. outcome.1) (
 
 -- a record that is appended is of the touched view, and goes to that view's section; a sync is of that section
 abbrev pub IsOfSection : Option ℕ → Call → Type 0
-IsOfSection touched (calls.Append section artifact) = (touched ≡ Some section) × ((artifact_round artifact).view ≡ section)
+IsOfSection touched (calls.Append section artifact) =
+    (touched ≡ Some section) × ((artifact_round artifact).view ≡ section)
 IsOfSection touched (calls.Sync section) = touched ≡ Some section
 IsOfSection touched _ = Unit {0}

@@ -20,14 +20,16 @@ finalized_seven = record {
 }
 
 abbrev pub shows_seven : List ℕ
-shows_seven = message_bytes 0 (bodies.Response (format.certificate.spelling (certificates.Finalization finalized_seven)))
+shows_seven =
+    message_bytes 0 (bodies.Response (format.certificate.spelling (certificates.Finalization finalized_seven)))
 
 -- the nullification of view 6 is asked for, member 1 answers, the notarization of view 6 is asked for, and the answer is judged
 abbrev pub settled_by_an_answer : List Did
 settled_by_an_answer =
     and_step sources.Handler (and_step sources.Resolver (and_heard 1 shows_seven
     (and_step sources.Resolver
-    (handed_first (resolver.Resolve 10 6 kinds.Nullification None ∷ resolver.Resolve 10 6 kinds.Notarization None ∷ [])))))
+    (handed_first (resolver.Resolve 10 6 kinds.Nullification None
+    ∷ resolver.Resolve 10 6 kinds.Notarization None ∷ [])))))
 
 abbrev pub left_by_an_answer : Standing
 left_by_an_answer = standing_after engine_of_five.resolver (resolver_past settled_by_an_answer)

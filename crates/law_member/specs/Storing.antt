@@ -25,7 +25,8 @@ pub record IsStored (artifact : Artifact) (made : List Call) : Type 0 where
   pub before : List Call
   pub between : List Call
   pub behind : List Call
-  pub place : made ≡ before ++ (calls.Append (artifact_round artifact).view artifact ∷ (between ++ (calls.Sync (artifact_round artifact).view ∷ behind)))
+  pub place : made ≡ before ++ (calls.Append (artifact_round artifact).view artifact
+      ∷ (between ++ (calls.Sync (artifact_round artifact).view ∷ behind)))
 
 -- the vote is a nullify, and one of these
 abbrev pub IsRepeated : (Nullify → Type 0) → Vote → Type 0
@@ -50,5 +51,7 @@ IsOwn made v = IsSigned made v × IsLow made v
 -- a nullify that was made in an earlier step
 abbrev pub AreStoredFirst : (Nullify → Type 0) → (Vote → Type 0) → List Call → Type 0
 AreStoredFirst Earlier Own made =
-    (before behind : List Call) (to : Recipients) (bytes : List ℕ) → made ≡ before ++ (calls.Send channels.Vote to bytes ∷ behind)
-    → (v : Vote) × (bytes ≡ format.vote.spelling v) × (IsStored (record_of_vote v) before ⊎ IsRepeated Earlier v) × Own v
+    (before behind : List Call) (to : Recipients) (bytes : List ℕ)
+    → made ≡ before ++ (calls.Send channels.Vote to bytes ∷ behind)
+    → (v : Vote) × (bytes ≡ format.vote.spelling v)
+    × (IsStored (record_of_vote v) before ⊎ IsRepeated Earlier v) × Own v

@@ -51,9 +51,11 @@ approved_by known v _ = None
 -- with the payload that came for it; or that the application approves the one that it was to verify
 unfoldable pub tidings : Standing → VoterInput → Option Fact
 tidings standing (inputs.Mail (mail.Proposal proposal)) = Some (Taken proposal)
-tidings standing inputs.Propose = option_and_then (λ p. option_map (own_with p) (payload_for standing p p.state)) standing.desk.proposal
+tidings standing inputs.Propose =
+    option_and_then (λ p. option_map (own_with p) (payload_for standing p p.state)) standing.desk.proposal
 tidings standing inputs.Verify =
-    option_and_then (λ v. option_and_then (approved_by standing.desk.known v) (answer_to standing.answers v.number)) standing.desk.verify
+    option_and_then (λ v. option_and_then (approved_by standing.desk.known v) (answer_to standing.answers v.number))
+    standing.desk.verify
 tidings standing _ = None
 
 -- nothing was learned, or this was

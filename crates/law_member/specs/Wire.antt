@@ -29,7 +29,8 @@ WentOut made bytes = (to : Recipients) × Contains made (calls.Send channels.Vot
 -- signer is one that the member's voter handed on. Of other inputs nothing is asked.
 abbrev pub IsItsOwn : ℕ → List Call → List Handed → BatcherInput → Type 0
 IsItsOwn member made given (input.Vote sender bytes) = sender ≡ member → WentOut made bytes
-IsItsOwn member made given (input.Mail (batcher.Constructed own)) = vote_signer own ≡ member → Contains given (handed.Batcher (batcher.Constructed own))
+IsItsOwn member made given (input.Mail (batcher.Constructed own)) =
+    vote_signer own ≡ member → Contains given (handed.Batcher (batcher.Constructed own))
 IsItsOwn member made given _ = Unit {0}
 
 -- each of these inputs is such

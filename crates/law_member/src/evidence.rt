@@ -21,11 +21,15 @@ pub fn evidence_names_no_honest_member()
         → AreInOrder length sent → IsAuthentic member (given ∷ past) sent
         → BlameNot member (step_out made past given).calls }
     ensures lives { (made : Made) (past : List Timed) (given : Timed) (member length : ℕ) (lived : List life.Call)
-        → 0 < length → IsLegal length newborn lived → IsAuthentic member (given ∷ past) (run newborn lived).sent
+        → 0 < length → IsLegal length newborn lived
+        → IsAuthentic member (given ∷ past) (run newborn lived).sent
         → BlameNot member (step_out made past given).calls }
-    ensures wire { (made : Made) (past : List Timed) (given : Timed) (member length : ℕ) (lived : List life.Call) (calls : List Call) (handed : List Handed)
-        → 0 < length → IsLegal length newborn lived → All Fits (subjects_of (run newborn lived).sent)
-        → AreSent calls (subjects_of (run newborn lived).sent) → AreVotesSent (run newborn lived).sent handed
+    ensures wire { (made : Made) (past : List Timed) (given : Timed)
+        (member length : ℕ) (lived : List life.Call) (calls : List Call) (handed : List Handed)
+        → 0 < length → IsLegal length newborn lived
+        → All Fits (subjects_of (run newborn lived).sent)
+        → AreSent calls (subjects_of (run newborn lived).sent)
+        → AreVotesSent (run newborn lived).sent handed
         → AreItsOwn member calls handed (given ∷ past)
         → BlameNot member (step_out made past given).calls }
 {}

@@ -23,9 +23,12 @@ use law_agreement::legal_lives_exist;
 
 /// Evidence names the signer of each of its votes.
 pub fn evidence_names_its_signers()
-    ensures notarizes { (e : ConflictingNotarize) → (names (activities.ConflictingNotarize e) e.first.attestation.signer ≡ true) × (names (activities.ConflictingNotarize e) e.second.attestation.signer ≡ true) }
-    ensures finalizes { (e : ConflictingFinalize) → (names (activities.ConflictingFinalize e) e.first.attestation.signer ≡ true) × (names (activities.ConflictingFinalize e) e.second.attestation.signer ≡ true) }
-    ensures both { (e : NullifyFinalize) → (names (activities.NullifyFinalize e) e.nullify.attestation.signer ≡ true) × (names (activities.NullifyFinalize e) e.finalize.attestation.signer ≡ true) }
+    ensures notarizes { (e : ConflictingNotarize) → (names (activities.ConflictingNotarize e) e.first.attestation.signer
+        ≡ true) × (names (activities.ConflictingNotarize e) e.second.attestation.signer ≡ true) }
+    ensures finalizes { (e : ConflictingFinalize) → (names (activities.ConflictingFinalize e) e.first.attestation.signer
+        ≡ true) × (names (activities.ConflictingFinalize e) e.second.attestation.signer ≡ true) }
+    ensures both { (e : NullifyFinalize) → (names (activities.NullifyFinalize e) e.nullify.attestation.signer ≡ true)
+        × (names (activities.NullifyFinalize e) e.finalize.attestation.signer ≡ true) }
 {}
 
 /// A vote names nobody, and no certificate does.
@@ -33,19 +36,28 @@ pub fn other_reports_name_nobody()
     ensures notarize { (v : Notarize) (member : ℕ) → names (activities.Notarize v) member ≡ false }
     ensures nullify { (v : Nullify) (member : ℕ) → names (activities.Nullify v) member ≡ false }
     ensures finalize { (v : Finalize) (member : ℕ) → names (activities.Finalize v) member ≡ false }
-    ensures notarization { (c : Notarization) (member : ℕ) → names (activities.Notarization c) member ≡ false }
-    ensures certification { (c : Notarization) (member : ℕ) → names (activities.Certification c) member ≡ false }
-    ensures nullification { (c : Nullification) (member : ℕ) → names (activities.Nullification c) member ≡ false }
-    ensures finalization { (c : Finalization) (member : ℕ) → names (activities.Finalization c) member ≡ false }
+    ensures notarization { (c : Notarization) (member : ℕ)
+        → names (activities.Notarization c) member ≡ false }
+    ensures certification { (c : Notarization) (member : ℕ)
+        → names (activities.Certification c) member ≡ false }
+    ensures nullification { (c : Nullification) (member : ℕ)
+        → names (activities.Nullification c) member ≡ false }
+    ensures finalization { (c : Finalization) (member : ℕ)
+        → names (activities.Finalization c) member ≡ false }
 {}
 
 /// A member under whose name two votes that conflict come is named, whichever comes last, and no other member is.
 pub fn conflicting_votes_are_reported()
-    ensures notarizes { blame (step_out four (arrived (notarize first) ∷ []) (arrived (notarize rival))).calls 1 ≡ true }
-    ensures finalizes { blame (step_out four (arrived (finalize first) ∷ []) (arrived (finalize rival))).calls 1 ≡ true }
-    ensures nullified { blame (step_out four (arrived (nullify (round_of 1)) ∷ []) (arrived (finalize first))).calls 1 ≡ true }
-    ensures finalized { blame (step_out four (arrived (finalize first) ∷ []) (arrived (nullify (round_of 1)))).calls 1 ≡ true }
-    ensures no_other { blame (step_out four (arrived (notarize first) ∷ []) (arrived (notarize rival))).calls 2 ≡ false }
+    ensures notarizes { blame (step_out four (arrived (notarize first) ∷ []) (arrived (notarize rival))).calls 1
+        ≡ true }
+    ensures finalizes { blame (step_out four (arrived (finalize first) ∷ []) (arrived (finalize rival))).calls 1
+        ≡ true }
+    ensures nullified { blame (step_out four (arrived (nullify (round_of 1)) ∷ []) (arrived (finalize first))).calls 1
+        ≡ true }
+    ensures finalized { blame (step_out four (arrived (finalize first) ∷ []) (arrived (nullify (round_of 1)))).calls 1
+        ≡ true }
+    ensures no_other { blame (step_out four (arrived (notarize first) ∷ []) (arrived (notarize rival))).calls 2
+        ≡ false }
 {}
 
 /// What the law asks can be met: a member lives the good life of law_agreement, and its packets come one after the other.

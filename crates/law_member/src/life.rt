@@ -16,8 +16,10 @@ ghost use Rattle.law_member.specs.Life.{IsFloor, IsRunning, IsStopped, IsLived, 
 
 /// Whatever a step takes and wherever a stop ends it, the member lives it by legal calls.
 pub fn steps_are_lived()
-    ensures { (made : Made) (now : ℕ) (input : VoterInput) (stop : Stop) (standing : Standing) (sections : List Section) (doing : Doing) (m : Member)
-        → current_of made standing.desk.known < greatest_view → IsRunning made standing.desk.known sections m
+    ensures { (made : Made) (now : ℕ) (input : VoterInput) (stop : Stop)
+        (standing : Standing) (sections : List Section) (doing : Doing) (m : Member)
+        → current_of made standing.desk.known < greatest_view
+        → IsRunning made standing.desk.known sections m
         → stepped made now standing input ≡ Some doing
         → IsLived made doing.desk.known (performed stop doing sections) m }
 {}
@@ -26,11 +28,13 @@ pub fn steps_are_lived()
 pub fn starts_are_lived()
     ensures { (made : Made) (now : ℕ) (floor : Floor) (stop : Stop) (sections : List Section) (m : Member)
         → IsFloor floor → IsStopped made sections m
-        → let doing = started made now floor (replayed sections) in IsBegun made floor doing.desk.known (start_performed stop floor doing sections) m }
+        → let doing = started made now floor (replayed sections) in
+        IsBegun made floor doing.desk.known (start_performed stop floor doing sections) m }
 {}
 
 /// A crash between two steps leaves the member stopped, with the journal that the crash leaves.
 pub fn crashes_are_lived()
     ensures { (made : Made) (keep : ℕ) (known : List Fact) (sections : List Section) (m : Member)
-        → IsRunning made known sections m → IsStopped made (crashed keep sections) (happens m (Crash (λ view. keep))) }
+        → IsRunning made known sections m
+        → IsStopped made (crashed keep sections) (happens m (Crash (λ view. keep))) }
 {}

@@ -10,9 +10,11 @@ ghost use Rattle.law_member.specs.Resolver.{IsUnsettled, IsForGap, AllAsks};
 /// The views that are to be fetched behind a call of the repair state are those that became gaps by it, and the
 /// nullification of none of them is settled.
 pub fn fetches_are_of_unsettled_gaps()
-    ensures new { (length : ℕ) (held : List RepairCall) (call : RepairCall) (view : ℕ) → (Contains (effects_of length held call) (Fetch view)
+    ensures new { (length : ℕ) (held : List RepairCall) (call : RepairCall) (view : ℕ)
+        → (Contains (effects_of length held call) (Fetch view)
         ↔ ((is_gap length (call ∷ held) view ≡ true) × (is_gap length held view ≡ false))) }
-    ensures unsettled { (length : ℕ) (held : List RepairCall) (call : RepairCall) (view : ℕ) → Contains (effects_of length held call) (Fetch view)
+    ensures unsettled { (length : ℕ) (held : List RepairCall) (call : RepairCall) (view : ℕ)
+        → Contains (effects_of length held call) (Fetch view)
         → is_settled length (call ∷ held) view kinds.Nullification ≡ false }
 {}
 

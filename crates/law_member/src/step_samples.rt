@@ -12,10 +12,14 @@ ghost use Rattle.law_member.specs.StepSamples.{settled_by_an_answer, left_by_an_
 /// A stop may lose a record that was not synced, and a prune drops one that was.
 #[tactic(auto, unfolding(simplex_journal::specs::Computed::sections, crate::specs::Journal::after, crate::specs::Journal::after_call, simplex_journal::specs::Journal::pruned))]
 pub fn what_was_not_synced_may_be_lost()
-    ensures is_lost { (artifact : Artifact) → replayed (after [] (Stop 0 ∷ Append 1 artifact ∷ [])) ≡ [] }
-    ensures is_kept { (artifact : Artifact) → replayed (after [] (Stop 1 ∷ Append 1 artifact ∷ [])) ≡ artifact ∷ [] }
-    ensures is_synced { (artifact : Artifact) → replayed (after [] (Stop 0 ∷ Sync 1 ∷ Append 1 artifact ∷ [])) ≡ artifact ∷ [] }
-    ensures is_pruned { (artifact : Artifact) → replayed (after [] (Prune 2 ∷ Sync 1 ∷ Append 1 artifact ∷ [])) ≡ [] }
+    ensures is_lost { (artifact : Artifact)
+        → replayed (after [] (Stop 0 ∷ Append 1 artifact ∷ [])) ≡ [] }
+    ensures is_kept { (artifact : Artifact)
+        → replayed (after [] (Stop 1 ∷ Append 1 artifact ∷ [])) ≡ artifact ∷ [] }
+    ensures is_synced { (artifact : Artifact)
+        → replayed (after [] (Stop 0 ∷ Sync 1 ∷ Append 1 artifact ∷ [])) ≡ artifact ∷ [] }
+    ensures is_pruned { (artifact : Artifact)
+        → replayed (after [] (Prune 2 ∷ Sync 1 ∷ Append 1 artifact ∷ [])) ≡ [] }
 {}
 
 /// A member answers the ask for the nullification of view 6 with a finalization of view 7, and in the meantime the

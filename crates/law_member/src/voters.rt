@@ -12,7 +12,8 @@ use crate::certificates_that_go_out_were_added;
 
 /// A voter reports no evidence against anyone, in a step or in a start.
 pub fn voters_blame_nobody()
-    ensures steps { (made : Made) (now : ℕ) (input : VoterInput) (standing : Standing) (doing : Doing) (member : ℕ) → stepped made now standing input ≡ Some doing
+    ensures steps { (made : Made) (now : ℕ) (input : VoterInput) (standing : Standing) (doing : Doing) (member : ℕ)
+        → stepped made now standing input ≡ Some doing
         → BlameNot member doing.calls }
     ensures starts { (made : Made) (now : ℕ) (floor : Floor) (records : List Artifact) (member : ℕ)
         → BlameNot member (started made now floor records).calls }

@@ -15,8 +15,14 @@ use Rattle.model_rules.specs.Known.{Fact}
 use Rattle.model_rules.specs.Requests.{verify_asked}
 use Rattle.model_rules.specs.Calls.{proposal_on}
 use Rattle.model_rules.specs.Pending.{Pending, Opened}
+use Rattle.simplex_transcript.specs.declared.node.Node.{Node}
+use Rattle.law_run.specs.Histories.{IsRun}
 use Rattle.law_run.specs.Sayings.{Each}
+use Rattle.model_steps.specs.Engine.{EngineMade, Did}
 use Rattle.model_steps.specs.Voter.{Standing, answer_to}
+use Rattle.model_run.specs.Kinds.{runs_engine}
+use Rattle.model_run.specs.Life.{Noted, Running, life_in}
+use Rattle.model_run.specs.Setting.{Setting}
 use Rattle.model_audit.specs.Answers.{answer_fits}
 
 abbrev pub is_dropped : List ℕ → ℕ → Bool
@@ -28,7 +34,8 @@ pub record IsOpen (asked : List Asked) (dropped : List ℕ) (number : ℕ) (requ
   pub kept : is_dropped dropped number ≡ false
 
 -- its first answer staged this payload
-pub record IsStaged (asked : List Asked) (given : List (ℕ × Answer)) (number : ℕ) (context : Context) (payload : List ℕ) : Type 0 where
+pub record IsStaged (asked : List Asked) (given : List (ℕ × Answer))
+    (number : ℕ) (context : Context) (payload : List ℕ) : Type 0 where
   pub stands : slice_get asked number ≡ Some (asks.Prepare context)
   pub first : answer_to given number ≡ Some (answers.Handoff (handoffs.Stage payload))
 
@@ -79,4 +86,12 @@ pub record AreOpen (asked : List Asked) (dropped : List ℕ) (given : List (ℕ 
 
 -- so it is where a voter stands
 abbrev pub AreStanding : List Asked → List ℕ → Standing → Type 0
-AreStanding asked dropped s = AreOpen asked dropped s.answers s.desk.known s.desk.proposal s.desk.verify s.desk.certify s.desk.opened
+AreStanding asked dropped s =
+    AreOpen asked dropped s.answers s.desk.known s.desk.proposal s.desk.verify s.desk.certify s.desk.opened
+
+-- wherever an engine runs at a node in a run, this holds of what it was made with and of what it did since its start
+abbrev pub OfRunning : (List Noted → Node → EngineMade → List Did → Type 0) → Type 0
+OfRunning Says =
+    (setting : Setting) (noted : List Noted) (node : Node) (made : EngineMade) (past : List Did)
+    → IsRun setting noted → runs_engine setting.setup node.member ≡ true
+    → life_in setting noted node ≡ Running made past → Says noted node made past

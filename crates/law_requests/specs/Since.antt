@@ -18,7 +18,8 @@ dropped_of (noted ∷ before) node =
 
 -- the answer of an event, with the number of its request
 abbrev pub answer_in : List Noted → Node → Event → List (ℕ × Answer)
-answer_in before node (events.Answer at ref answer) = option_map_or (λ number. (number, answer) ∷ []) (request_number before node ref) []
+answer_in before node (events.Answer at ref answer) =
+    option_map_or (λ number. (number, answer) ∷ []) (request_number before node ref) []
 answer_in before node _ = []
 
 -- the answers, in the order in which they came

@@ -20,14 +20,16 @@ pub record IsQuiet (did : Did) : Type 0 where
 
 -- what was taken from the source is this input of the voter
 abbrev pub IsInput : StepSource → Taken → VoterInput → Type 0
-IsInput source taken (inputs.Mail message) = (source ≡ sources.Voter) × (taken ≡ Took sources.Voter (Some (handed.Voter message)))
+IsInput source taken (inputs.Mail message) =
+    (source ≡ sources.Voter) × (taken ≡ Took sources.Voter (Some (handed.Voter message)))
 IsInput source taken inputs.Timer = (source ≡ sources.Timer) × (taken ≡ Took sources.Timer None)
 IsInput source taken inputs.Propose = (source ≡ sources.Propose) × (taken ≡ Took sources.Propose None)
 IsInput source taken inputs.Verify = (source ≡ sources.Verify) × (taken ≡ Took sources.Verify None)
 IsInput source taken inputs.Certify = (source ≡ sources.Certify) × (taken ≡ Took sources.Certify None)
 
 -- its voter stepped on an input, and this came of it
-pub record IsVoters (made : EngineMade) (past : List Did) (source : StepSource) (now : ℕ) (stop : Stop) (did : Did) : Type 0 where
+pub record IsVoters (made : EngineMade) (past : List Did) (source : StepSource)
+    (now : ℕ) (stop : Stop) (did : Did) : Type 0 where
   pub input : VoterInput
   pub of : IsInput source did.taken input
   pub given : given_to_voter did ≡ Some (Stepped input now stop)

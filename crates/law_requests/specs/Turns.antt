@@ -26,7 +26,8 @@ pub record HasStarted (setting : Setting) (before : List Noted) (node : Node) (n
   pub stopped : life_in setting before node ≡ Stopped sections
   pub own : is_own_floor setting.setup before floor ≡ true
   pub is : noted_with setting.setup before (events.Start node floor stop) node (Some tooks.Floor)
-      (engine.begun (engine_of setting node.member (floor_of setting.genesis floor) sections) (clock_of before) stop) ≡ noted
+      (engine.begun (engine_of setting node.member (floor_of setting.genesis floor) sections) (clock_of before) stop)
+      ≡ noted
 
 -- it hears a packet
 pub record HasHeard (setting : Setting) (before : List Noted) (node : Node) (noted : Noted) : Type 0 where
@@ -49,7 +50,8 @@ pub record HasStepped (setting : Setting) (before : List Noted) (node : Node) (n
   pub running : life_in setting before node ≡ Running made past
   pub low : is_at_end setting.setup made past ≡ false
   pub is : (let did = engine.stepped made past source (clock_of before) stop in
-      noted_with setting.setup before (events.Step node source stop) node (took_of before node made past did) did) ≡ noted
+      noted_with setting.setup before (events.Step node source stop) node (took_of before node made past did) did)
+      ≡ noted
 
 -- it is answered
 pub record WasAnswered (setting : Setting) (before : List Noted) (node : Node) (noted : Noted) : Type 0 where
@@ -61,7 +63,8 @@ pub record WasAnswered (setting : Setting) (before : List Noted) (node : Node) (
   pub running : life_in setting before node ≡ Running made past
   pub named : request_number before node ref ≡ Some number
   pub taken : engine.takes_reply made past number answer ≡ true
-  pub is : noted_with setting.setup before (events.Answer node ref answer) node None (engine.replied number answer (clock_of before)) ≡ noted
+  pub is : noted_with setting.setup before (events.Answer node ref answer) node None
+      (engine.replied number answer (clock_of before)) ≡ noted
 
 -- it crashes
 pub record HasCrashed (setting : Setting) (before : List Noted) (node : Node) (noted : Noted) : Type 0 where
@@ -74,4 +77,5 @@ pub record HasCrashed (setting : Setting) (before : List Noted) (node : Node) (n
 abbrev pub IsTurnOf : Setting → List Noted → Node → Noted → Type 0
 IsTurnOf setting before node noted =
     (is_of node noted.event ≡ false) ⊎ (HasStarted setting before node noted ⊎ (HasHeard setting before node noted ⊎
-    (HasStepped setting before node noted ⊎ (WasAnswered setting before node noted ⊎ HasCrashed setting before node noted))))
+    (HasStepped setting before node noted
+    ⊎ (WasAnswered setting before node noted ⊎ HasCrashed setting before node noted))))

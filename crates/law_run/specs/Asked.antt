@@ -10,7 +10,8 @@ use Rattle.model_run.specs.Requests.{is_start}
 -- the request that stands at this place
 unfoldable pub asked_at : List Noted → Ref → Option Asked
 asked_at [] at = None
-asked_at (noted ∷ before) at = if length before + 1 == at.event then slice_get noted.entry.asked at.place else asked_at before at
+asked_at (noted ∷ before) at = if length before + 1 == at.event
+    then slice_get noted.entry.asked at.place else asked_at before at
 
 -- all that the node asked since its last start
 unfoldable pub asked_of : List Noted → Node → List Asked

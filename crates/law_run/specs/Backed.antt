@@ -84,19 +84,22 @@ of_packet packet = certificate_on packet.channel packet.bytes
 
 -- added, handed on, appended, reported, or in a packet
 abbrev pub standing_in : Entry → List Certificate
-standing_in entry = entry.added ++ flat_map of_message entry.handed ++ flat_map of_call entry.calls ++ flat_map of_packet entry.packets
+standing_in entry =
+    entry.added ++ flat_map of_message entry.handed ++ flat_map of_call entry.calls ++ flat_map of_packet entry.packets
 
 -- ---- backing
 
 -- a quorum of the setup's members signed it, in rising order, and each signature verifies
 abbrev pub IsVerifying : Setup → Certificate → Type 0
 IsVerifying setup c =
-    is_certified (keyed_verifies setup.key_base (members_of setup) (certificate_subject c)) (members_of setup) (certificate_signatures c) ≡ true
+    is_certified (keyed_verifies setup.key_base (members_of setup) (certificate_subject c))
+    (members_of setup) (certificate_signatures c) ≡ true
 
 -- each signer is faulty, or sent the signed vote
 abbrev pub IsBackedIn : Setup → List Noted → Certificate → Type 0
 IsBackedIn setup noted c =
-    All (λ (a : Attestation). Contains (faulty_of setup) a.signer ⊎ HasSigned noted (certificate_subject c) a) (certificate_signatures c)
+    All (λ (a : Attestation). Contains (faulty_of setup) a.signer
+    ⊎ HasSigned noted (certificate_subject c) a) (certificate_signatures c)
 
 -- each certificate that stands in an entry and verifies is backed by what was sent in this entry and those before it
 unfoldable pub AreBacked : Setup → List Noted → Type 0

@@ -123,9 +123,11 @@ sample Named = apart (nullified far ∷ []) (votes.Nullify (own_nullify far) ∷
 sample Founded = apart (notarized 1 ∷ []) (votes.Notarize (own_notarize 1) ∷ []) [] ∷ []
 sample Stored = its outcomes.Cut (send (votes.Nullify (own_nullify near)) ∷ []) ∷ []
 sample Ruled =
-    its outcomes.Done (calls.Append 1 (artifacts.Nullify (own_nullify near)) ∷ calls.Sync 1 ∷ send (votes.Nullify (own_nullify near)) ∷ []) ∷ []
+    its outcomes.Done (calls.Append 1 (artifacts.Nullify (own_nullify near))
+    ∷ calls.Sync 1 ∷ send (votes.Nullify (own_nullify near)) ∷ []) ∷ []
 sample Ordered = apart [] (votes.Notarize (own_notarize 1) ∷ votes.Notarize (own_notarize 2) ∷ []) [] ∷ []
-sample Blameless = apart [] [] (calls.Report (activities.ConflictingNotarize (record { first = own_notarize 1; second = own_notarize 2 })) ∷ []) ∷ []
+sample Blameless = apart [] [] (calls.Report
+    (activities.ConflictingNotarize (record { first = own_notarize 1; second = own_notarize 2 })) ∷ []) ∷ []
 sample Unbarred = apart [] [] (calls.Block 0 ConflictingVotes ∷ []) ∷ []
 
 -- of four members the last is silent: the clock goes on, and bytes that are nothing go out under that member's name
@@ -139,4 +141,5 @@ abbrev pub after_tick : List Noted
 after_tick = noted_blank [] (events.Tick 5) None ∷ []
 
 abbrev pub after_noise : List Noted
-after_noise = noted_packets after_tick noise (node_of 3) None (record { from = node_of 3; channel = channels.Vote; to = at ∷ []; bytes = 7 ∷ [] } ∷ []) ∷ after_tick
+after_noise = noted_packets after_tick noise (node_of 3) None
+    (record { from = node_of 3; channel = channels.Vote; to = at ∷ []; bytes = 7 ∷ [] } ∷ []) ∷ after_tick

@@ -38,4 +38,5 @@ BarNot member made = All (λ call. bars call member ≡ false) made
 -- no entry blocks a member that is not faulty for such a cause
 unfoldable pub NoneBarred : Setup → List Noted → Type 0
 NoneBarred setup [] = Unit {0}
-NoneBarred setup (noted ∷ before) = ((member : ℕ) → ¬ (Contains (faulty_of setup) member) → BarNot member noted.entry.calls) × NoneBarred setup before
+NoneBarred setup (noted ∷ before) =
+    ((member : ℕ) → ¬ (Contains (faulty_of setup) member) → BarNot member noted.entry.calls) × NoneBarred setup before

@@ -26,4 +26,5 @@ end_view p (q ∷ down) = end_view q down
 -- the proposal is on each chain that goes down from its view, or one above it, to it or below it
 abbrev pub IsOnEachChain : Setup → List Noted → Proposal → Type 0
 IsOnEachChain setup noted final =
-    (p : Proposal) (down : List Proposal) → IsChain setup noted p down → view_of final ≤ view_of p → end_view p down ≤ view_of final → Contains (p ∷ down) final
+    (p : Proposal) (down : List Proposal) → IsChain setup noted p down
+    → view_of final ≤ view_of p → end_view p down ≤ view_of final → Contains (p ∷ down) final

@@ -36,7 +36,8 @@ IsUp setting before node made past = life_in setting before node ≡ Running mad
 
 -- the view that an engine is in
 abbrev pub view_in : EngineMade → List Did → ℕ
-view_in made past = current_of (voter_in made past).rules (place_of (voter_in made past) (voter_past past)).standing.desk.known
+view_in made past =
+    current_of (voter_in made past).rules (place_of (voter_in made past) (voter_past past)).standing.desk.known
 
 -- behind the engine's view there is room for two terms and the lookahead
 abbrev pub HasRoom : Setup → EngineMade → List Did → Type 0

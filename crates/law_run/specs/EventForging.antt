@@ -35,6 +35,12 @@ pub record IsNext (setting : Setting) (before : List Noted) (event : Event) (not
   pub made : made_of setting before event ≡ Ok noted
   pub typed : AreTyped (noted ∷ before)
 
+-- whatever comes next in a run, at an event that may make no forgery, this holds of it
+abbrev pub WhereNoneForges : (Setting → List Noted → Event → Noted → Type 0) → Type 0
+WhereNoneForges Says =
+    (setting : Setting) (before : List Noted) (event : Event) (noted : Noted)
+    → IsNext setting before event noted → may_forge setting.setup event ≡ false → Says setting before event noted
+
 -- The signature is one under the number that the member takes, and on this subject both members have the same one
 abbrev pub HaveOneSignature : Setup → ℕ → Signed → Type 0
 HaveOneSignature setup member s =

@@ -25,7 +25,8 @@ first_proposal = record { round = record { epoch = 0; view = 1 }; parent = 0; pa
 
 -- a notarize of it under this number, with this signature
 abbrev pub notarize_by : ℕ → List ℕ → Vote
-notarize_by member signature = votes.Notarize (record { proposal = first_proposal; attestation = record { signer = member; signature = signature } })
+notarize_by member signature = votes.Notarize
+    (record { proposal = first_proposal; attestation = record { signer = member; signature = signature } })
 
 -- bytes that are injected for the fourth member, to its own node: a notarize that is not signed
 abbrev pub tells_itself : Event
@@ -40,10 +41,12 @@ forges = injects 3 at (format.vote.spelling (notarize_by 0 signed_by_first))
 
 -- the event makes one packet behind these entries, as the law's premises have it
 abbrev pub Answers : List Noted → Event → Type 0
-Answers before event = (noted : Noted) × IsNext (at_epoch_genesis with_nullifier) before event noted × (length noted.entry.packets ≡ 1)
+Answers before event = (noted : Noted) × IsNext (at_epoch_genesis with_nullifier) before event noted
+    × (length noted.entry.packets ≡ 1)
 
 -- the event makes an entry behind no entry, and what is forged in it is the first member's notarize
 abbrev pub IsForgery : Event → Type 0
 IsForgery event =
     (noted : Noted) × (made_of (at_epoch_genesis with_nullifier) [] event ≡ Ok noted)
-    × (first_forged with_nullifier [] noted.entry ≡ Some (signed (subjects.Notarize first_proposal) (record { signer = 0; signature = signed_by_first })))
+    × (first_forged with_nullifier [] noted.entry
+    ≡ Some (signed (subjects.Notarize first_proposal) (record { signer = 0; signature = signed_by_first })))

@@ -16,7 +16,8 @@ floor_in _ = []
 
 -- the floor, and what was added, handed on, appended and reported: all but what stands in packets
 abbrev pub said_in : Noted → List Certificate
-said_in noted = floor_in noted.event ++ noted.entry.added ++ flat_map of_message noted.entry.handed ++ flat_map of_call noted.entry.calls
+said_in noted = floor_in noted.event ++ noted.entry.added ++ flat_map of_message noted.entry.handed
+    ++ flat_map of_call noted.entry.calls
 
 -- each of them verifies, and the floor stood in an entry before
 pub record IsGenuine (setup : Setup) (noted : Noted) (before : List Noted) : Type 0 where

@@ -17,5 +17,6 @@ IsSound setup noted c = IsVerifying setup c × IsBackedIn setup noted c
 
 -- so is each in a record of the node's journal, and each that its voter knows while it runs
 pub record HoldsSound (setting : Setting) (noted : List Noted) (node : Node) : Type 0 where
-  pub records : (a : Artifact) → Contains (replayed (sections_in (life_in setting noted node))) a → InRecord (IsSound setting.setup noted) a
+  pub records : (a : Artifact) → Contains (replayed (sections_in (life_in setting noted node))) a
+      → InRecord (IsSound setting.setup noted) a
   pub known : IfRuns (λ sections known. InKnown (IsSound setting.setup noted) known) (life_in setting noted node)

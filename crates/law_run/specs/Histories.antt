@@ -45,7 +45,8 @@ AreFloors (noted ∷ before) = IsStartAbove noted.event × AreFloors before
 -- all calls of a node, in order
 unfoldable pub calls_of : Node → List Noted → List Call
 calls_of node [] = []
-calls_of node (noted ∷ before) = if is_of node noted.event then calls_of node before ++ noted.entry.calls else calls_of node before
+calls_of node (noted ∷ before) =
+    if is_of node noted.event then calls_of node before ++ noted.entry.calls else calls_of node before
 
 -- a nullify of a view below the greatest, in the setup's epoch
 abbrev pub IsEpochNullify : Setup → Subject → Type 0
@@ -53,7 +54,8 @@ IsEpochNullify setup s = (r : Round) × (s ≡ subjects.Nullify r) × (r.epoch �
 
 -- the floors of its starts
 abbrev pub floor_in : Node → Event → List agreement.Certificate
-floor_in node (events.Start at (Some f) stop) = if is_same_node at node then statement_of (certificates.Finalization f) ∷ [] else []
+floor_in node (events.Start at (Some f) stop) =
+    if is_same_node at node then statement_of (certificates.Finalization f) ∷ [] else []
 floor_in node _ = []
 
 unfoldable pub floors_of : Node → List Noted → List agreement.Certificate
@@ -65,7 +67,8 @@ unfoldable pub IsAt : Setting → Node → Life → Member → Type 0
 IsAt setting node (Stopped sections) m = IsStopped (rules_of setting node.member 0) sections m
 IsAt setting node (Running made past) m =
     ((start : ℕ) → (made.voter start).rules ≡ rules_of setting node.member start)
-    × IsRunning (voter_in made past).rules (place_of (voter_in made past) (voter_past past)).standing.desk.known (place_of (voter_in made past) (voter_past past)).sections m
+    × IsRunning (voter_in made past).rules (place_of (voter_in made past) (voter_past past)).standing.desk.known
+    (place_of (voter_in made past) (voter_past past)).sections m
 
 -- a nullify of this round stands in the journal, synced
 abbrev pub IsHeld : List Section → Nullify → Type 0
@@ -77,13 +80,15 @@ IsHeld sections v = (w : Nullify) × (w.round ≡ v.round) × Contains (journal.
 unfoldable pub AreStored : Setting → Node → List Noted → Type 0
 AreStored setting node [] = Unit {0}
 AreStored setting node (noted ∷ before) =
-    (is_of node noted.event ≡ true → AreStoredFirst (IsHeld (sections_in (life_in setting before node))) (IsOwn (rules_of setting node.member 0)) noted.entry.calls)
+    (is_of node noted.event ≡ true → AreStoredFirst (IsHeld (sections_in (life_in setting before node)))
+    (IsOwn (rules_of setting node.member 0)) noted.entry.calls)
     × AreStored setting node before
 
 -- each vote that the node's voter handed to its batcher as constructed is on a subject of these votes
 unfoldable pub AreConstructed : Node → List Noted → List Sent → Type 0
 AreConstructed node [] sent = Unit {0}
-AreConstructed node (noted ∷ before) sent = (is_of node noted.event ≡ true → AreVotesSent sent noted.entry.handed) × AreConstructed node before sent
+AreConstructed node (noted ∷ before) sent = (is_of node noted.event ≡ true → AreVotesSent sent noted.entry.handed)
+    × AreConstructed node before sent
 
 -- What the node did is the life of an honest member: its calls are legal, certificates come to it only as records that
 -- the node appended or as floors of its starts, it sent the votes that went out of the node, and it is where the node is. Each vote
@@ -92,9 +97,11 @@ AreConstructed node (noted ∷ before) sent = (is_of node noted.event ≡ true �
 pub record IsLivedBy (setting : Setting) (noted : List Noted) (node : Node) : Type 0 where
   pub calls : List life.Call
   pub legal : life.IsLegal setting.setup.term newborn calls
-  pub brought : (c : agreement.Certificate) → Contains (life.brought calls) c → Contains (taken (calls_of node noted)) c ⊎ Contains (floors_of node noted) c
+  pub brought : (c : agreement.Certificate) → Contains (life.brought calls) c
+      → Contains (taken (calls_of node noted)) c ⊎ Contains (floors_of node noted) c
   pub votes : AreSent (calls_of node noted) (map (λ (s : Sent). s.subject) (life.run newborn calls).sent)
   pub at : IsAt setting node (life_in setting noted node) (life.run newborn calls)
   pub stored : AreStored setting node noted
   pub constructed : AreConstructed node noted (life.run newborn calls).sent
-  pub own : (s : Subject) → Contains (map (λ (x : Sent). x.subject) (life.run newborn calls).sent) s → Contains (voted (calls_of node noted)) s ⊎ IsEpochNullify setting.setup s
+  pub own : (s : Subject) → Contains (map (λ (x : Sent). x.subject) (life.run newborn calls).sent) s
+      → Contains (voted (calls_of node noted)) s ⊎ IsEpochNullify setting.setup s

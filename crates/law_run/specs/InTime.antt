@@ -14,7 +14,8 @@ use Rattle.law_run.specs.WellSent.{Came}
 unfoldable pub AreInTime : List Noted → ℕ → List Sent → Type 0
 AreInTime [] member votes = votes ≡ []
 AreInTime (noted ∷ before) member votes =
-    (old : List Sent) × (now : List Sent) × (votes ≡ old ++ now) × (subjects_of now ≡ map vote_subject (flat_map (vote_in member) noted.entry.packets))
+    (old : List Sent) × (now : List Sent) × (votes ≡ old ++ now)
+    × (subjects_of now ≡ map vote_subject (flat_map (vote_in member) noted.entry.packets))
     × All (λ (s : Sent). All (Came (noted ∷ before) (node_of member)) s.known) now × AreInTime before member old
 
 -- the votes of the member, each of which may stand by itself and may follow all before it, by what it knew in time

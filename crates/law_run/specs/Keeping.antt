@@ -39,32 +39,39 @@ pub record IsGrounded (sections : List Section) (p : Proposal) : Type 0 where
   pub behind : List Artifact
   pub place : section.synced ≡ before ++ own ∷ behind
   pub is : memory_of own ≡ member.Own (subjects.Finalize p)
-  pub notarized : (signers : List ℕ) × HasRecord before (member.Proved (record { subject = subjects.Notarize p; signers = signers }))
+  pub notarized : (signers : List ℕ)
+      × HasRecord before (member.Proved (record { subject = subjects.Notarize p; signers = signers }))
   pub judged : HasRecord before (member.Judged (view_of p) true)
 
 -- the record of each of these votes stands synced, and that of a finalize behind what it needs, or a finalization of a
 -- greater view stands synced
 pub record AreKept (sections : List Section) (sent : List Vote) : Type 0 where
-  pub stands : (v : Vote) → Contains sent v → HasRecord (kept sections) (member.Own (vote_subject v)) ⊎ IsOutrun (kept sections) (subject_view (vote_subject v))
-  pub grounded : (v : Vote) (p : Proposal) → Contains sent v → vote_subject v ≡ subjects.Finalize p → IsGrounded sections p ⊎ IsOutrun (kept sections) (view_of p)
+  pub stands : (v : Vote) → Contains sent v → HasRecord (kept sections) (member.Own (vote_subject v))
+      ⊎ IsOutrun (kept sections) (subject_view (vote_subject v))
+  pub grounded : (v : Vote) (p : Proposal) → Contains sent v
+      → vote_subject v ≡ subjects.Finalize p → IsGrounded sections p ⊎ IsOutrun (kept sections) (view_of p)
 
 -- What is final to it is at least all that a synced record makes final, and a synced record makes it final, if any does; and
 -- it knows each synced record above it
 pub record IsAware (sections : List Section) (known : List Fact) : Type 0 where
   pub finals : (a : Artifact) → Contains (kept sections) a → finalized_view (memory_of a) ≤ last_finalized known
-  pub seen : (a : Artifact) → Contains (kept sections) a → last_finalized known < artifact_view (memory_of a) → Contains (remembered known) (memory_of a)
-  pub final : 0 < last_finalized known → (a : Artifact) × Contains (kept sections) a × (finalized_view (memory_of a) ≡ last_finalized known)
+  pub seen : (a : Artifact) → Contains (kept sections) a → last_finalized known < artifact_view (memory_of a)
+      → Contains (remembered known) (memory_of a)
+  pub final : 0 < last_finalized known → (a : Artifact) × Contains (kept sections) a
+      × (finalized_view (memory_of a) ≡ last_finalized known)
 
 -- so it is with a voter that runs
 abbrev pub IfRuns : (List Section → List Fact → Type 0) → Life → Type 0
 IfRuns Holds (Stopped sections) = Unit {0}
-IfRuns Holds (Running made past) = (let place = place_of (voter_in made past) (voter_past past) in Holds place.sections place.standing.desk.known)
+IfRuns Holds (Running made past) =
+    (let place = place_of (voter_in made past) (voter_past past) in Holds place.sections place.standing.desk.known)
 
 -- what is final to a voter that runs is at least the floor that it was started at
 abbrev pub IsAboveFloor : Life → Type 0
 IsAboveFloor (Stopped sections) = Unit {0}
 IsAboveFloor (Running made past) =
-    floor_view (voter_in made past).floor ≤ last_finalized (place_of (voter_in made past) (voter_past past)).standing.desk.known
+    floor_view (voter_in made past).floor
+    ≤ last_finalized (place_of (voter_in made past) (voter_past past)).standing.desk.known
 
 -- the member's node keeps what it sent, and where it runs it is aware of what it keeps and of its floor
 pub record KeepsInvariant (setting : Setting) (noted : List Noted) (member : ℕ) : Type 0 where

@@ -18,7 +18,8 @@ shouts = injects 3 at (replicate 231 7)
 -- every packet of these entries, whoever sent it, is within the limit
 abbrev pub AllAreShort : Setup → List Entry → Type 0
 AllAreShort setup entries =
-    Each (λ (entry : Entry). Each (λ (packet : Packet). length packet.bytes ≤ longest_payload (members_of setup)) entry.packets) entries
+    Each (λ (entry : Entry).
+    Each (λ (packet : Packet). length packet.bytes ≤ longest_payload (members_of setup)) entry.packets) entries
 
 -- the events make a transcript, whose values keep to their types, and not all of whose packets are within the limit
 pub record BreaksTheLimit (setup : Setup) (events : List Event) : Type 0 where

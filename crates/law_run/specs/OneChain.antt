@@ -11,11 +11,13 @@ use Rattle.law_agreement.specs.World.{view_of}
 -- one of the entries reports it
 unfoldable pub IsReported : List Noted → Finalization → Type 0
 IsReported [] f = ⊥
-IsReported (noted ∷ before) f = Contains noted.entry.calls (calls.Report (activities.Finalization f)) ⊎ IsReported before f
+IsReported (noted ∷ before) f =
+    Contains noted.entry.calls (calls.Report (activities.Finalization f)) ⊎ IsReported before f
 
 -- one of the entries of a transcript does
 abbrev pub IsReportedIn : List Entry → Finalization → Type 0
-IsReportedIn entries f = (entry : Entry) × Contains entries entry × Contains entry.calls (calls.Report (activities.Finalization f))
+IsReportedIn entries f = (entry : Entry) × Contains entries entry
+    × Contains entry.calls (calls.Report (activities.Finalization f))
 
 -- of one view they are the same, and the parent of the one with the later view is not before the other
 pub record AreOfOneChain (p q : Proposal) : Type 0 where
@@ -25,4 +27,5 @@ pub record AreOfOneChain (p q : Proposal) : Type 0 where
 
 -- so are each two that the entries of a transcript report as final
 abbrev pub ReportOneChain : List Entry → Type 0
-ReportOneChain entries = (f g : Finalization) → IsReportedIn entries f → IsReportedIn entries g → AreOfOneChain f.proposal g.proposal
+ReportOneChain entries = (f g : Finalization) → IsReportedIn entries f
+    → IsReportedIn entries g → AreOfOneChain f.proposal g.proposal

@@ -32,7 +32,8 @@ pub record IsForged (setup : Setup) (before : List Noted) (s : Signed) : Type 0 
 -- where the packet is a faulty member's, nothing that is signed in its bytes is forged
 abbrev pub IsUnforged : Setup → List Noted → Packet → Type 0
 IsUnforged setup before packet =
-    is_faulty_member setup packet.from.member ≡ true → All (λ (s : Signed). IsForged setup before s → ⊥) (signed_in packet.channel packet.bytes)
+    is_faulty_member setup packet.from.member ≡ true
+    → All (λ (s : Signed). IsForged setup before s → ⊥) (signed_in packet.channel packet.bytes)
 
 -- no packet of the entry holds what is forged
 abbrev pub ForgesNothing : Setup → List Noted → Entry → Type 0

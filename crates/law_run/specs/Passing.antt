@@ -21,16 +21,19 @@ use Rattle.law_run.specs.Voting.{HasVoted}
 -- where the signature verifies, its signer is faulty, or sent a vote on the subject
 abbrev pub IsOwnOrSent : Setup → List Noted → Subject → Attestation → Type 0
 IsOwnOrSent setup before subject a =
-    keyed_verifies setup.key_base (members_of setup) subject a ≡ true → Contains (faulty_of setup) a.signer ⊎ HasVoted before a.signer subject
+    keyed_verifies setup.key_base (members_of setup) subject a ≡ true
+    → Contains (faulty_of setup) a.signer ⊎ HasVoted before a.signer subject
 
 -- so it is with each signature that is read from the bytes
 abbrev pub PassesOn : Setup → List Noted → Channel → List ℕ → Type 0
 PassesOn setup before channels.Vote bytes =
     (v : Vote) → whole format.vote bytes ≡ Ok v → IsOwnOrSent setup before (vote_subject v) (vote_attestation v)
 PassesOn setup before channels.Certificate bytes =
-    (c : Certificate) → whole format.certificate bytes ≡ Ok c → All (IsOwnOrSent setup before (certificate_subject c)) (certificate_signatures c)
+    (c : Certificate) → whole format.certificate bytes ≡ Ok c
+    → All (IsOwnOrSent setup before (certificate_subject c)) (certificate_signatures c)
 PassesOn setup before channels.Resolver bytes =
-    (c : Certificate) → Contains (certificate_on channels.Resolver bytes) c → All (IsOwnOrSent setup before (certificate_subject c)) (certificate_signatures c)
+    (c : Certificate) → Contains (certificate_on channels.Resolver bytes) c
+    → All (IsOwnOrSent setup before (certificate_subject c)) (certificate_signatures c)
 
 -- a packet of a faulty member does
 abbrev pub PassesFrom : Setup → List Noted → Packet → Type 0

@@ -23,6 +23,7 @@ pub record IsRefused (at : Ref) (entry : Entry) : Type 0 where
   pub packets : entry.packets ≡ []
 
 -- whom a running engine refuses, and whom its resolver does not ask, is whom a call of the node blocked since its start
-pub record AreOneSet (before : List Noted) (node : Node) (made : EngineMade) (past : List Did) (member : ℕ) : Type 0 where
+pub record AreOneSet (before : List Noted) (node : Node) (made : EngineMade)
+    (past : List Did) (member : ℕ) : Type 0 where
   pub refused : is_blocked past member ≡ has_blocked before node member
   pub unasked : holds_member (blocked_after made.resolver (resolver_past past)) member ≡ has_blocked before node member

@@ -24,5 +24,6 @@ votes_due _ _ = []
 unfoldable pub AreByRule : Setting → Node → List Noted → Type 0
 AreByRule setting node [] = Unit {0}
 AreByRule setting node (noted ∷ before) =
-    (is_of node noted.event ≡ true → is_whole noted.entry.outcome ≡ true → vote_packets noted.entry.calls ≡ map packet_of (votes_due (life_in setting before node) noted.did))
+    (is_of node noted.event ≡ true → is_whole noted.entry.outcome ≡ true
+    → vote_packets noted.entry.calls ≡ map packet_of (votes_due (life_in setting before node) noted.did))
     × AreByRule setting node before

@@ -26,15 +26,18 @@ Stands setup noted c = StandsIn noted c × IsVerifying setup c
 -- no two certificates of the run conflict
 abbrev pub AgreeAll : Setup → List Noted → Type 0
 AgreeAll setup noted =
-    (a b : Certificate) → Stands setup noted a → Stands setup noted b → ¬ (Conflict setup.term (certificate_subject a) (certificate_subject b))
+    (a b : Certificate) → Stands setup noted a → Stands setup noted b
+    → ¬ (Conflict setup.term (certificate_subject a) (certificate_subject b))
 
 -- each certificate of the run names the setup's epoch
 abbrev pub AllName : Setup → List Noted → Type 0
-AllName setup noted = (c : Certificate) → Stands setup noted c → (subject_round (certificate_subject c)).epoch ≡ setup.epoch
+AllName setup noted = (c : Certificate) → Stands setup noted c
+    → (subject_round (certificate_subject c)).epoch ≡ setup.epoch
 
 -- each proposal that a certificate of the run names was notarized by a member that is not faulty
 abbrev pub AreFounded : Setup → List Noted → Type 0
-AreFounded setup noted = (c : Certificate) (p : Proposal) → Stands setup noted c → IsOn (certificate_subject c) p → IsNotarized setup noted p
+AreFounded setup noted = (c : Certificate) (p : Proposal) → Stands setup noted c
+    → IsOn (certificate_subject c) p → IsNotarized setup noted p
 
 -- it holds of each node of a member that is not faulty
 abbrev pub EachHonest : Setup → (Node → Type 0) → Type 0

@@ -73,7 +73,8 @@ InCall Good _ = Unit {0}
 -- a constructed vote went out in the same calls
 abbrev pub InMessage : (Certificate → Type 0) → List Call → Handed → Type 0
 InMessage Good made (handed.Voter (voter.Verified c)) = Good c
-InMessage Good made (handed.Batcher (batcher.Constructed v)) = Contains made (calls.Send channels.Vote recipients.All (format.vote.spelling v))
+InMessage Good made (handed.Batcher (batcher.Constructed v)) =
+    Contains made (calls.Send channels.Vote recipients.All (format.vote.spelling v))
 InMessage Good made (handed.Resolver (resolver.Updated c)) = Good c
 InMessage Good made (handed.Resolver (resolver.Certified c success)) = Good (certificates.Notarization c)
 InMessage Good made _ = Unit {0}

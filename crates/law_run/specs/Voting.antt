@@ -40,4 +40,5 @@ HasVoted noted member subject = (v : Vote) × Contains (sent_votes noted member)
 
 -- the signer of the attestation sent this very vote: on the subject, with the attestation
 abbrev pub HasSigned : List Noted → Subject → Attestation → Type 0
-HasSigned noted subject a = (v : Vote) × Contains (sent_votes noted a.signer) v × (vote_subject v ≡ subject) × (vote_attestation v ≡ a)
+HasSigned noted subject a = (v : Vote) × Contains (sent_votes noted a.signer) v
+    × (vote_subject v ≡ subject) × (vote_attestation v ≡ a)

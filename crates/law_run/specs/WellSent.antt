@@ -29,7 +29,8 @@ pub record AreWellSent (setup : Setup) (noted : List Noted) (member : ℕ) : Typ
 
 -- so it is of each member that is not faulty
 abbrev pub EachWellSent : Setup → List Noted → Type 0
-EachWellSent setup noted = (member : ℕ) → member < members_of setup → ¬ (Contains (faulty_of setup) member) → AreWellSent setup noted member
+EachWellSent setup noted = (member : ℕ) → member < members_of setup
+    → ¬ (Contains (faulty_of setup) member) → AreWellSent setup noted member
 
 -- and behind each entry: so what a member knew at a vote had come to its node in the entry that sends the vote, or before
 unfoldable pub AllWellSent : Setup → List Noted → Type 0

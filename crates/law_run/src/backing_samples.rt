@@ -31,7 +31,8 @@ pub fn late_certificates_do_not_count()
 pub fn premises_can_be_met()
     ensures nothing { IsMostlyHonest (at_epoch_genesis alone) [] }
     ensures noise { IsMostlyHonest (at_epoch_genesis with_silent) after_noise }
-    ensures start { (entries : List Entry) × (Run alone (starts at ∷ []) ≡ Ok entries) × Each IsTyped entries }
+    ensures start { (entries : List Entry) × (Run alone (starts at ∷ []) ≡ Ok entries)
+        × Each IsTyped entries }
 {
     a_start_is_quiet();
 }

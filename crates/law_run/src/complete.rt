@@ -1,6 +1,5 @@
 //! Which setups and events have a run.
-ghost use Rattle.std.specs.Prelude.{◌≡◌, ◌↔◌, List, Ok, IsOk};
-ghost use Rattle.simplex_transcript.specs.declared.entry.Entry.{Entry};
+ghost use Rattle.std.specs.Prelude.{◌↔◌, List, IsOk};
 ghost use Rattle.simplex_transcript.specs.declared.event.Event.{Event};
 ghost use Rattle.model_run.specs.Setting.{Setting};
 ghost use Rattle.model_run.specs.Entries.{entry_of};
@@ -11,15 +10,17 @@ ghost use Rattle.law_run.specs.Complete.{HasRun, IsPossible};
 
 /// An event is not refused exactly where it meets its conditions.
 pub fn conditions_are_exact()
-    ensures { (setting : Setting) (before : List Noted) (event : Event) → IsOk (entry_of setting before event) ↔ Meets setting before event }
+    ensures { (setting : Setting) (before : List Noted) (event : Event)
+        → IsOk (entry_of setting before event) ↔ Meets setting before event }
 {}
 
 /// A valid setup, and events that each meet their conditions, have a run.
 pub fn possible_events_run()
-    ensures { (setting : Setting) (events : List Event) → IsPossible setting events → HasRun setting events }
+    ensures { (setting : Setting) (events : List Event) → IsPossible setting events
+        → HasRun setting events }
 {}
 
 /// What has a run is a valid setup, and events that each meet their conditions.
 pub fn runs_are_possible()
-    ensures { (setting : Setting) (events : List Event) (entries : List Entry) → runs.RunFrom setting events ≡ Ok entries → IsPossible setting events }
+    ensures { runs.OfRun (λ setting events entries. IsPossible setting events) }
 {}

@@ -12,7 +12,8 @@ use crate::lives::nodes_live;
 /// Of each node of a member that is not faulty: what it sent and handed on, over all starts, steps, stops and crashes,
 /// gives no batcher evidence that names its member.
 pub fn nodes_are_not_blamed()
-    ensures { (setting : Setting) (noted : List Noted) (node : Node) → 0 < setting.setup.term → ¬ (Contains (faulty_of setting.setup) node.member) → IsRun setting noted → AreFloors noted
+    ensures { (setting : Setting) (noted : List Noted) (node : Node) → 0 < setting.setup.term
+        → ¬ (Contains (faulty_of setting.setup) node.member) → IsRun setting noted → AreFloors noted
         → IsNotBlamed noted node }
 {
     nodes_live();

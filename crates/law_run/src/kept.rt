@@ -12,12 +12,14 @@ ghost use Rattle.law_run.specs.MostlyHonest.{IsMostlyHonest};
 
 /// The node of a member that is not faulty keeps what it sent, and while it runs knows what it keeps.
 pub fn nodes_keep_the_invariant()
-    ensures { (setting : Setting) (noted : List Noted) (member : ℕ) → IsMostlyHonest setting noted → member < members_of setting.setup
+    ensures { (setting : Setting) (noted : List Noted) (member : ℕ)
+        → IsMostlyHonest setting noted → member < members_of setting.setup
         → ¬ (Contains (faulty_of setting.setup) member) → KeepsInvariant setting noted member }
 {}
 
 /// Of each node that runs an engine, the certificates in its journal, and those that its voter knows, verify and are backed.
 pub fn held_certificates_are_sound()
-    ensures { (setting : Setting) (noted : List Noted) (node : Node) → IsMostlyHonest setting noted → runs_engine setting.setup node.member ≡ true
+    ensures { (setting : Setting) (noted : List Noted) (node : Node)
+        → IsMostlyHonest setting noted → runs_engine setting.setup node.member ≡ true
         → HoldsSound setting noted node }
 {}

@@ -8,6 +8,7 @@ ghost use Rattle.law_run.specs.Histories.{IsRun, AreFloors, IsLivedBy};
 
 /// Over all starts, steps, stops and crashes, what a node did of a member that is not faulty is the life of one honest member.
 pub fn nodes_live()
-    ensures { (setting : Setting) (noted : List Noted) (node : Node) → 0 < setting.setup.term → ¬ (Contains (faulty_of setting.setup) node.member) → IsRun setting noted → AreFloors noted
+    ensures { (setting : Setting) (noted : List Noted) (node : Node) → 0 < setting.setup.term
+        → ¬ (Contains (faulty_of setting.setup) node.member) → IsRun setting noted → AreFloors noted
         → IsLivedBy setting noted node }
 {}

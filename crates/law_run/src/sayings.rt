@@ -15,14 +15,18 @@ ghost use Rattle.law_run.specs.Sayings.{Passes, AllSaid, InInput, InFloor, InKno
 /// A test that each certificate passes which a voter knows, and the one that it takes, is passed by each that its
 /// step says: in its calls, among what it added, and in what it hands on.
 pub fn steps_say_what_was_given()
-    ensures { (good : Certificate → Bool) (made : Made) (now : ℕ) (input : VoterInput) (stop : Stop) (standing : Standing) (sections : List Section) (doing : Doing)
-        → InInput (Passes good) input → InKnown (Passes good) standing.desk.known → stepped made now standing input ≡ Some doing
+    ensures { (good : Certificate → Bool) (made : Made) (now : ℕ)
+        (input : VoterInput) (stop : Stop) (standing : Standing) (sections : List Section) (doing : Doing)
+        → InInput (Passes good) input → InKnown (Passes good) standing.desk.known
+        → stepped made now standing input ≡ Some doing
         → AllSaid (Passes good) (performed stop doing sections).out }
 {}
 
 /// A test that the floor of a start passes, and each certificate in its journal, is passed by each that it says.
 pub fn starts_say_what_was_given()
-    ensures { (good : Certificate → Bool) (made : Made) (now : ℕ) (floor : Floor) (stop : Stop) (sections : List Section)
+    ensures { (good : Certificate → Bool) (made : Made) (now : ℕ)
+        (floor : Floor) (stop : Stop) (sections : List Section)
         → InFloor (Passes good) floor → InRecords (Passes good) (replayed sections)
-        → AllSaid (Passes good) (start_performed stop floor (started made now floor (replayed sections)) sections).out }
+        → AllSaid (Passes good)
+        (start_performed stop floor (started made now floor (replayed sections)) sections).out }
 {}

@@ -14,11 +14,15 @@ ghost use Rattle.law_run.specs.Rooted.{AreRooted};
 /// A node appends a notarize only of a payload that an answer stands for, which was given to it before: what holds of each
 /// of these holds of the payload of each of its notarizes.
 pub fn notarized_payloads_were_answered()
-    ensures { (setting : Setting) (noted : List Noted) (node : Node) (test : List ℕ → Bool) (p : Proposal) → IsRun setting noted → AreFloors noted → runs_engine setting.setup node.member ≡ true
-        → AllAnswersPass test node noted → Contains (voted (calls_of node noted)) (subjects.Notarize p) → test p.payload ≡ true }
+    ensures { (setting : Setting) (noted : List Noted) (node : Node) (test : List ℕ → Bool) (p : Proposal)
+        → IsRun setting noted → AreFloors noted → runs_engine setting.setup node.member ≡ true
+        → AllAnswersPass test node noted
+        → Contains (voted (calls_of node noted)) (subjects.Notarize p)
+        → test p.payload ≡ true }
 {}
 
 /// Each request whose parent is view 0 names the genesis digest, where no start is at view 0.
 pub fn requests_name_the_genesis()
-    ensures { (setting : Setting) (noted : List Noted) → IsRun setting noted → AreFloors noted → AreRooted setting.genesis noted }
+    ensures { (setting : Setting) (noted : List Noted) → IsRun setting noted
+        → AreFloors noted → AreRooted setting.genesis noted }
 {}

@@ -53,13 +53,17 @@ starts_half member = events.Start (second member) None stops.None
 
 abbrev pub notarization_by : List ℕ → Certificate
 notarization_by signers =
-    certificates.Notarization (record { proposal = first_block 17; certificate = map (λ m. signed_by m (subjects.Notarize (first_block 17))) signers })
+    certificates.Notarization (record {
+      proposal = first_block 17;
+      certificate = map (λ m. signed_by m (subjects.Notarize (first_block 17))) signers;
+    })
 
 abbrev pub certificate_bytes : Certificate → List ℕ
 certificate_bytes certificate = format.certificate.spelling certificate
 
 abbrev pub response_bytes : Certificate → List ℕ
-response_bytes certificate = resolver_message.spelling (record { id = 0; body = bodies.Response (certificate_bytes certificate) })
+response_bytes certificate =
+    resolver_message.spelling (record { id = 0; body = bodies.Response (certificate_bytes certificate) })
 
 -- the leader sends its notarize
 abbrev pub leader_votes : List Event
@@ -97,14 +101,18 @@ two_finalize =
     ∷ []
 
 abbrev pub finalization_by : List ℕ → Finalization
-finalization_by signers = record { proposal = first_block 17; certificate = map (λ m. signed_by m (subjects.Finalize (first_block 17))) signers }
+finalization_by signers = record {
+  proposal = first_block 17;
+  certificate = map (λ m. signed_by m (subjects.Finalize (first_block 17))) signers;
+}
 
 -- it joins them again, and this member of two is told
 abbrev pub told_to : ℕ → List Event
 told_to member =
     two_finalize
     ++ starts 3
-    ∷ shows channels.Certificate (node 1 ∷ node 3 ∷ []) (certificate_bytes (certificates.Finalization (finalization_by (0 ∷ 1 ∷ 3 ∷ []))))
+    ∷ shows channels.Certificate (node 1 ∷ node 3 ∷ [])
+    (certificate_bytes (certificates.Finalization (finalization_by (0 ∷ 1 ∷ 3 ∷ []))))
     ∷ hears member (at 20 0)
     ∷ steps member sources.Voter
     ∷ []
@@ -122,13 +130,22 @@ heard_again = overheard_both ++ crashes 0 ∷ starts 0 ∷ steps 0 sources.Batch
 -- ---- an engine near the greatest view: an entry in which it reported a finalization of this view
 
 abbrev pub final_at : ℕ → Finalization
-final_at view = record { proposal = record { round = record { epoch = 0; view = view }; parent = 0; payload = replicate 32 17 }; certificate = [] }
+final_at view = record {
+  proposal = record {
+    round = record { epoch = 0; view = view };
+    parent = 0;
+    payload = replicate 32 17;
+  };
+  certificate = [];
+}
 
 abbrev pub reported_at : ℕ → Noted
 reported_at view =
     record {
       event = events.Tick 0;
-      entry = record (blank_entry 1 (Some (node 0))) { calls = calls.Report (activities.Finalization (final_at view)) ∷ [] };
+      entry = record (blank_entry 1 (Some (node 0))) {
+        calls = calls.Report (activities.Finalization (final_at view)) ∷ [];
+      };
       did = None;
     }
 

@@ -145,7 +145,8 @@ abbrev pub signed_by : ℕ → Subject → Attestation
 signed_by member subject = record { signer = member; signature = signature_of 1 member subject }
 
 abbrev pub finalization_of : ℕ → Finalization
-finalization_of byte = record { proposal = first_block byte; certificate = signed_by 0 (subjects.Finalize (first_block byte)) ∷ [] }
+finalization_of byte =
+    record { proposal = first_block byte; certificate = signed_by 0 (subjects.Finalize (first_block byte)) ∷ [] }
 
 -- it crashes, and starts at a finalization
 abbrev pub restarts_at : Finalization → List Event
@@ -189,7 +190,8 @@ other_proposal = proposes 1 (at 4 0) 34 ∷ steps 1 sources.Propose ∷ []
 abbrev pub shown_vote : ℕ → Event
 shown_vote member =
     events.Inject 3 channels.Vote (node 0 ∷ [])
-    (format.vote.spelling (votes.Notarize (record { proposal = first_block 17; attestation = signed_by member (subjects.Notarize (first_block 17)) })))
+    (format.vote.spelling (votes.Notarize
+    (record { proposal = first_block 17; attestation = signed_by member (subjects.Notarize (first_block 17)) })))
 
 -- the leader sends its vote, and the last member shows a vote on it
 abbrev pub sent_and_shown : ℕ → List Event

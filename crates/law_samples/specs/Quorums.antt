@@ -35,7 +35,8 @@ signed member = record { signer = member; signature = replicate 32 member }
 -- the member's vote on the first proposal of view 1 comes
 abbrev pub votes_for_it : ℕ → Timed
 votes_for_it member = record {
-  input = input.Vote member (format.vote.spelling (votes.Notarize (record { proposal = first; attestation = signed member })));
+  input = input.Vote member
+      (format.vote.spelling (votes.Notarize (record { proposal = first; attestation = signed member })));
   now = 0;
 }
 

@@ -20,18 +20,21 @@ pub fn one_member_finalizes()
         ∷ (Report Notarize ∷ [])
         ∷ (Append 1 Notarization ∷ Sync 1 ∷ Send channels.Certificate ∷ Report Notarization ∷ [])
         ∷ []
-        ∷ (Append 1 Certification ∷ Append 1 Finalize ∷ Sync 1 ∷ Report Certification ∷ Send channels.Vote ∷ [])
+        ∷ (Append 1 Certification ∷ Append 1 Finalize ∷ Sync 1 ∷ Report Certification
+        ∷ Send channels.Vote ∷ [])
         ∷ (Report Finalize ∷ [])
         ∷ (Append 1 Finalization ∷ Sync 1 ∷ Send channels.Certificate ∷ Report Finalization ∷ [])
         ∷ [] }
     ensures asked { asked_in (Run alone finalizes)
-        ≡ (Propose 1 ∷ []) ∷ [] ∷ [] ∷ [] ∷ [] ∷ (Certify 1 ∷ []) ∷ [] ∷ (Propose 2 ∷ []) ∷ [] ∷ [] ∷ [] }
+        ≡ (Propose 1 ∷ []) ∷ [] ∷ [] ∷ [] ∷ [] ∷ (Certify 1 ∷ []) ∷ []
+        ∷ (Propose 2 ∷ []) ∷ [] ∷ [] ∷ [] }
 {}
 
 /// Then its deadline comes: it stores and sends a nullify, and half a second later sends it again with the finalization.
 pub fn one_member_gives_up()
     ensures outcomes { outcomes_behind 10 (Run alone gives_up)
-        ≡ outcomes.Done ∷ outcomes.Idle ∷ outcomes.Done ∷ outcomes.Done ∷ outcomes.Done ∷ outcomes.Idle ∷ outcomes.Done ∷ outcomes.Done ∷ [] }
+        ≡ outcomes.Done ∷ outcomes.Idle ∷ outcomes.Done ∷ outcomes.Done
+        ∷ outcomes.Done ∷ outcomes.Idle ∷ outcomes.Done ∷ outcomes.Done ∷ [] }
     ensures calls { calls_behind 10 (Run alone gives_up)
         ≡ []
         ∷ []
@@ -46,16 +49,20 @@ pub fn one_member_gives_up()
 
 /// A sync that fails stops it, and it starts again with what was kept.
 pub fn failed_syncs_come_out()
-    ensures stops { outcomes_behind 7 (Run alone (fails_to_sync 3)) ≡ outcomes.Journal ∷ outcomes.Done ∷ [] }
+    ensures stops { outcomes_behind 7 (Run alone (fails_to_sync 3))
+        ≡ outcomes.Journal ∷ outcomes.Done ∷ [] }
     ensures calls { calls_behind 7 (Run alone (fails_to_sync 3))
         ≡ (Append 1 Certification ∷ Append 1 Finalize ∷ [])
         ∷ (Report Notarize ∷ Report Notarization ∷ Report Certification ∷ [])
         ∷ [] }
-    ensures at_once { calls_behind 7 (Run alone (fails_to_sync 1)) ≡ [] ∷ (Report Notarize ∷ Report Notarization ∷ []) ∷ [] }
+    ensures at_once { calls_behind 7 (Run alone (fails_to_sync 1))
+        ≡ [] ∷ (Report Notarize ∷ Report Notarization ∷ []) ∷ [] }
 {}
 
 /// It starts again at what it finalized, and at nothing that it did not report.
 pub fn floors_come_out()
-    ensures own { calls_behind 10 (Run alone (restarts_at (finalization_of 17))) ≡ [] ∷ (Report Finalization ∷ []) ∷ [] }
-    ensures foreign { Run alone (restarts_at (finalization_of 51)) ≡ Err (refused refusals.ForeignFloor 12) }
+    ensures own { calls_behind 10 (Run alone (restarts_at (finalization_of 17)))
+        ≡ [] ∷ (Report Finalization ∷ []) ∷ [] }
+    ensures foreign { Run alone (restarts_at (finalization_of 51))
+        ≡ Err (refused refusals.ForeignFloor 12) }
 {}

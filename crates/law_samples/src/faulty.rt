@@ -15,7 +15,8 @@ ghost use Rattle.law_samples.specs.Shown.{Append, Sync, Send, Report, Block, Not
 /// It votes for another payload and then for the one that it heard: that is evidence against it, once.
 pub fn conflicting_votes_come_out()
     ensures packets { packets_behind 3 (Run (with_last kinds.Conflicter) overheard)
-        ≡ (packet 3 channels.Vote (0 ∷ 1 ∷ 2 ∷ []) ∷ packet 3 channels.Vote (0 ∷ 1 ∷ 2 ∷ []) ∷ []) ∷ [] ∷ [] ∷ [] ∷ [] }
+        ≡ (packet 3 channels.Vote (0 ∷ 1 ∷ 2 ∷ []) ∷ packet 3 channels.Vote (0 ∷ 1 ∷ 2 ∷ [])
+        ∷ []) ∷ [] ∷ [] ∷ [] ∷ [] }
     ensures calls { calls_behind 6 (Run (with_last kinds.Conflicter) overheard_both)
         ≡ (Report Notarize ∷ []) ∷ (Report Evidence ∷ Block 3 ConflictingVotes ∷ []) ∷ [] ∷ [] }
 {}
@@ -23,25 +24,32 @@ pub fn conflicting_votes_come_out()
 /// What it sends then is refused, until the node starts again.
 pub fn blocked_members_come_out()
     ensures outcomes { outcomes_behind 6 (Run (with_last kinds.Conflicter) heard_again)
-        ≡ outcomes.Done ∷ outcomes.Done ∷ outcomes.Refused ∷ outcomes.Done ∷ outcomes.Done ∷ outcomes.Done ∷ outcomes.Done ∷ [] }
-    ensures calls { calls_behind 8 (Run (with_last kinds.Conflicter) heard_again) ≡ [] ∷ [] ∷ [] ∷ [] ∷ (Report Notarize ∷ []) ∷ [] }
+        ≡ outcomes.Done ∷ outcomes.Done ∷ outcomes.Refused ∷ outcomes.Done
+        ∷ outcomes.Done ∷ outcomes.Done ∷ outcomes.Done ∷ [] }
+    ensures calls { calls_behind 8 (Run (with_last kinds.Conflicter) heard_again)
+        ≡ [] ∷ [] ∷ [] ∷ [] ∷ (Report Notarize ∷ []) ∷ [] }
 {}
 
 /// It votes in another's name: it is blocked, and nothing is reported.
 pub fn false_names_come_out()
     ensures packets { packets_behind 3 (Run (with_last kinds.Impersonator) overheard)
         ≡ (packet 3 channels.Vote (0 ∷ 1 ∷ 2 ∷ []) ∷ []) ∷ [] ∷ [] ∷ [] ∷ [] }
-    ensures calls { calls_behind 6 (Run (with_last kinds.Impersonator) overheard) ≡ (Block 3 WrongSender ∷ []) ∷ [] }
+    ensures calls { calls_behind 6 (Run (with_last kinds.Impersonator) overheard)
+        ≡ (Block 3 WrongSender ∷ []) ∷ [] }
 {}
 
 /// A leader with a corrupt scheme sends its vote as any other does, and the vote does not verify. It tells the proposal.
 /// With it there is a quorum of votes: then they are tested, it is blocked, and nothing is notarized.
 pub fn corrupt_votes_come_out()
-    ensures packets { packets_behind 2 (Run (led_by kinds.Corrupt) leader_votes) ≡ (packet 1 channels.Vote (0 ∷ 2 ∷ 3 ∷ []) ∷ []) ∷ [] }
-    ensures turned { verified_in (led_by kinds.Corrupt) (Run (led_by kinds.Corrupt) leader_votes) ≡ false ∷ [] }
-    ensures honest { verified_in (led_by kinds.Honest) (Run (led_by kinds.Honest) leader_votes) ≡ true ∷ [] }
+    ensures packets { packets_behind 2 (Run (led_by kinds.Corrupt) leader_votes)
+        ≡ (packet 1 channels.Vote (0 ∷ 2 ∷ 3 ∷ []) ∷ []) ∷ [] }
+    ensures turned { verified_in (led_by kinds.Corrupt) (Run
+        (led_by kinds.Corrupt) leader_votes) ≡ false ∷ [] }
+    ensures honest { verified_in (led_by kinds.Honest) (Run
+        (led_by kinds.Honest) leader_votes) ≡ true ∷ [] }
     ensures blocked { calls_behind 17 (Run (led_by kinds.Corrupt) (and_tell (at 16 0) (at 11 0)))
-        ≡ (Report Notarize ∷ []) ∷ (Report Notarize ∷ []) ∷ [] ∷ (Report Notarize ∷ Block 1 InvalidSignature ∷ []) ∷ [] }
+        ≡ (Report Notarize ∷ []) ∷ (Report Notarize ∷ []) ∷ []
+        ∷ (Report Notarize ∷ Block 1 InvalidSignature ∷ []) ∷ [] }
     ensures handed { handed_behind 17 (Run (led_by kinds.Corrupt) (and_tell (at 16 0) (at 11 0)))
         ≡ [] ∷ (Proposed 1 ∷ []) ∷ [] ∷ [] ∷ [] }
 {}
@@ -49,7 +57,10 @@ pub fn corrupt_votes_come_out()
 /// A finalization that a twin alone reported is foreign to the others. Reported by an honest member too it is none.
 pub fn faulty_reports_come_out()
     ensures reported { calls_behind 21 (Run (with_last kinds.Twin) (told_to 3))
-        ≡ (Append 1 Finalization ∷ Sync 1 ∷ Send channels.Certificate ∷ Report Finalization ∷ []) ∷ [] }
-    ensures foreign { Run (with_last kinds.Twin) (told_to 3 ++ and_starts_there) ≡ Err (refused refusals.ForeignFloor 24) }
-    ensures own { calls_behind 23 (Run (with_last kinds.Twin) (told_to 1 ++ and_starts_there)) ≡ (Report Finalization ∷ Append 1 Finalization ∷ Sync 1 ∷ []) ∷ [] }
+        ≡ (Append 1 Finalization ∷ Sync 1 ∷ Send channels.Certificate
+        ∷ Report Finalization ∷ []) ∷ [] }
+    ensures foreign { Run (with_last kinds.Twin) (told_to 3 ++ and_starts_there)
+        ≡ Err (refused refusals.ForeignFloor 24) }
+    ensures own { calls_behind 23 (Run (with_last kinds.Twin) (told_to 1 ++ and_starts_there))
+        ≡ (Report Finalization ∷ Append 1 Finalization ∷ Sync 1 ∷ []) ∷ [] }
 {}

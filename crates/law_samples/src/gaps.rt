@@ -24,5 +24,6 @@ pub fn gaps_can_stand()
     ensures not_taken { HandlesTaken resolver (Stepped (inputs.Handler peer_asks) 0 ∷ []) → ⊥ }
     ensures gaps { gaps_of resolver.term (standing_after resolver lacks).held ≡ 1 ∷ 3 ∷ [] }
     ensures first { is_gap resolver.term (standing_after resolver lacks).held 1 ≡ true }
-    ensures asked { has_ask (same_ask (backfill 1).ask) (entry_at (standing_after resolver lacks).fetcher.views 1) ≡ true }
+    ensures asked { has_ask (same_ask (backfill 1).ask) (entry_at (standing_after resolver lacks).fetcher.views 1)
+        ≡ true }
 {}

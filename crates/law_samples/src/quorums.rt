@@ -19,7 +19,8 @@ pub fn quorums_can_stand()
     ensures worked { IsWorked batcher (taken batcher two_votes third_vote) 1 }
     ensures round { (taken batcher two_votes third_vote).standing.rounds 1 ≡ Some last_round }
     ensures quorum { HasQuorum batcher last_round kinds.Notarization (subjects.Notarize first) }
-    ensures no_quorum { HasQuorum batcher (round_after (standing_after batcher two_votes)) kinds.Notarization (subjects.Notarize first) → ⊥ }
+    ensures no_quorum { HasQuorum batcher (round_after (standing_after batcher two_votes)) kinds.Notarization
+        (subjects.Notarize first) → ⊥ }
 {}
 
 /// So the law says that the third vote's step hands on a certificate.
@@ -32,8 +33,10 @@ pub fn standing_quorums_are_handed_on()
 
 /// What a law asks of a certificate can be met: a notarization comes when there are two votes. It is new once.
 pub fn certificates_can_be_new()
-    ensures new { BringsVerified batcher (standing_after batcher two_votes) brings.input notarization }
-    ensures known { BringsVerified batcher (standing_after batcher (brings ∷ two_votes)) brings.input notarization → ⊥ }
+    ensures new { BringsVerified batcher
+        (standing_after batcher two_votes) brings.input notarization }
+    ensures known { BringsVerified batcher (standing_after batcher
+        (brings ∷ two_votes)) brings.input notarization → ⊥ }
     ensures handed { HandsOn (step_out batcher two_votes brings) notarization }
 {
     new_certificates_are_handed_on();

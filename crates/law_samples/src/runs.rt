@@ -14,7 +14,8 @@ use law_run::{possible_events_run, runs_are_possible};
 /// to a member that was not started does not meet it.
 pub fn events_can_be_possible()
     ensures possible { IsPossible (at_epoch_genesis alone) finalizes }
-    ensures impossible { IsPossible (at_epoch_genesis (with_last kinds.Silent)) (shows channels.Vote (node 0 ∷ []) (7 ∷ []) ∷ hears 0 (at 1 0) ∷ []) → ⊥ }
+    ensures impossible { IsPossible (at_epoch_genesis (with_last kinds.Silent))
+        (shows channels.Vote (node 0 ∷ []) (7 ∷ []) ∷ hears 0 (at 1 0) ∷ []) → ⊥ }
 {
     one_member_finalizes();
     runs_are_possible();

@@ -13,7 +13,8 @@ ghost use Rattle.model_audit.specs.Samples.{verdict, tick, ticks};
 /// Records of nothing, and of ticks.
 pub fn records_come_out()
     ensures nothing { verdict alone [] [] ≡ Sound }
-    ensures ticked { verdict alone (ticks 5 ∷ ticks 6 ∷ []) (record_of (blank_entry 1 None ∷ blank_entry 2 None ∷ [])) ≡ Sound }
+    ensures ticked { verdict alone (ticks 5 ∷ ticks 6
+        ∷ []) (record_of (blank_entry 1 None ∷ blank_entry 2 None ∷ [])) ≡ Sound }
 {}
 
 /// The smallest faults.
@@ -22,8 +23,12 @@ pub fn faults_come_out()
     ensures missing { verdict alone (ticks 5 ∷ ticks 6 ∷ []) (tick 1 ∷ []) ≡ Fault 2 faults.Entry }
     ensures surplus { verdict alone [] (tick 1 ∷ []) ≡ Fault 1 faults.Entry }
     ensures number { verdict alone (ticks 5 ∷ []) (tick 2 ∷ []) ≡ Fault 1 faults.Entry }
-    ensures name { verdict alone (ticks 5 ∷ []) (record_entry (blank_entry 1 (Some at)) ∷ []) ≡ Fault 1 faults.Entry }
-    ensures clock { verdict alone (ticks 9223372036854775808 ∷ []) (tick 1 ∷ []) ≡ Fault 1 faults.Condition }
-    ensures stopped { verdict alone (events.Crash at ∷ []) (record_entry (blank_entry 1 (Some at)) ∷ []) ≡ Fault 1 faults.Condition }
-    ensures nobody { verdict alone (events.Crash other ∷ []) (record_entry (blank_entry 1 (Some other)) ∷ []) ≡ Fault 1 faults.Condition }
+    ensures name { verdict alone (ticks 5 ∷ []) (record_entry (blank_entry 1 (Some at)) ∷ [])
+        ≡ Fault 1 faults.Entry }
+    ensures clock { verdict alone (ticks 9223372036854775808 ∷ []) (tick 1 ∷ [])
+        ≡ Fault 1 faults.Condition }
+    ensures stopped { verdict alone (events.Crash at ∷ []) (record_entry (blank_entry 1 (Some at)) ∷ [])
+        ≡ Fault 1 faults.Condition }
+    ensures nobody { verdict alone (events.Crash other
+        ∷ []) (record_entry (blank_entry 1 (Some other)) ∷ []) ≡ Fault 1 faults.Condition }
 {}

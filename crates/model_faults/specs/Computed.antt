@@ -19,5 +19,11 @@ use Rattle.simplex_wire.specs.ResolverMessage.{body, resolver_message}
 
 -- what computes what faulty members send, random words too
 unfoldable pub faults : ⊤
-unfolding conflicter_drew conflicter_sends drawn_payload answered equivocates equivocator_drew equivocator_sends was_heard certificate_heard own_vote subject_heard votes_to_all impersonator_sends nuller_sends nullify_only_sends outdated_sends stored_at reconfigurer_sends Draws list_seed member_seed words_of all_turned corrupted first_bit turned wrapped_attests block_word column_round diagonal_round double_rounds quarter_round u32_at compress digest_bytes first_words hash_after rounds schedule sha256 attestation attestation_from attestations_from certificate finalization finalize notarization notarize nullification nullify proposal round signatures vote number_from varint_by body resolver_message
+unfolding conflicter_drew conflicter_sends drawn_payload answered equivocates equivocator_drew equivocator_sends
+    was_heard certificate_heard own_vote subject_heard votes_to_all impersonator_sends nuller_sends nullify_only_sends
+    outdated_sends stored_at reconfigurer_sends Draws list_seed member_seed words_of all_turned corrupted first_bit
+    turned wrapped_attests block_word column_round diagonal_round double_rounds quarter_round u32_at compress
+    digest_bytes first_words hash_after rounds schedule sha256 attestation attestation_from attestations_from
+    certificate finalization finalize notarization notarize nullification nullify proposal round signatures vote
+    number_from varint_by body resolver_message
 faults = tt

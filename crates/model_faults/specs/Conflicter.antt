@@ -12,15 +12,18 @@ use Rattle.model_faults.specs.Words.{Words}
 -- four words, the highest byte of each first
 unfoldable pub drawn_payload : Words → ℕ → List ℕ
 drawn_payload words place =
-    to_be_bytes w64 (words place) ++ to_be_bytes w64 (words (place + 1)) ++ to_be_bytes w64 (words (place + 2)) ++ to_be_bytes w64 (words (place + 3))
+    to_be_bytes w64 (words place) ++ to_be_bytes w64 (words (place + 1))
+    ++ to_be_bytes w64 (words (place + 2)) ++ to_be_bytes w64 (words (place + 3))
 
 abbrev pub with_payload : Proposal → List ℕ → Proposal
 with_payload proposal payload = record proposal { payload = payload }
 
 -- a notarize or finalize is answered with the same for a drawn payload, and then with the same
 abbrev pub conflicter_subjects : List ℕ → Option Subject → List Subject
-conflicter_subjects payload (Some (subjects.Notarize proposal)) = subjects.Notarize (with_payload proposal payload) ∷ subjects.Notarize proposal ∷ []
-conflicter_subjects payload (Some (subjects.Finalize proposal)) = subjects.Finalize (with_payload proposal payload) ∷ subjects.Finalize proposal ∷ []
+conflicter_subjects payload (Some (subjects.Notarize proposal)) =
+    subjects.Notarize (with_payload proposal payload) ∷ subjects.Notarize proposal ∷ []
+conflicter_subjects payload (Some (subjects.Finalize proposal)) =
+    subjects.Finalize (with_payload proposal payload) ∷ subjects.Finalize proposal ∷ []
 conflicter_subjects payload _ = []
 
 -- how many words such an answer takes

@@ -42,7 +42,8 @@ next_round made view = record { epoch = made.epoch; view = view + 1 }
 -- whether it leads the next view, and has another to send to; the last view has no next one
 abbrev pub leads_next : Made → ℕ → Bool
 leads_next made view =
-    nat_lt view (2 ^ 64 - 1) && nat_lt 1 made.members && option_map_or (λ me. made.leader (next_round made view) == me) made.me false
+    nat_lt view (2 ^ 64 - 1) && nat_lt 1 made.members
+    && option_map_or (λ me. made.leader (next_round made view) == me) made.me false
 
 abbrev pub is_of_view : ℕ → Option Proposal → Bool
 is_of_view view proposal = option_map_or (λ p. view == p.round.view) proposal false
@@ -64,7 +65,8 @@ answered made before heard = if_answered made before (proposal_in (certificate_h
 -- how many words the answers so far took: three each
 unfoldable pub equivocator_drew : Made → List Heard → ℕ
 equivocator_drew made [] = 0
-equivocator_drew made (heard ∷ before) = equivocator_drew made before + option_map_or (λ p. 3) (answered made before heard) 0
+equivocator_drew made (heard ∷ before) =
+    equivocator_drew made before + option_map_or (λ p. 3) (answered made before heard) 0
 
 -- the other members, in rising order
 abbrev pub others_than : ℕ → ℕ → List ℕ
@@ -74,7 +76,8 @@ others_than n member = filter (λ m. not (m == member)) (range_with_len 0 n)
 abbrev pub notarize_with : Made → Proposal → ℕ → Option Vote
 notarize_with made parent word =
     (let round = next_round made parent.round.view in
-    own_vote made.attests (subjects.Notarize (record { round = round; parent = parent.round.view; payload = payload_digest round parent.payload word })))
+    own_vote made.attests (subjects.Notarize
+    (record { round = round; parent = parent.round.view; payload = payload_digest round parent.payload word })))
 
 abbrev pub to_members : Recipients → Vote → Sent
 to_members members vote = record { channel = channels.Vote; recipients = members; bytes = message.vote.spelling vote }
@@ -86,10 +89,12 @@ equivocates made me parent word first second =
     (let others = others_than made.members me in
     let victim = slice_index others (word % (made.members - 1)) in
     option_to_list (option_map (to_members (recipients.One victim)) (notarize_with made parent first))
-    ++ option_to_list (option_map (to_members (recipients.Some (filter (λ m. not (m == victim)) others))) (notarize_with made parent second)))
+    ++ option_to_list (option_map (to_members (recipients.Some (filter (λ m. not (m == victim)) others)))
+    (notarize_with made parent second)))
 
 abbrev pub if_equivocates : Made → Option ℕ → ℕ → Option Proposal → List Sent
-if_equivocates made (Some me) place (Some parent) = equivocates made me parent (made.words place) (made.words (place + 1)) (made.words (place + 2))
+if_equivocates made (Some me) place (Some parent) =
+    equivocates made me parent (made.words place) (made.words (place + 1)) (made.words (place + 2))
 if_equivocates made _ place _ = []
 
 unfoldable pub equivocator_sends : Made → List Heard → Heard → List Sent

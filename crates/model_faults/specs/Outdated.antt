@@ -24,8 +24,10 @@ stored_at (heard ∷ before) view = if_view view (proposal_in (subject_heard hea
 
 -- a vote of the kind that was heard, for what stands so many views before, where something does
 abbrev pub outdated_subject : ℕ → List Heard → Option Subject → Option Subject
-outdated_subject delta heard (Some (subjects.Notarize proposal)) = option_map (λ old. subjects.Notarize old) (stored_at heard (proposal.round.view - delta))
-outdated_subject delta heard (Some (subjects.Finalize proposal)) = option_map (λ old. subjects.Finalize old) (stored_at heard (proposal.round.view - delta))
+outdated_subject delta heard (Some (subjects.Notarize proposal)) =
+    option_map (λ old. subjects.Notarize old) (stored_at heard (proposal.round.view - delta))
+outdated_subject delta heard (Some (subjects.Finalize proposal)) =
+    option_map (λ old. subjects.Finalize old) (stored_at heard (proposal.round.view - delta))
 outdated_subject delta heard _ = None
 
 -- what was just heard is stored before it is answered

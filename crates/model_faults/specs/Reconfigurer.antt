@@ -23,7 +23,8 @@ subject_in_next_epoch (subjects.Finalize proposal) = subjects.Finalize (proposal
 
 -- each vote is answered with the same of the next epoch; the last epoch has no next one, and there nothing is sent
 abbrev pub reconfigurer_subjects : Option Subject → List Subject
-reconfigurer_subjects (Some subject) = if nat_lt (subject_round subject).epoch (2 ^ 64 - 1) then subject_in_next_epoch subject ∷ [] else []
+reconfigurer_subjects (Some subject) =
+    if nat_lt (subject_round subject).epoch (2 ^ 64 - 1) then subject_in_next_epoch subject ∷ [] else []
 reconfigurer_subjects None = []
 
 unfoldable pub reconfigurer_sends : (Subject → Option Attestation) → Heard → List Sent

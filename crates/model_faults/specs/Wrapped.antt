@@ -28,8 +28,10 @@ unfoldable pub corrupted : (Attestation → Bool) → Attestation → Option Att
 corrupted verifies a = find (λ changed. not (verifies changed)) (all_turned a)
 
 -- what a wrapped scheme attests of a subject
-unfoldable pub wrapped_attests : Behavior → (Subject → Option Attestation) → (Subject → Attestation → Bool) → Subject → Option Attestation
-wrapped_attests behaviors.CorruptSignature attests verifies subject = option_and_then (corrupted (verifies subject)) (attests subject)
+unfoldable pub wrapped_attests : Behavior → (Subject → Option Attestation)
+    → (Subject → Attestation → Bool) → Subject → Option Attestation
+wrapped_attests behaviors.CorruptSignature attests verifies subject =
+    option_and_then (corrupted (verifies subject)) (attests subject)
 wrapped_attests _ attests verifies subject = attests subject
 
 -- whether it recovers certificates

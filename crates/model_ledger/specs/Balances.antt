@@ -7,7 +7,8 @@ balance_at balances account = get_or balances account 0
 
 -- both accounts are there, and the sender has the amount
 abbrev pub may_move : List ℕ → Transfer → Bool
-may_move balances t = nat_lt t.from (length balances) && nat_lt t.to (length balances) && nat_le t.amount (balance_at balances t.from)
+may_move balances t =
+    nat_lt t.from (length balances) && nat_lt t.to (length balances) && nat_le t.amount (balance_at balances t.from)
 
 abbrev pub taken : List ℕ → ℕ → ℕ → List ℕ
 taken balances account amount = set balances account (balance_at balances account - amount)

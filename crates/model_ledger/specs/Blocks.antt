@@ -10,7 +10,8 @@ use Rattle.model_ledger.specs.declared.transfer.Transfer.{Transfer}
 
 -- sender, receiver and amount
 unfoldable pub transfer : Format Transfer
-transfer = seen_as (λ p. record { from = p.0; to = p.1.0; amount = p.1.1 }) (λ t. (t.from, (t.to, t.amount))) (both number32 (both number32 number64))
+transfer = seen_as (λ p. record { from = p.0; to = p.1.0; amount = p.1.1 })
+    (λ t. (t.from, (t.to, t.amount))) (both number32 (both number32 number64))
 
 -- so many of them
 unfoldable pub transfers_from : ℕ → Left → Result (List Transfer × Left) DecodeError

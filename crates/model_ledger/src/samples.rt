@@ -27,5 +27,6 @@ pub fn balances_come_out()
     ensures no_sender { moved (100 ∷ 5 ∷ []) (moves 2 1 0) ≡ 100 ∷ 5 ∷ [] }
     ensures no_receiver { moved (100 ∷ 5 ∷ []) (moves 0 2 10) ≡ 100 ∷ 5 ∷ [] }
     ensures itself { moved (100 ∷ 5 ∷ []) (moves 0 0 10) ≡ 100 ∷ 5 ∷ [] }
-    ensures in_order { after_all (100 ∷ 5 ∷ []) (moves 1 0 6 ∷ moves 0 1 1 ∷ moves 1 0 6 ∷ []) ≡ 105 ∷ 0 ∷ [] }
+    ensures in_order { after_all (100 ∷ 5 ∷ []) (moves 1 0 6 ∷ moves 0 1 1 ∷ moves 1 0 6
+        ∷ []) ≡ 105 ∷ 0 ∷ [] }
 {}

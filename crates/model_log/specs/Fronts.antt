@@ -15,7 +15,8 @@ AreFronts xs ys = IsFrontOf xs ys ⊎ IsFrontOf ys xs
 -- one proposal at most is of a view, and none above a final view has its parent below it
 pub record AreOfOneChain (proposals : List Proposal) (finals : List ℕ) : Type 0 where
   pub one : (p q : Proposal) → Contains proposals p → Contains proposals q → p.round.view ≡ q.round.view → p ≡ q
-  pub kept : (view : ℕ) (p : Proposal) → Contains finals view → Contains proposals p → view < p.round.view → view ≤ p.parent
+  pub kept : (view : ℕ) (p : Proposal) → Contains finals view
+      → Contains proposals p → view < p.round.view → view ≤ p.parent
 
 -- so it is with what these activities name
 abbrev pub AreConsistent : (Activity → Bool) → List Activity → Type 0

@@ -10,7 +10,8 @@ anything _ = true
 
 -- a proposal of a view on a parent
 abbrev pub block : ℕ → ℕ → ℕ → Proposal
-block view parent payload = record { round = record { epoch = 0; view = view }; parent = parent; payload = payload ∷ [] }
+block view parent payload =
+    record { round = record { epoch = 0; view = view }; parent = parent; payload = payload ∷ [] }
 
 abbrev pub notarized : Proposal → Activity
 notarized p = activities.Notarization (record { proposal = p; certificate = [] })

@@ -9,23 +9,27 @@ ghost use Rattle.model_log.specs.Observing.{clash_of, with_next};
 
 /// Where all that two lists name is of one chain, one log begins the other.
 pub fn consistent_logs_are_fronts()
-    ensures { (verifies : Activity → Bool) (a b : List Activity) → AreConsistent verifies (a ++ b) → AreFronts (log_of verifies a) (log_of verifies b) }
+    ensures { (verifies : Activity → Bool) (a b : List Activity)
+        → AreConsistent verifies (a ++ b) → AreFronts (log_of verifies a) (log_of verifies b) }
 {}
 
 /// What is named of one chain does not clash.
 pub fn consistent_links_do_not_clash()
-    ensures { (verifies : Activity → Bool) (taken : List Activity) (activity : Activity) → AreConsistent verifies (with_next taken activity)
+    ensures { (verifies : Activity → Bool) (taken : List Activity) (activity : Activity)
+        → AreConsistent verifies (with_next taken activity)
         → clash_of verifies taken activity ≡ None }
 {}
 
 /// As more is reported, the log is the same exactly where its tip is, whether or not there are clashes.
 pub fn log_changes_with_its_tip()
     ensures { (verifies : Activity → Bool) (taken later : List Activity)
-        → (tip_of verifies (taken ++ later) ≡ tip_of verifies taken) ↔ (log_of verifies (taken ++ later) ≡ log_of verifies taken) }
+        → (tip_of verifies (taken ++ later) ≡ tip_of verifies taken)
+        ↔ (log_of verifies (taken ++ later) ≡ log_of verifies taken) }
 {}
 
 /// One more link, the first of its view, moves the ends of just those walks that ended at its view: they end where its parent's
 /// walk ends.
 pub fn a_link_moves_ends()
-    ensures { (links : List Proposal) (p : Proposal) (view : ℕ) → IsNewLink links p → end_in (links ++ p ∷ []) view ≡ end_behind links p view }
+    ensures { (links : List Proposal) (p : Proposal) (view : ℕ)
+        → IsNewLink links p → end_in (links ++ p ∷ []) view ≡ end_behind links p view }
 {}

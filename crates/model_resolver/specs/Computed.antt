@@ -13,5 +13,15 @@ use Rattle.simplex_messages.specs.Policies.{batcher_handled, handled_by_view, ha
 
 -- what computes a resolver's calls
 unfoldable pub resolver : ⊤
-unfolding repairs wire asks_behind targets_behind adding fetcher_answered asked_on asking attempted attempted_at attempting blocking fetcher_delivered expired expired_as expired_at fetcher_expiring fetched_beside heard heard_body heard_message judged judged_as judged_at judged_entry kept_or_left message_bytes noting others_of peer_of refused fetcher_requested retained retired_at fetcher_retiring retried retrying served served_as visited accepted acted after_blocking after_taking resolver_answered at_first called called_all deadline_after resolver_delivered resolver_expiring fetching handler_message hearing holds_handled is_excepted is_valid judging leaving minded minded_all passed_over produced putting repairing resolver_requested resolving resolver_retiring retiring_all serving settled_count standing_after step step_out took_handled took_mail validated verdict_of with_effects touches asked_in placed send_calls entry_at first_view next_deadline views_where with_entry without_entry after_leave after_recv all_enqueued enqueued feedback_of taken_from behind drained in_turn undrained undrained_at batcher_handled handled_by_view handler_handled resolver_handled voter_handled
+unfolding repairs wire asks_behind targets_behind adding fetcher_answered asked_on asking attempted attempted_at
+    attempting blocking fetcher_delivered expired expired_as expired_at fetcher_expiring fetched_beside heard heard_body
+    heard_message judged judged_as judged_at judged_entry kept_or_left message_bytes noting others_of peer_of refused
+    fetcher_requested retained retired_at fetcher_retiring retried retrying served served_as visited accepted acted
+    after_blocking after_taking resolver_answered at_first called called_all deadline_after resolver_delivered
+    resolver_expiring fetching handler_message hearing holds_handled is_excepted is_valid judging leaving minded
+    minded_all passed_over produced putting repairing resolver_requested resolving resolver_retiring retiring_all
+    serving settled_count standing_after step step_out took_handled took_mail validated verdict_of with_effects touches
+    asked_in placed send_calls entry_at first_view next_deadline views_where with_entry without_entry after_leave
+    after_recv all_enqueued enqueued feedback_of taken_from behind drained in_turn undrained undrained_at
+    batcher_handled handled_by_view handler_handled resolver_handled voter_handled
 resolver = tt

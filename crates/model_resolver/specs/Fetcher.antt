@@ -117,7 +117,8 @@ once_more entry = record entry { attempts = entry.attempts + 1 }
 -- waits for good
 unfoldable pub asking : ℕ → ℕ → Entry → Machine → Option ℕ → After
 asking now view entry fetcher None =
-    quiet (if fetcher.config.n == 1 then keeping view (in_state (Waiting None) entry) fetcher else retrying now view (once_more entry) fetcher)
+    quiet (if fetcher.config.n == 1 then keeping view (in_state (Waiting None) entry) fetcher
+    else retrying now view (once_more entry) fetcher)
 asking now view entry fetcher (Some peer) =
     let asked = in_state (Asked fetcher.next_id peer (now + fetcher.config.fetch_timeout)) (once_more entry) in
     record {
@@ -159,16 +160,19 @@ entry_with arrival (Some entry) = record entry { arrivals = with_arrival arrival
 
 -- the fetcher with one more ask
 unfoldable pub adding : Fetching → Machine → Machine
-adding fetching fetcher = keeping fetching.view (entry_with fetching.arrival (entry_at fetcher.views fetching.view)) fetcher
+adding fetching fetcher =
+    keeping fetching.view (entry_with fetching.arrival (entry_at fetcher.views fetching.view)) fetcher
 
 -- the new views, in rising order, with one more where it was not asked for before
 unfoldable pub noting : Fetching → Machine → List ℕ → List ℕ
-noting fetching fetcher new = if is_some (entry_at fetcher.views fetching.view) then new else insert_key nat_cmp new fetching.view
+noting fetching fetcher new = if is_some (entry_at fetcher.views fetching.view)
+    then new else insert_key nat_cmp new fetching.view
 
 -- the asks are added, and then each new view is asked at once; these views are new already
 unfoldable pub fetched_beside : List Fetching → ℕ → List ℕ → Machine → After
 fetched_beside [] now new fetcher = visited (attempting now) new fetcher
-fetched_beside (fetching ∷ others) now new fetcher = fetched_beside others now (noting fetching fetcher new) (adding fetching fetcher)
+fetched_beside (fetching ∷ others) now new fetcher =
+    fetched_beside others now (noting fetching fetcher new) (adding fetching fetcher)
 
 -- the asks are added, and then each new view is asked at once
 abbrev pub fetched : List Fetching → ℕ → Machine → After
@@ -219,7 +223,11 @@ blocking member fetcher = record fetcher { blocked = insert_key nat_cmp fetcher.
 -- a peer's request is to be answered, under a number of the second count
 unfoldable pub requested : ℕ → ℕ → ℕ → Machine → After
 requested sender id view fetcher = record {
-  fetcher = record fetcher { serving = insert_entry nat_cmp fetcher.serving fetcher.next_serve (record { sender = sender; request = id }); next_serve = fetcher.next_serve + 1 };
+  fetcher = record fetcher {
+    serving = insert_entry nat_cmp fetcher.serving fetcher.next_serve
+        (record { sender = sender; request = id });
+    next_serve = fetcher.next_serve + 1;
+  };
   outs = out.Produce fetcher.next_serve view ∷ [];
 }
 
@@ -249,12 +257,14 @@ refused now fetcher (Some view) = retried now view fetcher (entry_at fetcher.vie
 -- a message of the sender, under this number
 unfoldable pub heard_body : ℕ → ℕ → ℕ → Machine → ResolverBody → After
 heard_body sender id now fetcher (body.Request view) = requested sender id view fetcher
-heard_body sender id now fetcher (body.Response bytes) = answered sender id bytes fetcher (asked_view id sender fetcher.views)
+heard_body sender id now fetcher (body.Response bytes) =
+    answered sender id bytes fetcher (asked_view id sender fetcher.views)
 heard_body sender id now fetcher body.Error = quiet (refused now fetcher (asked_view id sender fetcher.views))
 
 -- what was read of the sender's bytes. Bytes that are no message block the sender
 unfoldable pub heard_message : ℕ → ℕ → Machine → Result ResolverMessage DecodeError → After
-heard_message sender now fetcher (Err fault) = record { fetcher = blocking sender fetcher; outs = out.Block sender Undecodable ∷ [] }
+heard_message sender now fetcher (Err fault) =
+    record { fetcher = blocking sender fetcher; outs = out.Block sender Undecodable ∷ [] }
 heard_message sender now fetcher (Ok message) = heard_body sender message.id now fetcher message.body
 
 -- bytes of the sender

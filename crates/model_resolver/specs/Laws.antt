@@ -11,7 +11,8 @@ use Rattle.model_resolver.specs.Resolver.{Made}
 -- a quorum signed the certificate, if it is one for the voter
 abbrev pub Verifies : Made → Handed → Type 0
 Verifies made (handed.Voter (voter.Verified certificate)) =
-    is_certified (made.verifies (certificate_subject certificate)) made.members (certificate_signatures certificate) ≡ true
+    is_certified (made.verifies (certificate_subject certificate)) made.members
+    (certificate_signatures certificate) ≡ true
 Verifies made _ = Unit {0}
 
 -- whether no view is later than this one, nor than the one before it

@@ -110,7 +110,8 @@ putting message doing = record doing {
 
 -- the requester of this number left
 unfoldable pub leaving : ℕ → Doing → Doing
-leaving id doing = record doing { standing = record doing.standing { handler = after_leave handler_leave id doing.standing.handler } }
+leaving id doing =
+    record doing { standing = record doing.standing { handler = after_leave handler_leave id doing.standing.handler } }
 
 -- a peer's request is answered
 unfoldable pub serving : ℕ → Option (List ℕ) → Doing → Doing
@@ -193,7 +194,8 @@ recorded call doing = record doing { standing = record doing.standing { held = c
 
 -- a call of the repair state, and what follows
 unfoldable pub repairing : Made → ℕ → repair.RepairCall → Doing → Doing
-repairing made now call doing = with_effects now (repair.effects_of made.term doing.standing.held call) (recorded call doing)
+repairing made now call doing =
+    with_effects now (repair.effects_of made.term doing.standing.held call) (recorded call doing)
 
 -- ---- judging what was fetched
 
@@ -251,7 +253,8 @@ unfoldable pub accepted : Made → ℕ → ℕ → ℕ → List Ask → Certific
 accepted made now id view asks certificate doing =
     let before = doing.standing.held in
     let call = repair.Updated certificate in
-    let verdict = verdict_of (length asks) (settled_count made.term before view asks) (settled_count made.term (call ∷ before) view asks) in
+    let verdict = verdict_of (length asks) (settled_count made.term before view asks)
+    (settled_count made.term (call ∷ before) view asks) in
     handing certificate
     (with_effects now (repair.effects_of made.term before call) (judging now id verdict (recorded call doing)))
 
@@ -274,7 +277,8 @@ produced made id view doing =
 
 -- an ask for a proposal's ancestry, of the target alone where there is one
 abbrev pub ancestry : ℕ → Kind → Option ℕ → fetch.Fetching
-ancestry view kind target = record { view = view; arrival = record { ask = record { kind = kind; until = untils.Finalized }; target = target } }
+ancestry view kind target =
+    record { view = view; arrival = record { ask = record { kind = kind; until = untils.Finalized }; target = target } }
 
 unfoldable pub resolving : Made → ℕ → ℕ → ℕ → Kind → Option ℕ → Doing → Doing
 resolving made now proposal view kind target doing =
@@ -283,12 +287,14 @@ resolving made now proposal view kind target doing =
 
 unfoldable pub took_mail : Made → MailboxMessage → ℕ → Doing → Doing
 took_mail made (mail.Updated certificate) now doing = repairing made now (repair.Updated certificate) doing
-took_mail made (mail.Certified notarization success) now doing = repairing made now (repair.Certified notarization success) doing
+took_mail made (mail.Certified notarization success) now doing =
+    repairing made now (repair.Certified notarization success) doing
 took_mail made (mail.Resolve proposal view kind target) now doing = resolving made now proposal view kind target doing
 took_mail made mail.Replayed now doing = repairing made now repair.Replayed doing
 
 unfoldable pub took_handled : Made → HandlerMessage → ℕ → Doing → Doing
-took_handled made (handler.Deliver id view bytes asks waiting) now doing = if waiting then delivered made now id view bytes asks doing else doing
+took_handled made (handler.Deliver id view bytes asks waiting) now doing =
+    if waiting then delivered made now id view bytes asks doing else doing
 took_handled made (handler.Produce id view) now doing = produced made id view doing
 
 unfoldable pub acted : Made → ResolverInput → ℕ → Doing → Doing

@@ -102,7 +102,8 @@ impl Arrivals {
 
     /// One more ask, unless it came before with the same target.
     pub fn add(&mut self, ask: Ask, target: Option<Participant>) -> Result<(), AllocError>
-        ensures ok { OnOk result (self.new ≡ with_arrival (record { ask = ask; target = target }) self.old) }
+        ensures ok { OnOk result (self.new
+            ≡ with_arrival (record { ask = ask; target = target }) self.old) }
         ensures err { OnErr result (self.new ≡ self.old) }
     {
         let arrival = Arrival { ask, target };

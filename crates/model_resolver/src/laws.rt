@@ -10,16 +10,19 @@ ghost use Rattle.model_resolver.specs.Laws.{Verifies, falls};
 
 /// A nullification is an answer only for the views that it covers.
 pub fn nullifications_answer_what_they_cover()
-    ensures { (made : Made) (view : ℕ) (bytes : List ℕ) (it : Nullification) → validated made view bytes ≡ Some (certificates.Nullification it)
+    ensures { (made : Made) (view : ℕ) (bytes : List ℕ) (it : Nullification)
+        → validated made view bytes ≡ Some (certificates.Nullification it)
         → covers made.term it.round.view view ≡ true }
 {}
 
 /// Each certificate that a step hands to the voter verifies.
 pub fn handed_certificates_verify()
-    ensures { (made : Made) (past : List Given) (input : ResolverInput) (now : ℕ) → All (Verifies made) (step_out made past input now).handed }
+    ensures { (made : Made) (past : List Given) (input : ResolverInput) (now : ℕ)
+        → All (Verifies made) (step_out made past input now).handed }
 {}
 
 /// Of the sends of a step, the last first, no view is later than the one before it.
 pub fn sends_rise_by_view()
-    ensures { (made : Made) (standing : Standing) (input : ResolverInput) (now : ℕ) → falls (step made standing input now).sends ≡ true }
+    ensures { (made : Made) (standing : Standing) (input : ResolverInput) (now : ℕ)
+        → falls (step made standing input now).sends ≡ true }
 {}

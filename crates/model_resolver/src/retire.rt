@@ -18,7 +18,8 @@ pub enum Retire {
 impl Retire {
     /// The first and the last view that it reaches.
     pub fn reach(&self) -> (u64, u64)
-        ensures { (view : ℕ) → reaches self.now view ≡ (nat_le result.0 view && nat_le view result.1) }
+        ensures { (view : ℕ) → reaches self.now view
+            ≡ (nat_le result.0 view && nat_le view result.1) }
     {
         match self {
             Retire::Settled { start, end, .. } => (start.0, end.0),

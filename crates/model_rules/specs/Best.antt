@@ -31,7 +31,8 @@ best_certificate made known =
     let before = current_of made known - 1 in
     option_or (option_map certificates.Finalization (finalization_of known before))
     (option_or
-    (if has_true_verdict known before then option_map certificates.Notarization (notarization_of known before) else None)
+    (if has_true_verdict known before
+    then option_map certificates.Notarization (notarization_of known before) else None)
     (option_map certificates.Nullification (opening_nullification made.term_length known (current_of made known))))
 
 -- a proposal that is worth forwarding: it was notarized, and the member checked it

@@ -109,13 +109,16 @@ construct_nullify_answer made known view = option_map (λ n. (has_nullified know
 
 -- the certificate of the view, where it has still to be sent
 unfoldable pub unsent_notarization : List Fact → ℕ → Option Notarization
-unsent_notarization known view = if was_broadcast known kinds.Notarization view then None else notarization_of known view
+unsent_notarization known view =
+    if was_broadcast known kinds.Notarization view then None else notarization_of known view
 
 unfoldable pub unsent_nullification : List Fact → ℕ → Option Nullification
-unsent_nullification known view = if was_broadcast known kinds.Nullification view then None else nullification_of known view
+unsent_nullification known view =
+    if was_broadcast known kinds.Nullification view then None else nullification_of known view
 
 unfoldable pub unsent_finalization : List Fact → ℕ → Option Finalization
-unsent_finalization known view = if was_broadcast known kinds.Finalization view then None else finalization_of known view
+unsent_finalization known view =
+    if was_broadcast known kinds.Finalization view then None else finalization_of known view
 
 abbrev pub pruned_view : Fact → ℕ
 pruned_view (Pruned view) = view
@@ -138,13 +141,15 @@ fact_of fact value = option_to_list (option_map fact value)
 
 -- a certificate that is known and need not be sent
 abbrev pub kept_notarization : Notarization → ℕ → List Fact
-kept_notarization n now = Broadcast kinds.Notarization (view_of n.proposal) ∷ Added (certificates.Notarization n) now ∷ []
+kept_notarization n now =
+    Broadcast kinds.Notarization (view_of n.proposal) ∷ Added (certificates.Notarization n) now ∷ []
 
 abbrev pub kept_nullification : Nullification → ℕ → List Fact
 kept_nullification n now = Broadcast kinds.Nullification n.round.view ∷ Added (certificates.Nullification n) now ∷ []
 
 abbrev pub kept_finalization : Finalization → ℕ → List Fact
-kept_finalization f now = Broadcast kinds.Finalization (view_of f.proposal) ∷ Added (certificates.Finalization f) now ∷ []
+kept_finalization f now =
+    Broadcast kinds.Finalization (view_of f.proposal) ∷ Added (certificates.Finalization f) now ∷ []
 
 abbrev pub floor_facts : Floor → ℕ → List Fact
 floor_facts (Genesis payload) now = FloorAt 0 payload ∷ []
@@ -198,12 +203,16 @@ facts_of made known (Proposed context payload) =
 facts_of made known (Verified view) = fact_of Approved (verify_asked known view)
 facts_of made known (VerificationFailed view reason now) = triggered made known view reason now
 facts_of made known (Certified view good now) = judged made known view good now
-facts_of made known (AddNotarization n now) = only_if (adds_notarization made known n) (Added (certificates.Notarization n) now)
-facts_of made known (AddNullification n now) = only_if (adds_nullification made known n) (Added (certificates.Nullification n) now)
-facts_of made known (AddFinalization f now) = only_if (adds_finalization made known f) (Added (certificates.Finalization f) now)
+facts_of made known (AddNotarization n now) =
+    only_if (adds_notarization made known n) (Added (certificates.Notarization n) now)
+facts_of made known (AddNullification n now) =
+    only_if (adds_nullification made known n) (Added (certificates.Nullification n) now)
+facts_of made known (AddFinalization f now) =
+    only_if (adds_finalization made known f) (Added (certificates.Finalization f) now)
 facts_of made known (TriggerTimeout view reason now) = triggered made known view reason now
 facts_of made known (ConstructNotarize view) = fact_of (λ v. Voted (votes.Notarize v)) (notarize_at made known view)
-facts_of made known (ConstructNullify view reason now) = option_map_or (nullify_facts known view now) (nullify_at made view) []
+facts_of made known (ConstructNullify view reason now) =
+    option_map_or (nullify_facts known view now) (nullify_at made view) []
 facts_of made known (ConstructFinalize view) = fact_of (λ v. Voted (votes.Finalize v)) (finalize_at made known view)
 facts_of made known (BroadcastNotarization view) =
     only_if (is_some (unsent_notarization known view)) (Broadcast kinds.Notarization view)
@@ -211,7 +220,8 @@ facts_of made known (BroadcastNullification view) =
     only_if (is_some (unsent_nullification known view)) (Broadcast kinds.Nullification view)
 facts_of made known (BroadcastFinalization view) =
     only_if (is_some (unsent_finalization known view)) (Broadcast kinds.Finalization view)
-facts_of made known TryPropose = fact_of (λ r. ProposalAsked (request_context r).round.view) (proposal_request made known)
+facts_of made known TryPropose =
+    fact_of (λ r. ProposalAsked (request_context r).round.view) (proposal_request made known)
 facts_of made known TryVerify = verify_facts (verify_request made known)
 facts_of made known CertifyCandidates =
     map (λ (f : CertificateFetch). ParentAsked f.proposal) (parent_fetches known)

@@ -48,7 +48,8 @@ own_moment made known =
 -- how long a term has for the next final view
 unfoldable pub stall_moment : Made → List Fact → Option Moment
 stall_moment made known =
-    option_map (λ stall. (stall + max (term_entered_at made known) (finalized_at made known), StallTimeout)) made.stall_timeout
+    option_map (λ stall. (stall + max (term_entered_at made known) (finalized_at made known), StallTimeout))
+    made.stall_timeout
 
 -- the first deadline of the current view: its expiry, its own moment or the term's, in this order on a tie
 unfoldable pub first_deadline : Made → List Fact → Moment

@@ -95,7 +95,8 @@ drop_request desk p = if is_open p.state then drop_number desk p.number else des
 unfoldable pub drop_proposal : Made → Desk → Desk
 drop_proposal made desk =
     option_map_or (λ p.
-    if nat_lt (pending_view p) (current_of made desk.known) || is_superseded made desk.known (pending_parent p) (pending_view p)
+    if nat_lt (pending_view p) (current_of made desk.known)
+    || is_superseded made desk.known (pending_parent p) (pending_view p)
     then record (drop_request desk p) { proposal = None } else desk)
     desk.proposal desk
 
@@ -119,7 +120,8 @@ unfoldable pub end_waiting : Made → ℕ → Desk → Desk
 end_waiting made now desk =
     option_map_or (λ p.
     if not (is_certified desk.known (pending_parent p)) then desk
-    else if is_waiting p.state then record (told made (ReleaseProposalRequest (pending_view p)) desk) { proposal = None }
+    else if is_waiting p.state
+    then record (told made (ReleaseProposalRequest (pending_view p)) desk) { proposal = None }
     else if is_closed p.state
     then record (told made (TriggerTimeout (pending_view p) MissingProposal now) desk) { proposal = None }
     else desk)
@@ -165,14 +167,16 @@ open_verify made desk =
 -- the proposal and the Verify are brought up to date: at the end of a step, and again before the next
 unfoldable pub reconciled : Made → ℕ → Desk → Desk
 reconciled made now desk =
-    open_verify made (open_proposal made (end_waiting made now (abandon_handoff (drop_verify made (drop_proposal made desk)))))
+    open_verify made
+    (open_proposal made (end_waiting made now (abandon_handoff (drop_verify made (drop_proposal made desk)))))
 
 -- Certify requests at or below the last final view are dropped
 unfoldable pub drop_certify : Desk → Desk
 drop_certify desk =
     record desk {
       certify = filter (λ c. nat_lt (last_finalized desk.known) c.view) desk.certify;
-      dropped = fold (λ numbers c. if nat_lt (last_finalized desk.known) c.view then numbers else put_number c.number numbers) desk.dropped desk.certify;
+      dropped = fold (λ numbers c. if nat_lt (last_finalized desk.known) c.view
+          then numbers else put_number c.number numbers) desk.dropped desk.certify;
     }
 
 abbrev pub open_certify : Desk → Proposal → Desk
@@ -186,13 +190,19 @@ open_certify desk p =
 abbrev pub seek_parent : Desk → CertificateFetch → Desk
 seek_parent desk f =
     record desk {
-      sought = desk.sought ++ record { proposal = f.proposal; view = f.view; kind = missing.Notarization; target = None } ∷ [];
+      sought = desk.sought ++ record {
+        proposal = f.proposal;
+        view = f.view;
+        kind = missing.Notarization;
+        target = None;
+      } ∷ [];
     }
 
 -- what can be certified is given to certify, and the parents that this lacks are sought
 unfoldable pub certifying : Made → Desk → Desk
 certifying made desk =
-    fold seek_parent (fold open_certify (told made CertifyCandidates (drop_certify desk)) (certify_requests desk.known)) (parent_fetches desk.known)
+    fold seek_parent (fold open_certify (told made CertifyCandidates (drop_certify desk)) (certify_requests desk.known))
+    (parent_fetches desk.known)
 
 -- the requests at the start of each iteration
 unfoldable pub iterated : Made → ℕ → Desk → Desk

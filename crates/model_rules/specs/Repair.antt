@@ -91,7 +91,8 @@ is_settled length calls view kinds.Notarization =
     is_final calls view || is_some (notarization_held calls view) || is_failed calls view
 
 unfoldable pub is_key_settled : ℕ → List RepairCall → ℕ → Bool
-is_key_settled length calls view = is_settled length calls view kinds.Nullification && is_settled length calls view kinds.Notarization
+is_key_settled length calls view =
+    is_settled length calls view kinds.Nullification && is_settled length calls view kinds.Notarization
 
 -- whether the view failed, and no later view is final
 unfoldable pub is_uncertifiable : List RepairCall → ℕ → Bool
@@ -163,7 +164,8 @@ settled_by length calls (Updated (certificates.Notarization n)) =
     if is_none (notarization_held calls (view_of n.proposal))
     then effects.Settled kinds.Notarization (view_of n.proposal) (view_of n.proposal) ∷ [] else []
 settled_by length calls (Certified n good) =
-    if is_none (notarization_held calls (view_of n.proposal)) || (not good && not (is_failed calls (view_of n.proposal)))
+    if is_none (notarization_held calls (view_of n.proposal))
+    || (not good && not (is_failed calls (view_of n.proposal)))
     then effects.Settled kinds.Notarization (view_of n.proposal) (view_of n.proposal) ∷ [] else []
 settled_by length calls _ = []
 
@@ -174,7 +176,8 @@ finalized_by calls _ = []
 
 unfoldable pub raised_by : List RepairCall → RepairCall → List Effect
 raised_by calls call =
-    if nat_lt (repair_floor calls) (repair_floor (call ∷ calls)) then effects.Raised (repair_floor (call ∷ calls)) ∷ [] else []
+    if nat_lt (repair_floor calls) (repair_floor (call ∷ calls))
+    then effects.Raised (repair_floor (call ∷ calls)) ∷ [] else []
 
 -- a fetch of each gap that was none before
 unfoldable pub fetched_by : ℕ → List RepairCall → RepairCall → List Effect

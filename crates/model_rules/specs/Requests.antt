@@ -117,7 +117,11 @@ is_founded made known view = option_map_or (λ p. has_ancestry made known p.pare
 -- the proposal is given to verify
 unfoldable pub verify_of : Made → List Fact → ℕ → Proposal → Verify
 verify_of made known view p =
-    Ready (record { round = p.round; leader = leader_of made view; parent = record { view = p.parent; payload = payload_at made known p.parent } }) p
+    Ready (record {
+      round = p.round;
+      leader = leader_of made view;
+      parent = record { view = p.parent; payload = payload_at made known p.parent };
+    }) p
 
 -- the slot of the least view to verify
 unfoldable pub ready_verify : Made → List Fact → Option Verify
@@ -129,7 +133,8 @@ ready_verify made known =
 unfoldable pub missing_below : Made → List Fact → ℕ → Proposal → Option (ℕ × Kind)
 missing_below made known view proposal =
     if nat_le (last_finalized known) proposal.parent && nat_lt proposal.parent view
-    then (if not (is_certified known proposal.parent) && is_none (notarization_of known proposal.parent) && not (is_met known proposal.parent view)
+    then (if not (is_certified known proposal.parent) && is_none (notarization_of known proposal.parent)
+    && not (is_met known proposal.parent view)
     then Some (proposal.parent, missing.Notarization)
     else option_map (λ gap. (gap, missing.Nullification)) (gap_between made known proposal.parent view))
     else None
@@ -146,12 +151,14 @@ is_missing_in proposal view kind _ = false
 -- what is missing is asked for, once
 unfoldable pub resolve_of : Made → List Fact → ℕ → ℕ × Kind → Option Verify
 resolve_of made known view gap =
-    if list_any (is_missing_in view gap.0 gap.1) known then None else Some (Resolve view gap.0 gap.1 (leader_of made view))
+    if list_any (is_missing_in view gap.0 gap.1) known then None
+    else Some (Resolve view gap.0 gap.1 (leader_of made view))
 
 -- what is missing below the slot of the least view that waits to be verified
 unfoldable pub missing_verify : Made → List Fact → Option Verify
 missing_verify made known =
-    option_and_then (λ view. option_and_then (resolve_of made known view) (option_and_then (missing_below made known view) (slot_of known view)))
+    option_and_then (λ view. option_and_then (resolve_of made known view)
+    (option_and_then (missing_below made known view) (slot_of known view)))
     (find (wants_verify known) (admitted_views made known))
 
 -- what to verify, else what to ask for, where no Verify is pending
@@ -206,4 +213,5 @@ certify_requests known = map (λ n. n.proposal) (filter (may_certify known) (not
 -- which parents' notarizations to ask for
 unfoldable pub parent_fetches : List Fact → List CertificateFetch
 parent_fetches known =
-    map (λ n. record { proposal = view_of n.proposal; view = n.proposal.parent }) (filter (lacks_parent known) (notarizations_of known))
+    map (λ n. record { proposal = view_of n.proposal; view = n.proposal.parent })
+    (filter (lacks_parent known) (notarizations_of known))

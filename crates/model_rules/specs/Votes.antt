@@ -48,7 +48,8 @@ notarizes made known proposal =
 
 -- a view that the member gave up after the last final one, and that covers this view
 abbrev pub is_gate_in : ℕ → ℕ → ℕ → Fact → Bool
-is_gate_in length finalized view (Voted (votes.Nullify n)) = nat_lt finalized n.round.view && covers length n.round.view view
+is_gate_in length finalized view (Voted (votes.Nullify n)) =
+    nat_lt finalized n.round.view && covers length n.round.view view
 is_gate_in length finalized view _ = false
 
 -- whether the member gave up a view that finality of this one would have to skip

@@ -9,8 +9,12 @@ ghost use Rattle.model_rules.specs.Laws.{Notarizable, Finalizable};
 
 /// Each vote is for the slot of its view, and keeps its rule.
 pub fn votes_are_sound()
-    ensures notarize { (made : Made) (known : List Fact) (view : ℕ) (n : Notarize) → notarize_at made known view ≡ Some n
-        → (view_of n.proposal ≡ view) × (slot_of known view ≡ Some n.proposal) × Notarizable made known n.proposal }
-    ensures finalize { (made : Made) (known : List Fact) (view : ℕ) (f : Finalize) → finalize_at made known view ≡ Some f
-        → (view_of f.proposal ≡ view) × (slot_of known view ≡ Some f.proposal) × Finalizable made known view }
+    ensures notarize { (made : Made) (known : List Fact) (view : ℕ) (n : Notarize)
+        → notarize_at made known view ≡ Some n
+        → (view_of n.proposal ≡ view) × (slot_of known view ≡ Some n.proposal)
+        × Notarizable made known n.proposal }
+    ensures finalize { (made : Made) (known : List Fact) (view : ℕ) (f : Finalize)
+        → finalize_at made known view ≡ Some f
+        → (view_of f.proposal ≡ view) × (slot_of known view ≡ Some f.proposal)
+        × Finalizable made known view }
 {}

@@ -11,7 +11,8 @@ unfoldable pub blocked_since : List Noted → Node → List ℕ
 blocked_since [] node = []
 blocked_since (noted ∷ before) node =
     if is_of node noted.event
-    then (if is_start noted.event then blocked_by_calls noted.entry.calls else blocked_by_calls noted.entry.calls ++ blocked_since before node)
+    then (if is_start noted.event then blocked_by_calls noted.entry.calls
+    else blocked_by_calls noted.entry.calls ++ blocked_since before node)
     else blocked_since before node
 
 -- whether the member is one of them

@@ -20,5 +20,10 @@ use Rattle.simplex_types.specs.RoundRobin.{leader_of}
 
 -- what computes a whole run, but for signatures and random words
 unfoldable pub run : ⊤
-unfolding steps wrapped_attests entry_of made_of taken_of was_reported first_forged is_forged signed_in unless_forged heard_in after clock_of life_in batcher_of engine_of resolver_of rules_of heard_by asked_since packet_at packet_for request_number request_place is_routed nodes_for packet_view RunFrom run_run unless_refused has_sent sent_votes first_bad elected is_in_part round_at all_synced appended appended_section crashed crashed_section opened_section pruned pruned_first replayed synced_at synced_section key_of keyed_attests keyed_verifies keys_of signature_of leader_of
+unfolding steps wrapped_attests entry_of made_of taken_of was_reported first_forged is_forged signed_in unless_forged
+    heard_in after clock_of life_in batcher_of engine_of resolver_of rules_of heard_by asked_since packet_at packet_for
+    request_number request_place is_routed nodes_for packet_view RunFrom run_run unless_refused has_sent sent_votes
+    first_bad elected is_in_part round_at all_synced appended appended_section crashed crashed_section opened_section
+    pruned pruned_first replayed synced_at synced_section key_of keyed_attests keyed_verifies keys_of signature_of
+    leader_of
 run = tt

@@ -100,12 +100,25 @@ noted_blank before event who = record { event = event; entry = blank_entry (leng
 -- an entry in which a faulty node without an engine held nothing
 abbrev pub noted_idle : List Noted → Event → Node → Noted
 noted_idle before event node =
-    record { event = event; entry = record (blank_entry (length before + 1) (Some node)) { outcome = outcomes.Idle }; did = None }
+    record {
+      event = event;
+      entry = record (blank_entry (length before + 1) (Some node)) {
+        outcome = outcomes.Idle;
+      };
+      did = None;
+    }
 
 -- the entry of packets that were not made by an engine
 abbrev pub noted_packets : List Noted → Event → Node → Option Took → List Packet → Noted
 noted_packets before event node took packets =
-    record { event = event; entry = record (blank_entry (length before + 1) (Some node)) { took = took; packets = packets }; did = None }
+    record {
+      event = event;
+      entry = record (blank_entry (length before + 1) (Some node)) {
+        took = took;
+        packets = packets;
+      };
+      did = None;
+    }
 
 -- ---- what a step took
 
@@ -117,8 +130,10 @@ answer_taken before node s number = option_and_then (answered_at before node num
 
 -- the message, the answer with the request that it is for, or the deadline
 unfoldable pub taken_of : List Noted → Node → Standing → Taken → Option Took
-taken_of before node s (engine.Took sources.Propose message) = option_and_then (λ p. answer_taken before node s p.number) s.desk.proposal
-taken_of before node s (engine.Took sources.Verify message) = option_and_then (λ v. answer_taken before node s v.number) s.desk.verify
+taken_of before node s (engine.Took sources.Propose message) =
+    option_and_then (λ p. answer_taken before node s p.number) s.desk.proposal
+taken_of before node s (engine.Took sources.Verify message) =
+    option_and_then (λ v. answer_taken before node s v.number) s.desk.verify
 taken_of before node s (engine.Took sources.Certify message) =
     option_and_then (λ taken. answered_at before node taken.0.number taken.1) (first_answered s.desk.certify s.answers)
 taken_of before node s (engine.Took sources.Timer message) = Some tooks.Timer
@@ -128,7 +143,8 @@ taken_of before node s _ = None
 
 abbrev pub took_of : List Noted → Node → EngineMade → List Did → Did → Option Took
 took_of before node made past did =
-    if_whole did.outcome (taken_of before node (place_of (engine.voter_in made past) (engine.voter_past past)).standing did.taken)
+    if_whole did.outcome
+    (taken_of before node (place_of (engine.voter_in made past) (engine.voter_past past)).standing did.taken)
   where
     if_whole : Outcome → Option Took → Option Took
     if_whole outcomes.Idle took = None
@@ -140,7 +156,8 @@ took_of before node made past did =
 abbrev pub is_at_end : Setup → EngineMade → List Did → Bool
 is_at_end setup made past =
     nat_lt (greatest_view - 2 * setup.term - setup.lookahead)
-    (current_of (engine.voter_in made past).rules (place_of (engine.voter_in made past) (engine.voter_past past)).standing.desk.known)
+    (current_of (engine.voter_in made past).rules
+    (place_of (engine.voter_in made past) (engine.voter_past past)).standing.desk.known)
 
 abbrev pub is_same_attestation : Attestation → Attestation → Bool
 is_same_attestation a b = a.signer == b.signer && bytes_eq a.signature b.signature
@@ -150,7 +167,8 @@ are_same_attestations = pointwise is_same_attestation
 
 -- whether the call reports this very finalization
 abbrev pub reports : Finalization → Call → Bool
-reports f (calls.Report (activities.Finalization g)) = is_same_proposal f.proposal g.proposal && are_same_attestations f.certificate g.certificate
+reports f (calls.Report (activities.Finalization g)) =
+    is_same_proposal f.proposal g.proposal && are_same_attestations f.certificate g.certificate
 reports f _ = false
 
 -- whether the entry is one of an honest member
@@ -160,7 +178,8 @@ is_of_honest setup (Some node) = is_honest setup node.member
 
 -- whether an honest node reported the finalization
 unfoldable pub was_reported : Setup → List Noted → Finalization → Bool
-was_reported setup before f = list_any (λ noted. is_of_honest setup noted.entry.who && list_any (reports f) noted.entry.calls) before
+was_reported setup before f =
+    list_any (λ noted. is_of_honest setup noted.entry.who && list_any (reports f) noted.entry.calls) before
 
 abbrev pub is_own_floor : Setup → List Noted → Option Finalization → Bool
 is_own_floor setup before None = true
@@ -186,7 +205,8 @@ on_packet setup before node at (Some packet) made past =
 
 abbrev pub on_deliver : Setup → List Noted → Node → Ref → Life → Result Noted RunError
 on_deliver setup before node at (Stopped sections) = Err refusals.NotRunning
-on_deliver setup before node at (Running made past) = on_packet setup before node at (packet_for before node at) made past
+on_deliver setup before node at (Running made past) =
+    on_packet setup before node at (packet_for before node at) made past
 
 abbrev pub on_step : Setup → List Noted → Node → StepSource → Stop → Life → Result Noted RunError
 on_step setup before node source stop (Stopped sections) = Err refusals.NotRunning
@@ -195,11 +215,13 @@ on_step setup before node source stop (Running made past) =
     else (let did = engine.stepped made past source (clock_of before) stop in
     Ok (noted_with setup before (events.Step node source stop) node (took_of before node made past did) did))
 
-abbrev pub on_request : Setup → List Noted → Node → Ref → Answer → Option ℕ → EngineMade → List Did → Result Noted RunError
+abbrev pub on_request : Setup → List Noted → Node → Ref → Answer
+    → Option ℕ → EngineMade → List Did → Result Noted RunError
 on_request setup before node at answer None made past = Err refusals.NotPending
 on_request setup before node at answer (Some number) made past =
     if engine.takes_reply made past number answer
-    then Ok (noted_with setup before (events.Answer node at answer) node None (engine.replied number answer (clock_of before)))
+    then Ok (noted_with setup before (events.Answer node at answer) node None
+    (engine.replied number answer (clock_of before)))
     else Err refusals.NotPending
 
 abbrev pub on_answer : Setup → List Noted → Node → Ref → Answer → Life → Result Noted RunError
@@ -220,7 +242,8 @@ abbrev pub on_hearing : Setup → List Noted → Node → Ref → Option Packet 
 on_hearing setup before node at None = Err refusals.NoPacket
 on_hearing setup before node at (Some packet) =
     Ok (noted_packets before (events.Deliver node at) node (Some (tooks.Packet at))
-    (map (sent_by setup node) (heard_by setup node.member (kind_of setup node.member) (heard_in before node) (heard_of packet))))
+    (map (sent_by setup node)
+    (heard_by setup node.member (kind_of setup node.member) (heard_in before node) (heard_of packet))))
 
 -- ---- bytes that a faulty member sends by an event
 
@@ -243,19 +266,26 @@ by_engine setup node with_engine without_engine =
 -- what an event makes of the entries before it, but for what is forged
 unfoldable pub made_of : Setting → List Noted → Event → Result Noted RunError
 made_of setting before (events.Start node floor stop) =
-    by_engine setting.setup node (on_start setting before node floor stop (life_in setting before node)) (Err refusals.NotStopped)
+    by_engine setting.setup node (on_start setting before node floor stop (life_in setting before node))
+    (Err refusals.NotStopped)
 made_of setting before (events.Tick ms) =
-    if nat_le (clock_of before + ms) (2 ^ 63 - 1) then Ok (noted_blank before (events.Tick ms) None) else Err refusals.ClockEnd
+    if nat_le (clock_of before + ms) (2 ^ 63 - 1) then Ok (noted_blank before (events.Tick ms) None)
+    else Err refusals.ClockEnd
 made_of setting before (events.Deliver node at) =
-    by_engine setting.setup node (on_deliver setting.setup before node at (life_in setting before node)) (on_hearing setting.setup before node at (packet_for before node at))
+    by_engine setting.setup node (on_deliver setting.setup before node at (life_in setting before node))
+    (on_hearing setting.setup before node at (packet_for before node at))
 made_of setting before (events.Step node source stop) =
-    by_engine setting.setup node (on_step setting.setup before node source stop (life_in setting before node)) (Ok (noted_idle before (events.Step node source stop) node))
+    by_engine setting.setup node (on_step setting.setup before node source stop (life_in setting before node))
+    (Ok (noted_idle before (events.Step node source stop) node))
 made_of setting before (events.Answer node at answer) =
-    by_engine setting.setup node (on_answer setting.setup before node at answer (life_in setting before node)) (Err refusals.NotPending)
+    by_engine setting.setup node (on_answer setting.setup before node at answer (life_in setting before node))
+    (Err refusals.NotPending)
 made_of setting before (events.Crash node) =
-    by_engine setting.setup node (on_crash before node (life_in setting before node)) (Ok (noted_idle before (events.Crash node) node))
+    by_engine setting.setup node (on_crash before node (life_in setting before node))
+    (Ok (noted_idle before (events.Crash node) node))
 made_of setting before (events.Inject member channel to bytes) =
-    if nat_lt member (members_of setting.setup) && list_all (is_node setting.setup) to then on_inject setting.setup before member channel to bytes
+    if nat_lt member (members_of setting.setup) && list_all (is_node setting.setup) to
+    then on_inject setting.setup before member channel to bytes
     else Err refusals.NoMember
 
 -- what an event makes of the entries before it

@@ -40,7 +40,8 @@ signed_in_vote (Ok vote) = signed (vote_subject vote) (vote_attestation vote) �
 signed_in_vote (Err fault) = []
 
 abbrev pub signed_in_certificate : Result Certificate DecodeError → List Signed
-signed_in_certificate (Ok certificate) = map (signed (certificate_subject certificate)) (certificate_signatures certificate)
+signed_in_certificate (Ok certificate) =
+    map (signed (certificate_subject certificate)) (certificate_signatures certificate)
 signed_in_certificate (Err fault) = []
 
 abbrev pub signed_in_body : ResolverBody → List Signed
@@ -66,7 +67,8 @@ is_forged setup before s =
 
 -- what the packets of faulty nodes hold, in reading order
 abbrev pub signed_by_faulty : Setup → List Packet → List Signed
-signed_by_faulty setup packets = flat_map (λ packet. signed_in packet.channel packet.bytes) (filter (λ packet. is_faulty_member setup packet.from.member) packets)
+signed_by_faulty setup packets = flat_map (λ packet. signed_in packet.channel packet.bytes)
+    (filter (λ packet. is_faulty_member setup packet.from.member) packets)
 
 -- the first that is forged
 unfoldable pub first_forged : Setup → List Noted → Entry → Option Signed

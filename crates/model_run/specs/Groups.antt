@@ -50,7 +50,8 @@ with_named named (Some node) = node ∷ named
 unfoldable pub joined : Setup → List Noted → List Node → List Event → List Event
 joined setup before named [] = []
 joined setup before named (event ∷ events) =
-    if joins setup before named event then event ∷ joined setup before (with_named named (node_stepped event)) events else []
+    if joins setup before named event
+    then event ∷ joined setup before (with_named named (node_stepped event)) events else []
 
 -- each of the events joins behind those in front of it
 unfoldable pub AllJoin : Setup → List Noted → List Node → List Event → Type 0
@@ -88,7 +89,8 @@ in_order before (made ∷ rest) =
     unless_refused (length before + 1) (put_at (length before + 1) made) (λ noted. in_order (noted ∷ before) rest)
 
 -- the run goes on behind what was made, unless it was refused
-abbrev pub and_on : Result (List Noted) Refusal → (List Noted → Result (List Noted) Refusal) → Result (List Noted) Refusal
+abbrev pub and_on : Result (List Noted) Refusal → (List Noted → Result (List Noted) Refusal)
+    → Result (List Noted) Refusal
 and_on (Ok before) next = next before
 and_on (Err refusal) next = Err refusal
 
@@ -98,7 +100,8 @@ in_groups limit setting before [] = Ok before
 in_groups [] setting before (event ∷ events) = Ok before
 in_groups (one ∷ limit) setting before (event ∷ events) =
     let group = group_of setting.setup before event events in
-    and_on (in_order before (apart setting before group)) (λ made. in_groups limit setting made (drop (length group) (event ∷ events)))
+    and_on (in_order before (apart setting before group))
+    (λ made. in_groups limit setting made (drop (length group) (event ∷ events)))
 
 -- a group takes one event at least
 unfoldable pub run_in_groups : Setting → List Noted → List Event → Result (List Noted) Refusal

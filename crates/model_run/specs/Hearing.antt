@@ -16,7 +16,8 @@ heard_of packet = record { channel = packet.channel; bytes = packet.bytes }
 
 -- what the node heard by this event, behind those entries
 abbrev pub heard_at : List Noted → Node → Event → Option Heard
-heard_at before node (events.Deliver at packet) = if is_same_node at node then option_map heard_of (packet_at before packet) else None
+heard_at before node (events.Deliver at packet) =
+    if is_same_node at node then option_map heard_of (packet_at before packet) else None
 heard_at before node _ = None
 
 unfoldable pub heard_in : List Noted → Node → List Heard

@@ -43,7 +43,8 @@ skip_budget setup (skip.Enabled timeout budget) = budget_of budget (members_of s
 unfoldable pub rules_of : Setting → ℕ → ℕ → Made
 rules_of setting member start =
     record {
-      signs = wrapped_attests (kind_of setting.setup member) (keyed_attests setting.setup.key_base (Some member)) (keyed_verifies setting.setup.key_base (members_of setting.setup));
+      signs = wrapped_attests (kind_of setting.setup member) (keyed_attests setting.setup.key_base (Some member))
+          (keyed_verifies setting.setup.key_base (members_of setting.setup));
       me = Some member;
       elects = elected setting.setup;
       epoch = setting.setup.epoch;
@@ -63,7 +64,8 @@ rules_of setting member start =
 unfoldable pub batcher_of : Setup → ℕ → Floor → batcher.Made
 batcher_of setup member floor =
     record {
-      scheme = as_scheme (keyed_verifies setup.key_base (members_of setup)) (wrapped_recovers (kind_of setup member)) (members_of setup);
+      scheme = as_scheme (keyed_verifies setup.key_base (members_of setup))
+          (wrapped_recovers (kind_of setup member)) (members_of setup);
       me = Some member;
       members = members_of setup;
       epoch = setup.epoch;
@@ -83,7 +85,12 @@ resolver_of setup member =
       epoch = setup.epoch;
       term = setup.term;
       handler_size = setup.mailbox;
-      fetching = record { me = member; n = members_of setup; fetch_timeout = setup.fetch_timeout; fetch_retry_delay = setup.fetch_retry };
+      fetching = record {
+        me = member;
+        n = members_of setup;
+        fetch_timeout = setup.fetch_timeout;
+        fetch_retry_delay = setup.fetch_retry;
+      };
     }
 
 -- the engine of a node that starts at this floor, over what its journal holds

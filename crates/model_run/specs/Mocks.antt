@@ -41,7 +41,8 @@ equivocator_of setup member =
 
 -- what this member, of this kind, sends for what it hears now, behind what it heard before, the newest first
 unfoldable pub heard_by : Setup → ℕ → MemberKind → List Heard → Heard → List Sent
-heard_by setup member kinds.Conflicter past now = conflicter_sends (attests_of setup member) (words_for setup member) past now
+heard_by setup member kinds.Conflicter past now =
+    conflicter_sends (attests_of setup member) (words_for setup member) past now
 heard_by setup member kinds.Equivocator past now = equivocator_sends (equivocator_of setup member) past now
 heard_by setup member kinds.Impersonator past now = impersonator_sends (attests_of setup member) now
 heard_by setup member kinds.Nuller past now = nuller_sends (attests_of setup member) now

@@ -31,7 +31,8 @@ unfoldable pub request_number : List Noted → Node → Ref → Option ℕ
 request_number [] node at = None
 request_number (noted ∷ before) node at =
     if length before + 1 == at.event
-    then (if is_of node noted.event && nat_lt at.place (length noted.entry.asked) then Some (first_number noted before node + at.place) else None)
+    then (if is_of node noted.event && nat_lt at.place (length noted.entry.asked)
+    then Some (first_number noted before node + at.place) else None)
     else if is_of node noted.event && is_start noted.event then None
     else request_number before node at
 

@@ -63,8 +63,10 @@ members_for setup from (recipients.One member) = member ∷ []
 -- the nodes that a send goes to: those of each member that it names, as the script has it
 unfoldable pub nodes_for : Setup → Node → Channel → Recipients → List ℕ → List Node
 nodes_for setup from channel to bytes =
-    filter (is_routed setup (packet_view channel bytes) from) (flat_map (nodes_at setup) (members_for setup from.member to))
+    filter (is_routed setup (packet_view channel bytes) from)
+    (flat_map (nodes_at setup) (members_for setup from.member to))
 
 -- the packet that a send is
 abbrev pub packet_for_send : Setup → Node → Channel → Recipients → List ℕ → Packet
-packet_for_send setup from channel to bytes = record { from = from; channel = channel; to = nodes_for setup from channel to bytes; bytes = bytes }
+packet_for_send setup from channel to bytes =
+    record { from = from; channel = channel; to = nodes_for setup from channel to bytes; bytes = bytes }

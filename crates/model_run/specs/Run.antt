@@ -1,5 +1,5 @@
 -- A run: the one transcript that a setting and events make, or the one refusal.
-use Rattle.std.specs.Prelude.{ℕ, ◌+◌, ◌*◌, ◌^◌, ◌&&◌, nat_le, Bool, not, List, [], ◌∷◌, length, map, reverse, Option, Some, None, Result, Ok, Err, if◌then◌else◌}
+use Rattle.std.specs.Prelude.{◌≡◌, ℕ, ◌+◌, ◌*◌, ◌^◌, ◌&&◌, nat_le, Bool, not, List, [], ◌∷◌, length, map, reverse, Option, Some, None, Result, Ok, Err, if◌then◌else◌}
 use Rattle.simplex_transcript.specs.declared.event.Event.{Event}
 use Rattle.simplex_transcript.specs.declared.entry.Entry.{Entry}
 use Rattle.simplex_transcript.specs.declared.field.Field.{Field}
@@ -24,7 +24,8 @@ abbrev pub refused : RunError → ℕ → Refusal
 refused error event = record { error = error; event = event }
 
 -- an event that is refused ends the run; else it goes on behind the event's entry
-unfoldable pub unless_refused : ℕ → Result Noted RunError → (Noted → Result (List Noted) Refusal) → Result (List Noted) Refusal
+unfoldable pub unless_refused : ℕ → Result Noted RunError → (Noted → Result (List Noted) Refusal)
+    → Result (List Noted) Refusal
 unless_refused number (Err error) next = Err (refused error number)
 unless_refused number (Ok noted) next = next noted
 
@@ -53,3 +54,9 @@ RunFrom setting events =
 -- the same of a setup and events, where the epoch's own genesis digest is the payload of view 0
 abbrev pub Run : Setup → List Event → Result (List Entry) Refusal
 Run setup events = RunFrom (at_epoch_genesis setup) events
+
+-- whatever run there is, this holds of its setting, its events, and their entries
+abbrev pub OfRun : (Setting → List Event → List Entry → Type 0) → Type 0
+OfRun Says =
+    (setting : Setting) (events : List Event) (entries : List Entry)
+    → RunFrom setting events ≡ Ok entries → Says setting events entries

@@ -21,7 +21,8 @@ is_for_votes _ = false
 -- the vote that the packet is, where the member's node sent it on the vote channel
 abbrev pub vote_sent : ℕ → Packet → Option Vote
 vote_sent member packet =
-    if is_for_votes packet.channel && is_same_node packet.from (node_of member) then result_ok (whole format.vote packet.bytes) else None
+    if is_for_votes packet.channel && is_same_node packet.from (node_of member)
+    then result_ok (whole format.vote packet.bytes) else None
 
 -- all that the member sent. A vote that was signed or stored and not sent is not among them
 unfoldable pub sent_votes : List Noted → ℕ → List Vote
@@ -29,4 +30,5 @@ sent_votes before member = flat_map (λ (noted : Noted). filter_map (vote_sent m
 
 -- whether it sent a vote on the subject
 unfoldable pub has_sent : List Noted → ℕ → Subject → Bool
-has_sent before member subject = list_any (λ vote. is_same_subject (vote_subject vote) subject) (sent_votes before member)
+has_sent before member subject =
+    list_any (λ vote. is_same_subject (vote_subject vote) subject) (sent_votes before member)

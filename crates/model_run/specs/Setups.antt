@@ -50,7 +50,8 @@ first_bad setup =
     else if not (nat_le setup.epoch (2 ^ 64 - 2)) then Some fields.Epoch
     else if not (is_within 1 (2 ^ 32) setup.term) then Some fields.Term
     else if not (nat_le setup.lookahead (2 ^ 32)) then Some fields.Lookahead
-    else if not (is_time setup.leader_timeout && nat_le setup.leader_timeout setup.certification_timeout) then Some fields.LeaderTimeout
+    else if not (is_time setup.leader_timeout && nat_le setup.leader_timeout setup.certification_timeout)
+    then Some fields.LeaderTimeout
     else if not (is_time setup.certification_timeout) then Some fields.CertificationTimeout
     else if not (is_time setup.retry) then Some fields.Retry
     else if not (is_stall setup.certification_timeout setup.stall) then Some fields.Stall

@@ -14,7 +14,8 @@ round_at setup view = slice_get setup.scenario (term_index setup.term view - 1)
 
 -- the scripted leader, then the leaders in turn
 unfoldable pub elected : Setup → Round → ℕ
-elected setup round = option_map_or (λ scripted. scripted.leader) (round_at setup round.view) (leader_of setup.term (members_of setup) round)
+elected setup round = option_map_or (λ scripted. scripted.leader)
+    (round_at setup round.view) (leader_of setup.term (members_of setup) round)
 
 -- whether the mask has the bit of the member
 abbrev pub is_in_mask : ℕ → ℕ → Bool
@@ -26,4 +27,5 @@ mask_of half scripted = if half == 0 then scripted.primary else scripted.seconda
 
 -- whether the member talks with this half of each twin at the view: behind the script every member does
 unfoldable pub is_in_part : Setup → ℕ → ℕ → ℕ → Bool
-is_in_part setup view half member = option_map_or (λ scripted. is_in_mask (mask_of half scripted) member) (round_at setup view) true
+is_in_part setup view half member =
+    option_map_or (λ scripted. is_in_mask (mask_of half scripted) member) (round_at setup view) true

@@ -14,7 +14,8 @@ behavior_of kinds.Unrecovering = behaviors.RecoveryFailure
 behavior_of _ = behaviors.Honest
 
 -- what the scheme of a member of this kind attests, over the scheme inside
-abbrev pub wrapped_attests : MemberKind → (Subject → Option Attestation) → (Subject → Attestation → Bool) → Subject → Option Attestation
+abbrev pub wrapped_attests : MemberKind → (Subject → Option Attestation)
+    → (Subject → Attestation → Bool) → Subject → Option Attestation
 wrapped_attests kind attests verifies subject = faults.wrapped_attests (behavior_of kind) attests verifies subject
 
 -- whether it makes certificates of a quorum

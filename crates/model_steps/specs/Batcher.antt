@@ -99,7 +99,8 @@ pub record Standing : Type 0 where
   pub rounds : ℕ → Option RoundHistory
 
 unfoldable pub at_first : Made → Standing
-at_first made = record { current = 0; leader = None; finalized = made.floor; hinted = false; seen = λ _. None; rounds = λ _. None }
+at_first made =
+    record { current = 0; leader = None; finalized = made.floor; hinted = false; seen = λ _. None; rounds = λ _. None }
 
 -- what a step has done so far
 pub record Doing : Type 0 where
@@ -137,7 +138,8 @@ is_active made standing member timeout now =
     || was_seen standing since member
 
 unfoldable pub seen_now : ℕ → ℕ → Standing → Standing
-seen_now sender now standing = record standing { seen = λ member. if member == sender then Some now else standing.seen member }
+seen_now sender now standing =
+    record standing { seen = λ member. if member == sender then Some now else standing.seen member }
 
 -- ---- rounds
 
@@ -166,7 +168,8 @@ round_made made view skipped =
 
 -- a new round is skipped where its view is below current and votes are not tracked
 unfoldable pub new_round : Made → Standing → ℕ → RoundHistory
-new_round made standing view = record { made = round_made made view (nat_lt view standing.current && not made.track); calls = [] }
+new_round made standing view =
+    record { made = round_made made view (nat_lt view standing.current && not made.track); calls = [] }
 
 -- the round of a view, made where there is none
 unfoldable pub round_for : Made → Standing → ℕ → RoundHistory
@@ -174,20 +177,25 @@ round_for made standing view = led made standing view (unwrap_or (standing.round
 
 abbrev pub with_round : ℕ → RoundHistory → Doing → Doing
 with_round view round doing =
-    record doing { standing = record doing.standing { rounds = λ v. if v == view then Some round else doing.standing.rounds v } }
+    record doing {
+      standing = record doing.standing { rounds = λ v. if v == view then Some round else doing.standing.rounds v };
+    }
 
 -- ---- hints
 
 -- whether the leader's nullify of current is accepted
 unfoldable pub leader_nullified : Standing → Bool
 leader_nullified standing =
-    some_passes (λ leader. some_passes (λ round. votes.has_nullify (known_in round) leader) (standing.rounds standing.current)) standing.leader
+    some_passes (λ leader. some_passes (λ round. votes.has_nullify (known_in round) leader)
+    (standing.rounds standing.current)) standing.leader
 
 abbrev pub hinting : Made → TimeoutReason → Doing → Doing
-hinting made reason doing = and_handed (voter.Timeout (record { epoch = made.epoch; view = doing.standing.current }) reason) doing
+hinting made reason doing =
+    and_handed (voter.Timeout (record { epoch = made.epoch; view = doing.standing.current }) reason) doing
 
 abbrev pub hinting_nullify : Made → Doing → Doing
-hinting_nullify made doing = hinting made LeaderNullify (record doing { standing = record doing.standing { hinted = true } })
+hinting_nullify made doing =
+    hinting made LeaderNullify (record doing { standing = record doing.standing { hinted = true } })
 
 abbrev pub has_skipping : SkipPolicy → Bool
 has_skipping skip.Disabled = false
@@ -218,7 +226,8 @@ targets_of made forward.Disabled leader proposal round = []
 targets_of made forward.SilentVoters leader proposal round =
     filter (λ member. not (is_me made member)) (proposals.missing_voters round.made (known_in round) proposal)
 targets_of made forward.SilentLeader leader proposal round =
-    filter (λ member. not (is_me made member) && proposals.is_missing_voter round.made (known_in round) proposal member) (leader ∷ [])
+    filter (λ member. not (is_me made member) && proposals.is_missing_voter round.made (known_in round) proposal member)
+    (leader ∷ [])
 
 abbrev pub relayed : Proposal → List ℕ → List Call
 relayed proposal [] = []
@@ -231,7 +240,8 @@ forwarding made leader None doing = doing
 forwarding made leader (Some proposal) doing =
     record doing {
       calls = doing.calls
-          ++ option_map_or (λ round. relayed proposal (targets_of made made.forward leader proposal round)) (doing.standing.rounds proposal.round.view) [];
+          ++ option_map_or (λ round. relayed proposal (targets_of made made.forward leader proposal round))
+          (doing.standing.rounds proposal.round.view) [];
     }
 
 -- ---- votes
@@ -265,7 +275,8 @@ took_constructed made vote doing =
 
 unfoldable pub holds_kind : Standing → Certificate → Bool
 holds_kind standing certificate =
-    some_passes (λ round. proposals.is_held (known_in round) (certificate_kind certificate)) (standing.rounds (certificate_view certificate))
+    some_passes (λ round. proposals.is_held (known_in round) (certificate_kind certificate))
+    (standing.rounds (certificate_view certificate))
 
 unfoldable pub kept_certificate : Made → Certificate → Doing → Doing
 kept_certificate made certificate doing =
@@ -278,8 +289,10 @@ kept_certificate made certificate doing =
 -- one of a view that is not retained, or of a kind that is held for its view, is ignored
 unfoldable pub took_certificate : Made → ℕ → Certificate → Doing → Doing
 took_certificate made sender certificate doing =
-    if not (retains_view made doing.standing (certificate_view certificate)) || holds_kind doing.standing certificate then doing
-    else if is_certified (made.scheme.verifies (certificate_subject certificate)) made.members (certificate_signatures certificate)
+    if not (retains_view made doing.standing (certificate_view certificate))
+    || holds_kind doing.standing certificate then doing
+    else if is_certified (made.scheme.verifies (certificate_subject certificate)) made.members
+    (certificate_signatures certificate)
     then kept_certificate made certificate doing
     else and_blocked sender InvalidCertificate doing
 
@@ -289,7 +302,8 @@ took_certificate made sender certificate doing =
 unfoldable pub window_views : Made → Standing → List ℕ
 window_views made standing =
     filter (λ view. is_some (standing.rounds view))
-    (range_with_len (standing.current + 1) (admission_limit made.lookahead.length made.lookahead.views standing.current - standing.current))
+    (range_with_len (standing.current + 1)
+    (admission_limit made.lookahead.length made.lookahead.views standing.current - standing.current))
 
 -- the current view has a round, and it and those of the window have the leader
 unfoldable pub with_leader : Made → Standing → Standing
@@ -301,7 +315,12 @@ with_leader made standing = record standing {
 
 unfoldable pub took_update : Made → ℕ → ℕ → ℕ → Option Proposal → ℕ → Doing → Doing
 took_update made current leader finalized proposal now doing =
-    let standing = with_leader made (record doing.standing { current = current; leader = Some leader; finalized = finalized; hinted = false }) in
+    let standing = with_leader made (record doing.standing {
+      current = current;
+      leader = Some leader;
+      finalized = finalized;
+      hinted = false;
+    }) in
     forwarding made leader proposal
     (hinted_at_update made made.skip leader now
     (record doing { standing = standing; dirty = current ∷ window_views made standing }))
@@ -322,7 +341,8 @@ abbrev pub with_batch : Option Batch → Doing → Doing
 with_batch None doing = doing
 with_batch (Some batch) doing = record doing {
   calls = doing.calls ++ map (λ signer. call.Block signer InvalidSignature) batch.invalid;
-  handed = doing.handed ++ map (λ certificate. handed.Voter (voter.Verified certificate)) (option_to_list batch.certificate);
+  handed =
+      doing.handed ++ map (λ certificate. handed.Voter (voter.Verified certificate)) (option_to_list batch.certificate);
 }
 
 unfoldable pub constructing : Made → ℕ → RoundHistory → Doing → Doing
@@ -334,7 +354,8 @@ constructing made view round doing =
 unfoldable pub constructing_times : ℕ → Made → ℕ → Doing → Doing
 constructing_times zero made view doing = doing
 constructing_times (suc n) made view doing =
-    constructing_times n made view (option_map_or (λ round. constructing made view round doing) (doing.standing.rounds view) doing)
+    constructing_times n made view
+    (option_map_or (λ round. constructing made view round doing) (doing.standing.rounds view) doing)
 
 -- First the round hands on its proposal. Then, where current admits the view, the kinds notarize, nullify and
 -- finalize follow: each call does what there is to be done of the first kind that has anything.
@@ -353,7 +374,9 @@ worked_all made (view ∷ views) doing = worked_all made views (worked made view
 unfoldable pub dropped : Made → Doing → Doing
 dropped made doing =
     record doing {
-      standing = record doing.standing { rounds = λ view. if retains_view made doing.standing view then doing.standing.rounds view else None };
+      standing = record doing.standing {
+        rounds = λ view. if retains_view made doing.standing view then doing.standing.rounds view else None;
+      };
     }
 
 -- ---- steps
@@ -374,10 +397,12 @@ heard_certificate made sender (Ok certificate) now doing =
     else and_blocked sender WrongEpoch doing
 
 unfoldable pub acted : Made → BatcherInput → ℕ → Doing → Doing
-acted made (input.Mail (batcher.Update current leader finalized proposal)) now doing = took_update made current leader finalized proposal now doing
+acted made (input.Mail (batcher.Update current leader finalized proposal)) now doing =
+    took_update made current leader finalized proposal now doing
 acted made (input.Mail (batcher.Constructed vote)) now doing = took_constructed made vote doing
 acted made (input.Vote sender bytes) now doing = heard_vote made sender (whole format.vote bytes) now doing
-acted made (input.Certificate sender bytes) now doing = heard_certificate made sender (whole format.certificate bytes) now doing
+acted made (input.Certificate sender bytes) now doing =
+    heard_certificate made sender (whole format.certificate bytes) now doing
 
 unfoldable pub finished : Made → Doing → Doing
 finished made doing = dropped made (worked_all made doing.dirty doing)

@@ -102,7 +102,8 @@ unfoldable pub resolver_mail : EngineMade → List Did → Mail MailboxMessage
 resolver_mail made [] = no_mail made.capacity
 resolver_mail made (did ∷ past) =
     all_enqueued resolver_handled
-    (if takes_from_resolver did.taken then after_recv none_skipped (resolver_mail made past) else resolver_mail made past)
+    (if takes_from_resolver did.taken then after_recv none_skipped (resolver_mail made past)
+    else resolver_mail made past)
     (filter_map for_resolver did.out.handed)
 
 -- ---- what each actor was given
@@ -125,7 +126,8 @@ given_to_voter did = taken_by_voter did.taken did.now did.stop
   where
     taken_by_voter : Taken → ℕ → Stop → Option Given
     taken_by_voter Began now stop = Some (Started now stop)
-    taken_by_voter (Took sources.Voter (Some (handed.Voter message))) now stop = Some (Stepped (voter_inputs.Mail message) now stop)
+    taken_by_voter (Took sources.Voter (Some (handed.Voter message))) now stop =
+        Some (Stepped (voter_inputs.Mail message) now stop)
     taken_by_voter (Took sources.Timer message) now stop = Some (Stepped voter_inputs.Timer now stop)
     taken_by_voter (Took sources.Propose message) now stop = Some (Stepped voter_inputs.Propose now stop)
     taken_by_voter (Took sources.Verify message) now stop = Some (Stepped voter_inputs.Verify now stop)
@@ -149,7 +151,8 @@ if_let_in taken outcome given = given
 
 abbrev pub given_to_batcher : Did → Option batcher.Timed
 given_to_batcher did =
-    if_let_in did.taken did.outcome (option_map (λ input. record { input = input; now = did.now }) (input_of_batcher did.taken))
+    if_let_in did.taken did.outcome
+    (option_map (λ input. record { input = input; now = did.now }) (input_of_batcher did.taken))
 
 unfoldable pub batcher_past : List Did → List batcher.Timed
 batcher_past past = filter_map given_to_batcher past
@@ -182,8 +185,10 @@ abbrev pub given_to_resolver : Did → List resolver.Given
 given_to_resolver did = told_to_resolver did ++ if_held did.outcome (taken_by_resolver did.taken did.now)
   where
     taken_by_resolver : Taken → ℕ → List resolver.Given
-    taken_by_resolver (Heard sender channels.Resolver bytes) now = resolver.Stepped (resolver_inputs.Packet sender bytes) now ∷ []
-    taken_by_resolver (Took sources.Resolver (Some (handed.Resolver message))) now = resolver.Stepped (resolver_inputs.Mail message) now ∷ []
+    taken_by_resolver (Heard sender channels.Resolver bytes) now =
+        resolver.Stepped (resolver_inputs.Packet sender bytes) now ∷ []
+    taken_by_resolver (Took sources.Resolver (Some (handed.Resolver message))) now =
+        resolver.Stepped (resolver_inputs.Mail message) now ∷ []
     taken_by_resolver (Took sources.Handler (Some (handed.Handler message))) now =
         resolver.Stepped (resolver_inputs.Handler message) now ∷ resolver.HandlerTaken ∷ []
     taken_by_resolver (Took sources.Fetch message) now = resolver.Stepped resolver_inputs.Timer now ∷ []
@@ -237,7 +242,8 @@ cut_short _ out = (outcomes.Done, out)
 
 unfoldable pub by_batcher : EngineMade → List Did → Taken → BatcherInput → ℕ → Stop → Did
 by_batcher made past taken input now stop =
-    let cut = cut_short stop (batcher.step_out made.batcher (batcher_past past) (record { input = input; now = now })) in
+    let cut =
+    cut_short stop (batcher.step_out made.batcher (batcher_past past) (record { input = input; now = now })) in
     did_of taken now stop cut.0 cut.1
 
 -- a step of the resolver, behind what it was given before it
@@ -255,11 +261,14 @@ begun made now stop = by_voter Began now stop (start_given (made.voter now) [] n
 
 -- a packet that is let in
 unfoldable pub let_in : EngineMade → List Did → ℕ → Channel → List ℕ → ℕ → Did
-let_in made past sender channels.Vote bytes now = by_batcher made past (Heard sender channels.Vote bytes) (batcher_inputs.Vote sender bytes) now stops.None
+let_in made past sender channels.Vote bytes now =
+    by_batcher made past (Heard sender channels.Vote bytes) (batcher_inputs.Vote sender bytes) now stops.None
 let_in made past sender channels.Certificate bytes now =
-    by_batcher made past (Heard sender channels.Certificate bytes) (batcher_inputs.Certificate sender bytes) now stops.None
+    by_batcher made past (Heard sender channels.Certificate bytes)
+    (batcher_inputs.Certificate sender bytes) now stops.None
 let_in made past sender channels.Resolver bytes now =
-    by_resolver made (resolver_past past) (Heard sender channels.Resolver bytes) (resolver_inputs.Packet sender bytes) now stops.None
+    by_resolver made (resolver_past past) (Heard sender channels.Resolver bytes)
+    (resolver_inputs.Packet sender bytes) now stops.None
 
 -- a packet of a blocked member is refused
 abbrev pub refused : ℕ → Channel → List ℕ → ℕ → Did
@@ -283,13 +292,15 @@ on_voter_mail made past now stop (Some message) =
     (step_given (voter_in made past) (voter_past past) (voter_inputs.Mail message) now stop)
 
 abbrev pub on_voter : EngineMade → List Did → StepSource → VoterInput → ℕ → Stop → Did
-on_voter made past source input now stop = by_voter (Took source None) now stop (step_given (voter_in made past) (voter_past past) input now stop)
+on_voter made past source input now stop =
+    by_voter (Took source None) now stop (step_given (voter_in made past) (voter_past past) input now stop)
 
 -- a step of the resolver on the front of its mailbox, on the front of its handler's, and at a deadline of its fetcher
 abbrev pub on_resolver_mail : EngineMade → List Did → ℕ → Stop → Option MailboxMessage → Did
 on_resolver_mail made past now stop None = nothing_held sources.Resolver now stop
 on_resolver_mail made past now stop (Some message) =
-    by_resolver made (resolver_past past) (Took sources.Resolver (Some (handed.Resolver message))) (resolver_inputs.Mail message) now stop
+    by_resolver made (resolver_past past) (Took sources.Resolver (Some (handed.Resolver message)))
+    (resolver_inputs.Mail message) now stop
 
 abbrev pub on_handler_mail : EngineMade → List Did → ℕ → Stop → Option HandlerMessage → Did
 on_handler_mail made past now stop None = nothing_held sources.Handler now stop
@@ -318,7 +329,8 @@ stepped made past sources.Fetch now stop = on_fetcher made past now stop
 
 -- whether an answer is taken, and what comes of it
 unfoldable pub takes_reply : EngineMade → List Did → ℕ → Answer → Bool
-takes_reply made past number answer = takes_answer (place_of (voter_in made past) (voter_past past)).standing number answer
+takes_reply made past number answer =
+    takes_answer (place_of (voter_in made past) (voter_past past)).standing number answer
 
 abbrev pub replied : ℕ → Answer → ℕ → Did
 replied number answer now = did_of (Replied number answer) now stops.None outcomes.Done no_out

@@ -61,7 +61,8 @@ after_failing _ _ sections = sections
 
 abbrev pub failing_at : Stop → List Call → ℕ → List Section → List Section
 failing_at stop [] place sections = sections
-failing_at stop (call ∷ rest) place sections = if place == 0 then after_failing stop call sections else failing_at stop rest (place - 1) sections
+failing_at stop (call ∷ rest) place sections =
+    if place == 0 then after_failing stop call sections else failing_at stop rest (place - 1) sections
 
 -- a step as it was made: how it ended, what it gave, and what the journal holds
 pub record Performed : Type 0 where
@@ -73,7 +74,13 @@ abbrev pub whole : Doing → List Section → Performed
 whole doing sections =
     record {
       outcome = outcomes.Done;
-      out = record { added = doing.added; asked = doing.desk.asked; dropped = doing.desk.dropped; handed = doing.handed; calls = doing.calls };
+      out = record {
+        added = doing.added;
+        asked = doing.desk.asked;
+        dropped = doing.desk.dropped;
+        handed = doing.handed;
+        calls = doing.calls;
+      };
       sections = after_calls doing.calls sections;
     }
 
@@ -83,7 +90,8 @@ broken stop doing sections place =
     record {
       outcome = stop_outcome stop;
       out = record { added = []; asked = []; dropped = []; handed = []; calls = take place doing.calls };
-      sections = crashed (kept_by stop) (failing_at stop doing.calls place (after_calls (take place doing.calls) sections));
+      sections =
+          crashed (kept_by stop) (failing_at stop doing.calls place (after_calls (take place doing.calls) sections));
     }
 
 unfoldable pub performed : Stop → Doing → List Section → Performed

@@ -84,7 +84,8 @@ abbrev pub silent : Did
 silent = engine.stepped engine_of_four (too_soon ∷ asked stops.None ∷ lacking) sources.Fetch 1000 stops.None
 
 abbrev pub asked_again : Did
-asked_again = engine.stepped engine_of_four (silent ∷ too_soon ∷ asked stops.None ∷ lacking) sources.Fetch 1100 stops.None
+asked_again =
+    engine.stepped engine_of_four (silent ∷ too_soon ∷ asked stops.None ∷ lacking) sources.Fetch 1100 stops.None
 
 -- bytes that are no message come from a member; then it is asked nothing, and what it asks is refused
 abbrev pub heard_noise : Did
@@ -94,7 +95,8 @@ abbrev pub asked_another : Did
 asked_another = engine.stepped engine_of_four (heard_noise ∷ lacking) sources.Resolver 0 stops.None
 
 abbrev pub refused_request : Did
-refused_request = engine.heard engine_of_four (heard_noise ∷ []) 2 channels.Resolver (message_bytes 5 (bodies.Request 1)) 0
+refused_request =
+    engine.heard engine_of_four (heard_noise ∷ []) 2 channels.Resolver (message_bytes 5 (bodies.Request 1)) 0
 
 -- a peer asks for view 1, and is answered
 abbrev pub heard_request : Did
@@ -116,14 +118,17 @@ abbrev pub signed_by : ℕ → Attestation
 signed_by member = record { signer = member; signature = replicate 32 0 }
 
 abbrev pub nullified_four : Nullification
-nullified_four = record { round = record { epoch = 0; view = 4 }; certificate = signed_by 0 ∷ signed_by 1 ∷ signed_by 2 ∷ [] }
+nullified_four =
+    record { round = record { epoch = 0; view = 4 }; certificate = signed_by 0 ∷ signed_by 1 ∷ signed_by 2 ∷ [] }
 
 abbrev pub shows_four : ℕ → List ℕ
-shows_four id = message_bytes id (bodies.Response (format.certificate.spelling (certificates.Nullification nullified_four)))
+shows_four id =
+    message_bytes id (bodies.Response (format.certificate.spelling (certificates.Nullification nullified_four)))
 
 -- what the resolver's mailbox holds at first
 abbrev pub handed_first : List MailboxMessage → List Did
-handed_first messages = did_of engine.Began 0 stops.None outcomes.Done (record no_out { handed = map (λ m. handed.Resolver m) messages }) ∷ []
+handed_first messages = did_of engine.Began 0 stops.None outcomes.Done
+    (record no_out { handed = map (λ m. handed.Resolver m) messages }) ∷ []
 
 -- a step of this source, behind those
 abbrev pub and_step : StepSource → List Did → List Did
@@ -141,7 +146,10 @@ answered_amiss =
 -- view 5 failed once the journal was read: the first view of its term and this one are asked for, and the member that is
 -- asked for view 5 answers with the nullification of view 4
 abbrev pub failed_five : Notarization
-failed_five = record { proposal = record first_proposal { round = record { epoch = 0; view = 5 } }; certificate = signed_by 0 ∷ signed_by 1 ∷ signed_by 2 ∷ [] }
+failed_five = record {
+  proposal = record first_proposal { round = record { epoch = 0; view = 5 } };
+  certificate = signed_by 0 ∷ signed_by 1 ∷ signed_by 2 ∷ [];
+}
 
 abbrev pub asked_for_five : List Did
 asked_for_five =

@@ -1,5 +1,5 @@
 -- What a voter's step does with what it takes.
-use Rattle.std.specs.Prelude.{ℕ, ◌-◌, ◌==◌, ◌&&◌, ◌||◌, nat_lt, nat_le, not, Bool, true, false, List, [], ◌∷◌, ◌++◌, filter, find, Option, Some, None, if◌then◌else◌}
+use Rattle.std.specs.Prelude.{◌≡◌, ℕ, ◌-◌, ◌==◌, ◌&&◌, ◌||◌, nat_lt, nat_le, not, Bool, true, false, List, [], ◌∷◌, ◌++◌, filter, find, Option, Some, None, if◌then◌else◌}
 use Rattle.std.specs.Option.{is_none, option_map, option_map_or, option_and_then}
 use Rattle.std.specs.List.{list_any}
 use Rattle.simplex_values.specs.declared.proposal.Proposal.{Proposal}
@@ -102,8 +102,12 @@ act_on_deadline made now doing =
     let view = current_of made doing.desk.known in
     option_map_or (λ n.
     if has_nullified doing.desk.known view
-    then record (tell made (state.ConstructNullify view LeaderTimeout now) doing) { nullify = Some (n, best_certificate made doing.desk.known) }
-    else record (append (artifacts.Nullify n) (tell made (state.ConstructNullify view LeaderTimeout now) doing)) { nullify = Some (n, None) })
+    then record (tell made (state.ConstructNullify view LeaderTimeout now) doing) {
+      nullify = Some (n, best_certificate made doing.desk.known);
+    }
+    else record (append (artifacts.Nullify n) (tell made (state.ConstructNullify view LeaderTimeout now) doing)) {
+      nullify = Some (n, None);
+    })
     (nullify_at made view) doing
 
 -- the pending proposal is done with, or stands so from now on
@@ -131,7 +135,8 @@ stage made p payload doing =
 -- no payload comes: the view of an ordinary request fails, that of a handoff once its parent is certified
 unfoldable pub give_up : Made → ℕ → Pending → ProposalState → Doing → Doing × Option ℕ
 give_up made now p Preparing doing = (proposal_stands p Closed doing, None)
-give_up made now p _ doing = (settle_proposal (tell made (state.TriggerTimeout (pending_view p) MissingProposal now) doing), None)
+give_up made now p _ doing =
+    (settle_proposal (tell made (state.TriggerTimeout (pending_view p) MissingProposal now) doing), None)
 
 -- the answer to the pending proposal request
 unfoldable pub act_on_proposal : Made → ℕ → Pending → Answer → Doing → Doing × Option ℕ
@@ -146,10 +151,16 @@ act_on_proposal made now p answers.Closed doing = give_up made now p p.state doi
 unfoldable pub act_on_verify : Made → ℕ → Opened → Answer → Doing → Doing × Option ℕ
 act_on_verify made now v (answers.Verdict true) doing =
     (tell made (state.Verified v.view) (record doing { desk = record doing.desk { verify = None } }), Some v.view)
-act_on_verify made now v (answers.Verdict false) doing =
-    (tell made (state.VerificationFailed v.view InvalidProposal now) (record doing { desk = record doing.desk { verify = None } }), Some v.view)
-act_on_verify made now v _ doing =
-    (tell made (state.VerificationFailed v.view IgnoredProposal now) (record doing { desk = record doing.desk { verify = None } }), Some v.view)
+act_on_verify made now v (answers.Verdict false) doing = (
+  tell made (state.VerificationFailed v.view InvalidProposal now)
+      (record doing { desk = record doing.desk { verify = None } }),
+  Some v.view,
+)
+act_on_verify made now v _ doing = (
+  tell made (state.VerificationFailed v.view IgnoredProposal now)
+      (record doing { desk = record doing.desk { verify = None } }),
+  Some v.view,
+)
 
 -- the request of this number is no longer open
 abbrev pub settle_certify : ℕ → Doing → Doing
@@ -275,7 +286,8 @@ publish_finalization made view doing =
 -- the batcher is told where the member is now
 abbrev pub update_message : Made → List Fact → Option Proposal → Handed
 update_message made known forwardable =
-    handed.Batcher (batcher.Update (current_of made known) (leader_of made (current_of made known)) (last_finalized known) forwardable)
+    handed.Batcher
+    (batcher.Update (current_of made known) (leader_of made (current_of made known)) (last_finalized known) forwardable)
 
 unfoldable pub update_batcher : Made → ℕ → Doing → Doing
 update_batcher made before doing =
@@ -293,9 +305,11 @@ end_of_step made now before view doing =
     let finalize = finalize_at made voted.desk.known view in
     let opened = sync view (open_requests made now (vote_finalize made view voted)) in
     let nullified = publish_nullify (publish_verdict opened) in
-    let notarized = publish_notarization made view (option_map_or (λ n. send_vote (votes.Notarize n) nullified) notarize nullified) in
+    let notarized = publish_notarization made view
+    (option_map_or (λ n. send_vote (votes.Notarize n) nullified) notarize nullified) in
     let given_up = publish_nullification made view notarized in
-    let finalized = publish_finalization made view (option_map_or (λ f. send_vote (votes.Finalize f) given_up) finalize given_up) in
+    let finalized =
+    publish_finalization made view (option_map_or (λ f. send_vote (votes.Finalize f) given_up) finalize given_up) in
     update_batcher made before finalized
 
 -- ---- the start of the next iteration
@@ -336,7 +350,8 @@ with_answer answer c = (c, answer)
 unfoldable pub first_answered : List Opened → List (ℕ × Answer) → Option (Opened × Answer)
 first_answered certify [] = None
 first_answered certify (given ∷ rest) =
-    option_map_or (λ c. Some (with_answer given.1 c)) (find (λ (c : Opened). c.number == given.0) certify) (first_answered certify rest)
+    option_map_or (λ c. Some (with_answer given.1 c)) (find (λ (c : Opened). c.number == given.0) certify)
+    (first_answered certify rest)
 
 -- what a step does with what its source holds; none where that is nothing
 unfoldable pub acted : Made → ℕ → Standing → VoterInput → Option (Doing × Option ℕ)
@@ -346,13 +361,22 @@ acted made now s inputs.Timer =
     then Some (act_on_deadline made now (begun s.desk), Some (current_of made s.desk.known)) else None
 acted made now s inputs.Propose = option_and_then (λ p. take_proposal made now s p p.state) s.desk.proposal
 acted made now s inputs.Verify =
-    option_and_then (λ v. option_map (λ answer. act_on_verify made now v answer (begun s.desk)) (answer_to s.answers v.number)) s.desk.verify
+    option_and_then (λ v. option_map (λ answer. act_on_verify made now v answer (begun s.desk))
+    (answer_to s.answers v.number)) s.desk.verify
 acted made now s inputs.Certify =
-    option_map (λ (taken : Opened × Answer). act_on_certify made now taken.0 taken.1 (begun s.desk)) (first_answered s.desk.certify s.answers)
+    option_map (λ (taken : Opened × Answer). act_on_certify made now taken.0 taken.1 (begun s.desk))
+    (first_answered s.desk.certify s.answers)
 
 -- all that a step does, before any stop
 unfoldable pub stepped : Made → ℕ → Standing → VoterInput → Option Doing
 stepped made now s input = option_map (finished made now (current_of made s.desk.known)) (acted made now s input)
+
+-- whatever step a voter makes, this holds of what it was made with, its clock, what it was given, where it stood, and
+-- what it does
+abbrev pub OfStep : (Made → ℕ → VoterInput → Standing → Doing → Type 0) → Type 0
+OfStep Says =
+    (made : Made) (now : ℕ) (input : VoterInput) (standing : Standing) (doing : Doing)
+    → stepped made now standing input ≡ Some doing → Says made now input standing doing
 
 -- ---- a start
 
@@ -383,13 +407,15 @@ updated_if (Some certificate) doing = hand (handed.Resolver (resolver.Updated ce
 -- a kept verdict that is taken goes to the resolver, and is reported where it is true
 abbrev pub replay_verdict : Bool → Option Notarization → Doing → Doing
 replay_verdict good None doing = doing
-replay_verdict true (Some n) doing = hand (handed.Resolver (resolver.Certified n true)) (report (activities.Certification n) doing)
+replay_verdict true (Some n) doing =
+    hand (handed.Resolver (resolver.Certified n true)) (report (activities.Certification n) doing)
 replay_verdict false (Some n) doing = hand (handed.Resolver (resolver.Certified n false)) doing
 
 -- a kept record is known again, own votes as own; it is reported, and a certificate goes to the resolver
 unfoldable pub replay_record : Made → ℕ → Doing → Artifact → Doing
 replay_record made now doing (artifacts.Certification round good) =
-    replay_verdict good (certified_answer doing.desk.known round.view) (tell made (state.Replay (artifacts.Certification round good) now) doing)
+    replay_verdict good (certified_answer doing.desk.known round.view)
+    (tell made (state.Replay (artifacts.Certification round good) now) doing)
 replay_record made now doing artifact =
     updated_if (certificate_in artifact)
     (report_if (activity_of artifact)
@@ -411,7 +437,8 @@ abbrev pub stand_on : Made → ℕ → Floor → Doing → Doing
 stand_on made now (floors.Genesis payload) doing = tell made (state.SetFloor (floors.Genesis payload) now) doing
 stand_on made now (floors.Finalized f) doing =
     report (activities.Finalization f)
-    (hand (handed.Resolver (resolver.Updated (certificates.Finalization f))) (tell made (state.SetFloor (floors.Finalized f) now) doing))
+    (hand (handed.Resolver (resolver.Updated (certificates.Finalization f)))
+    (tell made (state.SetFloor (floors.Finalized f) now) doing))
 
 -- whether a record is a finalization of the view or a later one
 abbrev pub is_final_from : ℕ → Artifact → Bool
@@ -427,11 +454,21 @@ keep_floor (floors.Finalized f) records doing =
 
 -- nothing is known and nothing is open
 abbrev pub blank_desk : Desk
-blank_desk = record { known = []; proposal = None; verify = None; certify = []; opened = 0; asked = []; dropped = []; sought = [] }
+blank_desk = record {
+  known = [];
+  proposal = None;
+  verify = None;
+  certify = [];
+  opened = 0;
+  asked = [];
+  dropped = [];
+  sought = [];
+}
 
 -- all that a start does over the records that the journal holds, before any stop
 unfoldable pub started : Made → ℕ → Floor → List Artifact → Doing
 started made now floor records =
-    let replayed = hand (handed.Resolver resolver.Replayed) (replay_all made now (floor_view floor) (stand_on made now floor (begun blank_desk)) records) in
+    let replayed = hand (handed.Resolver resolver.Replayed)
+    (replay_all made now (floor_view floor) (stand_on made now floor (begun blank_desk)) records) in
     let kept = keep_floor floor records replayed in
     begin_iteration made now (hand (update_message made kept.desk.known None) kept)

@@ -76,7 +76,10 @@ place_of made (Started now stop ∷ past) =
     }
 place_of made (Stepped input now stop ∷ past) =
     let before = place_of made past in
-    option_map_or (λ doing. record { standing = rest doing before.standing.answers; sections = (performed stop doing before.sections).sections })
+    option_map_or (λ doing. record {
+      standing = rest doing before.standing.answers;
+      sections = (performed stop doing before.sections).sections;
+    })
     (stepped made.rules now before.standing input) before
 place_of made (Answered number answer ∷ past) =
     let before = place_of made past in
@@ -96,4 +99,5 @@ idle sections = record { outcome = outcomes.Idle; out = no_out; sections = secti
 unfoldable pub step_given : VoterMade → List Given → VoterInput → ℕ → Stop → Performed
 step_given made past input now stop =
     let before = place_of made past in
-    option_map_or (λ doing. performed stop doing before.sections) (stepped made.rules now before.standing input) (idle before.sections)
+    option_map_or (λ doing. performed stop doing before.sections)
+    (stepped made.rules now before.standing input) (idle before.sections)

@@ -43,6 +43,10 @@ pub record Did : Type 0 where
   pub outcome : Option Broadcast
   pub app : App
 
+-- the application is set otherwise
+abbrev pub set_by : (Settings → Settings) → App → App
+set_by change app = record app { settings = change app.settings }
+
 abbrev pub quiet : App → Did
 quiet app = record { replies = []; relays = None; outcome = None; app = app }
 
@@ -69,7 +73,8 @@ abbrev pub verdict_on : Settings → Context → List ℕ → Answer
 verdict_on settings context contents = answers.Verdict (is_valid settings context contents)
 
 abbrev pub keeps : App → Context → ℕ → App
-keeps app context word = record app { pending = with_contents app.pending (payload_for context word) (contents_for context word) }
+keeps app context word =
+    record app { pending = with_contents app.pending (payload_for context word) (contents_for context word) }
 
 -- ---- a payload of the next term
 
@@ -88,16 +93,19 @@ prepared app context word =
 -- a payload that was made is kept
 unfoldable pub after_prepare : App → Context → ℕ → App
 after_prepare app context word =
-    if is_wait app.settings.handoff || app.settings.stalls_proposals || app.settings.drops_proposals then app else keeps app context word
+    if is_wait app.settings.handoff || app.settings.stalls_proposals || app.settings.drops_proposals then app
+    else keeps app context word
 
 -- what may be answered: a controller, where one is set, decides on a payload that was made, and no decision leaves the
 -- request open
-abbrev pub MayAnswer : {C : Type 0} → (C → Round → Handoff (List ℕ) → Option (Handoff (List ℕ)) → Type 0) → Option C → Round → Prepared → Option Answer → Type 0
+abbrev pub MayAnswer : {C : Type 0} → (C → Round → Handoff (List ℕ) → Option (Handoff (List ℕ)) → Type 0) → Option C
+    → Round → Prepared → Option Answer → Type 0
 MayAnswer decides controller round (prepares.Answered answer) given = given ≡ Some answer
 MayAnswer decides controller round prepares.Open given = given ≡ None
 MayAnswer decides None round (prepares.Made decision) given = given ≡ Some (answers.Handoff decision)
 MayAnswer decides (Some controller) round (prepares.Made decision) given =
-    (choice : Option (Handoff (List ℕ))) × decides controller round decision choice × (given ≡ option_map (λ h. answers.Handoff h) choice)
+    (choice : Option (Handoff (List ℕ))) × decides controller round decision choice
+    × (given ≡ option_map (λ h. answers.Handoff h) choice)
 
 abbrev pub replies_to : ℕ → Option Answer → List Reply
 replies_to request None = []
@@ -118,7 +126,8 @@ proposed app context word =
     else Some (answers.Payload (payload_for context word))
 
 unfoldable pub after_propose : App → Context → ℕ → App
-after_propose app context word = if app.settings.stalls_proposals || app.settings.drops_proposals then app else keeps app context word
+after_propose app context word =
+    if app.settings.stalls_proposals || app.settings.drops_proposals then app else keeps app context word
 
 unfoldable pub on_propose : App → Context → ℕ → (word : ℕ) → Did
 on_propose app context request word = if_replied (after_propose app context word) request (proposed app context word)
@@ -134,10 +143,12 @@ verified app context payload =
     else option_map (verdict_on app.settings context) (contents_in app.seen payload)
 
 unfoldable pub after_verify : App → Context → List ℕ → ℕ → App
-after_verify app context payload request = if is_some (verified app context payload) then app else waits app context payload request
+after_verify app context payload request =
+    if is_some (verified app context payload) then app else waits app context payload request
 
 unfoldable pub on_verify : App → Context → List ℕ → ℕ → Did
-on_verify app context payload request = if_replied (after_verify app context payload request) request (verified app context payload)
+on_verify app context payload request =
+    if_replied (after_verify app context payload request) request (verified app context payload)
 
 -- what a certifier answered is given: none leaves the request open
 abbrev pub on_certify : App → ℕ → Option Answer → Did
@@ -160,7 +171,8 @@ sent app to payload contents = record {
 }
 
 abbrev pub sent_before : App → List ℕ → List ℕ → Did
-sent_before app payload contents = record { replies = []; relays = None; outcome = Some outcomes.AlreadySent; app = sees app payload contents }
+sent_before app payload contents =
+    record { replies = []; relays = None; outcome = Some outcomes.AlreadySent; app = sees app payload contents }
 
 abbrev pub if_known : App → Recipients → List ℕ → Option (List ℕ) → Did
 if_known app to payload None = missing app
@@ -177,10 +189,18 @@ if_pending app payload (Some contents) =
     then sent_before (no_longer_pending app payload) payload contents
     else sent (no_longer_pending app payload) recipients.All payload contents
 
+-- what becomes of a payload that is proposed
+abbrev pub sent_once : App → List ℕ → Did
+sent_once app payload = if_pending app payload (contents_in app.pending payload)
+
+-- the contents of a payload, seen or pending
+abbrev pub contents_of : App → List ℕ → Option (List ℕ)
+contents_of app payload = option_or (contents_in app.seen payload) (contents_in app.pending payload)
+
 unfoldable pub on_broadcast : App → List ℕ → Plan → Did
 on_broadcast app payload (plans.Prepare round) = if_known app recipients.All payload (contents_in app.pending payload)
-on_broadcast app payload (plans.Propose round) = if_pending app payload (contents_in app.pending payload)
-on_broadcast app payload (plans.Forward round to) = if_known app to payload (option_or (contents_in app.seen payload) (contents_in app.pending payload))
+on_broadcast app payload (plans.Propose round) = sent_once app payload
+on_broadcast app payload (plans.Forward round to) = if_known app to payload (contents_of app payload)
 
 -- the relay then
 abbrev pub relayed_by : List Place → ℕ → Option (Recipients × Relayed) → List Place
@@ -193,18 +213,26 @@ abbrev pub waits_for : List ℕ → Waiter → Bool
 waits_for payload waiter = bytes_eq waiter.payload payload
 
 abbrev pub judged_by : Settings → List ℕ → Waiter → Verdict
-judged_by settings contents waiter = record { request = waiter.request; is_valid = is_valid settings waiter.context contents }
+judged_by settings contents waiter =
+    record { request = waiter.request; is_valid = is_valid settings waiter.context contents }
 
--- the verdicts on what waits for the payload
+-- the verdicts on those of these that wait for the payload
+abbrev pub verdicts_of : Settings → Relayed → List Waiter → List Verdict
+verdicts_of settings relayed waiters =
+    map (judged_by settings relayed.contents) (filter (waits_for relayed.payload) waiters)
+
+-- on all that wait
 unfoldable pub verdicts_on : App → Relayed → List Verdict
-verdicts_on app relayed = map (judged_by app.settings relayed.contents) (filter (waits_for relayed.payload) app.waiters)
+verdicts_on app relayed = verdicts_of app.settings relayed app.waiters
 
 abbrev pub as_reply : Verdict → Reply
 as_reply verdict = record { request = verdict.request; answer = answers.Verdict verdict.is_valid }
 
 unfoldable pub after_relayed : App → Relayed → App
 after_relayed app relayed =
-    record (sees app relayed.payload relayed.contents) { waiters = filter (λ w. not (waits_for relayed.payload w)) app.waiters }
+    record (sees app relayed.payload relayed.contents) {
+      waiters = filter (λ w. not (waits_for relayed.payload w)) app.waiters;
+    }
 
 -- a relayed payload is seen, and what waits for it is answered
 unfoldable pub on_relayed : App → Relayed → Did
@@ -219,7 +247,8 @@ on_relayed app relayed = record {
 
 -- the step tells what was done, and the application knows what it knows then
 abbrev pub Shows : Did → AppStep → App → Type 0
-Shows did step app = (step.replies ≡ did.replies) × (step.broadcast ≡ did.outcome) × (step.took ≡ true) × (app ≡ did.app)
+Shows did step app =
+    (step.replies ≡ did.replies) × (step.broadcast ≡ did.outcome) × (step.took ≡ true) × (app ≡ did.app)
 
 -- nothing was there
 abbrev pub Idles : App → AppStep → App → Type 0

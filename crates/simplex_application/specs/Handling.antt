@@ -14,7 +14,13 @@ use Rattle.simplex_application.specs.Application.{App, prepared, on_prepare, on_
 -- at first no flag is set, and nothing is known
 abbrev pub at_first : App
 at_first = record {
-  settings = record { fails_verification = false; drops_proposals = false; stalls_proposals = false; handoff = handoffs.Wait; drops_verifications = false };
+  settings = record {
+    fails_verification = false;
+    drops_proposals = false;
+    stalls_proposals = false;
+    handoff = handoffs.Wait;
+    drops_verifications = false;
+  };
   pending = [];
   seen = [];
   waiters = [];
@@ -31,13 +37,16 @@ pub record Closures : Type 1 where
 abbrev pub Handles : Closures → (me : ℕ) → App → (word : ℕ) → List Place → Message → AppStep → App → List Place → Type 0
 Handles by me app word relay (messages.Prepare context request) step after relay-after =
     by.told context
-    × ((answer : Option Answer) × by.controls context.round (prepared app context word) answer × Shows (on_prepare app context request word answer) step after)
+    × ((answer : Option Answer) × by.controls context.round (prepared app context word) answer
+    × Shows (on_prepare app context request word answer) step after)
     × (relay-after ≡ relay)
 Handles by me app word relay (messages.Propose context request) step after relay-after =
     by.told context × Shows (on_propose app context request word) step after × (relay-after ≡ relay)
 Handles by me app word relay (messages.Verify context payload request) step after relay-after =
     by.told_of context payload × Shows (on_verify app context payload request) step after × (relay-after ≡ relay)
 Handles by me app word relay (messages.Certify round payload request) step after relay-after =
-    ((answer : Option Answer) × by.certifies round payload answer × Shows (on_certify app request answer) step after) × (relay-after ≡ relay)
+    ((answer : Option Answer) × by.certifies round payload answer × Shows (on_certify app request answer) step after)
+    × (relay-after ≡ relay)
 Handles by me app word relay (messages.Broadcast payload plan) step after relay-after =
-    Shows (on_broadcast app payload plan) step after × (relay-after ≡ relayed_by relay me (on_broadcast app payload plan).relays)
+    Shows (on_broadcast app payload plan) step after
+    × (relay-after ≡ relayed_by relay me (on_broadcast app payload plan).relays)

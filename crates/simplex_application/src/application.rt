@@ -2,7 +2,7 @@
 ghost use Rattle.std.specs.Prelude.{◌≡◌, [], length, Option, Some, None, IfOk, OnOk, OnErr, IfSome, MatchOption, map, true, false};
 ghost use Rattle.std.specs.Option.{IsSomeAnd};
 ghost use Rattle.simplex_values.specs.declared.answer.Answer.{Answer};
-ghost use Rattle.simplex_application.specs.Application.{as_reply, replies_to, prepared, MayAnswer, Shows, Idles, on_prepare, on_propose, on_verify, on_broadcast, on_relayed, relayed_by};
+ghost use Rattle.simplex_application.specs.Application.{as_reply, replies_to, prepared, MayAnswer, Shows, Idles, on_prepare, on_propose, on_verify, on_broadcast, on_relayed, relayed_by, set_by};
 ghost use Rattle.simplex_application.specs.Handling.{at_first, Handles};
 ghost use Rattle.simplex_mocks.specs.declared.certifier.Certifier.TheVariants as certifiers;
 ghost use Rattle.simplex_mocks.specs.Certifier.{always, cancels, leaves_open, by_closure, by_controller};
@@ -51,7 +51,11 @@ type TellOf = Box<dyn Fn(Context, Digest)>;
 
 /// The answer to the request, if there is one.
 fn answered(alloc: Global, request: u64, answer: Option<Answer>) -> Result<AppStep, AllocError>
-    ensures { IfOk result (λ step. step ≡ record { replies = replies_to request answer; broadcast = None; took = true }) }
+    ensures { IfOk result (λ step. step ≡ record {
+      replies = replies_to request answer;
+      broadcast = None;
+      took = true;
+    }) }
 {
     // A list of answers is carried here, and the checker is told of their type by this line alone.
     let _named: Option<Handoff<Digest>> = None;
@@ -101,7 +105,15 @@ impl Application {
         config: Config,
         relay: &mut Relay,
     ) -> Result<(Application, Mailbox), AllocError>
-        ensures application { IfOk result (λ made. made.0 ≡ record { me = config.me; inbox = length relay.old; should_certify = config.should_certify; state = at_first; propose_observer = None; handoff_controller = None; verify_observer = None }) }
+        ensures application { IfOk result (λ made. made.0 ≡ record {
+          me = config.me;
+          inbox = length relay.old;
+          should_certify = config.should_certify;
+          state = at_first;
+          propose_observer = None;
+          handoff_controller = None;
+          verify_observer = None;
+        }) }
         ensures mailbox { IfOk result (λ made. made.1 ≡ empty_queue) }
         ensures relay { OnOk result (relay.new ≡ registered relay.old config.me) }
         ensures err { OnErr result (relay.new ≡ relay.old) }
@@ -128,7 +140,9 @@ impl Application {
 
     /// Whether every payload is invalid.
     pub fn set_fail_verification(&mut self, fail: bool)
-        ensures { self.new ≡ record self.old { state = record self.old.state { settings = record self.old.state.settings { fails_verification = fail } } } }
+        ensures { self.new ≡ record self.old {
+          state = set_by (λ s. record s { fails_verification = fail }) self.old.state;
+        } }
     {
         self.state.set(Settings {
             fails_verification: fail,
@@ -138,7 +152,9 @@ impl Application {
 
     /// Whether requests for payloads are closed.
     pub fn set_drop_proposals(&mut self, drop: bool)
-        ensures { self.new ≡ record self.old { state = record self.old.state { settings = record self.old.state.settings { drops_proposals = drop } } } }
+        ensures { self.new ≡ record self.old {
+          state = set_by (λ s. record s { drops_proposals = drop }) self.old.state;
+        } }
     {
         self.state.set(Settings {
             drops_proposals: drop,
@@ -148,7 +164,9 @@ impl Application {
 
     /// Whether requests for payloads are left open.
     pub fn set_stall_proposals(&mut self, stall: bool)
-        ensures { self.new ≡ record self.old { state = record self.old.state { settings = record self.old.state.settings { stalls_proposals = stall } } } }
+        ensures { self.new ≡ record self.old {
+          state = set_by (λ s. record s { stalls_proposals = stall }) self.old.state;
+        } }
     {
         self.state.set(Settings {
             stalls_proposals: stall,
@@ -158,7 +176,9 @@ impl Application {
 
     /// What is done with a payload of the next term. `Wait` makes none.
     pub fn set_handoff(&mut self, handoff: Handoff<()>)
-        ensures { self.new ≡ record self.old { state = record self.old.state { settings = record self.old.state.settings { handoff = handoff } } } }
+        ensures { self.new ≡ record self.old {
+          state = set_by (λ s. record s { handoff = handoff }) self.old.state;
+        } }
     {
         self.state.set(Settings {
             handoff,
@@ -168,7 +188,9 @@ impl Application {
 
     /// Whether requests for verification are closed.
     pub fn set_drop_verifications(&mut self, drop: bool)
-        ensures { self.new ≡ record self.old { state = record self.old.state { settings = record self.old.state.settings { drops_verifications = drop } } } }
+        ensures { self.new ≡ record self.old {
+          state = set_by (λ s. record s { drops_verifications = drop }) self.old.state;
+        } }
     {
         self.state.set(Settings {
             drops_verifications: drop,
@@ -192,7 +214,8 @@ impl Application {
     )
         requires { IsAlwaysCallable controller }
         ensures set { IsSomeAnd self.new.handoff_controller (λ by. by.decide ≡ controller) }
-        ensures rest { self.new ≡ record self.old { handoff_controller = self.new.handoff_controller } }
+        ensures rest { self.new
+            ≡ record self.old { handoff_controller = self.new.handoff_controller } }
     {
         self.handoff_controller = Some(HandoffController::new(controller));
     }
@@ -231,7 +254,8 @@ impl Application {
 
     /// Tells the observer of a request for verification.
     fn observe_payload(&self, context: &Context, payload: &Digest)
-        ensures { IfSome self.now.verify_observer (λ by. TellOf.post by.observe context.now payload.now result) }
+        ensures { IfSome self.now.verify_observer
+            (λ by. TellOf.post by.observe context.now payload.now result) }
     {
         if let Some(observer) = &self.verify_observer {
             observer.observe(*context, *payload);
@@ -248,7 +272,10 @@ impl Application {
         word: u64,
     ) -> Result<AppStep, AllocError>
         ensures told { IfSome self.old.propose_observer (λ by. Tell.post by.observe context tt) }
-        ensures step { IfOk result (λ step. (answer : Option Answer) × MayAnswer (λ by. Control.post by.decide) self.old.handoff_controller context.round (prepared self.old.state context word) answer × Shows (on_prepare self.old.state context request word answer) step self.new.state) }
+        ensures step { IfOk result (λ step. (answer : Option Answer)
+            × MayAnswer (λ by. Control.post by.decide) self.old.handoff_controller context.round
+            (prepared self.old.state context word) answer
+            × Shows (on_prepare self.old.state context request word answer) step self.new.state) }
         ensures rest { self.new ≡ record self.old { state = self.new.state } }
     {
         // As in `answered`.
@@ -268,7 +295,8 @@ impl Application {
         word: u64,
     ) -> Result<AppStep, AllocError>
         ensures told { IfSome self.old.propose_observer (λ by. Tell.post by.observe context tt) }
-        ensures step { IfOk result (λ step. Shows (on_propose self.old.state context request word) step self.new.state) }
+        ensures step { IfOk result (λ step.
+            Shows (on_propose self.old.state context request word) step self.new.state) }
         ensures rest { self.new ≡ record self.old { state = self.new.state } }
     {
         // As in `answered`.
@@ -287,8 +315,10 @@ impl Application {
         payload: Digest,
         request: u64,
     ) -> Result<AppStep, AllocError>
-        ensures told { IfSome self.old.verify_observer (λ by. TellOf.post by.observe context payload tt) }
-        ensures step { IfOk result (λ step. Shows (on_verify self.old.state context payload request) step self.new.state) }
+        ensures told { IfSome self.old.verify_observer
+            (λ by. TellOf.post by.observe context payload tt) }
+        ensures step { IfOk result (λ step.
+            Shows (on_verify self.old.state context payload request) step self.new.state) }
         ensures rest { self.new ≡ record self.old { state = self.new.state } }
     {
         // As in `answered`.
@@ -306,8 +336,11 @@ impl Application {
         payload: Digest,
         plan: &Plan,
     ) -> Result<AppStep, AllocError>
-        ensures step { IfOk result (λ step. Shows (on_broadcast self.old.state payload plan.now) step self.new.state) }
-        ensures relay { OnOk result (relay.new ≡ relayed_by relay.old self.old.me (on_broadcast self.old.state payload plan.now).relays) }
+        ensures step { IfOk result
+            (λ step. Shows (on_broadcast self.old.state payload plan.now) step self.new.state) }
+        ensures relay { OnOk result (relay.new
+            ≡ relayed_by relay.old self.old.me
+            (on_broadcast self.old.state payload plan.now).relays) }
         ensures err { OnErr result (relay.new ≡ relay.old) }
         ensures rest { self.new ≡ record self.old { state = self.new.state } }
     {
@@ -322,10 +355,16 @@ impl Application {
     /// The answer to a request for certification, unless it is left open.
     fn certify(&self, round: Round, payload: Digest) -> Option<Answer>
         ensures always { self.now.should_certify ≡ certifiers.Always → always round payload result }
-        ensures custom { (by : _) → self.now.should_certify ≡ certifiers.Custom by → by_closure (⟦<Box<dyn Fn(Round, Digest) -> bool> as Fn(Round, Digest) -> bool>⟧.post by.decide) round payload result }
-        ensures controlled { (by : _) → self.now.should_certify ≡ certifiers.Controlled by → by_controller (⟦<Box<dyn Fn(Round, Digest) -> Option<bool>> as Fn(Round, Digest) -> Option<bool>>⟧.post by.decide) round payload result }
-        ensures cancel { self.now.should_certify ≡ certifiers.Cancel → cancels round payload result }
-        ensures pending { self.now.should_certify ≡ certifiers.Pending → leaves_open round payload result }
+        ensures custom { (by : _) → self.now.should_certify ≡ certifiers.Custom by
+            → by_closure (⟦<Box<dyn Fn(Round, Digest) -> bool> as Fn(Round, Digest) -> bool>⟧.post by.decide)
+            round payload result }
+        ensures controlled { (by : _) → self.now.should_certify ≡ certifiers.Controlled by → by_controller
+            (⟦<Box<dyn Fn(Round, Digest) -> Option<bool>> as Fn(Round, Digest) -> Option<bool>>⟧.post by.decide)
+            round payload result }
+        ensures cancel { self.now.should_certify ≡ certifiers.Cancel
+            → cancels round payload result }
+        ensures pending { self.now.should_certify ≡ certifiers.Pending
+            → leaves_open round payload result }
     {
         self.should_certify.certify(round, payload)
     }
@@ -342,12 +381,18 @@ impl Application {
           controls = MayAnswer (λ by. Control.post by.decide) self.old.handoff_controller;
           certifies = λ round payload answer.
               (self.old.should_certify ≡ certifiers.Always → always round payload answer)
-              × ((by : _) → self.old.should_certify ≡ certifiers.Custom by → by_closure (⟦<Box<dyn Fn(Round, Digest) -> bool> as Fn(Round, Digest) -> bool>⟧.post by.decide) round payload answer)
-              × ((by : _) → self.old.should_certify ≡ certifiers.Controlled by → by_controller (⟦<Box<dyn Fn(Round, Digest) -> Option<bool>> as Fn(Round, Digest) -> Option<bool>>⟧.post by.decide) round payload answer)
+              × ((by : _) → self.old.should_certify ≡ certifiers.Custom by
+              → by_closure (⟦<Box<dyn Fn(Round, Digest) -> bool> as Fn(Round, Digest) -> bool>⟧.post by.decide)
+              round payload answer)
+              × ((by : _) → self.old.should_certify ≡ certifiers.Controlled by → by_controller
+              (⟦<Box<dyn Fn(Round, Digest) -> Option<bool>> as Fn(Round, Digest) -> Option<bool>>⟧.post by.decide)
+              round payload answer)
               × (self.old.should_certify ≡ certifiers.Cancel → cancels round payload answer)
               × (self.old.should_certify ≡ certifiers.Pending → leaves_open round payload answer);
-          told = λ context. IfSome self.old.propose_observer (λ by. Tell.post by.observe context tt);
-          told_of = λ context payload. IfSome self.old.verify_observer (λ by. TellOf.post by.observe context payload tt);
+          told = λ context. IfSome self.old.propose_observer
+              (λ by. Tell.post by.observe context tt);
+          told_of = λ context payload.
+              IfSome self.old.verify_observer (λ by. TellOf.post by.observe context payload tt);
         }) self.old.me self.old.state word relay.old message.now step self.new.state relay.new) }
         ensures err { OnErr result (relay.new ≡ relay.old) }
         ensures rest { self.new ≡ record self.old { state = self.new.state } }
@@ -386,12 +431,20 @@ impl Application {
               controls = MayAnswer (λ by. Control.post by.decide) self.old.handoff_controller;
               certifies = λ round payload answer.
                   (self.old.should_certify ≡ certifiers.Always → always round payload answer)
-                  × ((by : _) → self.old.should_certify ≡ certifiers.Custom by → by_closure (⟦<Box<dyn Fn(Round, Digest) -> bool> as Fn(Round, Digest) -> bool>⟧.post by.decide) round payload answer)
-                  × ((by : _) → self.old.should_certify ≡ certifiers.Controlled by → by_controller (⟦<Box<dyn Fn(Round, Digest) -> Option<bool>> as Fn(Round, Digest) -> Option<bool>>⟧.post by.decide) round payload answer)
+                  × ((by : _) → self.old.should_certify ≡ certifiers.Custom by
+                  → by_closure
+                  (⟦<Box<dyn Fn(Round, Digest) -> bool> as Fn(Round, Digest) -> bool>⟧.post by.decide)
+                  round payload answer)
+                  × ((by : _) → self.old.should_certify ≡ certifiers.Controlled by → by_controller
+                  (⟦<Box<dyn Fn(Round, Digest) -> Option<bool>> as Fn(Round, Digest) -> Option<bool>>⟧.post by.decide)
+                  round payload answer)
                   × (self.old.should_certify ≡ certifiers.Cancel → cancels round payload answer)
-                  × (self.old.should_certify ≡ certifiers.Pending → leaves_open round payload answer);
-              told = λ context. IfSome self.old.propose_observer (λ by. Tell.post by.observe context tt);
-              told_of = λ context payload. IfSome self.old.verify_observer (λ by. TellOf.post by.observe context payload tt);
+                  × (self.old.should_certify ≡ certifiers.Pending
+                  → leaves_open round payload answer);
+              told = λ context. IfSome self.old.propose_observer
+                  (λ by. Tell.post by.observe context tt);
+              told_of = λ context payload.
+                  IfSome self.old.verify_observer (λ by. TellOf.post by.observe context payload tt);
             }) self.old.me self.old.state word relay.old message step self.new.state relay.new)) }
         ensures mailbox { OnOk result (mailbox.new ≡ after_take mailbox.old) }
         ensures err { OnErr result ((mailbox.new ≡ mailbox.old) × (relay.new ≡ relay.old)) }

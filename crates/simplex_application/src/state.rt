@@ -1,8 +1,6 @@
 //! What an application knows, and its rules.
-ghost use Rattle.std.specs.Prelude.{◌≡◌, ◌∷◌, ◌++◌, [], IfOk, OnOk, OnErr, Some, map, filter, not};
-ghost use Rattle.std.specs.Option.{option_or};
-ghost use Rattle.simplex_application.specs.Application.{payload_for, keeps, staged, prepared, after_prepare, proposed, after_propose, verified, after_verify, on_broadcast, verdicts_on, after_relayed, if_known, if_pending, relayed_by, is_valid, waits_for, judged_by};
-ghost use Rattle.simplex_application.specs.Contents.{contents_in};
+ghost use Rattle.std.specs.Prelude.{◌≡◌, ◌∷◌, ◌++◌, [], IfOk, OnOk, OnErr, Some, filter, not};
+ghost use Rattle.simplex_application.specs.Application.{payload_for, keeps, staged, prepared, after_prepare, proposed, after_propose, verified, after_verify, on_broadcast, verdicts_on, after_relayed, if_known, relayed_by, is_valid, waits_for, sent_once, contents_of, verdicts_of};
 
 use crate::app_step::Broadcast;
 use crate::known::Known;
@@ -33,7 +31,12 @@ impl Model for State {
 
     ghost Value = { App };
 
-    ghost view = { λ state. record { settings = state.settings; pending = state.pending; seen = state.seen; waiters = state.waiters.items } };
+    ghost view = { λ state. record {
+      settings = state.settings;
+      pending = state.pending;
+      seen = state.seen;
+      waiters = state.waiters.items;
+    } };
 }
 
 /// What comes of a payload that was made.
@@ -75,7 +78,8 @@ fn judge_waiter(
     relayed: &Relayed,
     verdicts: &mut Sequence<Verdict>,
 ) -> Result<(), AllocError>
-    ensures { OnOk result (verdicts.new ≡ verdicts.old ++ map (judged_by settings.now relayed.now.contents) (filter (waits_for relayed.now.payload) (waiter.now ∷ []))) }
+    ensures { OnOk result (verdicts.new
+        ≡ verdicts.old ++ verdicts_of settings.now relayed.now (waiter.now ∷ [])) }
 {
     if !waits_for(waiter, &relayed.payload) {
         return Ok(());
@@ -95,7 +99,8 @@ fn judge_each(
     waiters: &[Waiter],
     relayed: &Relayed,
 ) -> Result<Sequence<Verdict>, AllocError>
-    ensures { IfOk result (λ verdicts. verdicts ≡ map (judged_by settings.now relayed.now.contents) (filter (waits_for relayed.now.payload) waiters.now)) }
+    ensures { IfOk result (λ verdicts. verdicts
+        ≡ verdicts_of settings.now relayed.now waiters.now) }
 {
     let mut verdicts = Sequence::new(alloc);
     for waiter in waiters {
@@ -251,9 +256,13 @@ impl State {
         payload: Digest,
         contents: Option<Bytes>,
     ) -> Result<Broadcast, AllocError>
-        ensures outcome { IfOk result (λ outcome. Some outcome ≡ (if_known self.old recipients.now payload contents).outcome) }
-        ensures app { OnOk result (self.new ≡ (if_known self.old recipients.now payload contents).app) }
-        ensures relay { OnOk result (relay.new ≡ relayed_by relay.old sender (if_known self.old recipients.now payload contents).relays) }
+        ensures outcome { IfOk result (λ outcome. Some outcome
+            ≡ (if_known self.old recipients.now payload contents).outcome) }
+        ensures app { OnOk result (self.new
+            ≡ (if_known self.old recipients.now payload contents).app) }
+        ensures relay { OnOk result (relay.new
+            ≡ relayed_by relay.old sender
+            (if_known self.old recipients.now payload contents).relays) }
         ensures err { OnErr result (relay.new ≡ relay.old) }
     {
         match contents {
@@ -275,9 +284,11 @@ impl State {
         sender: Participant,
         payload: Digest,
     ) -> Result<Broadcast, AllocError>
-        ensures outcome { IfOk result (λ outcome. Some outcome ≡ (if_pending self.old payload (contents_in self.old.pending payload)).outcome) }
-        ensures app { OnOk result (self.new ≡ (if_pending self.old payload (contents_in self.old.pending payload)).app) }
-        ensures relay { OnOk result (relay.new ≡ relayed_by relay.old sender (if_pending self.old payload (contents_in self.old.pending payload)).relays) }
+        ensures outcome { IfOk result (λ outcome. Some outcome
+            ≡ (sent_once self.old payload).outcome) }
+        ensures app { OnOk result (self.new ≡ (sent_once self.old payload).app) }
+        ensures relay { OnOk result (relay.new
+            ≡ relayed_by relay.old sender (sent_once self.old payload).relays) }
         ensures err { OnErr result (relay.new ≡ relay.old) }
     {
         if !self.pending.contains(&payload) {
@@ -295,7 +306,7 @@ impl State {
 
     /// A copy of the contents, seen or pending.
     fn copy(&self, alloc: Global, payload: &Digest) -> Result<Option<Bytes>, AllocError>
-        ensures { IfOk result (λ contents. contents ≡ option_or (contents_in self.now.seen payload.now) (contents_in self.now.pending payload.now)) }
+        ensures { IfOk result (λ contents. contents ≡ contents_of self.now payload.now) }
     {
         match self.seen.copy(alloc, payload)? {
             Some(contents) => Ok(Some(contents)),
@@ -313,9 +324,11 @@ impl State {
         payload: Digest,
         plan: &Plan,
     ) -> Result<Broadcast, AllocError>
-        ensures outcome { IfOk result (λ outcome. Some outcome ≡ (on_broadcast self.old payload plan.now).outcome) }
+        ensures outcome { IfOk result (λ outcome. Some outcome
+            ≡ (on_broadcast self.old payload plan.now).outcome) }
         ensures app { OnOk result (self.new ≡ (on_broadcast self.old payload plan.now).app) }
-        ensures relay { OnOk result (relay.new ≡ relayed_by relay.old sender (on_broadcast self.old payload plan.now).relays) }
+        ensures relay { OnOk result (relay.new
+            ≡ relayed_by relay.old sender (on_broadcast self.old payload plan.now).relays) }
         ensures err { OnErr result (relay.new ≡ relay.old) }
     {
         match plan {

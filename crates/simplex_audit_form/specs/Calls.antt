@@ -59,7 +59,8 @@ report_call_of d = option_map (λ certificate. audit.Report certificate) (get (c
 -- what is written as an object of one member
 abbrev pub valued_call_of : Data → Option AuditCall
 valued_call_of d = if has_members 1 d then
-    option_or (append_call_of d) (option_or (sync_call_of d) (option_or (prune_call_of d) (option_or (send_call_of d) (report_call_of d)))) else None
+    option_or (append_call_of d) (option_or (sync_call_of d)
+    (option_or (prune_call_of d) (option_or (send_call_of d) (report_call_of d)))) else None
 
 abbrev pub named_call_of : List ℕ → Option AuditCall
 named_call_of name = if bytes_eq name (codes "other") then Some audit.Other else None
@@ -76,9 +77,11 @@ call_of d = call_or d (as_str d)
 -- ---- what is written
 
 abbrev pub call_data : AuditCall → Data
-call_data (audit.Append section artifact) = single (codes "append") (pair_data (number_data section) (hex_data (format.artifact.spelling artifact)))
+call_data (audit.Append section artifact) =
+    single (codes "append") (pair_data (number_data section) (hex_data (format.artifact.spelling artifact)))
 call_data (audit.Sync section) = single (codes "sync") (number_data section)
 call_data (audit.Prune least) = single (codes "prune") (number_data least)
-call_data (audit.Send channel bytes) = single (codes "send") (pair_data (string (channel_word channel)) (hex_data bytes))
+call_data (audit.Send channel bytes) =
+    single (codes "send") (pair_data (string (channel_word channel)) (hex_data bytes))
 call_data (audit.Report certificate) = single (codes "report") (certificate_data certificate)
 call_data audit.Other = string (codes "other")

@@ -35,7 +35,8 @@ all_of None events entries = Err 1
 abbrev pub form_of : Data → Result Document ℕ
 form_of d =
     if has_members 3 d
-    then all_of (get (codes "setup") d >>= setup_of) (get (codes "events") d >>= as_array) (get (codes "entries") d >>= as_array)
+    then all_of (get (codes "setup") d >>= setup_of) (get (codes "events") d >>= as_array)
+    (get (codes "entries") d >>= as_array)
     else Err 1
 
 -- place 0 stands for a text that is no JSON
@@ -51,4 +52,5 @@ document_of bytes = form_or (json_of bytes)
 
 abbrev pub document_data : Data → Data → List AuditEntry → Data
 document_data setup events entries =
-    object (member (codes "entries") (list_data entry_data entries) (member (codes "events") events (member (codes "setup") setup no_members)))
+    object (member (codes "entries") (list_data entry_data entries)
+    (member (codes "events") events (member (codes "setup") setup no_members)))

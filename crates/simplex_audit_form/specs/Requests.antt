@@ -91,7 +91,8 @@ request_data kind leader parent payload round =
     (member (codes "round") (round_data round) no_members)))))
 
 abbrev pub context_data : List ℕ → Context → Data → Data
-context_data kind context payload = request_data kind (number_data context.leader) (parent_data context.parent) payload context.round
+context_data kind context payload =
+    request_data kind (number_data context.leader) (parent_data context.parent) payload context.round
 
 abbrev pub asked_data : Asked → Data
 asked_data (asks.Prepare context) = context_data (codes "prepare") context null

@@ -74,11 +74,14 @@ timeout_took_of d = get (codes "timeout") d >>= timeout_of
 
 -- {"certificate": HEX}
 abbrev pub certificate_took_of : Data → Option AuditTook
-certificate_took_of d = option_map (λ certificate. taken.Certificate certificate) (get (codes "certificate") d >>= certificate_of)
+certificate_took_of d =
+    option_map (λ certificate. taken.Certificate certificate) (get (codes "certificate") d >>= certificate_of)
 
 -- what is written as an object of one member
 abbrev pub single_took_of : Data → Option AuditTook
-single_took_of d = option_or (packet_took_of d) (option_or (proposal_took_of d) (option_or (timeout_took_of d) (certificate_took_of d)))
+single_took_of d =
+    option_or (packet_took_of d) (option_or (proposal_took_of d)
+    (option_or (timeout_took_of d) (certificate_took_of d)))
 
 -- {"request": REF, "answer": ANSWER}
 abbrev pub request_took_of : Data → Option AuditTook
@@ -106,7 +109,9 @@ took_of d = if is_null d then Some taken.Nothing else took_or d (as_str d)
 -- ---- what is written
 
 abbrev pub proposal_data : Proposal → Data
-proposal_data p = array (item (number_data p.round.epoch) (item (number_data p.round.view) (item (number_data p.parent) (item (hex_data p.payload) no_items))))
+proposal_data p =
+    array (item (number_data p.round.epoch)
+    (item (number_data p.round.view) (item (number_data p.parent) (item (hex_data p.payload) no_items))))
 
 abbrev pub reason_name : TimeoutReason → List ℕ
 reason_name reasons.LeaderTimeout = codes "LeaderTimeout"
@@ -120,7 +125,8 @@ reason_name reasons.InvalidProposal = codes "InvalidProposal"
 reason_name reasons.FailedCertification = codes "FailedCertification"
 
 abbrev pub timeout_data : Round → TimeoutReason → Data
-timeout_data round reason = array (item (number_data round.epoch) (item (number_data round.view) (item (string (reason_name reason)) no_items)))
+timeout_data round reason =
+    array (item (number_data round.epoch) (item (number_data round.view) (item (string (reason_name reason)) no_items)))
 
 abbrev pub single : List ℕ → Data → Data
 single name d = object (member name d no_members)
@@ -143,6 +149,7 @@ took_data (taken.Proposal proposal) = single (codes "proposal") (proposal_data p
 took_data (taken.Timeout round reason) = single (codes "timeout") (timeout_data round reason)
 took_data (taken.Certificate certificate) = single (codes "certificate") (certificate_data certificate)
 took_data taken.OtherMail = string (codes "mail")
-took_data (taken.Request ref answer) = object (member (codes "answer") (answer_data answer) (member (codes "request") (ref_data ref) no_members))
+took_data (taken.Request ref answer) =
+    object (member (codes "answer") (answer_data answer) (member (codes "request") (ref_data ref) no_members))
 took_data taken.Timer = string (codes "timer")
 took_data taken.Floor = string (codes "floor")

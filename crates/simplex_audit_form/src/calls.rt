@@ -158,7 +158,8 @@ fn read_named(name: &str) -> Option<AuditCall>
 }
 
 fn write_append(alloc: Global, section: u64, artifact: &Artifact) -> Result<Value, AllocError>
-    ensures { IfOk result (λ value. view value ≡ pair_data (number_data section) (hex_data (format.artifact.spelling artifact.now))) }
+    ensures { IfOk result (λ value. view value
+        ≡ pair_data (number_data section) (hex_data (format.artifact.spelling artifact.now))) }
 {
     let bytes = artifact.encode(alloc)?;
     let spelled = write_hex(alloc, &bytes)?;
@@ -166,7 +167,8 @@ fn write_append(alloc: Global, section: u64, artifact: &Artifact) -> Result<Valu
 }
 
 fn write_send(alloc: Global, channel: Channel, bytes: &Bytes) -> Result<Value, AllocError>
-    ensures { IfOk result (λ value. view value ≡ pair_data (string (channel_word channel)) (hex_data bytes.now)) }
+    ensures { IfOk result (λ value. view value
+        ≡ pair_data (string (channel_word channel)) (hex_data bytes.now)) }
 {
     let name = channel_word(channel);
     let spelled = write_hex(alloc, bytes.as_slice())?;

@@ -93,7 +93,8 @@ pub fn document_value(
     events: Value,
     entries: &[AuditEntry],
 ) -> Result<Value, AllocError>
-    ensures { IfOk result (λ value. view value ≡ document_data (view setup) (view events) entries.now) }
+    ensures { IfOk result (λ value. view value
+        ≡ document_data (view setup) (view events) entries.now) }
 {
     let entries = write_list(alloc, entries)?;
     json!(in alloc; {"entries": entries, "events": events, "setup": setup})

@@ -154,7 +154,8 @@ fn write_request(
     payload: Value,
     round: &Round,
 ) -> Result<Value, AllocError>
-    ensures { IfOk result (λ value. view value ≡ request_data kind.now (view leader) (view parent) (view payload) round.now) }
+    ensures { IfOk result (λ value. view value
+        ≡ request_data kind.now (view leader) (view parent) (view payload) round.now) }
 {
     let round = write_round(alloc, round)?;
     json!(in alloc; {"kind": kind, "leader": leader, "parent": parent, "payload": payload, "round": round})

@@ -65,7 +65,8 @@ fn parts_in(alloc: Global, bytes: &[u8]) -> Result<Result<Parts, u64>, AllocErro
 // The text of a record over the setup and the events.
 #[tactic(auto, using(crate::proofs::Recorded::is_written))]
 fn write(alloc: Global, parts: Parts, record: &[AuditEntry]) -> Result<String, AllocError>
-    ensures { IfOk result (λ text. IsWritten (document_data (view parts.setup) (view parts.events) record.now) (string_bytes text)) }
+    ensures { IfOk result (λ text. IsWritten
+        (document_data (view parts.setup) (view parts.events) record.now) (string_bytes text)) }
 {
     let value = document_value(alloc, parts.setup, parts.events, record)?;
     value.to_string(alloc)
@@ -93,7 +94,8 @@ fn tell(
     transcript: Transcript,
 ) -> Result<Answer<RecordDone, Refusal>, AllocError>
     requires { WholeRunFrom (at_epoch_genesis input.now.setup) input.now.events transcript }
-    ensures { IfOk result (IsAnswer (Told bytes.now input.now) (IsRefused input.now) (IsMisread bytes.now)) }
+    ensures { IfOk result (IsAnswer (Told bytes.now input.now) (IsRefused input.now)
+        (IsMisread bytes.now)) }
 {
     match parts_in(alloc, bytes)? {
         Err(place) => Ok(Answer::BadInput { place }),
@@ -113,7 +115,8 @@ fn refuse(
     refusal: Refusal,
 ) -> Result<Answer<RecordDone, Refusal>, AllocError>
     requires { Run input.now.setup input.now.events ≡ Err refusal }
-    ensures { IfOk result (IsAnswer (Told bytes.now input.now) (IsRefused input.now) (IsMisread bytes.now)) }
+    ensures { IfOk result (IsAnswer (Told bytes.now input.now) (IsRefused input.now)
+        (IsMisread bytes.now)) }
 {
     let _bytes = bytes;
     let text = refusal_text(alloc, &refusal)?;
@@ -130,7 +133,8 @@ fn answer(
     bytes: &[u8],
     input: &Input,
 ) -> Result<Answer<RecordDone, Refusal>, AllocError>
-    ensures { IfOk result (IsAnswer (Told bytes.now input.now) (IsRefused input.now) (IsMisread bytes.now)) }
+    ensures { IfOk result (IsAnswer (Told bytes.now input.now) (IsRefused input.now)
+        (IsMisread bytes.now)) }
 {
     match run_network(alloc, &input.setup, input.events.as_slice()) {
         Ok(transcript) => tell(alloc, bytes, input, transcript),
@@ -145,7 +149,8 @@ fn answer(
 
 /// What the run comes to of the input that the bytes say.
 pub(crate) fn record(alloc: Global, bytes: &[u8]) -> Result<Answer<RecordDone, Refusal>, AllocError>
-    ensures { IfOk result (IsAnswer (RecordSays bytes.now) (RefusalSays bytes.now) (IsMisread bytes.now)) }
+    ensures { IfOk result (IsAnswer (RecordSays bytes.now) (RefusalSays bytes.now)
+        (IsMisread bytes.now)) }
 {
     match read_input(alloc, bytes)? {
         Err(place) => Ok(Answer::BadInput { place }),

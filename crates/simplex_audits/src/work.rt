@@ -46,7 +46,8 @@ pub struct AuditWork;
 // What a record comes to.
 fn as_recorded(answer: Answer<RecordDone, Refusal>) -> Answer<AuditDone, Refusal>
     ensures { (bytes : List ℕ) → IsAnswer (RecordSays bytes) (RefusalSays bytes) (IsMisread bytes) answer
-        → IsAnswer (DoneSays tasks.Record bytes) (RefusedSays tasks.Record bytes) (MisreadSays tasks.Record bytes) result }
+        → IsAnswer (DoneSays tasks.Record bytes) (RefusedSays tasks.Record bytes)
+        (MisreadSays tasks.Record bytes) result }
 {
     match answer {
         Answer::Done { done, text } => Answer::Done {
@@ -61,7 +62,8 @@ fn as_recorded(answer: Answer<RecordDone, Refusal>) -> Answer<AuditDone, Refusal
 // What a verdict comes to.
 fn as_checked(answer: Answer<Verdict, Refusal>) -> Answer<AuditDone, Refusal>
     ensures { (bytes : List ℕ) → IsAnswer (CheckSays bytes) NothingRefused (IsNoDocument bytes) answer
-        → IsAnswer (DoneSays tasks.Check bytes) (RefusedSays tasks.Check bytes) (MisreadSays tasks.Check bytes) result }
+        → IsAnswer (DoneSays tasks.Check bytes) (RefusedSays tasks.Check bytes)
+        (MisreadSays tasks.Check bytes) result }
 {
     match answer {
         Answer::Done { done, text } => Answer::Done {
@@ -75,7 +77,8 @@ fn as_checked(answer: Answer<Verdict, Refusal>) -> Answer<AuditDone, Refusal>
 
 // The record of the run of the input that the bytes say.
 fn make_record(alloc: Global, bytes: &[u8]) -> Result<Answer<AuditDone, Refusal>, AllocError>
-    ensures { IfOk result (IsAnswer (DoneSays tasks.Record bytes.now) (RefusedSays tasks.Record bytes.now) (MisreadSays tasks.Record bytes.now)) }
+    ensures { IfOk result (IsAnswer (DoneSays tasks.Record bytes.now)
+        (RefusedSays tasks.Record bytes.now) (MisreadSays tasks.Record bytes.now)) }
 {
     let answer = record(alloc, bytes)?;
     Ok(as_recorded(answer))
@@ -83,7 +86,8 @@ fn make_record(alloc: Global, bytes: &[u8]) -> Result<Answer<AuditDone, Refusal>
 
 // The verdict on the record that the bytes say.
 fn judge_record(alloc: Global, bytes: &[u8]) -> Result<Answer<AuditDone, Refusal>, AllocError>
-    ensures { IfOk result (IsAnswer (DoneSays tasks.Check bytes.now) (RefusedSays tasks.Check bytes.now) (MisreadSays tasks.Check bytes.now)) }
+    ensures { IfOk result (IsAnswer (DoneSays tasks.Check bytes.now)
+        (RefusedSays tasks.Check bytes.now) (MisreadSays tasks.Check bytes.now)) }
 {
     let answer = check(alloc, bytes)?;
     Ok(as_checked(answer))
@@ -138,15 +142,18 @@ pub fn audit_program<S: Source, K: Sink>(
     sink: &mut K,
 ) -> Exit<AuditDone, Refusal>
     // A write fault comes only where a count of faults rose.
-    ensures write_fault { result ≡ exits.WriteFault → Rose (K.fault_count sink.old) (K.fault_count sink.new) }
+    ensures write_fault { result ≡ exits.WriteFault
+        → Rose (K.fault_count sink.old) (K.fault_count sink.new) }
 
     // What is written is the text of the exit, or where writing or memory failed the first part of the text of an exit that
     // had its cause. Of a whole run this is its record, in which no fault is found, and of a record the verdict on it.
     ensures part { (exit : Exit AuditDone Refusal) × ((text : List ℕ)
         × (Cause usage DoneSays RefusedSays MisreadSays (asks_for words.now)
-        (S.left source.old) (S.left source.new) (S.fault_count source.old) (S.fault_count source.new) exit text
+        (S.left source.old) (S.left source.new) (S.fault_count source.old)
+        (S.fault_count source.new) exit text
         × AddsPart (K.written sink.old) text (K.written sink.new)
-        × (((result ≡ exit) × Adds (K.written sink.old) text (K.written sink.new)) ⊎ IsCut result))) }
+        × (((result ≡ exit)
+        × Adds (K.written sink.old) text (K.written sink.new)) ⊎ IsCut result))) }
 {
     program(alloc, &AuditWork, words, source, sink)
 }

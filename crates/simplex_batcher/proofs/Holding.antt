@@ -4,8 +4,7 @@ use Rattle.std.specs.Option.{option_map, option_map_or}
 use Rattle.std.proofs.lemmas.Grind.{common_steps}
 use Rattle.std.proofs.lemmas.Bool.{cases_eq}
 use Rattle.std.proofs.lemmas.Bool.Decides.{nat_tests}
-use Rattle.simplex_values.specs.declared.proposal.Subject.{Subject}
-use Rattle.simplex_wire.specs.declared.attestation.Attestation.{Attestation}
+use Rattle.simplex_wire.specs.declared.scheme.Scheme as scheme
 use Rattle.simplex_round.specs.Known as low
 use Rattle.model_steps.specs.Batcher.{Made, Standing, Doing, RoundHistory, constructing, constructing_times}
 use Rattle.simplex_batcher.specs.declared.actor.Actor.{Actor}
@@ -73,12 +72,11 @@ unfolding worked_near constructing_times constructing_at
 near-is made view doing = refl
 
 -- where the batcher stood as the view was begun, it stands once the view's round is put back
-pub held-stands : {S : Type 0} (verifies : S → Subject → Attestation → Bool) (recovers : S → Bool) (members : S → ℕ) (member : S → Option ℕ)
-    (actor : Actor S) (made : Made) (before doing : Doing) (view : ℕ) (rounds : Rounds) (work : StepOut) (dirty : List ℕ)
-    → IsAt verifies recovers members member actor made before.standing → dirty ≡ before.dirty
+pub held-stands : {S : Type 0} {g : scheme.Ghosts S} (actor : Actor S g) (made : Made) (before doing : Doing) (view : ℕ) (rounds : Rounds) (work : StepOut) (dirty : List ℕ)
+    → IsAt actor made before.standing → dirty ≡ before.dirty
     → rounds.current ≡ actor.rounds.current → StaysBeside (round_at actor.rounds) (round_at rounds) view → Holds (round_at rounds view) work view before doing
-    → Stands verifies recovers members member (record actor { rounds = rounds }) work dirty made doing
-held-stands verifies recovers members member actor made before doing view rounds work dirty s marks current stays h = record {
+    → Stands (record actor { rounds = rounds }) work dirty made doing
+held-stands actor made before doing view rounds work dirty s marks current stays h = record {
   stands = record {
     made_is = s.made_is;
     current_is = ap (λ (x : Standing). x.current) h.rest_is ∙ s.current_is ∙ sym current;

@@ -37,7 +37,7 @@ impl<S: Scheme + Drop> Actor<S> {
     /// it is one.
     #[tactic(auto, unfolding(crate::specs::Stands::batcher_made, model_steps::specs::Batcher::required_active))]
     fn required_active(&self) -> u32
-        ensures { Reads S.verifies S.recovers S.members S.member self.now (λ made standing. required_active made) result }
+        ensures { Reads self.now (λ made standing. required_active made) result }
     {
         let quorum = quorum(self.config.scheme.participants());
         if self.config.scheme.me().is_some() {
@@ -49,7 +49,7 @@ impl<S: Scheme + Drop> Actor<S> {
     /// Whether the member was seen since.
     #[tactic(auto, unfolding(crate::specs::Activity::seen_in, model_steps::specs::Batcher::was_seen))]
     fn was_seen(&self, since: u64, member: Participant) -> bool
-        ensures { Reads S.verifies S.recovers S.members S.member self.now (λ made standing. was_seen standing since member) result }
+        ensures { Reads self.now (λ made standing. was_seen standing since member) result }
     {
         was_seen_in(&self.seen, since, member)
     }
@@ -57,7 +57,8 @@ impl<S: Scheme + Drop> Actor<S> {
     /// Whether the member was seen within this time, or too few members were to tell.
     #[tactic(auto, unfolding(crate::specs::Stands::batcher_made, model_steps::specs::Batcher::is_active))]
     pub(crate) fn seems_active(&self, member: Participant, timeout: u64, now: u64) -> bool
-        ensures { Reads S.verifies S.recovers S.members S.member self.now (λ made standing. is_active made standing member timeout now) result }
+        ensures { Reads self.now
+            (λ made standing. is_active made standing member timeout now) result }
     {
         let since = now.saturating_sub(timeout);
         if self.was_seen(since, member) {
@@ -69,7 +70,8 @@ impl<S: Scheme + Drop> Actor<S> {
     /// How many members were seen since.
     #[tactic(auto, unfolding(crate::specs::Stands::batcher_made))]
     fn count_active(&self, since: u64) -> u32
-        ensures { Reads S.verifies S.recovers S.members S.member self.now (λ made standing. length (filter (was_seen standing since) (range_with_len 0 made.members))) result }
+        ensures { Reads self.now (λ made standing. length
+            (filter (was_seen standing since) (range_with_len 0 made.members))) result }
     {
         count_seen(&self.seen, since, self.config.scheme.participants())
     }
@@ -77,7 +79,7 @@ impl<S: Scheme + Drop> Actor<S> {
     /// The sender is seen now.
     #[tactic(auto, unfolding(model_steps::specs::Batcher::seen_now))]
     pub(crate) fn see(&mut self, sender: Participant, now: u64) -> Result<(), AllocError>
-        ensures { OnOk result (Moves S.verifies S.recovers S.members S.member self.old self.new (λ made. seen_now sender now)) }
+        ensures { OnOk result (Moves self.old self.new (λ made. seen_now sender now)) }
     {
         self.seen.see(sender, now)?;
         Ok(())

@@ -17,7 +17,7 @@ impl<S: Scheme + Drop> Actor<S> {
     /// Whether a certificate of the kind is held for the view.
     #[tactic(auto, unfolding(model_steps::specs::Batcher::holds_kind))]
     fn holds_kind(&self, certificate: &Certificate) -> bool
-        ensures { Reads S.verifies S.recovers S.members S.member self.now (λ made standing. holds_kind standing certificate.now) result }
+        ensures { Reads self.now (λ made standing. holds_kind standing certificate.now) result }
     {
         self.rounds
             .has_certificate(certificate.view(), certificate.kind())
@@ -26,7 +26,10 @@ impl<S: Scheme + Drop> Actor<S> {
     /// Whether a quorum signed the certificate.
     #[tactic(auto, unfolding(crate::specs::Stands::batcher_made))]
     fn is_certified(&self, certificate: &Certificate) -> bool
-        ensures { Reads S.verifies S.recovers S.members S.member self.now (λ made standing. is_certified (made.scheme.verifies (certificate_subject certificate.now)) made.members (certificate_signatures certificate.now)) result }
+        ensures { Reads self.now
+            (λ made standing. is_certified
+            (made.scheme.verifies (certificate_subject certificate.now)) made.members
+            (certificate_signatures certificate.now)) result }
     {
         let subject = certificate.subject();
         self.config
@@ -41,7 +44,8 @@ impl<S: Scheme + Drop> Actor<S> {
         dirty: &mut Marked,
         work: &mut StepOut,
     ) -> Result<(), AllocError>
-        ensures { OnOk result (Marks S.verifies S.recovers S.members S.member self.old work.old dirty.old self.new work.new dirty.new (λ made. recorded_at made certificate.now)) }
+        ensures { OnOk result (Marks self.old work.old dirty.old self.new work.new dirty.new
+            (λ made. recorded_at made certificate.now)) }
     {
         let view = certificate.view();
         self.make_round(view)?;
@@ -60,7 +64,8 @@ impl<S: Scheme + Drop> Actor<S> {
         dirty: &mut Marked,
         work: &mut StepOut,
     ) -> Result<(), AllocError>
-        ensures { OnOk result (Marks S.verifies S.recovers S.members S.member self.old work.old dirty.old self.new work.new dirty.new (λ made. kept_certificate made certificate)) }
+        ensures { OnOk result (Marks self.old work.old dirty.old self.new work.new dirty.new
+            (λ made. kept_certificate made certificate)) }
     {
         self.record(&certificate, dirty, work)?;
         hand(work, voter::Message::Verified { certificate })?;
@@ -76,7 +81,8 @@ impl<S: Scheme + Drop> Actor<S> {
         dirty: &mut Marked,
         work: &mut StepOut,
     ) -> Result<(), AllocError>
-        ensures { OnOk result (Marks S.verifies S.recovers S.members S.member self.old work.old dirty.old self.new work.new dirty.new (λ made. took_certificate made sender certificate)) }
+        ensures { OnOk result (Marks self.old work.old dirty.old self.new work.new dirty.new
+            (λ made. took_certificate made sender certificate)) }
     {
         if !self.retains(certificate.view()) {
             return Ok(());

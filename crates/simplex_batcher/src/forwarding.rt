@@ -17,7 +17,8 @@ fn relay(
     proposal: &Proposal,
     members: Vec<Participant>,
 ) -> Result<(), AllocError>
-    ensures { OnOk result (work.new ≡ record work.old { calls = work.old.calls ++ relayed proposal.now members.items }) }
+    ensures { OnOk result (work.new
+        ≡ record work.old { calls = work.old.calls ++ relayed proposal.now members.items }) }
 {
     if members.is_empty() {
         return Ok(());
@@ -56,7 +57,8 @@ fn without(
     me: &Option<Participant>,
     members: &[Participant],
 ) -> Result<Vec<Participant>, AllocError>
-    ensures { IfOk result (λ others. others.items ≡ filter (λ member. not (some_passes (λ own. own == member) me.now)) members.now) }
+    ensures { IfOk result (λ others. others.items
+        ≡ filter (λ member. not (some_passes (λ own. own == member) me.now)) members.now) }
 {
     let mut others = Vec::new(alloc);
     for member in members {
@@ -76,7 +78,8 @@ impl<S: Scheme + Drop> Actor<S> {
         proposal: &Proposal,
         round: &Round,
     ) -> Result<Vec<Participant>, AllocError>
-        ensures { IfOk result (λ targets. ReadsRound S.verifies S.recovers S.members S.member self.now round.now (λ made history. targets_of made SilentLeader leader proposal.now history) targets.items) }
+        ensures { IfOk result (λ targets. ReadsRound self.now round.now
+            (λ made history. targets_of made SilentLeader leader proposal.now history) targets.items) }
     {
         if self.is_me(leader) {
             return Ok(Vec::new(self.alloc));
@@ -95,7 +98,8 @@ impl<S: Scheme + Drop> Actor<S> {
         proposal: &Proposal,
         round: &Round,
     ) -> Result<Vec<Participant>, AllocError>
-        ensures { IfOk result (λ targets. (leader : ℕ) → ReadsRound S.verifies S.recovers S.members S.member self.now round.now (λ made history. targets_of made SilentVoters leader proposal.now history) targets.items) }
+        ensures { IfOk result (λ targets. (leader : ℕ) → ReadsRound self.now round.now
+            (λ made history. targets_of made SilentVoters leader proposal.now history) targets.items) }
     {
         let missing = round.missing_voters(self.alloc, proposal)?;
         let me = self.config.scheme.me();
@@ -111,7 +115,8 @@ impl<S: Scheme + Drop> Actor<S> {
         proposal: &Proposal,
         round: &Round,
     ) -> Result<Vec<Participant>, AllocError>
-        ensures { IfOk result (λ targets. ReadsRound S.verifies S.recovers S.members S.member self.now round.now (λ made history. targets_of made made.forward leader proposal.now history) targets.items) }
+        ensures { IfOk result (λ targets. ReadsRound self.now round.now
+            (λ made history. targets_of made made.forward leader proposal.now history) targets.items) }
     {
         match self.config.forward {
             ForwardPolicy::Disabled => Ok(Vec::new(self.alloc)),
@@ -134,7 +139,8 @@ impl<S: Scheme + Drop> Actor<S> {
         proposal: &Option<Proposal>,
         work: &mut StepOut,
     ) -> Result<(), AllocError>
-        ensures { OnOk result (Does S.verifies S.recovers S.members S.member self.now work.old self.now work.new (λ made. forwarding made leader proposal.now)) }
+        ensures { OnOk result (Does self.now work.old self.now work.new
+            (λ made. forwarding made leader proposal.now)) }
     {
         let Some(proposal) = proposal else {
             return Ok(());

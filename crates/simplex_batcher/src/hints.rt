@@ -23,7 +23,7 @@ impl<S: Scheme + Drop> Actor<S> {
     /// Whether the leader's nullify of the current view is accepted.
     #[tactic(auto, unfolding(model_steps::specs::Batcher::leader_nullified))]
     fn leader_nullified(&self) -> bool
-        ensures { Reads S.verifies S.recovers S.members S.member self.now (λ made standing. leader_nullified standing) result }
+        ensures { Reads self.now (λ made standing. leader_nullified standing) result }
     {
         match self.leader {
             None => false,
@@ -34,7 +34,7 @@ impl<S: Scheme + Drop> Actor<S> {
     /// Whether it is this member.
     #[tactic(auto, unfolding(crate::specs::Stands::batcher_made))]
     pub(crate) fn is_me(&self, member: Participant) -> bool
-        ensures { Reads S.verifies S.recovers S.members S.member self.now (λ made standing. is_me made member) result }
+        ensures { Reads self.now (λ made standing. is_me made member) result }
     {
         match self.config.scheme.me() {
             None => false,
@@ -45,7 +45,8 @@ impl<S: Scheme + Drop> Actor<S> {
     /// The voter is told that the current view is to be given up.
     #[tactic(auto, unfolding(crate::specs::Stands::batcher_made))]
     fn hint(&self, reason: TimeoutReason, work: &mut StepOut) -> Result<(), AllocError>
-        ensures { OnOk result (Does S.verifies S.recovers S.members S.member self.now work.old self.now work.new (λ made. hinting made reason)) }
+        ensures { OnOk result (Does self.now work.old self.now work.new
+            (λ made. hinting made reason)) }
     {
         let round = Round {
             epoch: self.config.epoch,
@@ -57,7 +58,8 @@ impl<S: Scheme + Drop> Actor<S> {
 
     /// The voter is told that the leader gave the current view up.
     fn hint_nullify(&mut self, work: &mut StepOut) -> Result<(), AllocError>
-        ensures { OnOk result (Does S.verifies S.recovers S.members S.member self.old work.old self.new work.new (λ made. hinting_nullify made)) }
+        ensures { OnOk result (Does self.old work.old self.new work.new
+            (λ made. hinting_nullify made)) }
     {
         self.hinted = true;
         self.hint(TimeoutReason::LeaderNullify, work)?;
@@ -66,7 +68,9 @@ impl<S: Scheme + Drop> Actor<S> {
 
     /// Whether the leader's nullify of the current view is accepted, where it is known of this view.
     fn is_nullified(&self, view: View, nullified: bool) -> bool
-        ensures { (made : Made) (standing : Standing) → IsAt S.verifies S.recovers S.members S.member self.now made standing → (view ≡ standing.current → nullified ≡ leader_nullified standing) → result ≡ leader_nullified standing }
+        ensures { (made : Made) (standing : Standing) → IsAt self.now made standing
+            → (view ≡ standing.current → nullified ≡ leader_nullified standing)
+            → result ≡ leader_nullified standing }
     {
         if view == self.rounds.current {
             return nullified;
@@ -86,8 +90,8 @@ impl<S: Scheme + Drop> Actor<S> {
     ) -> Result<(), AllocError>
         ensures { OnOk result ((dirty : List ℕ) (made : Made) (doing : Doing)
             → (view ≡ doing.standing.current → nullified ≡ leader_nullified doing.standing)
-            → Stands S.verifies S.recovers S.members S.member self.old work.old dirty made doing
-            → Stands S.verifies S.recovers S.members S.member self.new work.new dirty made (hinted_at_vote made accepted doing)) }
+            → Stands self.old work.old dirty made doing
+            → Stands self.new work.new dirty made (hinted_at_vote made accepted doing)) }
     {
         let is_skipping = has_skipping(self.config.skip);
         if accepted && is_skipping && !self.hinted && self.is_nullified(view, nullified) {
@@ -104,7 +108,8 @@ impl<S: Scheme + Drop> Actor<S> {
         now: u64,
         work: &mut StepOut,
     ) -> Result<(), AllocError>
-        ensures { OnOk result (Does S.verifies S.recovers S.members S.member self.old work.old self.new work.new (λ made. hinted_at_update made made.skip leader now)) }
+        ensures { OnOk result (Does self.old work.old self.new work.new
+            (λ made. hinted_at_update made made.skip leader now)) }
     {
         let SkipPolicy::Enabled { timeout, .. } = self.config.skip else {
             return Ok(());

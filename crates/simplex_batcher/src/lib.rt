@@ -7,6 +7,7 @@
 
 mod activity;
 mod actor;
+mod batcher;
 mod certificates;
 mod config;
 mod forwarding;

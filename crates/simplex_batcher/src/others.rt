@@ -37,7 +37,8 @@ pub(crate) fn set_leader(rounds: &mut Others, view: u64, leader: Participant)
 
 /// The round takes the leader, if there is one.
 fn give(round: &mut Round, leader: &Option<Participant>)
-    ensures { (history : RoundHistory) → round.old ≡ round_of history → round.new ≡ round_of (given leader.now history) }
+    ensures { (history : RoundHistory) → round.old ≡ round_of history
+        → round.new ≡ round_of (given leader.now history) }
 {
     if let Some(leader) = leader {
         round.set_leader(*leader);
@@ -55,7 +56,8 @@ pub(crate) struct Heard {
 
 /// Whether the round accepted a nullify of the member, if there is one.
 pub(crate) fn has_nullify_of(round: &Round, member: &Option<Participant>) -> bool
-    ensures { (history : RoundHistory) → round.now ≡ round_of history → result ≡ some_passes (has_nullify (known_in history)) member.now }
+    ensures { (history : RoundHistory) → round.now ≡ round_of history
+        → result ≡ some_passes (has_nullify (known_in history)) member.now }
 {
     match member {
         None => false,
@@ -71,10 +73,17 @@ pub(crate) fn hear(
     vote: &Vote,
     out: &mut RoundOut,
 ) -> Result<Heard, AllocError>
-    ensures stands { OnOk result ((history : RoundHistory) → round.old ≡ round_of history → round.new ≡ round_of (voted leader.now sender vote.now history)) }
-    ensures answer { IfOk result (λ heard. (history : RoundHistory) → round.old ≡ round_of history → heard ≡ heard_of leader.now sender vote.now history) }
-    ensures reports { OnOk result ((history : RoundHistory) → round.old ≡ round_of history → out.new.reports ≡ out.old.reports ++ (heard_from (known_in (given leader.now history)) sender vote.now).reports) }
-    ensures blocks { OnOk result ((history : RoundHistory) → round.old ≡ round_of history → out.new.blocks ≡ out.old.blocks ++ (heard_from (known_in (given leader.now history)) sender vote.now).blocks) }
+    ensures stands { OnOk result ((history : RoundHistory) → round.old ≡ round_of history
+        → round.new ≡ round_of (voted leader.now sender vote.now history)) }
+    ensures answer { IfOk result (λ heard. (history : RoundHistory) → round.old ≡ round_of history
+        → heard ≡ heard_of leader.now sender vote.now history) }
+    ensures reports { OnOk result ((history : RoundHistory) → round.old ≡ round_of history
+        → out.new.reports
+        ≡ out.old.reports
+        ++ (heard_from (known_in (given leader.now history)) sender vote.now).reports) }
+    ensures blocks { OnOk result ((history : RoundHistory) → round.old ≡ round_of history
+        → out.new.blocks ≡ out.old.blocks
+        ++ (heard_from (known_in (given leader.now history)) sender vote.now).blocks) }
 {
     give(round, leader);
     let accepted = round.add_network(sender, *vote, out)?;
@@ -94,10 +103,16 @@ pub(crate) fn add_network(
     vote: &Vote,
     out: &mut RoundOut,
 ) -> Result<Option<Heard>, AllocError>
-    ensures stands { OnOk result (ChangesAt (found rounds.old) (found rounds.new) view (voted leader.now sender vote.now)) }
-    ensures answer { IfOk result (HistoryAnswersAt (found rounds.old) view (λ history. Some (heard_of leader.now sender vote.now history))) }
-    ensures reports { OnOk result (HistoryAnswersAt (found rounds.old) view (λ history. out.old.reports ++ (heard_from (known_in (given leader.now history)) sender vote.now).reports) out.new.reports) }
-    ensures blocks { OnOk result (HistoryAnswersAt (found rounds.old) view (λ history. out.old.blocks ++ (heard_from (known_in (given leader.now history)) sender vote.now).blocks) out.new.blocks) }
+    ensures stands { OnOk result (ChangesAt (found rounds.old) (found rounds.new) view
+        (voted leader.now sender vote.now)) }
+    ensures answer { IfOk result (HistoryAnswersAt (found rounds.old) view
+        (λ history. Some (heard_of leader.now sender vote.now history))) }
+    ensures reports { OnOk result (HistoryAnswersAt (found rounds.old) view (λ history. out.old.reports
+        ++ (heard_from (known_in
+        (given leader.now history)) sender vote.now).reports) out.new.reports) }
+    ensures blocks { OnOk result (HistoryAnswersAt (found rounds.old) view (λ history. out.old.blocks
+        ++ (heard_from (known_in
+        (given leader.now history)) sender vote.now).blocks) out.new.blocks) }
     ensures some { IfOk result (λ heard. is_some heard ≡ is_some (found rounds.old view)) }
     ensures none { OnOk result (StaysWithout (found rounds.old) (found rounds.new) view) }
     ensures out { OnOk result (found rounds.old view ≡ None → out.new ≡ out.old) }
@@ -118,9 +133,12 @@ pub(crate) fn take_own(
     vote: Vote,
     out: &mut RoundOut,
 ) -> Result<(), AllocError>
-    ensures stands { OnOk result (TakesAt (found rounds.old) (found rounds.new) view (AcceptVote vote)) }
-    ensures reports { OnOk result (AnswersAt (found rounds.old) view (λ made known. out.old.reports ++ (heard known vote).reports) out.new.reports) }
-    ensures blocks { OnOk result (AnswersAt (found rounds.old) view (λ made known. out.old.blocks ++ (heard known vote).blocks) out.new.blocks) }
+    ensures stands { OnOk result (TakesAt (found rounds.old)
+        (found rounds.new) view (AcceptVote vote)) }
+    ensures reports { OnOk result (AnswersAt (found rounds.old) view
+        (λ made known. out.old.reports ++ (heard known vote).reports) out.new.reports) }
+    ensures blocks { OnOk result (AnswersAt (found rounds.old) view
+        (λ made known. out.old.blocks ++ (heard known vote).blocks) out.new.blocks) }
 {
     match rounds.get_mut(&view) {
         None => Ok(()),
@@ -142,8 +160,10 @@ pub(crate) fn record_certificate(
     alloc: Global,
     certificate: &Certificate,
 ) -> Result<bool, AllocError>
-    ensures stands { OnOk result (TakesAt (found rounds.old) (found rounds.new) view (RecordCertificate certificate.now)) }
-    ensures answer { IfOk result (AnswersAt (found rounds.old) view (λ made known. gives_proposal known certificate.now)) }
+    ensures stands { OnOk result (TakesAt (found rounds.old) (found rounds.new) view
+        (RecordCertificate certificate.now)) }
+    ensures answer { IfOk result (AnswersAt (found rounds.old) view
+        (λ made known. gives_proposal known certificate.now)) }
 {
     match rounds.get_mut(&view) {
         None => Ok(false),
@@ -153,7 +173,8 @@ pub(crate) fn record_certificate(
 
 /// Puts a round at a view.
 pub(crate) fn put(rounds: &mut Others, view: u64, round: Kept) -> Result<(), AllocError>
-    ensures { OnOk result ((q : ℕ) → found rounds.new q ≡ (if q == view then Some round else found rounds.old q)) }
+    ensures { OnOk result ((q : ℕ)
+        → found rounds.new q ≡ (if q == view then Some round else found rounds.old q)) }
 {
     rounds.insert(view, round)?;
     Ok(())
@@ -165,7 +186,8 @@ pub(crate) fn put_back(
     view: u64,
     round: Option<Kept>,
 ) -> Result<(), AllocError>
-    ensures { OnOk result ((q : ℕ) → found rounds.new q ≡ (if q == view then round else found rounds.old q)) }
+    ensures { OnOk result ((q : ℕ)
+        → found rounds.new q ≡ (if q == view then round else found rounds.old q)) }
 {
     match round {
         None => {
@@ -200,7 +222,9 @@ pub(crate) fn views_between(
 ) -> Result<Vec<u64>, AllocError>
     requires { first ≤ last }
     ensures rising { IsStrictlySortedBy nat_cmp (keys_of rounds.now.entries) }
-    ensures views { IfOk result (λ views. views.items ≡ map (λ e. e.0) (entries_between nat_cmp (Included first) (Included last) rounds.now.entries)) }
+    ensures views { IfOk result (λ views. views.items
+        ≡ map (λ e. e.0) (entries_between nat_cmp (Included first)
+        (Included last) rounds.now.entries)) }
 {
     rounds
         .range(first..=last)

@@ -81,7 +81,8 @@ impl Rounds {
 
     /// Whether the view's round holds a certificate of the kind.
     pub(crate) fn has_certificate(&self, view: View, kind: CertificateKind) -> bool
-        ensures answer { AnswersAt (round_at self.now) view (λ made known. is_held known kind) result }
+        ensures answer { AnswersAt (round_at self.now) view
+            (λ made known. is_held known kind) result }
         ensures none { round_at self.now view ≡ None → result ≡ false }
     {
         match self.get(view) {
@@ -92,7 +93,8 @@ impl Rounds {
 
     /// Whether the view's round accepted a nullify of the member.
     pub(crate) fn has_nullify(&self, view: View, member: Participant) -> bool
-        ensures answer { AnswersAt (round_at self.now) view (λ made known. has_nullify known member) result }
+        ensures answer { AnswersAt (round_at self.now) view
+            (λ made known. has_nullify known member) result }
         ensures none { round_at self.now view ≡ None → result ≡ false }
     {
         match self.get(view) {
@@ -104,7 +106,8 @@ impl Rounds {
     /// Puts a round at a view.
     pub(crate) fn put(&mut self, view: View, round: Kept) -> Result<(), AllocError>
         ensures current { OnOk result (self.new.current ≡ self.old.current) }
-        ensures rounds { OnOk result ((q : ℕ) → round_at self.new q ≡ (if q == view then Some round else round_at self.old q)) }
+        ensures rounds { OnOk result ((q : ℕ)
+            → round_at self.new q ≡ (if q == view then Some round else round_at self.old q)) }
     {
         if view == self.current {
             self.here = Some(round);
@@ -117,7 +120,8 @@ impl Rounds {
     /// Drops the rounds below a view.
     pub(crate) fn drop_below(&mut self, least: View)
         ensures current { self.new.current ≡ self.old.current }
-        ensures rounds { (q : ℕ) → round_at self.new q ≡ (if nat_le least q then round_at self.old q else None) }
+        ensures rounds { (q : ℕ)
+            → round_at self.new q ≡ (if nat_le least q then round_at self.old q else None) }
     {
         if self.current < least {
             self.here = None;
@@ -149,10 +153,17 @@ impl Rounds {
         vote: &Vote,
         out: &mut RoundOut,
     ) -> Result<Option<Heard>, AllocError>
-        ensures stands { OnOk result (ChangesAt (round_at self.old) (round_at self.new) view (voted leader.now sender vote.now)) }
-        ensures answer { IfOk result (HistoryAnswersAt (round_at self.old) view (λ history. Some (heard_of leader.now sender vote.now history))) }
-        ensures reports { OnOk result (HistoryAnswersAt (round_at self.old) view (λ history. out.old.reports ++ (heard_from (known_in (given leader.now history)) sender vote.now).reports) out.new.reports) }
-        ensures blocks { OnOk result (HistoryAnswersAt (round_at self.old) view (λ history. out.old.blocks ++ (heard_from (known_in (given leader.now history)) sender vote.now).blocks) out.new.blocks) }
+        ensures stands { OnOk result (ChangesAt (round_at self.old) (round_at self.new) view
+            (voted leader.now sender vote.now)) }
+        ensures answer { IfOk result (HistoryAnswersAt (round_at self.old) view
+            (λ history. Some (heard_of leader.now sender vote.now history))) }
+        ensures reports { OnOk result (HistoryAnswersAt (round_at self.old) view
+            (λ history. out.old.reports ++ (heard_from
+            (known_in (given leader.now history)) sender vote.now).reports) out.new.reports) }
+        ensures blocks { OnOk result (HistoryAnswersAt (round_at self.old) view
+            (λ history. out.old.blocks
+            ++ (heard_from (known_in
+            (given leader.now history)) sender vote.now).blocks) out.new.blocks) }
         ensures some { IfOk result (λ heard. is_some heard ≡ is_some (round_at self.old view)) }
         ensures none { OnOk result (StaysWithout (round_at self.old) (round_at self.new) view) }
         ensures out { OnOk result (round_at self.old view ≡ None → out.new ≡ out.old) }
@@ -181,10 +192,14 @@ impl Rounds {
     ) -> Result<bool, AllocError>
         requires reports { out.old.reports ≡ [] }
         requires blocks { out.old.blocks ≡ [] }
-        ensures stands { OnOk result (TakesAt (round_at self.old) (round_at self.new) view (AcceptVote vote)) }
-        ensures answer { IfOk result (AnswersAt (round_at self.old) view (λ made known. (heard known vote).accepted)) }
-        ensures reports { OnOk result (AnswersAt (round_at self.old) view (λ made known. (heard known vote).reports) out.new.reports) }
-        ensures blocks { OnOk result (AnswersAt (round_at self.old) view (λ made known. (heard known vote).blocks) out.new.blocks) }
+        ensures stands { OnOk result (TakesAt (round_at self.old)
+            (round_at self.new) view (AcceptVote vote)) }
+        ensures answer { IfOk result (AnswersAt (round_at self.old) view
+            (λ made known. (heard known vote).accepted)) }
+        ensures reports { OnOk result (AnswersAt (round_at self.old) view
+            (λ made known. (heard known vote).reports) out.new.reports) }
+        ensures blocks { OnOk result (AnswersAt (round_at self.old) view
+            (λ made known. (heard known vote).blocks) out.new.blocks) }
         ensures current { OnOk result (self.new.current ≡ self.old.current) }
     {
         self.take_own(view, vote, out)?;
@@ -193,9 +208,12 @@ impl Rounds {
 
     /// The view's round takes an own vote.
     fn take_own(&mut self, view: View, vote: Vote, out: &mut RoundOut) -> Result<(), AllocError>
-        ensures stands { OnOk result (TakesAt (round_at self.old) (round_at self.new) view (AcceptVote vote)) }
-        ensures reports { OnOk result (AnswersAt (round_at self.old) view (λ made known. out.old.reports ++ (heard known vote).reports) out.new.reports) }
-        ensures blocks { OnOk result (AnswersAt (round_at self.old) view (λ made known. out.old.blocks ++ (heard known vote).blocks) out.new.blocks) }
+        ensures stands { OnOk result (TakesAt (round_at self.old)
+            (round_at self.new) view (AcceptVote vote)) }
+        ensures reports { OnOk result (AnswersAt (round_at self.old) view
+            (λ made known. out.old.reports ++ (heard known vote).reports) out.new.reports) }
+        ensures blocks { OnOk result (AnswersAt (round_at self.old) view
+            (λ made known. out.old.blocks ++ (heard known vote).blocks) out.new.blocks) }
         ensures current { OnOk result (self.new.current ≡ self.old.current) }
     {
         if view != self.current {
@@ -218,8 +236,10 @@ impl Rounds {
         alloc: Global,
         certificate: &Certificate,
     ) -> Result<bool, AllocError>
-        ensures stands { OnOk result (TakesAt (round_at self.old) (round_at self.new) view (RecordCertificate certificate.now)) }
-        ensures answer { IfOk result (AnswersAt (round_at self.old) view (λ made known. gives_proposal known certificate.now)) }
+        ensures stands { OnOk result (TakesAt (round_at self.old) (round_at self.new) view
+            (RecordCertificate certificate.now)) }
+        ensures answer { IfOk result (AnswersAt (round_at self.old) view
+            (λ made known. gives_proposal known certificate.now)) }
         ensures current { OnOk result (self.new.current ≡ self.old.current) }
     {
         if view != self.current {

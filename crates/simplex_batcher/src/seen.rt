@@ -41,7 +41,8 @@ impl Seen {
 
     /// The member is seen now.
     pub(crate) fn see(&mut self, member: Participant, now: u64) -> Result<(), AllocError>
-        ensures { OnOk result ((q : ℕ) → last_seen self.new q ≡ (if q == member then Some now else last_seen self.old q)) }
+        ensures { OnOk result ((q : ℕ)
+            → last_seen self.new q ≡ (if q == member then Some now else last_seen self.old q)) }
     {
         let place = member.0 as usize;
         if place < self.members.len() {

@@ -20,7 +20,7 @@ impl<S: Scheme + Drop> Actor<S> {
     /// Whether it is this batcher's epoch.
     #[tactic(auto, unfolding(crate::specs::Stands::batcher_made))]
     fn is_of_epoch(&self, epoch: Epoch) -> bool
-        ensures { Reads S.verifies S.recovers S.members S.member self.now (λ made standing. epoch == made.epoch) result }
+        ensures { Reads self.now (λ made standing. epoch == made.epoch) result }
     {
         epoch == self.config.epoch
     }
@@ -35,7 +35,8 @@ impl<S: Scheme + Drop> Actor<S> {
         dirty: &mut Marked,
         work: &mut StepOut,
     ) -> Result<(), AllocError>
-        ensures { OnOk result (Marks S.verifies S.recovers S.members S.member self.old work.old dirty.old self.new work.new dirty.new (λ made. decoded_vote made sender vote.now now)) }
+        ensures { OnOk result (Marks self.old work.old dirty.old self.new work.new dirty.new
+            (λ made. decoded_vote made sender vote.now now)) }
     {
         if !self.is_of_epoch(vote.epoch()) {
             block(work, sender, BlockCause::WrongEpoch)?;
@@ -56,7 +57,8 @@ impl<S: Scheme + Drop> Actor<S> {
         dirty: &mut Marked,
         work: &mut StepOut,
     ) -> Result<(), AllocError>
-        ensures { OnOk result (Marks S.verifies S.recovers S.members S.member self.old work.old dirty.old self.new work.new dirty.new (λ made. heard_vote made sender (whole format.vote bytes.now) now)) }
+        ensures { OnOk result (Marks self.old work.old dirty.old self.new work.new dirty.new
+            (λ made. heard_vote made sender (whole format.vote bytes.now) now)) }
     {
         match Vote::decode(bytes) {
             Err(_) => {
@@ -80,7 +82,8 @@ impl<S: Scheme + Drop> Actor<S> {
         dirty: &mut Marked,
         work: &mut StepOut,
     ) -> Result<(), AllocError>
-        ensures { OnOk result (Marks S.verifies S.recovers S.members S.member self.old work.old dirty.old self.new work.new dirty.new (λ made. decoded_certificate made sender certificate now)) }
+        ensures { OnOk result (Marks self.old work.old dirty.old self.new work.new dirty.new
+            (λ made. decoded_certificate made sender certificate now)) }
     {
         if !self.is_of_epoch(certificate.epoch()) {
             block(work, sender, BlockCause::WrongEpoch)?;
@@ -101,7 +104,8 @@ impl<S: Scheme + Drop> Actor<S> {
         dirty: &mut Marked,
         work: &mut StepOut,
     ) -> Result<(), AllocError>
-        ensures { OnOk result (Marks S.verifies S.recovers S.members S.member self.old work.old dirty.old self.new work.new dirty.new (λ made. heard_certificate made sender (whole format.certificate bytes.now) now)) }
+        ensures { OnOk result (Marks self.old work.old dirty.old self.new work.new dirty.new
+            (λ made. heard_certificate made sender (whole format.certificate bytes.now) now)) }
     {
         match Certificate::decode(self.alloc, bytes) {
             Err(DecodeError::Memory) => Err(AllocError),
@@ -125,7 +129,8 @@ impl<S: Scheme + Drop> Actor<S> {
         dirty: &mut Marked,
         work: &mut StepOut,
     ) -> Result<(), AllocError>
-        ensures { OnOk result (Marks S.verifies S.recovers S.members S.member self.old work.old dirty.old self.new work.new dirty.new (λ made. acted made (Mail message.now) now)) }
+        ensures { OnOk result (Marks self.old work.old dirty.old self.new work.new dirty.new
+            (λ made. acted made (Mail message.now) now)) }
     {
         match message {
             batcher::Message::Update {
@@ -155,7 +160,8 @@ impl<S: Scheme + Drop> Actor<S> {
         dirty: &mut Marked,
         work: &mut StepOut,
     ) -> Result<(), AllocError>
-        ensures { OnOk result (Marks S.verifies S.recovers S.members S.member self.old work.old dirty.old self.new work.new dirty.new (λ made. acted made input.now now)) }
+        ensures { OnOk result (Marks self.old work.old dirty.old self.new work.new dirty.new
+            (λ made. acted made input.now now)) }
     {
         match input {
             BatcherInput::Mail(message) => {
@@ -182,7 +188,8 @@ impl<S: Scheme + Drop> Actor<S> {
         work: &mut StepOut,
     ) -> Result<(), AllocError>
         requires empty { work.old ≡ no_out }
-        ensures { OnOk result (WorksAs S.verifies S.recovers S.members S.member self.old self.new work.new (λ made standing. step made standing (record { input = input.now; now = now }))) }
+        ensures { OnOk result (WorksAs self.old self.new work.new
+            (λ made standing. step made standing (record { input = input.now; now = now }))) }
     {
         let mut dirty = Marked::new(self.alloc);
         self.act(input, now, &mut dirty, work)?;

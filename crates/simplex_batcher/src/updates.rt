@@ -19,7 +19,7 @@ impl<S: Scheme + Drop> Actor<S> {
         leader: Participant,
         finalized: View,
     ) -> Result<(), AllocError>
-        ensures { OnOk result (Moves S.verifies S.recovers S.members S.member self.old self.new (λ made. entered current leader finalized)) }
+        ensures { OnOk result (Moves self.old self.new (λ made. entered current leader finalized)) }
     {
         self.rounds.enter(current)?;
         self.leader = Some(leader);
@@ -30,7 +30,8 @@ impl<S: Scheme + Drop> Actor<S> {
 
     /// The views of the admission window that have a round, in rising order.
     fn window_views(&self) -> Result<Vec<u64>, AllocError>
-        ensures { IfOk result (λ views. Reads S.verifies S.recovers S.members S.member self.now (λ made standing. window_views made standing) views.items) }
+        ensures { IfOk result (λ views. Reads self.now
+            (λ made standing. window_views made standing) views.items) }
     {
         let current = self.rounds.current;
         let limit = self.config.lookahead.admission_limit(current);
@@ -44,7 +45,7 @@ impl<S: Scheme + Drop> Actor<S> {
 
     /// The rounds of these views are given the leader. [round-keeps-its-leader]
     fn lead_each(&mut self, views: &[u64])
-        ensures { Moves S.verifies S.recovers S.members S.member self.old self.new (λ made. with_leads made views.now) }
+        ensures { Moves self.old self.new (λ made. with_leads made views.now) }
     {
         for view in views {
             self.lead(View(*view));
@@ -53,8 +54,9 @@ impl<S: Scheme + Drop> Actor<S> {
 
     /// The rounds of the admission window are given the leader. Which views these are.
     fn lead_window(&mut self) -> Result<Vec<u64>, AllocError>
-        ensures stands { OnOk result (Moves S.verifies S.recovers S.members S.member self.old self.new (λ made. with_window made)) }
-        ensures views { IfOk result (λ views. Reads S.verifies S.recovers S.members S.member self.old (λ made standing. window_views made standing) views.items) }
+        ensures stands { OnOk result (Moves self.old self.new (λ made. with_window made)) }
+        ensures views { IfOk result (λ views. Reads self.old
+            (λ made standing. window_views made standing) views.items) }
     {
         let views = self.window_views()?;
         self.lead_each(&views);
@@ -64,8 +66,9 @@ impl<S: Scheme + Drop> Actor<S> {
     /// The current view has a round, and it and those of the admission window have the leader. Which views the
     /// latter are.
     fn lead_current(&mut self) -> Result<Vec<u64>, AllocError>
-        ensures stands { OnOk result (Moves S.verifies S.recovers S.members S.member self.old self.new (λ made. with_leader made)) }
-        ensures views { IfOk result (λ views. Reads S.verifies S.recovers S.members S.member self.old (λ made standing. window_views made (with_leader made standing)) views.items) }
+        ensures stands { OnOk result (Moves self.old self.new (λ made. with_leader made)) }
+        ensures views { IfOk result (λ views. Reads self.old
+            (λ made standing. window_views made (with_leader made standing)) views.items) }
     {
         self.make_round(self.rounds.current)?;
         let views = self.lead_window()?;
@@ -84,7 +87,8 @@ impl<S: Scheme + Drop> Actor<S> {
         dirty: &mut Marked,
         work: &mut StepOut,
     ) -> Result<(), AllocError>
-        ensures { OnOk result (Marks S.verifies S.recovers S.members S.member self.old work.old dirty.old self.new work.new dirty.new (λ made. took_update made current leader finalized proposal.now now)) }
+        ensures { OnOk result (Marks self.old work.old dirty.old self.new work.new dirty.new
+            (λ made. took_update made current leader finalized proposal.now now)) }
     {
         self.enter(current, leader, finalized)?;
         let window = self.lead_current()?;

@@ -27,10 +27,19 @@ impl<S: Scheme + Drop> Actor<S> {
         vote: &Vote,
         out: &mut RoundOut,
     ) -> Result<Heard, AllocError>
-        ensures stands { OnOk result (Moves S.verifies S.recovers S.members S.member self.old self.new (λ made standing. put view (voted leader.now sender vote.now (bare_round made standing view)) standing)) }
-        ensures answer { IfOk result (Reads S.verifies S.recovers S.members S.member self.old (λ made standing. heard_of leader.now sender vote.now (bare_round made standing view))) }
-        ensures reports { OnOk result (Reads S.verifies S.recovers S.members S.member self.old (λ made standing. out.old.reports ++ (heard_from (known_in (given leader.now (bare_round made standing view))) sender vote.now).reports) out.new.reports) }
-        ensures blocks { OnOk result (Reads S.verifies S.recovers S.members S.member self.old (λ made standing. out.old.blocks ++ (heard_from (known_in (given leader.now (bare_round made standing view))) sender vote.now).blocks) out.new.blocks) }
+        ensures stands { OnOk result (Moves self.old self.new (λ made standing. put view
+            (voted leader.now sender vote.now (bare_round made standing view)) standing)) }
+        ensures answer { IfOk result (Reads self.old
+            (λ made standing. heard_of leader.now sender vote.now
+            (bare_round made standing view))) }
+        ensures reports { OnOk result (Reads self.old
+            (λ made standing. out.old.reports ++ (heard_from (known_in
+            (given leader.now
+            (bare_round made standing view))) sender vote.now).reports) out.new.reports) }
+        ensures blocks { OnOk result (Reads self.old
+            (λ made standing. out.old.blocks ++ (heard_from (known_in
+            (given leader.now
+            (bare_round made standing view))) sender vote.now).blocks) out.new.blocks) }
     {
         let rounds = &mut self.rounds;
         if let Some(heard) = rounds.add_network(view, leader, sender, vote, out)? {
@@ -50,9 +59,16 @@ impl<S: Scheme + Drop> Actor<S> {
         dirty: &mut Marked,
         work: &mut StepOut,
     ) -> Result<Heard, AllocError>
-        ensures stands { OnOk result (Marks S.verifies S.recovers S.members S.member self.old work.old dirty.old self.new work.new dirty.new (λ made doing. heard_at made sender vote.now doing)) }
-        ensures accepted { IfOk result (λ heard. Reads S.verifies S.recovers S.members S.member self.old (λ made standing. (heard_from (known_in (round_for made standing (vote_view vote.now))) sender vote.now).accepted) heard.accepted) }
-        ensures nullified { IfOk result (λ heard. Reads S.verifies S.recovers S.members S.member self.old (λ made standing. some_passes (has_nullify (known_in (called (AddNetwork sender vote.now) (round_for made standing (vote_view vote.now))))) (lead_of made standing (vote_view vote.now))) heard.nullified) }
+        ensures stands { OnOk result (Marks self.old work.old dirty.old self.new work.new dirty.new
+            (λ made doing. heard_at made sender vote.now doing)) }
+        ensures accepted { IfOk result (λ heard. Reads self.old (λ made standing. (heard_from (known_in
+            (round_for made standing
+            (vote_view vote.now))) sender vote.now).accepted) heard.accepted) }
+        ensures nullified { IfOk result (λ heard. Reads self.old
+            (λ made standing. some_passes
+            (has_nullify (known_in (called (AddNetwork sender vote.now) (round_for made standing
+            (vote_view vote.now))))) (lead_of made standing
+            (vote_view vote.now))) heard.nullified) }
     {
         let view = vote.view();
         let leader = self.leader_at(view);
@@ -72,7 +88,8 @@ impl<S: Scheme + Drop> Actor<S> {
         dirty: &mut Marked,
         work: &mut StepOut,
     ) -> Result<(), AllocError>
-        ensures { OnOk result (Marks S.verifies S.recovers S.members S.member self.old work.old dirty.old self.new work.new dirty.new (λ made. took_vote made sender vote.now)) }
+        ensures { OnOk result (Marks self.old work.old dirty.old self.new work.new dirty.new
+            (λ made. took_vote made sender vote.now)) }
     {
         let view = vote.view();
         if !self.admits_vote(view) {
@@ -93,7 +110,8 @@ impl<S: Scheme + Drop> Actor<S> {
         dirty: &mut Marked,
         work: &mut StepOut,
     ) -> Result<(), AllocError>
-        ensures { OnOk result (Marks S.verifies S.recovers S.members S.member self.old work.old dirty.old self.new work.new dirty.new (λ made doing. own_heard_at made vote doing)) }
+        ensures { OnOk result (Marks self.old work.old dirty.old self.new work.new dirty.new
+            (λ made doing. own_heard_at made vote doing)) }
     {
         let view = vote.view();
         self.make_round(view)?;
@@ -112,7 +130,8 @@ impl<S: Scheme + Drop> Actor<S> {
         dirty: &mut Marked,
         work: &mut StepOut,
     ) -> Result<(), AllocError>
-        ensures { OnOk result (Marks S.verifies S.recovers S.members S.member self.old work.old dirty.old self.new work.new dirty.new (λ made. took_constructed made vote)) }
+        ensures { OnOk result (Marks self.old work.old dirty.old self.new work.new dirty.new
+            (λ made. took_constructed made vote)) }
     {
         if !self.retains(vote.view()) {
             return Ok(());

@@ -15,7 +15,8 @@ use std::mem::replace;
 
 /// A message goes to the voter at the end of the step.
 pub(crate) fn hand(work: &mut StepOut, message: voter::Message) -> Result<(), AllocError>
-    ensures { OnOk result (work.new ≡ record work.old { handed = work.old.handed ++ Voter message ∷ [] }) }
+    ensures { OnOk result (work.new
+        ≡ record work.old { handed = work.old.handed ++ Voter message ∷ [] }) }
 {
     work.handed.push(Handed::Voter(message))?;
     Ok(())
@@ -35,7 +36,8 @@ pub(crate) fn block(
     member: Participant,
     cause: BlockCause,
 ) -> Result<(), AllocError>
-    ensures { OnOk result (work.new ≡ record work.old { calls = work.old.calls ++ Block member cause ∷ [] }) }
+    ensures { OnOk result (work.new
+        ≡ record work.old { calls = work.old.calls ++ Block member cause ∷ [] }) }
 {
     make(work, Call::Block(member, cause))?;
     Ok(())
@@ -43,7 +45,10 @@ pub(crate) fn block(
 
 /// What a round reports is reported, and whom it blocks is blocked.
 pub(crate) fn publish(alloc: Global, work: &mut StepOut, out: RoundOut) -> Result<(), AllocError>
-    ensures { OnOk result (work.new ≡ record work.old { calls = work.old.calls ++ map Report out.reports ++ map block_call out.blocks }) }
+    ensures { OnOk result (work.new ≡ record work.old {
+      calls = work.old.calls
+          ++ map Report out.reports ++ map block_call out.blocks;
+    }) }
 {
     let RoundOut { reports, blocks } = out;
     report_each(alloc, &mut work.calls, reports)?;
@@ -53,7 +58,8 @@ pub(crate) fn publish(alloc: Global, work: &mut StepOut, out: RoundOut) -> Resul
 
 /// The vote is reported. [reported-where-it-lies]
 fn report_vote(work: &mut StepOut, vote: &Vote) -> Result<(), AllocError>
-    ensures { OnOk result (work.new ≡ record work.old { calls = work.old.calls ++ Report (vote_activity vote.now) ∷ [] }) }
+    ensures { OnOk result (work.new
+        ≡ record work.old { calls = work.old.calls ++ Report (vote_activity vote.now) ∷ [] }) }
 {
     match vote {
         Vote::Notarize(it) => make(work, Call::Report(Activity::Notarize(*it))),
@@ -71,7 +77,11 @@ pub(crate) fn publish_heard(
     vote: &Vote,
     out: RoundOut,
 ) -> Result<(), AllocError>
-    ensures { OnOk result (IsAlone accepted vote.now out.reports out.blocks → work.new ≡ record work.old { calls = work.old.calls ++ map Report out.reports ++ map block_call out.blocks }) }
+    ensures { OnOk result (IsAlone accepted vote.now out.reports out.blocks
+        → work.new ≡ record work.old {
+          calls = work.old.calls ++ map Report out.reports
+              ++ map block_call out.blocks;
+        }) }
 {
     if accepted {
         report_vote(work, vote)?;
@@ -117,7 +127,8 @@ pub(crate) fn block_signers(
     calls: &mut Sequence<Call>,
     signers: &[Participant],
 ) -> Result<(), AllocError>
-    ensures { OnOk result (calls.new ≡ calls.old ++ map (λ signer. Block signer InvalidSignature) signers.now) }
+    ensures { OnOk result (calls.new
+        ≡ calls.old ++ map (λ signer. Block signer InvalidSignature) signers.now) }
 {
     for signer in signers {
         calls.push(Call::Block(*signer, BlockCause::InvalidSignature))?;

@@ -23,7 +23,10 @@ use std::alloc::{AllocError, Global};
 
 /// The proposal, if there is one, goes to the voter.
 fn hand_proposal(work: &mut StepOut, proposal: Option<Proposal>) -> Result<(), AllocError>
-    ensures { OnOk result (work.new ≡ record work.old { handed = work.old.handed ++ map (λ it. Voter (ProposalMessage it)) (option_to_list proposal) }) }
+    ensures { OnOk result (work.new ≡ record work.old {
+      handed = work.old.handed ++ map
+          (λ it. Voter (ProposalMessage it)) (option_to_list proposal);
+    }) }
 {
     if let Some(proposal) = proposal {
         hand(work, voter::Message::Proposal { proposal })?;
@@ -33,7 +36,10 @@ fn hand_proposal(work: &mut StepOut, proposal: Option<Proposal>) -> Result<(), A
 
 /// The certificate, if there is one, goes to the voter.
 fn hand_certificate(work: &mut StepOut, certificate: Option<Certificate>) -> Result<(), AllocError>
-    ensures { OnOk result (work.new ≡ record work.old { handed = work.old.handed ++ map (λ it. Voter (Verified it)) (option_to_list certificate) }) }
+    ensures { OnOk result (work.new ≡ record work.old {
+      handed = work.old.handed ++ map
+          (λ it. Voter (Verified it)) (option_to_list certificate);
+    }) }
 {
     if let Some(certificate) = certificate {
         hand(work, voter::Message::Verified { certificate })?;
@@ -43,7 +49,8 @@ fn hand_certificate(work: &mut StepOut, certificate: Option<Certificate>) -> Res
 
 /// The signers of invalid votes are blocked, and the certificate, if there is one, goes to the voter.
 fn publish_batch(work: &mut StepOut, batch: Option<Batch>) -> Result<(), AllocError>
-    ensures { OnOk result ((doing : Doing) → work.old ≡ work_of doing → work.new ≡ work_of (with_batch batch doing)) }
+    ensures { OnOk result ((doing : Doing) → work.old ≡ work_of doing
+        → work.new ≡ work_of (with_batch batch doing)) }
 {
     let Some(batch) = batch else {
         return Ok(());
@@ -64,7 +71,8 @@ fn forward_proposal(
     me: Participant,
     work: &mut StepOut,
 ) -> Result<(), AllocError>
-    ensures { OnOk result ((made : Made) → me ≡ number_of made → Works round.old work.old round.new work.new (forwarded_at made)) }
+    ensures { OnOk result ((made : Made) → me ≡ number_of made
+        → Works round.old work.old round.new work.new (forwarded_at made)) }
 {
     let proposal = round.try_forward_proposal(me);
     hand_proposal(work, proposal)?;
@@ -79,8 +87,16 @@ fn construct<S: Scheme>(
     scheme: &S,
     work: &mut StepOut,
 ) -> Result<bool, AllocError>
-    ensures works { OnOk result ((made : Made) → made.scheme ≡ as_scheme (S.verifies scheme.now) (S.recovers scheme.now) (S.members scheme.now) → Works round.old work.old round.new work.new (constructing_at made)) }
-    ensures quiet { IfOk result (λ did. did ≡ false → (made : Made) → made.scheme ≡ as_scheme (S.verifies scheme.now) (S.recovers scheme.now) (S.members scheme.now) → (history : RoundHistory) → round.old ≡ round_of history → constructed history.made made.scheme (known_in history) ≡ None) }
+    ensures works { OnOk result ((made : Made)
+        → made.scheme ≡ as_scheme (S.verifies scheme.now) (S.recovers scheme.now)
+        (S.members scheme.now)
+        → Works round.old work.old round.new work.new (constructing_at made)) }
+    ensures quiet { IfOk result (λ did. did ≡ false → (made : Made)
+        → made.scheme ≡ as_scheme
+        (S.verifies scheme.now) (S.recovers scheme.now) (S.members scheme.now)
+        → (history : RoundHistory)
+        → round.old ≡ round_of history
+        → constructed history.made made.scheme (known_in history) ≡ None) }
 {
     let batch = round.try_construct(alloc, scheme)?;
     let did = batch.is_some();
@@ -95,7 +111,10 @@ fn construct_each<S: Scheme>(
     scheme: &S,
     work: &mut StepOut,
 ) -> Result<(), AllocError>
-    ensures { OnOk result ((made : Made) → made.scheme ≡ as_scheme (S.verifies scheme.now) (S.recovers scheme.now) (S.members scheme.now) → Works round.old work.old round.new work.new (constructing_thrice made)) }
+    ensures { OnOk result ((made : Made)
+        → made.scheme ≡ as_scheme (S.verifies scheme.now) (S.recovers scheme.now)
+        (S.members scheme.now)
+        → Works round.old work.old round.new work.new (constructing_thrice made)) }
 {
     let first = construct(round, alloc, scheme, work)?;
     if !first {
@@ -117,7 +136,11 @@ fn work_round<S: Scheme>(
     me: Participant,
     work: &mut StepOut,
 ) -> Result<(), AllocError>
-    ensures { OnOk result ((made : Made) → me ≡ number_of made → made.scheme ≡ as_scheme (S.verifies scheme.now) (S.recovers scheme.now) (S.members scheme.now) → Works round.old work.old round.new work.new (worked_near made)) }
+    ensures { OnOk result
+        ((made : Made) → me ≡ number_of made
+        → made.scheme ≡ as_scheme (S.verifies scheme.now) (S.recovers scheme.now)
+        (S.members scheme.now)
+        → Works round.old work.old round.new work.new (worked_near made)) }
 {
     forward_proposal(round, me, work)?;
     construct_each(round, alloc, scheme, work)?;
@@ -132,7 +155,9 @@ fn forward_at(
     me: Participant,
     work: &mut StepOut,
 ) -> Result<(), AllocError>
-    ensures works { OnOk result ((made : Made) → me ≡ number_of made → WorksAt (found rounds.old view) work.old (found rounds.new view) work.new view (forwarded_at made view)) }
+    ensures works { OnOk result ((made : Made) → me ≡ number_of made → WorksAt
+        (found rounds.old view) work.old (found rounds.new view) work.new view
+        (forwarded_at made view)) }
     ensures others { OnOk result (StaysBeside (found rounds.old) (found rounds.new) view) }
 {
     match rounds.get_mut(&view) {
@@ -154,7 +179,11 @@ fn work_at<S: Scheme>(
     me: Participant,
     work: &mut StepOut,
 ) -> Result<(), AllocError>
-    ensures works { OnOk result ((made : Made) → me ≡ number_of made → made.scheme ≡ as_scheme (S.verifies scheme.now) (S.recovers scheme.now) (S.members scheme.now) → WorksAt (found rounds.old view) work.old (found rounds.new view) work.new view (worked_near made view)) }
+    ensures works { OnOk result ((made : Made) → me ≡ number_of made
+        → made.scheme ≡ as_scheme (S.verifies scheme.now) (S.recovers scheme.now)
+        (S.members scheme.now)
+        → WorksAt (found rounds.old view) work.old (found rounds.new view) work.new view
+        (worked_near made view)) }
     ensures others { OnOk result (StaysBeside (found rounds.old) (found rounds.new) view) }
 {
     match rounds.get_mut(&view) {
@@ -175,7 +204,9 @@ impl Rounds {
         me: Participant,
         work: &mut StepOut,
     ) -> Result<(), AllocError>
-        ensures works { OnOk result ((made : Made) → me ≡ number_of made → WorksAt (round_at self.old view) work.old (round_at self.new view) work.new view (forwarded_at made view)) }
+        ensures works { OnOk result ((made : Made) → me ≡ number_of made
+            → WorksAt (round_at self.old view) work.old (round_at self.new view) work.new view
+            (forwarded_at made view)) }
         ensures others { OnOk result (StaysBeside (round_at self.old) (round_at self.new) view) }
         ensures current { OnOk result (self.new.current ≡ self.old.current) }
     {
@@ -202,7 +233,11 @@ impl Rounds {
         me: Participant,
         work: &mut StepOut,
     ) -> Result<(), AllocError>
-        ensures works { OnOk result ((made : Made) → me ≡ number_of made → made.scheme ≡ as_scheme (S.verifies scheme.now) (S.recovers scheme.now) (S.members scheme.now) → WorksAt (round_at self.old view) work.old (round_at self.new view) work.new view (worked_near made view)) }
+        ensures works { OnOk result ((made : Made) → me ≡ number_of made
+            → made.scheme ≡ as_scheme (S.verifies scheme.now) (S.recovers scheme.now)
+            (S.members scheme.now)
+            → WorksAt (round_at self.old view) work.old (round_at self.new view) work.new view
+            (worked_near made view)) }
         ensures others { OnOk result (StaysBeside (round_at self.old) (round_at self.new) view) }
         ensures current { OnOk result (self.new.current ≡ self.old.current) }
     {
@@ -224,7 +259,7 @@ impl<S: Scheme + Drop> Actor<S> {
     /// The number by which a round knows this member: one that no member has, where it is none.
     #[tactic(auto, unfolding(crate::specs::Stands::batcher_made))]
     fn number(&self) -> Participant
-        ensures { Reads S.verifies S.recovers S.members S.member self.now (λ made standing. number_of made) result }
+        ensures { Reads self.now (λ made standing. number_of made) result }
     {
         let members = self.config.scheme.participants();
         self.config.scheme.me().unwrap_or(Participant(members))
@@ -233,7 +268,8 @@ impl<S: Scheme + Drop> Actor<S> {
     /// The view is worked, where it is not final. Its round is looked up once.
     #[tactic(auto, unfolding(model_steps::specs::Batcher::worked))]
     fn work(&mut self, view: View, work: &mut StepOut) -> Result<(), AllocError>
-        ensures { OnOk result (Does S.verifies S.recovers S.members S.member self.old work.old self.new work.new (λ made. worked made view)) }
+        ensures { OnOk result (Does self.old work.old self.new work.new
+            (λ made. worked made view)) }
     {
         if view <= self.finalized {
             return Ok(());
@@ -250,7 +286,8 @@ impl<S: Scheme + Drop> Actor<S> {
 
     /// These views are worked, in this order.
     fn work_each(&mut self, views: &[View], work: &mut StepOut) -> Result<(), AllocError>
-        ensures { OnOk result (Does S.verifies S.recovers S.members S.member self.old work.old self.new work.new (λ made. worked_all made views.now)) }
+        ensures { OnOk result (Does self.old work.old self.new work.new
+            (λ made. worked_all made views.now)) }
     {
         for view in views {
             self.work(*view, work)?;
@@ -261,7 +298,7 @@ impl<S: Scheme + Drop> Actor<S> {
     /// Rounds that are not kept are dropped.
     #[tactic(auto, unfolding(crate::specs::Stands::batcher_made, model_steps::specs::Batcher::dropped, model_steps::specs::Batcher::retains_view))]
     fn drop_old(&mut self)
-        ensures { (work : StepOut) → Does S.verifies S.recovers S.members S.member self.old work self.new work (λ made. dropped made) }
+        ensures { (work : StepOut) → Does self.old work self.new work (λ made. dropped made) }
     {
         let least = self.finalized.saturating_sub(self.config.view_retention);
         self.rounds.drop_below(least);
@@ -269,7 +306,8 @@ impl<S: Scheme + Drop> Actor<S> {
 
     /// The marked views are worked, in this order.
     fn work_marked(&mut self, dirty: &Marked, work: &mut StepOut) -> Result<(), AllocError>
-        ensures { OnOk result (Does S.verifies S.recovers S.members S.member self.old work.old self.new work.new (λ made. worked_all made dirty.now)) }
+        ensures { OnOk result (Does self.old work.old self.new work.new
+            (λ made. worked_all made dirty.now)) }
     {
         let (first, others) = dirty.parts();
         if let Some(view) = first {
@@ -282,7 +320,8 @@ impl<S: Scheme + Drop> Actor<S> {
     /// The marked views are worked, and rounds that are not kept are dropped.
     #[tactic(auto, unfolding(model_steps::specs::Batcher::finished))]
     pub(crate) fn finish(&mut self, dirty: &Marked, work: &mut StepOut) -> Result<(), AllocError>
-        ensures { OnOk result (Marks S.verifies S.recovers S.members S.member self.old work.old dirty.now self.new work.new dirty.now (λ made. finished made)) }
+        ensures { OnOk result (Marks self.old work.old dirty.now self.new work.new dirty.now
+            (λ made. finished made)) }
     {
         self.work_marked(dirty, work)?;
         self.drop_old();

@@ -20,7 +20,8 @@ pub(crate) struct Answer {
 
 // What is told of the run of these events.
 fn answer_of_run(alloc: Global, setup: &Setup, events: &[Event]) -> Result<Answer, AllocError>
-    ensures { IfOk result (λ answer. Tells answer (told_of_run events.now (Run setup.now events.now))) }
+    ensures { IfOk result
+        (λ answer. Tells answer (told_of_run events.now (Run setup.now events.now))) }
 {
     match run_network(alloc, setup, events) {
         Ok(transcript) => {

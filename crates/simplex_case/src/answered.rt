@@ -44,7 +44,8 @@ impl Answered {
     pub(crate) fn mark(&mut self, at: Ref) -> Result<(), AllocError>
         ensures count { OnOk result (length self.new.marks.items ≡ length self.old.marks.items) }
         ensures marked { OnOk result (0 < at.event → at.event ≤ length self.old.marks.items → (other : Ref)
-            → is_marked self.new.marks.items other ≡ (is_same_ref at other || is_marked self.old.marks.items other)) }
+            → is_marked self.new.marks.items other
+            ≡ (is_same_ref at other || is_marked self.old.marks.items other)) }
     {
         let Some(before) = at.event.checked_sub(1) else {
             return Ok(());
@@ -58,9 +59,11 @@ impl Answered {
 
     /// One event more, of whose requests none is marked.
     pub(crate) fn push(&mut self, alloc: Global) -> Result<(), AllocError>
-        ensures count { OnOk result (length self.new.marks.items ≡ length self.old.marks.items + 1) }
+        ensures count { OnOk result (length self.new.marks.items
+            ≡ length self.old.marks.items + 1) }
         ensures marked { OnOk result ((at : Ref) → is_marked self.new.marks.items at
-            ≡ (if length self.old.marks.items + 1 == at.event then false else is_marked self.old.marks.items at)) }
+            ≡ (if length self.old.marks.items + 1 == at.event then false
+            else is_marked self.old.marks.items at)) }
     {
         self.marks.push(empty_set(alloc))?;
         Ok(())

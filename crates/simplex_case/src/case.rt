@@ -75,7 +75,9 @@ impl Case {
     // What is kept of a node, where it exists.
     fn desk_of(&self, setup: &Setup, node: Node) -> Option<&Desk>
         requires few { length setup.now.members < 2 ^ 32 }
-        ensures { option_map (λ desk. desk.now) result ≡ (if kinds.is_node setup.now node then slice_get self.now.desks.items (seats.seat_of node) else None) }
+        ensures { option_map (λ desk. desk.now) result
+            ≡ (if kinds.is_node setup.now node then slice_get self.now.desks.items
+            (seats.seat_of node) else None) }
     {
         if is_node(setup, node) {
             self.desks.get(seat_of(node))
@@ -87,7 +89,9 @@ impl Case {
     // The number of the request at this place, where the node asked it since its last start.
     fn number(&self, setup: &Setup, node: Node, at: Ref) -> Option<u64>
         requires few { length setup.now.members < 2 ^ 32 }
-        ensures { (prior : List AuditEntry) → Answers self.now setup.now prior (λ before. requests.request_number before node at) result }
+        ensures { (prior : List AuditEntry)
+            → Answers self.now setup.now prior
+            (λ before. requests.request_number before node at) result }
     {
         self.desk_of(setup, node)?.number(at)
     }
@@ -108,7 +112,8 @@ impl Case {
     fn was_dropped(&self, setup: &Setup, node: Node, event: u64, number: u64) -> bool
         requires few { length setup.now.members < 2 ^ 32 }
         ensures { (prior : List AuditEntry) (before : List Noted) → CaseStands self.now setup.now prior before → kinds.is_node setup.now node ≡ true
-            → 0 < event → event ≤ length before → result ≡ conditions.was_dropped before node event number }
+            → 0 < event → event ≤ length before
+            → result ≡ conditions.was_dropped before node event number }
     {
         match self.desk_of(setup, node) {
             None => false,
@@ -131,7 +136,8 @@ impl Case {
 
     // Whether a node may start at this floor.
     fn is_own_floor(&self, floor: &Option<Finalization>) -> bool
-        ensures { (setup : Setup) (prior : List AuditEntry) → Answers self.now setup prior (λ before. is_own_floor setup before floor.now) result }
+        ensures { (setup : Setup) (prior : List AuditEntry)
+            → Answers self.now setup prior (λ before. is_own_floor setup before floor.now) result }
     {
         match floor {
             None => true,
@@ -152,8 +158,10 @@ impl Case {
         requires few { length setup.now.members < 2 ^ 32 }
         ensures { (before : List Noted) → CaseStands self.now setup.now prior.now before → kinds.is_node setup.now node ≡ true
             → requests.request_number before node at ≡ Some number
-            → result ≡ (not (conditions.was_dropped before node at.event number) && not (conditions.was_answered before node at)
-            && option_map_or (λ asked. answers.answer_fits asked answer.now) (asked_at before at) false) }
+            → result ≡ (not (conditions.was_dropped before node at.event number)
+            && not (conditions.was_answered before node at)
+            && option_map_or (λ asked. answers.answer_fits asked answer.now)
+            (asked_at before at) false) }
     {
         three(
             !self.was_dropped(setup, node, at.event, number),
@@ -185,7 +193,8 @@ impl Case {
     pub fn allows(&self, setup: &Setup, prior: &[AuditEntry], event: &Event, at_end: bool) -> bool
         requires few { length setup.now.members < 2 ^ 32 }
         ensures { (setting : Setting) (before : List Noted) → setting.setup ≡ setup.now → CaseStands self.now setup.now prior.now before
-            → IsEndOf setting before at_end (node_named event.now) → result ≡ conditions.is_allowed setting before event.now }
+            → IsEndOf setting before at_end (node_named event.now)
+            → result ≡ conditions.is_allowed setting before event.now }
     {
         match event {
             Event::Tick { ms } => *ms <= LAST_CLOCK.saturating_sub(self.clock),
@@ -234,7 +243,8 @@ impl Case {
         answer: &Answer,
     ) -> bool
         requires few { length setup.now.members < 2 ^ 32 }
-        ensures { Answers self.now setup.now prior.now (λ before. fitting.request_fits before node source at answer.now) result }
+        ensures { Answers self.now setup.now prior.now
+            (λ before. fitting.request_fits before node source at answer.now) result }
     {
         both(
             self.number(setup, node, at).is_some(),
@@ -252,7 +262,8 @@ impl Case {
         took: &AuditTook,
     ) -> bool
         requires few { length setup.now.members < 2 ^ 32 }
-        ensures { Answers self.now setup.now prior.now (λ before. fitting.step_took_fits before node source took.now) result }
+        ensures { Answers self.now setup.now prior.now
+            (λ before. fitting.step_took_fits before node source took.now) result }
     {
         match took {
             AuditTook::Request(at, answer) => {
@@ -271,7 +282,8 @@ impl Case {
         took: &AuditTook,
     ) -> bool
         requires few { length setup.now.members < 2 ^ 32 }
-        ensures { Answers self.now setup.now prior.now (λ before. fitting.took_fits before event.now took.now) result }
+        ensures { Answers self.now setup.now prior.now
+            (λ before. fitting.took_fits before event.now took.now) result }
     {
         match event {
             Event::Start { .. } => matches!(took, AuditTook::Floor),
@@ -295,7 +307,8 @@ impl Case {
         entry: &AuditEntry,
     ) -> bool
         requires few { length setup.now.members < 2 ^ 32 }
-        ensures { Answers self.now setup.now prior.now (λ before. fitting.fits before event.now entry.now) result }
+        ensures { Answers self.now setup.now prior.now
+            (λ before. fitting.fits before event.now entry.now) result }
     {
         let number = prior.len() as u64 + 1;
         four(
@@ -314,7 +327,8 @@ impl Case {
         entry: &AuditEntry,
     ) -> bool
         requires few { length setup.now.members < 2 ^ 32 }
-        ensures { Answers self.now setup.now prior.now (λ before. fitting.took_or_idle before event.now entry.now.outcome entry.now.took) result }
+        ensures { Answers self.now setup.now prior.now
+            (λ before. fitting.took_or_idle before event.now entry.now.outcome entry.now.took) result }
     {
         if matches!(entry.outcome, Outcome::Idle) {
             is_nothing(&entry.took)
@@ -355,7 +369,8 @@ impl Case {
         requires few { length setup.now.members < 2 ^ 32 }
         ensures { OnOk result ((setting : Setting) (before : List Noted) → setting.setup ≡ setup.now → CaseStands self.old setup.now prior.now before
             → conditions.is_allowed setting before event.now ≡ true
-            → CaseStands self.new setup.now (prior.now ++ entry.now ∷ []) (rebuilt event.now entry.now ∷ before)) }
+            → CaseStands self.new setup.now (prior.now ++ entry.now ∷ [])
+            (rebuilt event.now entry.now ∷ before)) }
     {
         let number = prior.len() as u64 + 1;
         self.clock = clock_behind(self.clock, event);
@@ -375,7 +390,8 @@ fn goes_on(setup: &Setup, node: Node, at_end: bool) -> bool
 
 // Whether there is a request that takes such an answer.
 fn takes(asked: Option<&Asked>, answer: &Answer) -> bool
-    ensures { result ≡ option_map_or (λ request. answers.answer_fits request answer.now) (option_map (λ it. it.now) asked.entry) false }
+    ensures { result ≡ option_map_or (λ request. answers.answer_fits request answer.now) (option_map
+        (λ it. it.now) asked.entry) false }
 {
     match asked {
         None => false,
@@ -385,7 +401,8 @@ fn takes(asked: Option<&Asked>, answer: &Answer) -> bool
 
 // Whether there is a request of which a step from this source takes such an answer.
 fn takes_from(source: StepSource, asked: Option<&Asked>, answer: &Answer) -> bool
-    ensures { result ≡ option_map_or (λ request. fitting.is_for source request && answers.answer_fits request answer.now) (option_map (λ it. it.now) asked.entry) false }
+    ensures { result ≡ option_map_or (λ request. fitting.is_for source request
+        && answers.answer_fits request answer.now) (option_map (λ it. it.now) asked.entry) false }
 {
     match asked {
         None => false,

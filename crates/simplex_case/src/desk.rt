@@ -67,7 +67,8 @@ impl Desk {
         entry: &AuditEntry,
     ) -> Result<(), AllocError>
         ensures { OnOk result ((before : List Noted) (node : Node) → number ≡ length before + 1 → is_of node event.now ≡ true
-            → DeskStands self.old before node → DeskStands self.new (rebuilt event.now entry.now ∷ before) node) }
+            → DeskStands self.old before node
+            → DeskStands self.new (rebuilt event.now entry.now ∷ before) node) }
     {
         let asked = entry.asked.len() as u64;
         self.requests.enter(alloc, is_start(event), number, asked)?;
@@ -108,7 +109,9 @@ fn runs_behind(runs: bool, event: &Event, outcome: Outcome) -> bool
 
 // Makes this the value at each of the numbers.
 fn put_all(map: &mut BTreeMap<u64, u64>, numbers: &[u64], value: u64) -> Result<(), AllocError>
-    ensures { OnOk result ((q : ℕ) → found map.new q ≡ (if list_any (λ n. n == q) numbers.now then Some value else found map.old q)) }
+    ensures { OnOk result ((q : ℕ)
+        → found map.new q
+        ≡ (if list_any (λ n. n == q) numbers.now then Some value else found map.old q)) }
 {
     for number in numbers {
         put(map, *number, value)?;

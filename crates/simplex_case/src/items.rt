@@ -14,7 +14,8 @@ use simplex_transcript::{Node, Packet, Ref};
 
 // The entry of the event of this number, which is counted from 1.
 fn entry_at(prior: &[AuditEntry], event: u64) -> Option<&AuditEntry>
-    ensures { option_map (λ entry. entry.now) result ≡ (if event == 0 then None else slice_get prior.now (event - 1)) }
+    ensures { option_map (λ entry. entry.now) result ≡ (if event == 0 then None
+        else slice_get prior.now (event - 1)) }
 {
     let place = event.checked_sub(1)?;
     prior.get(place as usize)

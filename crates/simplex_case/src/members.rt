@@ -74,7 +74,8 @@ pub fn is_node(setup: &Setup, node: Node) -> bool
 
 /// Whether the member and all nodes exist.
 pub(crate) fn exist(setup: &Setup, member: u64, nodes: &[Node]) -> bool
-    ensures { result ≡ (nat_lt member (kinds.members_of setup.now) && list_all (kinds.is_node setup.now) nodes.now) }
+    ensures { result ≡ (nat_lt member (kinds.members_of setup.now)
+        && list_all (kinds.is_node setup.now) nodes.now) }
 {
     member < setup.members.len() as u64 && are_nodes(setup, nodes)
 }

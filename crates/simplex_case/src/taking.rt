@@ -27,7 +27,8 @@ use std::slice::from_ref;
 
 /// The clock behind an event.
 pub(crate) fn clock_behind(clock: u64, event: &Event) -> u64
-    ensures { taking.clock_behind clock event.now ≤ 2 ^ 63 - 1 → result ≡ taking.clock_behind clock event.now }
+    ensures { taking.clock_behind clock event.now ≤ 2 ^ 63 - 1
+        → result ≡ taking.clock_behind clock event.now }
 {
     match event {
         Event::Tick { ms } => clock.saturating_add(*ms),
@@ -66,7 +67,8 @@ pub(crate) fn take_answer(
     event: &Event,
 ) -> Result<(), AllocError>
     ensures { OnOk result ((before : List Noted) (entry : AuditEntry) → IsOfRequest before event.now
-        → AnswersStand answered.old.marks.items before → AnswersStand answered.new.marks.items (rebuilt event.now entry ∷ before)) }
+        → AnswersStand answered.old.marks.items before
+        → AnswersStand answered.new.marks.items (rebuilt event.now entry ∷ before)) }
 {
     match answer_place(event) {
         None => answered.push(alloc),
@@ -104,7 +106,8 @@ pub(crate) fn take_at_desk(
     requires few { length setup.now.members < 2 ^ 32 }
     ensures count { OnOk result (length desks.new.items ≡ length desks.old.items) }
     ensures stand { OnOk result ((before : List Noted) → number ≡ length before + 1 → length desks.old.items ≡ 2 * kinds.members_of setup.now
-        → IsOfNode setup.now event.now → DesksStand desks.old.items before → DesksStand desks.new.items (rebuilt event.now entry.now ∷ before)) }
+        → IsOfNode setup.now event.now → DesksStand desks.old.items before
+        → DesksStand desks.new.items (rebuilt event.now entry.now ∷ before)) }
 {
     match own_node(event) {
         Some(node) if is_node(setup, node) => {
@@ -140,7 +143,8 @@ pub(crate) fn take_reports(
     entry: &AuditEntry,
 ) -> Result<(), AllocError>
     ensures { OnOk result ((f : Finalization) → has_reported reported.new f
-        ≡ (is_of_honest setup.now entry.now.who && list_any (taking.tells f) entry.now.calls || has_reported reported.old f)) }
+        ≡ (is_of_honest setup.now entry.now.who && list_any (taking.tells f) entry.now.calls
+        || has_reported reported.old f)) }
 {
     match entry.who {
         Some(node) if is_honest(setup, node.member) => {
@@ -152,7 +156,8 @@ pub(crate) fn take_reports(
 
 // Takes in what calls report.
 fn take_calls(reported: &mut Reported, alloc: Global, calls: &[AuditCall]) -> Result<(), AllocError>
-    ensures { OnOk result ((f : Finalization) → has_reported reported.new f ≡ (list_any (taking.tells f) calls.now || has_reported reported.old f)) }
+    ensures { OnOk result ((f : Finalization) → has_reported reported.new f
+        ≡ (list_any (taking.tells f) calls.now || has_reported reported.old f)) }
 {
     for call in calls {
         take_call(reported, alloc, call)?;
@@ -161,7 +166,8 @@ fn take_calls(reported: &mut Reported, alloc: Global, calls: &[AuditCall]) -> Re
 }
 
 fn take_call(reported: &mut Reported, alloc: Global, call: &AuditCall) -> Result<(), AllocError>
-    ensures { OnOk result ((f : Finalization) → has_reported reported.new f ≡ (taking.tells f call.now || has_reported reported.old f)) }
+    ensures { OnOk result ((f : Finalization)
+        → has_reported reported.new f ≡ (taking.tells f call.now || has_reported reported.old f)) }
 {
     match call {
         AuditCall::Report(Certificate::Finalization(finalization)) => {
@@ -194,7 +200,8 @@ fn take_packets(
     packets: &[Packet],
 ) -> Result<(), AllocError>
     ensures { OnOk result ((before : List Noted) (noted : Noted) → noted.entry.packets ≡ packets.now
-        → IndexStands votes.old setup.now before → IndexStands votes.new setup.now (noted ∷ before)) }
+        → IndexStands votes.old setup.now before
+        → IndexStands votes.new setup.now (noted ∷ before)) }
 {
     for packet in packets {
         take_packet(votes, alloc, setup, packet)?;

@@ -15,7 +15,8 @@ pub(crate) fn certificate_on(
     channel: Channel,
     bytes: &[u8],
 ) -> Result<Option<Certificate>, AllocError>
-    ensures { IfOk result (λ certificate. option_to_list certificate ≡ backed.certificate_on channel bytes.now) }
+    ensures { IfOk result (λ certificate. option_to_list certificate
+        ≡ backed.certificate_on channel bytes.now) }
 {
     match channel {
         Channel::Vote => Ok(None),
@@ -26,7 +27,8 @@ pub(crate) fn certificate_on(
 
 // The certificate that the bytes are.
 fn certificate_in(alloc: Global, bytes: &[u8]) -> Result<Option<Certificate>, AllocError>
-    ensures { IfOk result (λ certificate. option_to_list certificate ≡ backed.read_certificate (whole format.certificate bytes.now)) }
+    ensures { IfOk result (λ certificate. option_to_list certificate
+        ≡ backed.read_certificate (whole format.certificate bytes.now)) }
 {
     match Certificate::decode(alloc, bytes) {
         Ok(certificate) => Ok(Some(certificate)),
@@ -37,7 +39,8 @@ fn certificate_in(alloc: Global, bytes: &[u8]) -> Result<Option<Certificate>, Al
 
 // The certificate of a response that the bytes are.
 fn certificate_in_message(alloc: Global, bytes: &[u8]) -> Result<Option<Certificate>, AllocError>
-    ensures { IfOk result (λ certificate. option_to_list certificate ≡ backed.in_response (whole resolver_message bytes.now)) }
+    ensures { IfOk result (λ certificate. option_to_list certificate
+        ≡ backed.in_response (whole resolver_message bytes.now)) }
 {
     match ResolverMessage::decode(alloc, bytes) {
         Ok(message) => certificate_in_body(alloc, &message.body),

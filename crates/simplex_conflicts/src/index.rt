@@ -62,7 +62,8 @@ impl Index {
 
     // Whether the subject conflicts with one of those that are known.
     fn conflicts(&self, subject: &Subject) -> bool
-        ensures { (known : List Subject) → Indexes self.now known → result ≡ list_any (conflicts self.now.length subject.now) known }
+        ensures { (known : List Subject) → Indexes self.now known
+            → result ≡ list_any (conflicts self.now.length subject.now) known }
     {
         match subject {
             Subject::Notarize(p) => self.has_rival(p) || self.has_final_between(p),
@@ -75,7 +76,8 @@ impl Index {
     fn add(&mut self, subject: &Subject) -> Result<(), AllocError>
         ensures length { self.new.length ≡ self.old.length }
         ensures stands { OnOk result ((known : List Subject) → Indexes self.old known
-            → list_any (conflicts self.old.length subject.now) known ≡ false → Indexes self.new (subject.now ∷ known)) }
+            → list_any (conflicts self.old.length subject.now) known ≡ false
+            → Indexes self.new (subject.now ∷ known)) }
     {
         match subject {
             Subject::Notarize(p) => self.name(p),
@@ -92,9 +94,11 @@ impl Index {
         ensures length { self.new.length ≡ self.old.length }
         ensures finals { self.new.finals ≡ self.old.finals }
         ensures nullified { self.new.nullified ≡ self.old.nullified }
-        ensures named { OnOk result ((q : ℕ) → found self.new.named q ≡ (if p.now.round.view == q then Some p.now else found self.old.named q)) }
+        ensures named { OnOk result ((q : ℕ) → found self.new.named q
+            ≡ (if p.now.round.view == q then Some p.now else found self.old.named q)) }
         ensures stairs { OnOk result ((spanned : ℕ → Bool) → StairsStand self.old.stairs spanned
-            → StairsStand self.new.stairs (λ view. is_between p.now.parent p.now.round.view view || spanned view)) }
+            → StairsStand self.new.stairs
+            (λ view. is_between p.now.parent p.now.round.view view || spanned view)) }
     {
         put(&mut self.named, p.view().0, *p)?;
         self.stairs.add(p.parent.0, p.view().0)
@@ -103,7 +107,8 @@ impl Index {
     // Whether another proposal is named for its view, or one of a later view stands on an earlier one.
     fn is_challenged(&self, p: &Proposal) -> bool
         ensures { (known : List Subject) → Indexes self.now known
-            → result ≡ (list_any (is_named_rival p.now) known || list_any (is_named_across p.now.round.view) known) }
+            → result ≡ (list_any (is_named_rival p.now) known
+            || list_any (is_named_across p.now.round.view) known) }
     {
         self.has_rival(p) || self.is_passed(p.view())
     }
@@ -111,21 +116,24 @@ impl Index {
     // Whether a view strictly between its own and its parent's is final, or its own is given up.
     fn is_ruled_out(&self, p: &Proposal) -> bool
         ensures { (known : List Subject) → Indexes self.now known
-            → result ≡ (list_any (is_final_between p.now) known || list_any (is_given_up_by self.now.length p.now.round.view) known) }
+            → result ≡ (list_any (is_final_between p.now) known
+            || list_any (is_given_up_by self.now.length p.now.round.view) known) }
     {
         self.has_final_between(p) || self.is_given_up(p.view())
     }
 
     // Whether a proposal of a later view stands on an earlier one.
     fn is_passed(&self, view: View) -> bool
-        ensures { (known : List Subject) → Indexes self.now known → result ≡ list_any (is_named_across view) known }
+        ensures { (known : List Subject) → Indexes self.now known
+            → result ≡ list_any (is_named_across view) known }
     {
         self.stairs.spans(view.0)
     }
 
     // Whether another proposal is named for its view.
     fn has_rival(&self, p: &Proposal) -> bool
-        ensures { (known : List Subject) → Indexes self.now known → result ≡ list_any (is_named_rival p.now) known }
+        ensures { (known : List Subject) → Indexes self.now known
+            → result ≡ list_any (is_named_rival p.now) known }
     {
         match self.named.get(&p.view().0) {
             None => false,
@@ -135,7 +143,8 @@ impl Index {
 
     // Whether a view strictly between its own and its parent's is final.
     fn has_final_between(&self, p: &Proposal) -> bool
-        ensures { (known : List Subject) → Indexes self.now known → result ≡ list_any (is_final_between p.now) known }
+        ensures { (known : List Subject) → Indexes self.now known
+            → result ≡ list_any (is_final_between p.now) known }
     {
         let Some(before) = p.view().previous() else {
             return false;
@@ -148,7 +157,8 @@ impl Index {
 
     // Whether a view of the term, from this one on, is final.
     fn has_final_in_term(&self, view: View) -> bool
-        ensures { (known : List Subject) → Indexes self.now known → result ≡ list_any (is_final_in_term self.now.length view) known }
+        ensures { (known : List Subject) → Indexes self.now known
+            → result ≡ list_any (is_final_in_term self.now.length view) known }
     {
         match first_from(&self.finals, view.0) {
             None => false,
@@ -158,7 +168,8 @@ impl Index {
 
     // Whether a view of the term, up to this one, is nullified.
     fn is_given_up(&self, view: View) -> bool
-        ensures { (known : List Subject) → Indexes self.now known → result ≡ list_any (is_given_up_by self.now.length view) known }
+        ensures { (known : List Subject) → Indexes self.now known
+            → result ≡ list_any (is_given_up_by self.now.length view) known }
     {
         match last_up_to(&self.nullified, view.0) {
             None => false,

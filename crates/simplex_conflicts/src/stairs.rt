@@ -55,7 +55,8 @@ impl Stairs {
 
     /// Whether both lie between the views of a pair, or are those.
     fn reaches(&self, lower: u64, upper: u64) -> bool
-        ensures { (spanned : ℕ → Bool) → StairsStand self.now spanned → IsTrue result ↔ Reaches self.now lower upper }
+        ensures { (spanned : ℕ → Bool) → StairsStand self.now spanned
+            → IsTrue result ↔ Reaches self.now lower upper }
     {
         match self.last_up_to(lower) {
             None => false,
@@ -67,7 +68,8 @@ impl Stairs {
     fn last_up_to(&self, view: u64) -> Option<(u64, u64)>
         ensures pair { IfSome result (λ pair. found self.now.uppers pair.0 ≡ Some pair.1) }
         ensures bound { IfSome result (λ pair. pair.0 ≤ view) }
-        ensures greatest { IfSome result (λ pair. (q : ℕ) → q ≤ view → is_some (found self.now.uppers q) ≡ true → q ≤ pair.0) }
+        ensures greatest { IfSome result (λ pair. (q : ℕ) → q ≤ view
+            → is_some (found self.now.uppers q) ≡ true → q ≤ pair.0) }
         ensures none { IfNone result ((q : ℕ) → q ≤ view → found self.now.uppers q ≡ None) }
     {
         let (lower, upper) = self.uppers.range(..=view).next_back()?;
@@ -78,7 +80,8 @@ impl Stairs {
     fn first_from(&self, view: u64) -> Option<(u64, u64)>
         ensures pair { IfSome result (λ pair. found self.now.uppers pair.0 ≡ Some pair.1) }
         ensures bound { IfSome result (λ pair. view ≤ pair.0) }
-        ensures least { IfSome result (λ pair. (q : ℕ) → view ≤ q → q < pair.0 → found self.now.uppers q ≡ None) }
+        ensures least { IfSome result (λ pair. (q : ℕ) → view ≤ q → q < pair.0
+            → found self.now.uppers q ≡ None) }
         ensures none { IfNone result ((q : ℕ) → view ≤ q → found self.now.uppers q ≡ None) }
     {
         let (lower, upper) = self.uppers.range(view..).next()?;
@@ -87,7 +90,8 @@ impl Stairs {
 
     /// Drops the pairs that lie between these two views.
     fn clear(&mut self, lower: u64, upper: u64)
-        ensures { (spanned : ℕ → Bool) → StairsStand self.old spanned → Cleared self.old self.new lower upper }
+        ensures { (spanned : ℕ → Bool) → StairsStand self.old spanned
+            → Cleared self.old self.new lower upper }
     {
         while let Some((first, other)) = self.first_from(lower) {
             if other > upper {
@@ -100,8 +104,10 @@ impl Stairs {
 
 /// Drops what stands at the view.
 fn remove(values: &mut BTreeMap<u64, u64>, view: u64)
-    ensures values { (q : ℕ) → found values.new q ≡ (if view == q then None else found values.old q) }
-    ensures fewer { is_some (found values.old view) ≡ true → btree_map_len values.new < btree_map_len values.old }
+    ensures values { (q : ℕ)
+        → found values.new q ≡ (if view == q then None else found values.old q) }
+    ensures fewer { is_some (found values.old view) ≡ true
+        → btree_map_len values.new < btree_map_len values.old }
 {
     values.remove(&view);
 }

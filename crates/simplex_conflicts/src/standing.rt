@@ -48,7 +48,8 @@ impl Standing {
         ensures answer { IfOk result (λ conflict. (setup : Setup) (before : List Noted) → StandsFor self.old setup before
             → conflict ≡ has_conflict setup before (rebuilt_entry entry.now)) }
         ensures stands { IfOk result (λ conflict. conflict ≡ false → (setup : Setup) (before : List Noted) (event : Event)
-            → StandsFor self.old setup before → StandsFor self.new setup (rebuilt event entry.now ∷ before)) }
+            → StandsFor self.old setup before
+            → StandsFor self.new setup (rebuilt event entry.now ∷ before)) }
     {
         if self.take_certificates(entry.added.as_slice())? {
             return Ok(true);
@@ -73,7 +74,8 @@ impl Standing {
 
     // Those that are appended and reported, likewise.
     fn take_calls(&mut self, calls: &[AuditCall]) -> Result<bool, AllocError>
-        ensures { IfOk result (λ conflict. TakesIn self.old self.new (flat_map in_call calls.now) conflict) }
+        ensures { IfOk result
+            (λ conflict. TakesIn self.old self.new (flat_map in_call calls.now) conflict) }
     {
         for call in calls {
             if self.take_call(call)? {
@@ -102,7 +104,8 @@ impl Standing {
     // That of a record of the journal.
     #[tactic(auto, using(crate::proofs::Clashing::takes_nothing))]
     fn take_record(&mut self, artifact: &Artifact) -> Result<bool, AllocError>
-        ensures { IfOk result (λ conflict. TakesIn self.old self.new (backed.of_record artifact.now) conflict) }
+        ensures { IfOk result
+            (λ conflict. TakesIn self.old self.new (backed.of_record artifact.now) conflict) }
     {
         match artifact {
             Artifact::Notarization(it) => {
@@ -123,7 +126,9 @@ impl Standing {
 
     // Those of packets, likewise.
     fn take_packets(&mut self, alloc: Global, packets: &[Packet]) -> Result<bool, AllocError>
-        ensures { IfOk result (λ conflict. TakesIn self.old self.new (flat_map backed.of_packet packets.now) conflict) }
+        ensures { IfOk result
+            (λ conflict. TakesIn self.old self.new
+            (flat_map backed.of_packet packets.now) conflict) }
     {
         for packet in packets {
             if self.take_packet(alloc, packet)? {
@@ -135,7 +140,8 @@ impl Standing {
 
     // That of a packet.
     fn take_packet(&mut self, alloc: Global, packet: &Packet) -> Result<bool, AllocError>
-        ensures { IfOk result (λ conflict. TakesIn self.old self.new (backed.of_packet packet.now) conflict) }
+        ensures { IfOk result
+            (λ conflict. TakesIn self.old self.new (backed.of_packet packet.now) conflict) }
     {
         match certificate_on(alloc, packet.channel, packet.bytes.as_slice())? {
             None => Ok(false),

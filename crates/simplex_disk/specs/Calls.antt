@@ -56,7 +56,8 @@ unfoldable pub content : ℕ → List Call → Option (List ℕ)
 content n [] = None
 content n (call ∷ calls) = if is_of n call then after call (content n calls) else content n calls
 
--- A write of so many bytes that a crash may cut short: any bytes in the range and past the old end, the others as they were.
+-- A write of so many bytes that a crash may cut short: any bytes in the range and past the old end, the others as they
+-- were.
 pub record Torn (place range : ℕ) (old new : List ℕ) : Type 0 where
   pub before : take (min place (length old)) new ≡ take (min place (length old)) old
   pub behind : drop (place + range) new ≡ drop (place + range) old
@@ -70,7 +71,8 @@ TornIn place range None (Some new) = Torn place range [] new
 TornIn place range (Some old) None = ⊥
 TornIn place range (Some old) (Some new) = Torn place range old new
 
--- What a crash may leave of a file right after a call of it, from what a read gives now and from what a crash before it might have left.
+-- What a crash may leave of a file right after a call of it, from what a read gives now and from what a crash before it
+-- might have left.
 abbrev pub Leaves : Call → Option (List ℕ) → (Option (List ℕ) → Type 0) → Option (List ℕ) → Type 0
 Leaves (Found file bytes) now before x = x ≡ now
 Leaves (Write file place range bytes) now before x = (y : Option (List ℕ)) × before y × TornIn place range y x
@@ -91,7 +93,8 @@ MayLeave n (call ∷ calls) x = LeavesIf (is_of n call) call (content n (call �
 
 -- What a write that failed has done: nothing, or it wrote some bytes in its range.
 abbrev pub WritesInPart : ℕ → ℕ → ℕ → List Call → (List Call → Type 0) → Type 0
-WritesInPart file place range calls StandsFor = StandsFor calls ⊎ ((left : List ℕ) × (length left ≤ range) × StandsFor (Write file place range left ∷ calls))
+WritesInPart file place range calls StandsFor =
+    StandsFor calls ⊎ ((left : List ℕ) × (length left ≤ range) × StandsFor (Write file place range left ∷ calls))
 
 -- What a cut that failed has done: nothing, or it may have cut the file.
 abbrev pub CutsInPart : ℕ → ℕ → List Call → (List Call → Type 0) → Type 0
@@ -100,3 +103,15 @@ CutsInPart file len calls StandsFor = StandsFor calls ⊎ ((done : Bool) × Stan
 -- What a removal that failed has done: nothing, or it may have removed the file.
 abbrev pub RemovesInPart : ℕ → List Call → (List Call → Type 0) → Type 0
 RemovesInPart file calls StandsFor = StandsFor calls ⊎ ((done : Bool) × StandsFor (Remove file done ∷ calls))
+
+-- Whatever calls were made before, this one is made too.
+abbrev pub Does : (Old New : List Call → Type 0) → Call → Type 0
+Does Old New call = (calls : List Call) → Old calls → New (call ∷ calls)
+
+-- Whatever calls were made before: a call that failed was made in part, or not at all.
+abbrev pub DoesInPart : (Old New : List Call → Type 0) → (List Call → (List Call → Type 0) → Type 0) → Type 0
+DoesInPart Old New InPart = (calls : List Call) → Old calls → InPart calls New
+
+-- Whatever calls were made before, no other is made.
+abbrev pub DoesNothing : (Old New : List Call → Type 0) → Type 0
+DoesNothing Old New = (calls : List Call) → Old calls → New calls

@@ -18,6 +18,10 @@ pub record Reads (a : Artifact) : Type 0 where
   pub again : whole artifact (artifact.spelling a) ≡ Ok a
   pub short : length (artifact.spelling a) ≤ 2 ^ 64 - 1
 
+-- Whatever record it is that these bytes are, with a closed gate behind it, this holds of it.
+abbrev pub OfRecord : List ℕ → (Artifact → Type 0) → Type 0
+OfRecord bytes Holds = (a : Artifact) → Reads a → bytes ≡ record_bytes a ++ 0 ∷ [] → Holds a
+
 -- A gate, and the record behind it.
 pub record Block : Type 0 where
   pub gate : ℕ
@@ -46,7 +50,8 @@ total (a ∷ records) = suc (length (record_bytes a) + total records)
 
 -- the record whose spelling has n bytes, from the front
 abbrev pub framed : ℕ × List ℕ → Result (Artifact × List ℕ) DecodeError
-framed x = if nat_lt (length x.1) x.0 then Err (Fault Short 0) else whole artifact (take x.0 x.1) >>= λ a. Ok (a, drop x.0 x.1)
+framed x =
+    if nat_lt (length x.1) x.0 then Err (Fault Short 0) else whole artifact (take x.0 x.1) >>= λ a. Ok (a, drop x.0 x.1)
 
 -- the record behind a gate, and what stands behind it
 unfoldable pub block : List ℕ → Result (Artifact × List ℕ) DecodeError

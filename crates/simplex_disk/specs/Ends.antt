@@ -12,7 +12,8 @@ IsNoFault (Err Failed) = ⊥
 IsNoFault (Err Memory) = Unit {0}
 
 -- The count of faults rose exactly where a call failed, and none did where none was to.
-pub record Ends {R : Type 0} (faults : ℕ) (order : Option ℕ) (answer : Result R DiskError) (faults_now : ℕ) (order_now : Option ℕ) : Type 0 where
+pub record Ends {R : Type 0} (faults : ℕ) (order : Option ℕ) (answer : Result R DiskError) (faults_now : ℕ)
+    (order_now : Option ℕ) : Type 0 where
   pub counts : Counts answer faults faults_now
   pub quiet : order ≡ Some 0 → (order_now ≡ Some 0) × IsNoFault answer
   pub told : IsSome order → IsSome order_now

@@ -10,17 +10,20 @@ LeavesNone n calls = (x : Option (List ℕ)) → MayLeave n calls x → length (
 
 -- Whatever a crash leaves of the file has the synced records, a first part of the pending ones, and a closed gate.
 abbrev pub LeavesFront : ℕ → List Artifact → List Artifact → List Call → Type 0
-LeavesFront n synced pending calls = (x : Option (List ℕ)) → MayLeave n calls x → (bytes : List ℕ) × (x ≡ Some bytes) × IsFront synced pending bytes
+LeavesFront n synced pending calls =
+    (x : Option (List ℕ)) → MayLeave n calls x → (bytes : List ℕ) × (x ≡ Some bytes) × IsFront synced pending bytes
 
 -- It has all pending ones, though their gates may be closed.
 abbrev pub LeavesChain : ℕ → List Artifact → List Artifact → List Call → Type 0
-LeavesChain n synced pending calls = (x : Option (List ℕ)) → MayLeave n calls x → (bytes : List ℕ) × (x ≡ Some bytes) × IsChain synced pending bytes
+LeavesChain n synced pending calls =
+    (x : Option (List ℕ)) → MayLeave n calls x → (bytes : List ℕ) × (x ≡ Some bytes) × IsChain synced pending bytes
 
 -- a read gives these records
 abbrev pub HasChain : ℕ → List Artifact → List Artifact → List Call → Type 0
 HasChain n synced pending calls = (bytes : List ℕ) × (content n calls ≡ Some bytes) × IsChain synced pending bytes
 
--- The file stands for these records: a read gives them, and what a crash leaves has at most lost a last part of the pending ones.
+-- The file stands for these records: a read gives them, and what a crash leaves has at most lost a last part of the
+-- pending ones.
 pub record Stands (n : ℕ) (synced pending : List Artifact) (calls : List Call) : Type 0 where
   pub content : HasChain n synced pending calls
   pub left : LeavesFront n synced pending calls
@@ -54,7 +57,8 @@ IsSolid records bytes = (end : List ℕ) × (bytes ≡ chain (open_blocks record
 
 -- Whatever a crash leaves of the file, these records are read there.
 abbrev pub LeavesSolid : ℕ → List Artifact → List Call → Type 0
-LeavesSolid n records calls = (x : Option (List ℕ)) → MayLeave n calls x → (bytes : List ℕ) × (x ≡ Some bytes) × IsSolid records bytes
+LeavesSolid n records calls =
+    (x : Option (List ℕ)) → MayLeave n calls x → (bytes : List ℕ) × (x ≡ Some bytes) × IsSolid records bytes
 
 -- A crash now would leave the file as it reads. Its records take so many bytes.
 pub record IsMendable (n : ℕ) (records : List Artifact) (len : ℕ) (calls : List Call) : Type 0 where

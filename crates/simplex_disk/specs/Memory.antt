@@ -32,11 +32,26 @@ fails disk = (disk.ordered == 1) || list_any (λ number. number == next disk.mad
 
 -- the disk after a call that was counted, with so many faults
 abbrev pub counted : Held → ℕ → Held
-counted disk faults = record { kept = disk.kept; made = next disk.made; failing = disk.failing; ordered = disk.ordered - 1; faults = faults }
+counted disk faults =
+    record {
+      kept = disk.kept;
+      made = next disk.made;
+      failing = disk.failing;
+      ordered = disk.ordered - 1;
+      faults = faults;
+    }
 
--- The disk after a call that was answered, with these files: the call is counted, and is one more fault where it was to fail.
+-- The disk after a call that was answered, with these files: the call is counted, and is one more fault where it was to
+-- fail.
 abbrev pub after_call : Held → List (ℕ × List ℕ) → Held
-after_call disk kept = record { kept = kept; made = next disk.made; failing = disk.failing; ordered = disk.ordered - 1; faults = if fails disk then raised disk.faults else disk.faults }
+after_call disk kept =
+    record {
+      kept = kept;
+      made = next disk.made;
+      failing = disk.failing;
+      ordered = disk.ordered - 1;
+      faults = if fails disk then raised disk.faults else disk.faults;
+    }
 
 -- the answer of a call that takes no memory
 abbrev pub answer_of : Bool → Result (Unit {0}) DiskError
@@ -51,3 +66,7 @@ pub record IsLeftBy (kept : List (ℕ × List ℕ)) (calls : List Call) : Type 0
 abbrev pub order_told : List ℕ → ℕ → Option ℕ
 order_told [] ordered = Some ordered
 order_told (number ∷ numbers) ordered = None
+
+-- the order that it tells
+abbrev pub order_in : Held → Option ℕ
+order_in disk = order_told disk.failing disk.ordered

@@ -30,7 +30,8 @@ pub record IsSettled (calls : List Call) : Type 0 where
 
 -- Whatever a crash leaves of the file, the same records are read in it as in these bytes.
 abbrev pub LeavesRead : ℕ → List ℕ → List Call → Type 0
-LeavesRead n bytes calls = (x : Option (List ℕ)) → MayLeave n calls x → (same : List ℕ) × (x ≡ Some same) × (opened same ≡ opened bytes)
+LeavesRead n bytes calls =
+    (x : Option (List ℕ)) → MayLeave n calls x → (same : List ℕ) × (x ≡ Some same) × (opened same ≡ opened bytes)
 
 -- the same file, or one in which the same records are read
 abbrev pub ReadsSame : Option (List ℕ) → Option (List ℕ) → Type 0

@@ -12,8 +12,8 @@ order_told None order = None
 order_told (Some zero) order = Some order
 order_told (Some (suc call)) order = None
 
--- What the disk tells of its order, after it was given the order to fail the call of this number, if it was given it. Where it
--- tells none, nothing is said.
+-- What the disk tells of its order, after it was given the order to fail the call of this number, if it was given it.
+-- Where it tells none, nothing is said.
 abbrev pub IsOrdered : Bool → ℕ → Option ℕ → Option ℕ → Type 0
 IsOrdered true number None now = Unit {0}
 IsOrdered true number (Some call) now = now ≡ Some number

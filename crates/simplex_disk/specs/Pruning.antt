@@ -12,26 +12,31 @@ use Rattle.simplex_disk.specs.Index.{section_numbered, IsLeft, IsLeaving}
 abbrev pub IsImage : List Call → (ℕ → Option (List ℕ)) → Type 0
 IsImage calls image = (n : ℕ) → MayLeave n calls (image n)
 
--- What a crash leaves of the file of a section that was dropped before: no record is read there, or none more is gone yet, and a
--- crash before the call might have left it so.
+-- What a crash leaves of the file of a section that was dropped before: no record is read there, or none more is gone
+-- yet, and a crash before the call might have left it so.
 abbrev pub IsFirstGone : ℕ → ℕ → List Call → Option (List ℕ) → Type 0
 IsFirstGone count n before x = IsLeft None x ⊎ ((count ≡ 0) × MayLeave n before x)
 
--- Each whole image is a journal from which the first sections below the least number are gone, and that has of the others all
--- synced records and a first part of the pending ones. A section that was dropped before and whose removal failed is gone first:
--- it is back at most where no other is gone, and as it might have been back before the call.
-pub record LeavesPruned (least : ℕ) (sections : List Section) (leaving : Option ℕ) (before calls : List Call) : Type 0 where
+-- Each whole image is a journal from which the first sections below the least number are gone, and that has of the
+-- others all synced records and a first part of the pending ones. A section that was dropped before and whose removal
+-- failed is gone first: it is back at most where no other is gone, and as it might have been back before the call.
+pub record LeavesPruned (least : ℕ) (sections : List Section) (leaving : Option ℕ)
+    (before calls : List Call) : Type 0 where
   pub each : (image : ℕ → Option (List ℕ)) → IsImage calls image
-      → (count : ℕ) × ((n : ℕ) → ¬ IsLeaving leaving n → IsLeft (section_numbered n (pruned_first count least sections)) (image n))
+      → (count : ℕ) × ((n : ℕ) → ¬ IsLeaving leaving n
+      → IsLeft (section_numbered n (pruned_first count least sections)) (image n))
       × ((n : ℕ) → IsLeaving leaving n → IsFirstGone count n before (image n))
 
 -- What is leaving now was leaving before, or is below the least number.
 abbrev pub LeavesNoneAbove : ℕ → Option ℕ → Option ℕ → Type 0
 LeavesNoneAbove least leaving now = (n : ℕ) → IsLeaving now n → IsLeaving leaving n ⊎ (n < least)
 
--- Whatever a crash leaves of the file, it is not there, or it has the synced records and a first part of the pending ones.
+-- Whatever a crash leaves of the file, it is not there, or it has the synced records and a first part of the pending
+-- ones.
 abbrev pub LeavesGone : ℕ → List Artifact → List Artifact → List Call → Type 0
-LeavesGone n synced pending calls = (x : Option (List ℕ)) → MayLeave n calls x → (x ≡ None) ⊎ ((bytes : List ℕ) × (x ≡ Some bytes) × IsFront synced pending bytes)
+LeavesGone n synced pending calls =
+    (x : Option (List ℕ)) → MayLeave n calls x
+    → (x ≡ None) ⊎ ((bytes : List ℕ) × (x ≡ Some bytes) × IsFront synced pending bytes)
 
 -- no file below this number is there
 abbrev pub IsBare : ℕ → (ℕ → Option (List ℕ)) → Type 0
@@ -63,11 +68,13 @@ failing_disk_call leaving dropped = removal_calls leaving + (1 + 2 * dropped)
 
 -- Of a disk that fails a call behind these two alone, none of them failed. One that fails the second failed.
 abbrev pub IsPaced : {T E : Type 0} → Option ℕ → Result T E → Option ℕ → Type 0
-IsPaced order answer now = (more : ℕ) → order ≡ Some (2 + more) → MatchResult answer (λ _. (0 < more) × (now ≡ Some more)) (λ _. more ≡ 0)
+IsPaced order answer now =
+    (more : ℕ) → order ≡ Some (2 + more) → MatchResult answer (λ _. (0 < more) × (now ≡ Some more)) (λ _. more ≡ 0)
 
 -- Of a disk that fails a call behind these calls alone, none of them failed.
 abbrev pub IsSpared : {T E : Type 0} → ℕ → Option ℕ → Result T E → Option ℕ → Type 0
-IsSpared calls order answer now = (more : ℕ) → 0 < more → order ≡ Some (calls + more) → MatchResult answer (λ _. now ≡ Some more) (λ _. ⊥)
+IsSpared calls order answer now =
+    (more : ℕ) → 0 < more → order ≡ Some (calls + more) → MatchResult answer (λ _. now ≡ Some more) (λ _. ⊥)
 
 -- the entries but the first
 abbrev pub behind_first : List (ℕ × Segment) → List (ℕ × Segment)

@@ -21,6 +21,12 @@ pub record IsSegment (n : ℕ) (segment : Segment) (synced pending : List Artifa
   pub stands : Stands n synced pending calls
   pub kept : IsKept segment synced pending
 
+-- There are calls that may be all that were made of the disk, after which it is so of some records.
+abbrev pub IsSegmentBy : (List Call → Type 0) → ℕ → Segment → Type 0
+IsSegmentBy StandsFor n segment =
+    (calls : List Call) × StandsFor calls
+    × ((synced pending : List Artifact) × IsSegment n segment synced pending calls)
+
 -- The records of the file, as a read gives it, by what is kept of it.
 unfoldable pub lists_in : Option (List ℕ) → Segment → Lists
 lists_in file segment = record {

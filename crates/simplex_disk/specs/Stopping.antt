@@ -36,9 +36,12 @@ crashed_lists keep lists = record { synced = lists.synced ++ take keep lists.pen
 -- What is kept of this file was changed, and its records are what a stop leaves of them.
 abbrev pub StopsAt : ℕ → ℕ → List Call → List Call → List (ℕ × Segment) → List (ℕ × Segment) → Type 0
 StopsAt keep n old new es now = (v : Segment) → lookup (is_at (nat_cmp n)) es ≡ Some v
-    → (w : Segment) × (now ≡ set_value (is_at (nat_cmp n)) es w) × (lists_in (content n new) w ≡ crashed_lists keep (lists_in (content n old) v))
+    → (w : Segment) × (now ≡ set_value (is_at (nat_cmp n)) es w)
+    × (lists_in (content n new) w ≡ crashed_lists keep (lists_in (content n old) v))
 
 -- This is the least number of a section from a number on, if there is one.
 abbrev pub IsNext : List (ℕ × Segment) → ℕ → Option ℕ → Type 0
 IsNext es from None = (q : ℕ) → from ≤ q → lookup (is_at (nat_cmp q)) es ≡ None
-IsNext es from (Some n) = (from ≤ n) × IsSome (lookup (is_at (nat_cmp n)) es) × ((q : ℕ) → from ≤ q → q < n → lookup (is_at (nat_cmp q)) es ≡ None)
+IsNext es from (Some n) =
+    (from ≤ n) × IsSome (lookup (is_at (nat_cmp n)) es)
+    × ((q : ℕ) → from ≤ q → q < n → lookup (is_at (nat_cmp q)) es ≡ None)

@@ -11,7 +11,8 @@ use Rattle.simplex_disk.specs.Segments.{IsKept, IsSegment}
 
 -- The gates of the pending records of the file are open, on the disk. They still count as pending.
 abbrev pub IsOpened : ℕ → Segment → List Call → Type 0
-IsOpened n segment calls = (synced pending : List Artifact) × IsSegment n segment synced pending calls × Stands n (synced ++ pending) [] calls
+IsOpened n segment calls =
+    (synced pending : List Artifact) × IsSegment n segment synced pending calls × Stands n (synced ++ pending) [] calls
 
 -- It is so of each file that is kept.
 pub record AreOpened (es : List (ℕ × Segment)) (calls : List Call) : Type 0 where

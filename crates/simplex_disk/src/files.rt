@@ -2,7 +2,7 @@
 ghost use Rattle.std.specs.Prelude.{◌≡◌, ◌≤◌, ◌<◌, None, Some, IfOk, OnOk, OnErr, length, [], ◌∷◌};
 ghost use Rattle.simplex_disk.specs.Calls.{bytes_of, written, cut_to};
 ghost use Rattle.simplex_disk.specs.Answers.{IsListing};
-ghost use Rattle.simplex_disk.specs.Files.{kept_of, AreFilesBut};
+ghost use Rattle.simplex_disk.specs.Files.{kept_of, Rewrites};
 ghost use Rattle.simplex_disk.specs.Memory.{file_in};
 
 use std::alloc::{AllocError, Global};
@@ -33,7 +33,8 @@ fn copy_of(alloc: Global, bytes: &[u8]) -> Result<Vec<u8>, AllocError>
 
 // Makes the file.
 fn make_file(files: &mut Files, number: u64, bytes: Vec<u8>) -> Result<(), AllocError>
-    ensures ok { OnOk result (AreFilesBut number (kept_of files.old.entries) (kept_of files.new.entries) (Some bytes.items)) }
+    ensures ok { OnOk result (Rewrites number files.old.entries files.new.entries
+        (λ _. Some bytes.items)) }
     ensures err { OnErr result (kept_of files.new.entries ≡ kept_of files.old.entries) }
 {
     files.insert(number, bytes)?;
@@ -42,7 +43,8 @@ fn make_file(files: &mut Files, number: u64, bytes: Vec<u8>) -> Result<(), Alloc
 
 /// The bytes of the file, none where it is not there.
 pub(crate) fn read_file(files: &Files, alloc: Global, number: u64) -> Result<Vec<u8>, AllocError>
-    ensures { IfOk result (λ bytes. bytes.items ≡ bytes_of (file_in (kept_of files.now.entries) number)) }
+    ensures { IfOk result (λ bytes. bytes.items
+        ≡ bytes_of (file_in (kept_of files.now.entries) number)) }
 {
     match files.get(&number) {
         Some(bytes) => copy_of(alloc, bytes),
@@ -52,7 +54,8 @@ pub(crate) fn read_file(files: &Files, alloc: Global, number: u64) -> Result<Vec
 
 /// The numbers of the files.
 pub(crate) fn numbers_of(files: &Files, alloc: Global) -> Result<Vec<u64>, AllocError>
-    ensures { IfOk result (λ numbers. IsListing (file_in (kept_of files.now.entries)) numbers.items) }
+    ensures { IfOk result
+        (λ numbers. IsListing (file_in (kept_of files.now.entries)) numbers.items) }
 {
     let mut numbers = Vec::new(alloc);
     // The length is asked for its clause, which says that the numbers rise.
@@ -72,7 +75,8 @@ pub(crate) fn write_file(
     bytes: &[u8],
 ) -> Result<(), AllocError>
     requires { place ≤ length (bytes_of (file_in (kept_of files.old.entries) number)) }
-    ensures ok { OnOk result (AreFilesBut number (kept_of files.old.entries) (kept_of files.new.entries) (Some (written place bytes.now (bytes_of (file_in (kept_of files.old.entries) number))))) }
+    ensures ok { OnOk result (Rewrites number files.old.entries files.new.entries
+        (λ old. Some (written place bytes.now (bytes_of old)))) }
     ensures err { OnErr result (kept_of files.new.entries ≡ kept_of files.old.entries) }
 {
     if let Some(file) = files.get_mut(&number) {
@@ -83,7 +87,7 @@ pub(crate) fn write_file(
 
 /// Cuts the file to a length, where it is there and longer.
 pub(crate) fn cut_file(files: &mut Files, number: u64, len: u64)
-    ensures { AreFilesBut number (kept_of files.old.entries) (kept_of files.new.entries) (cut_to len (file_in (kept_of files.old.entries) number)) }
+    ensures { Rewrites number files.old.entries files.new.entries (cut_to len) }
 {
     if let Some(file) = files.get_mut(&number) {
         file.truncate(len as usize);
@@ -92,7 +96,7 @@ pub(crate) fn cut_file(files: &mut Files, number: u64, len: u64)
 
 /// Removes the file, where it is there.
 pub(crate) fn remove_file(files: &mut Files, number: u64)
-    ensures { AreFilesBut number (kept_of files.old.entries) (kept_of files.new.entries) None }
+    ensures { Rewrites number files.old.entries files.new.entries (λ _. None) }
 {
     files.remove(&number);
 }
@@ -100,7 +104,8 @@ pub(crate) fn remove_file(files: &mut Files, number: u64)
 /// Puts a byte at a place of the file.
 pub(crate) fn put_byte(files: &mut Files, number: u64, place: u64, byte: u8)
     requires { place < length (bytes_of (file_in (kept_of files.old.entries) number)) }
-    ensures { AreFilesBut number (kept_of files.old.entries) (kept_of files.new.entries) (Some (written place (byte ∷ []) (bytes_of (file_in (kept_of files.old.entries) number)))) }
+    ensures { Rewrites number files.old.entries files.new.entries
+        (λ old. Some (written place (byte ∷ []) (bytes_of old))) }
 {
     if let Some(file) = files.get_mut(&number) {
         file[place as usize] = byte;

@@ -1,16 +1,15 @@
 //! The files of a journal.
-ghost use Rattle.std.specs.Prelude.{◌≡◌, ◌<◌, ◌+◌, ◌^◌, ◌++◌, [], ◌∷◌, ℕ, List, Option, None, OnOk, OnErr, IfOk, IfSome, IsErrOf};
+ghost use Rattle.std.specs.Prelude.{◌≡◌, ◌<◌, ◌+◌, ◌^◌, [], ◌∷◌, ℕ, List, Option, None, OnOk, OnErr, IfOk, IfSome, IsErrOf};
 ghost use Rattle.std.specs.Ordering.{nat_cmp};
 ghost use Rattle.std.specs.BTreeMap.{insert_entry, is_at};
 ghost use Rattle.std.specs.Map.{lookup};
 ghost use Rattle.simplex_journal.specs.Journal.{appended, synced_at};
-ghost use Rattle.simplex_wire.specs.declared.artifact.Artifact.{Artifact};
 ghost use Rattle.simplex_disk.specs.declared.segment.Segment.{Segment};
 ghost use Rattle.simplex_disk.specs.Calls.{Call};
-ghost use Rattle.simplex_disk.specs.Chain.{record_bytes, Reads};
+ghost use Rattle.simplex_disk.specs.Chain.{OfRecord};
 ghost use Rattle.simplex_disk.specs.Ends.{Ends, IsNamed, IsAwaited};
 ghost use Rattle.simplex_disk.specs.Goes.{Goes, Changes, LeavesNoMore, LeavesNoneBut};
-ghost use Rattle.simplex_disk.specs.Index.{IsIndexed};
+ghost use Rattle.simplex_disk.specs.Index.{IsIndexedBy, IsIndexedBut};
 ghost use Rattle.simplex_disk.specs.Left.{IsShut, LeavesClosed};
 ghost use Rattle.simplex_disk.specs.Stopping.{IsNext};
 ghost use Rattle.simplex_disk.specs.Pruning.{IsSpared, removal_calls};
@@ -31,7 +30,8 @@ pub(crate) type Index = BTreeMap<u64, Segment>;
 
 /// Keeps what is kept of one file more.
 pub(crate) fn put(index: &mut Index, number: u64, segment: Segment) -> Result<(), DiskError>
-    ensures ok { OnOk result (index.new.entries ≡ insert_entry nat_cmp index.old.entries number segment) }
+    ensures ok { OnOk result (index.new.entries
+        ≡ insert_entry nat_cmp index.old.entries number segment) }
     ensures err { OnErr result (index.new.entries ≡ index.old.entries) }
     ensures memory { ¬ IsErrOf result DiskError.Failed }
 {
@@ -49,8 +49,11 @@ fn first_record<D: Disk>(
     requires { (calls : List Call) × D.StandsFor disk.old calls × IsShut file calls }
     ensures stands { (calls : List Call) → D.StandsFor disk.old calls → IsShut file calls
         → Then (D.StandsFor disk.new) (AlwaysOf file (LeavesClosed file) calls)
-        (λ now. IsShut file now × IfOk result (λ segment. (artifact : Artifact) → Reads artifact → bytes.now ≡ record_bytes artifact ++ 0 ∷ [] → IsSegment file segment [] (artifact ∷ []) now)) }
-    ensures ends { Ends (D.fault_count disk.old) (D.order disk.old) result (D.fault_count disk.new) (D.order disk.new) }
+        (λ now. IsShut file now × IfOk result
+        (λ segment. OfRecord bytes.now
+        (λ artifact. IsSegment file segment [] (artifact ∷ []) now))) }
+    ensures ends { Ends (D.fault_count disk.old) (D.order disk.old) result
+        (D.fault_count disk.new) (D.order disk.new) }
     ensures named { IsNamed (D.order disk.old) result }
 {
     make_file(disk, file)?;
@@ -64,13 +67,17 @@ pub(crate) fn finish_removal<D: Disk>(
     disk: &mut D,
     leaving: &mut Option<u64>,
 ) -> Result<(), DiskError>
-    ensures goes { (es : List (ℕ × Segment)) → Goes (D.StandsFor disk.old) (D.StandsFor disk.new) es es leaving.old leaving.new (λ old new. new ≡ old) }
+    ensures goes { (es : List (ℕ × Segment))
+        → Goes (D.StandsFor disk.old) (D.StandsFor disk.new) es es leaving.old leaving.new
+        (λ old new. new ≡ old) }
     ensures gone { OnOk result (leaving.new ≡ None) }
     ensures less { LeavesNoMore leaving.old leaving.new }
     ensures room { ¬ IsErrOf result DiskError.Memory }
-    ensures ends { Ends (D.fault_count disk.old) (D.order disk.old) result (D.fault_count disk.new) (D.order disk.new) }
+    ensures ends { Ends (D.fault_count disk.old) (D.order disk.old) result
+        (D.fault_count disk.new) (D.order disk.new) }
     ensures awaited { IsAwaited (D.order disk.old) result (D.order disk.new) }
-    ensures spared { IsSpared (removal_calls leaving.old) (D.order disk.old) result (D.order disk.new) }
+    ensures spared { IsSpared (removal_calls leaving.old)
+        (D.order disk.old) result (D.order disk.new) }
 {
     if let Some(file) = *leaving {
         disk.remove(file)?;
@@ -80,8 +87,8 @@ pub(crate) fn finish_removal<D: Disk>(
     Ok(())
 }
 
-// Opens the section of this number with its first record. A file that is leaving is removed first, so that there is never another
-// of no section than this one.
+// Opens the section of this number with its first record. A file that is leaving is removed first, so that there is
+// never another of no section than this one.
 fn open_section<D: Disk>(
     disk: &mut D,
     index: &mut Index,
@@ -90,13 +97,15 @@ fn open_section<D: Disk>(
     number: u64,
     bytes: &[u8],
 ) -> Result<(), DiskError>
-    requires indexed { (calls : List Call) × D.StandsFor disk.old calls × IsIndexed index.old.entries leaving.old calls }
+    requires indexed { IsIndexedBut (D.StandsFor disk.old) index.old.entries leaving.old }
     requires absent { lookup (is_at (nat_cmp number)) index.old.entries ≡ None }
-    ensures goes { (artifact : Artifact) → Reads artifact → bytes.now ≡ record_bytes artifact ++ 0 ∷ []
-        → Goes (D.StandsFor disk.old) (D.StandsFor disk.new) index.old.entries index.new.entries leaving.old leaving.new (Changes result (appended number artifact)) }
+    ensures goes { OfRecord bytes.now (λ artifact. Goes (D.StandsFor disk.old) (D.StandsFor disk.new)
+        index.old.entries index.new.entries leaving.old leaving.new
+        (Changes result (appended number artifact))) }
     ensures gone { OnOk result (leaving.new ≡ None) }
     ensures less { LeavesNoneBut number leaving.old leaving.new }
-    ensures ends { Ends (D.fault_count disk.old) (D.order disk.old) result (D.fault_count disk.new) (D.order disk.new) }
+    ensures ends { Ends (D.fault_count disk.old) (D.order disk.old) result
+        (D.fault_count disk.new) (D.order disk.new) }
     ensures named { IsNamed (D.order disk.old) result }
 {
     finish_removal(disk, leaving)?;
@@ -116,12 +125,14 @@ fn append_bytes<D: Disk>(
     number: u64,
     bytes: &[u8],
 ) -> Result<(), DiskError>
-    requires { (calls : List Call) × D.StandsFor disk.old calls × IsIndexed index.old.entries leaving.old calls }
-    ensures goes { (artifact : Artifact) → Reads artifact → bytes.now ≡ record_bytes artifact ++ 0 ∷ []
-        → Goes (D.StandsFor disk.old) (D.StandsFor disk.new) index.old.entries index.new.entries leaving.old leaving.new (Changes result (appended number artifact)) }
+    requires { IsIndexedBut (D.StandsFor disk.old) index.old.entries leaving.old }
+    ensures goes { OfRecord bytes.now (λ artifact. Goes (D.StandsFor disk.old) (D.StandsFor disk.new)
+        index.old.entries index.new.entries leaving.old leaving.new
+        (Changes result (appended number artifact))) }
     ensures made { OnOk result (LeavesNoMore leaving.old leaving.new) }
     ensures less { LeavesNoneBut number leaving.old leaving.new }
-    ensures ends { Ends (D.fault_count disk.old) (D.order disk.old) result (D.fault_count disk.new) (D.order disk.new) }
+    ensures ends { Ends (D.fault_count disk.old) (D.order disk.old) result
+        (D.fault_count disk.new) (D.order disk.new) }
     ensures named { IsNamed (D.order disk.old) result }
 {
     if let Some(segment) = index.get_mut(&number) {
@@ -139,11 +150,14 @@ pub(crate) fn append_to<D: Disk>(
     number: u64,
     artifact: &Artifact,
 ) -> Result<(), DiskError>
-    requires { (calls : List Call) × D.StandsFor disk.old calls × IsIndexed index.old.entries leaving.old calls }
-    ensures goes { Goes (D.StandsFor disk.old) (D.StandsFor disk.new) index.old.entries index.new.entries leaving.old leaving.new (Changes result (appended number artifact.now)) }
+    requires { IsIndexedBut (D.StandsFor disk.old) index.old.entries leaving.old }
+    ensures goes { Goes (D.StandsFor disk.old) (D.StandsFor disk.new)
+        index.old.entries index.new.entries leaving.old leaving.new
+        (Changes result (appended number artifact.now)) }
     ensures made { OnOk result (LeavesNoMore leaving.old leaving.new) }
     ensures less { LeavesNoneBut number leaving.old leaving.new }
-    ensures ends { Ends (D.fault_count disk.old) (D.order disk.old) result (D.fault_count disk.new) (D.order disk.new) }
+    ensures ends { Ends (D.fault_count disk.old) (D.order disk.old) result
+        (D.fault_count disk.new) (D.order disk.new) }
     ensures named { IsNamed (D.order disk.old) result }
 {
     let bytes = record_and_gate(alloc, artifact)?;
@@ -156,9 +170,11 @@ pub(crate) fn sync_at<D: Disk>(
     index: &mut Index,
     number: u64,
 ) -> Result<(), DiskError>
-    requires { (calls : List Call) × D.StandsFor disk.old calls × ((leaving : Option ℕ) × IsIndexed index.old.entries leaving calls) }
-    ensures goes { (leaving : Option ℕ) → Goes (D.StandsFor disk.old) (D.StandsFor disk.new) index.old.entries index.new.entries leaving leaving (Changes result (synced_at number)) }
-    ensures ends { Ends (D.fault_count disk.old) (D.order disk.old) result (D.fault_count disk.new) (D.order disk.new) }
+    requires { IsIndexedBy (D.StandsFor disk.old) index.old.entries }
+    ensures goes { (leaving : Option ℕ) → Goes (D.StandsFor disk.old) (D.StandsFor disk.new)
+        index.old.entries index.new.entries leaving leaving (Changes result (synced_at number)) }
+    ensures ends { Ends (D.fault_count disk.old) (D.order disk.old) result
+        (D.fault_count disk.new) (D.order disk.new) }
     ensures named { IsNamed (D.order disk.old) result }
 {
     let Some(segment) = index.get_mut(&number) else {

@@ -1,9 +1,9 @@
 //! A disk in memory.
-ghost use Rattle.std.specs.Prelude.{List, ◌≡◌, ◌↔◌, ◌≤◌, ◌<◌, ◌∷◌, [], length, IfOk, OnOk, OnErr, IfSome, IsErrOf, IsTrue, Some, true, false, if◌then◌else◌};
+ghost use Rattle.std.specs.Prelude.{List, ◌≡◌, ◌↔◌, ◌≤◌, ◌<◌, [], length, IfOk, OnOk, OnErr, IfSome, IsErrOf, IsTrue, Some, true, false, if◌then◌else◌};
 ghost use Rattle.simplex_journal.specs.Faults.{raised};
 ghost use Rattle.simplex_disk.specs.Answers.{Counts, Heeds, OrderStands, IsListing};
-ghost use Rattle.simplex_disk.specs.Calls.{Call, Write, Cut, Remove, Sync, Settle, Leave, bytes_of, WritesInPart, CutsInPart, RemovesInPart};
-ghost use Rattle.simplex_disk.specs.Memory.{fails, counted, answer_of, after_call, file_in, order_told, IsLeftBy};
+ghost use Rattle.simplex_disk.specs.Calls.{Call, Write, Cut, Remove, Sync, Settle, Leave, bytes_of, WritesInPart, CutsInPart, RemovesInPart, Does, DoesInPart, DoesNothing};
+ghost use Rattle.simplex_disk.specs.Memory.{fails, counted, answer_of, after_call, file_in, order_in, IsLeftBy};
 ghost use Rattle.simplex_disk.specs.Opening.{IsSettled};
 
 use crate::disk::{Disk, StopDisk};
@@ -33,13 +33,25 @@ impl Model for MemoryDisk {
 
     ghost Value = { Held };
 
-    ghost view = { λ disk. record { kept = kept_of disk.files.entries; made = disk.made; failing = disk.failing.items; ordered = disk.ordered; faults = disk.faults } };
+    ghost view = { λ disk. record {
+      kept = kept_of disk.files.entries;
+      made = disk.made;
+      failing = disk.failing.items;
+      ordered = disk.ordered;
+      faults = disk.faults;
+    } };
 }
 
 impl MemoryDisk {
     /// A disk with no file, whose calls of these numbers fail, counted from 1.
     pub fn new(alloc: Global, failing: Vec<u64>) -> MemoryDisk
-        ensures { result ≡ record { kept = []; made = 0; failing = failing.items; ordered = 0; faults = 0 } }
+        ensures { result ≡ record {
+          kept = [];
+          made = 0;
+          failing = failing.items;
+          ordered = 0;
+          faults = 0;
+        } }
     {
         MemoryDisk {
             files: BTreeMap::new(alloc),
@@ -67,7 +79,8 @@ impl MemoryDisk {
     // Fails where this call is to fail, which is counted then.
     fn obey(&mut self) -> Result<(), DiskError>
         ensures answer { result ≡ answer_of (fails self.old) }
-        ensures after { self.new ≡ (if fails self.old then counted self.old (raised self.old.faults) else self.old) }
+        ensures after { self.new
+            ≡ (if fails self.old then counted self.old (raised self.old.faults) else self.old) }
         ensures ok { OnOk result (self.new ≡ self.old) }
         ensures passes { OnOk result (fails self.old ≡ false) }
         ensures err { OnErr result (fails self.old ≡ true) }
@@ -99,12 +112,14 @@ impl Disk for MemoryDisk {
 
     fn read(&mut self, alloc: Global, file: u64) -> Result<Vec<u8>, DiskError>
         ensures bytes { IfOk result (λ bytes. bytes.items ≡ bytes_of (file_in self.old.kept file)) }
-        ensures stays { (calls : List Call) → IsLeftBy self.old.kept calls → IsLeftBy self.new.kept calls }
+        ensures stays { DoesNothing (IsLeftBy self.old.kept) (IsLeftBy self.new.kept) }
         ensures counts { Counts result self.old.faults self.new.faults }
-        ensures heeds { Heeds (order_told self.old.failing self.old.ordered) result (order_told self.new.failing self.new.ordered) }
-        // The calls of the numbers to fail do fail, and no other. Each that is answered is counted, and one that failed does nothing.
+        ensures heeds { Heeds (order_in self.old) result (order_in self.new) }
+        // The calls of the numbers to fail do fail, and no other. Each that is answered is counted, and one that failed
+        // does nothing.
         ensures named { IsErrOf result DiskError.Failed ↔ IsTrue (fails self.old) }
-        ensures answered { ¬ IsErrOf result DiskError.Memory → self.new ≡ after_call self.old self.old.kept }
+        ensures answered { ¬ IsErrOf result DiskError.Memory
+            → self.new ≡ after_call self.old self.old.kept }
         ensures unanswered { IsErrOf result DiskError.Memory → self.new ≡ self.old }
     {
         self.obey()?;
@@ -115,12 +130,14 @@ impl Disk for MemoryDisk {
 
     fn files(&mut self, alloc: Global) -> Result<Vec<u64>, DiskError>
         ensures listed { IfOk result (λ numbers. IsListing (file_in self.old.kept) numbers.items) }
-        ensures stays { (calls : List Call) → IsLeftBy self.old.kept calls → IsLeftBy self.new.kept calls }
+        ensures stays { DoesNothing (IsLeftBy self.old.kept) (IsLeftBy self.new.kept) }
         ensures counts { Counts result self.old.faults self.new.faults }
-        ensures heeds { Heeds (order_told self.old.failing self.old.ordered) result (order_told self.new.failing self.new.ordered) }
-        // The calls of the numbers to fail do fail, and no other. Each that is answered is counted, and one that failed does nothing.
+        ensures heeds { Heeds (order_in self.old) result (order_in self.new) }
+        // The calls of the numbers to fail do fail, and no other. Each that is answered is counted, and one that failed
+        // does nothing.
         ensures named { IsErrOf result DiskError.Failed ↔ IsTrue (fails self.old) }
-        ensures answered { ¬ IsErrOf result DiskError.Memory → self.new ≡ after_call self.old self.old.kept }
+        ensures answered { ¬ IsErrOf result DiskError.Memory
+            → self.new ≡ after_call self.old self.old.kept }
         ensures unanswered { IsErrOf result DiskError.Memory → self.new ≡ self.old }
     {
         self.obey()?;
@@ -131,15 +148,21 @@ impl Disk for MemoryDisk {
 
     fn write_at(&mut self, file: u64, place: u64, bytes: &[u8]) -> Result<(), DiskError>
         requires { place ≤ length (bytes_of (file_in self.old.kept file)) }
-        ensures ok { OnOk result ((calls : List Call) → IsLeftBy self.old.kept calls → IsLeftBy self.new.kept (Write file place (length bytes.now) bytes.now ∷ calls)) }
-        ensures in_part { OnErr result ((calls : List Call) → IsLeftBy self.old.kept calls → WritesInPart file place (length bytes.now) calls (IsLeftBy self.new.kept)) }
-        ensures memory { IsErrOf result DiskError.Memory → (calls : List Call) → IsLeftBy self.old.kept calls → IsLeftBy self.new.kept calls }
-        ensures ordered { OnErr result (IfSome (order_told self.old.failing self.old.ordered) (λ _. (calls : List Call) → IsLeftBy self.old.kept calls → IsLeftBy self.new.kept calls)) }
+        ensures ok { OnOk result (Does (IsLeftBy self.old.kept) (IsLeftBy self.new.kept)
+            (Write file place (length bytes.now) bytes.now)) }
+        ensures in_part { OnErr result (DoesInPart (IsLeftBy self.old.kept) (IsLeftBy self.new.kept)
+            (WritesInPart file place (length bytes.now))) }
+        ensures memory { IsErrOf result DiskError.Memory
+            → DoesNothing (IsLeftBy self.old.kept) (IsLeftBy self.new.kept) }
+        ensures ordered { OnErr result (IfSome (order_in self.old)
+            (λ _. DoesNothing (IsLeftBy self.old.kept) (IsLeftBy self.new.kept))) }
         ensures counts { Counts result self.old.faults self.new.faults }
-        ensures heeds { Heeds (order_told self.old.failing self.old.ordered) result (order_told self.new.failing self.new.ordered) }
-        // The calls of the numbers to fail do fail, and no other. Each that is answered is counted, and one that failed does nothing.
+        ensures heeds { Heeds (order_in self.old) result (order_in self.new) }
+        // The calls of the numbers to fail do fail, and no other. Each that is answered is counted, and one that failed
+        // does nothing.
         ensures named { IsErrOf result DiskError.Failed ↔ IsTrue (fails self.old) }
-        ensures answered { ¬ IsErrOf result DiskError.Memory → self.new ≡ after_call self.old self.new.kept }
+        ensures answered { ¬ IsErrOf result DiskError.Memory
+            → self.new ≡ after_call self.old self.new.kept }
         ensures unanswered { IsErrOf result DiskError.Memory → self.new ≡ self.old }
         ensures nothing { OnErr result (self.new.kept ≡ self.old.kept) }
     {
@@ -150,15 +173,21 @@ impl Disk for MemoryDisk {
     }
 
     fn cut(&mut self, file: u64, len: u64) -> Result<(), DiskError>
-        ensures ok { OnOk result ((calls : List Call) → IsLeftBy self.old.kept calls → IsLeftBy self.new.kept (Cut file len true ∷ calls)) }
-        ensures in_part { OnErr result ((calls : List Call) → IsLeftBy self.old.kept calls → CutsInPart file len calls (IsLeftBy self.new.kept)) }
-        ensures memory { IsErrOf result DiskError.Memory → (calls : List Call) → IsLeftBy self.old.kept calls → IsLeftBy self.new.kept calls }
-        ensures ordered { OnErr result (IfSome (order_told self.old.failing self.old.ordered) (λ _. (calls : List Call) → IsLeftBy self.old.kept calls → IsLeftBy self.new.kept calls)) }
+        ensures ok { OnOk result (Does (IsLeftBy self.old.kept) (IsLeftBy self.new.kept)
+            (Cut file len true)) }
+        ensures in_part { OnErr result (DoesInPart (IsLeftBy self.old.kept) (IsLeftBy self.new.kept)
+            (CutsInPart file len)) }
+        ensures memory { IsErrOf result DiskError.Memory
+            → DoesNothing (IsLeftBy self.old.kept) (IsLeftBy self.new.kept) }
+        ensures ordered { OnErr result (IfSome (order_in self.old)
+            (λ _. DoesNothing (IsLeftBy self.old.kept) (IsLeftBy self.new.kept))) }
         ensures counts { Counts result self.old.faults self.new.faults }
-        ensures heeds { Heeds (order_told self.old.failing self.old.ordered) result (order_told self.new.failing self.new.ordered) }
-        // The calls of the numbers to fail do fail, and no other. Each that is answered is counted, and one that failed does nothing.
+        ensures heeds { Heeds (order_in self.old) result (order_in self.new) }
+        // The calls of the numbers to fail do fail, and no other. Each that is answered is counted, and one that failed
+        // does nothing.
         ensures named { IsErrOf result DiskError.Failed ↔ IsTrue (fails self.old) }
-        ensures answered { ¬ IsErrOf result DiskError.Memory → self.new ≡ after_call self.old self.new.kept }
+        ensures answered { ¬ IsErrOf result DiskError.Memory
+            → self.new ≡ after_call self.old self.new.kept }
         ensures unanswered { IsErrOf result DiskError.Memory → self.new ≡ self.old }
         ensures nothing { OnErr result (self.new.kept ≡ self.old.kept) }
     {
@@ -169,14 +198,17 @@ impl Disk for MemoryDisk {
     }
 
     fn sync(&mut self, file: u64) -> Result<(), DiskError>
-        ensures ok { OnOk result ((calls : List Call) → IsLeftBy self.old.kept calls → IsLeftBy self.new.kept (Sync file ∷ calls)) }
-        ensures err { OnErr result ((calls : List Call) → IsLeftBy self.old.kept calls → IsLeftBy self.new.kept calls) }
+        ensures ok { OnOk result (Does (IsLeftBy self.old.kept)
+            (IsLeftBy self.new.kept) (Sync file)) }
+        ensures err { OnErr result (DoesNothing (IsLeftBy self.old.kept) (IsLeftBy self.new.kept)) }
         ensures room { IsErrOf result DiskError.Memory → ⊥ }
         ensures counts { Counts result self.old.faults self.new.faults }
-        ensures heeds { Heeds (order_told self.old.failing self.old.ordered) result (order_told self.new.failing self.new.ordered) }
-        // The calls of the numbers to fail do fail, and no other. Each that is answered is counted, and one that failed does nothing.
+        ensures heeds { Heeds (order_in self.old) result (order_in self.new) }
+        // The calls of the numbers to fail do fail, and no other. Each that is answered is counted, and one that failed
+        // does nothing.
         ensures named { IsErrOf result DiskError.Failed ↔ IsTrue (fails self.old) }
-        ensures answered { ¬ IsErrOf result DiskError.Memory → self.new ≡ after_call self.old self.old.kept }
+        ensures answered { ¬ IsErrOf result DiskError.Memory
+            → self.new ≡ after_call self.old self.old.kept }
         ensures unanswered { IsErrOf result DiskError.Memory → self.new ≡ self.old }
     {
         // A file counts as synced as it reads, at each moment.
@@ -187,15 +219,20 @@ impl Disk for MemoryDisk {
     }
 
     fn remove(&mut self, file: u64) -> Result<(), DiskError>
-        ensures ok { OnOk result ((calls : List Call) → IsLeftBy self.old.kept calls → IsLeftBy self.new.kept (Remove file true ∷ calls)) }
-        ensures in_part { OnErr result ((calls : List Call) → IsLeftBy self.old.kept calls → RemovesInPart file calls (IsLeftBy self.new.kept)) }
+        ensures ok { OnOk result (Does (IsLeftBy self.old.kept)
+            (IsLeftBy self.new.kept) (Remove file true)) }
+        ensures in_part { OnErr result (DoesInPart (IsLeftBy self.old.kept) (IsLeftBy self.new.kept)
+            (RemovesInPart file)) }
         ensures room { IsErrOf result DiskError.Memory → ⊥ }
-        ensures ordered { OnErr result (IfSome (order_told self.old.failing self.old.ordered) (λ _. (calls : List Call) → IsLeftBy self.old.kept calls → IsLeftBy self.new.kept calls)) }
+        ensures ordered { OnErr result (IfSome (order_in self.old)
+            (λ _. DoesNothing (IsLeftBy self.old.kept) (IsLeftBy self.new.kept))) }
         ensures counts { Counts result self.old.faults self.new.faults }
-        ensures heeds { Heeds (order_told self.old.failing self.old.ordered) result (order_told self.new.failing self.new.ordered) }
-        // The calls of the numbers to fail do fail, and no other. Each that is answered is counted, and one that failed does nothing.
+        ensures heeds { Heeds (order_in self.old) result (order_in self.new) }
+        // The calls of the numbers to fail do fail, and no other. Each that is answered is counted, and one that failed
+        // does nothing.
         ensures named { IsErrOf result DiskError.Failed ↔ IsTrue (fails self.old) }
-        ensures answered { ¬ IsErrOf result DiskError.Memory → self.new ≡ after_call self.old self.new.kept }
+        ensures answered { ¬ IsErrOf result DiskError.Memory
+            → self.new ≡ after_call self.old self.new.kept }
         ensures unanswered { IsErrOf result DiskError.Memory → self.new ≡ self.old }
         ensures nothing { OnErr result (self.new.kept ≡ self.old.kept) }
     {
@@ -212,25 +249,26 @@ impl Disk for MemoryDisk {
 
 impl StopDisk for MemoryDisk {
     fn settle(&mut self)
-        ensures stands { (calls : List Call) → IsLeftBy self.old.kept calls → IsLeftBy self.new.kept (Settle ∷ calls) }
+        ensures stands { Does (IsLeftBy self.old.kept) (IsLeftBy self.new.kept) Settle }
         ensures faults { self.new.faults ≡ self.old.faults }
-        ensures order { OrderStands (order_told self.old.failing self.old.ordered) (order_told self.new.failing self.new.ordered) }
+        ensures order { OrderStands (order_in self.old) (order_in self.new) }
         ensures same { self.new ≡ self.old }
     {}
 
     fn leave(&mut self, file: u64, place: u64, byte: u8)
         requires { place < length (bytes_of (file_in self.old.kept file)) }
-        ensures stands { (calls : List Call) → IsLeftBy self.old.kept calls → IsLeftBy self.new.kept (Leave file place byte ∷ calls) }
+        ensures stands { Does (IsLeftBy self.old.kept) (IsLeftBy self.new.kept)
+            (Leave file place byte) }
         ensures faults { self.new.faults ≡ self.old.faults }
-        ensures order { OrderStands (order_told self.old.failing self.old.ordered) (order_told self.new.failing self.new.ordered) }
+        ensures order { OrderStands (order_in self.old) (order_in self.new) }
         ensures rest { self.new ≡ record self.old { kept = self.new.kept } }
     {
         put_byte(&mut self.files, file, place, byte);
     }
 
     fn fail_next(&mut self, call: u64)
-        ensures stands { (calls : List Call) → IsLeftBy self.old.kept calls → IsLeftBy self.new.kept calls }
-        ensures order { IfSome (order_told self.old.failing self.old.ordered) (λ _. order_told self.new.failing self.new.ordered ≡ Some call) }
+        ensures stands { DoesNothing (IsLeftBy self.old.kept) (IsLeftBy self.new.kept) }
+        ensures order { IfSome (order_in self.old) (λ _. order_in self.new ≡ Some call) }
         ensures faults { self.new.faults ≡ self.old.faults }
         ensures given { self.new ≡ record self.old { ordered = call } }
     {

@@ -16,11 +16,15 @@ use std::alloc::{AllocError, Global};
 
 /// Cuts the file behind its records, which take so many bytes, and closes it with a gate.
 pub(crate) fn mend<D: Disk>(disk: &mut D, file: u64, len: u64) -> Result<(), DiskError>
-    requires { (calls : List Call) × D.StandsFor disk.old calls × ((records : List Artifact) × IsMendable file records len calls) }
+    requires { (calls : List Call) × D.StandsFor disk.old calls
+        × ((records : List Artifact) × IsMendable file records len calls) }
     // A crash at any moment of the call leaves a file with the same records.
-    ensures stands { (calls : List Call) → D.StandsFor disk.old calls → (records : List Artifact) → IsMendable file records len calls
-        → Then (D.StandsFor disk.new) (AlwaysOf file (LeavesSolid file records) calls) (λ now. OnOk result (Stands file records [] now)) }
-    ensures ends { Ends (D.fault_count disk.old) (D.order disk.old) result (D.fault_count disk.new) (D.order disk.new) }
+    ensures stands { (calls : List Call) → D.StandsFor disk.old calls → (records : List Artifact)
+        → IsMendable file records len calls
+        → Then (D.StandsFor disk.new) (AlwaysOf file (LeavesSolid file records) calls)
+        (λ now. OnOk result (Stands file records [] now)) }
+    ensures ends { Ends (D.fault_count disk.old) (D.order disk.old) result
+        (D.fault_count disk.new) (D.order disk.new) }
 {
     // The cut has to be on the disk first: behind a gate that is torn open, what was there would count.
     disk.cut(file, len)?;
@@ -55,7 +59,8 @@ pub(crate) struct Extent {
 
 /// Reads the records behind the open gates from the front on.
 pub(crate) fn measure(alloc: Global, bytes: &[u8]) -> Result<Extent, AllocError>
-    ensures { IfOk result (λ extent. (records : List Artifact) × BeginsWith records bytes.now × (extent.len ≡ total records) × (extent.count ≡ length records)) }
+    ensures { IfOk result (λ extent. (records : List Artifact) × BeginsWith records bytes.now
+        × (extent.len ≡ total records) × (extent.count ≡ length records)) }
 {
     let size = bytes.len() as u64;
     let mut rest = bytes;

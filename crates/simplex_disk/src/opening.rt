@@ -21,10 +21,14 @@ use std::collections::BTreeMap;
 
 /// Cuts the file behind its last whole record, and closes it there.
 fn open_file<D: Disk>(disk: &mut D, alloc: Global, file: u64) -> Result<Segment, DiskError>
-    requires { (calls : List Call) × D.StandsFor disk.old calls × IsSettledAt file calls × ((bytes : List ℕ) × (content file calls ≡ Some bytes)) }
-    ensures stands { (calls : List Call) → D.StandsFor disk.old calls → IsSettledAt file calls → (bytes : List ℕ) → content file calls ≡ Some bytes
-        → Then (D.StandsFor disk.new) (AlwaysOf file (LeavesRead file bytes) calls) (λ now. IfOk result (λ segment. IsSegment file segment (opened bytes) [] now)) }
-    ensures ends { Ends (D.fault_count disk.old) (D.order disk.old) result (D.fault_count disk.new) (D.order disk.new) }
+    requires { (calls : List Call) × D.StandsFor disk.old calls × IsSettledAt file calls
+        × ((bytes : List ℕ) × (content file calls ≡ Some bytes)) }
+    ensures stands { (calls : List Call) → D.StandsFor disk.old calls → IsSettledAt file calls → (bytes : List ℕ)
+        → content file calls ≡ Some bytes
+        → Then (D.StandsFor disk.new) (AlwaysOf file (LeavesRead file bytes) calls)
+        (λ now. IfOk result (λ segment. IsSegment file segment (opened bytes) [] now)) }
+    ensures ends { Ends (D.fault_count disk.old) (D.order disk.old) result
+        (D.fault_count disk.new) (D.order disk.new) }
 {
     let bytes = disk.read(alloc, file)?;
     let extent = measure(alloc, &bytes)?;
@@ -43,8 +47,12 @@ fn open_file<D: Disk>(disk: &mut D, alloc: Global, file: u64) -> Result<Segment,
 pub(crate) fn open_files<D: Disk>(disk: &mut D, alloc: Global) -> Result<Index, DiskError>
     requires { (calls : List Call) × D.StandsFor disk.old calls × IsSettled calls }
     ensures stands { (calls : List Call) → D.StandsFor disk.old calls → IsSettled calls
-        → Then (D.StandsFor disk.new) (Always (LeavesSame calls) calls) (λ now. IfOk result (λ index. IsIndexed index.entries None now × AreRead (λ n. content n calls) (sections_at now index.entries))) }
-    ensures ends { Ends (D.fault_count disk.old) (D.order disk.old) result (D.fault_count disk.new) (D.order disk.new) }
+        → Then (D.StandsFor disk.new) (Always (LeavesSame calls) calls)
+        (λ now. IfOk result
+        (λ index. IsIndexed index.entries None now
+        × AreRead (λ n. content n calls) (sections_at now index.entries))) }
+    ensures ends { Ends (D.fault_count disk.old) (D.order disk.old) result
+        (D.fault_count disk.new) (D.order disk.new) }
     ensures rising { IfOk result (λ index. IsStrictlySortedBy nat_cmp (keys_of index.entries)) }
     ensures named { IsNamed (D.order disk.old) result }
 {

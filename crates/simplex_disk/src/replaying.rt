@@ -24,8 +24,11 @@ fn read_records<D: Disk>(
 ) -> Result<(), DiskError>
     ensures stays { (calls : List Call) → D.StandsFor disk.old calls → D.StandsFor disk.new calls }
     ensures read { OnOk result ((calls : List Call) → D.StandsFor disk.old calls
-        → records.new.items ≡ records.old.items ++ walked (segment.now.synced + length segment.now.gates.items) (bytes_of (content file calls))) }
-    ensures ends { Ends (D.fault_count disk.old) (D.order disk.old) result (D.fault_count disk.new) (D.order disk.new) }
+        → records.new.items
+        ≡ records.old.items ++ walked (segment.now.synced + length segment.now.gates.items)
+        (bytes_of (content file calls))) }
+    ensures ends { Ends (D.fault_count disk.old) (D.order disk.old) result
+        (D.fault_count disk.new) (D.order disk.new) }
 {
     // So many records have a place in no u64, nor in memory.
     let Some(count) = segment.synced.checked_add(segment.gates.len() as u64) else {
@@ -43,8 +46,10 @@ pub(crate) fn replay<D: Disk>(
     index: &Index,
 ) -> Result<Vec<Artifact>, DiskError>
     ensures stays { (calls : List Call) → D.StandsFor disk.old calls → D.StandsFor disk.new calls }
-    ensures read { IfOk result (λ records. (calls : List Call) → D.StandsFor disk.old calls → records.items ≡ replayed (sections_at calls index.now.entries)) }
-    ensures ends { Ends (D.fault_count disk.old) (D.order disk.old) result (D.fault_count disk.new) (D.order disk.new) }
+    ensures read { IfOk result (λ records. (calls : List Call) → D.StandsFor disk.old calls
+        → records.items ≡ replayed (sections_at calls index.now.entries)) }
+    ensures ends { Ends (D.fault_count disk.old) (D.order disk.old) result
+        (D.fault_count disk.new) (D.order disk.new) }
     ensures named { IsNamed (D.order disk.old) result }
 {
     // Every call of a journal makes a call of its disk.

@@ -1,13 +1,13 @@
 //! One file of the journal.
-ghost use Rattle.std.specs.Prelude.{◌≡◌, ◌++◌, [], ◌∷◌, List, OnOk, OnErr};
+ghost use Rattle.std.specs.Prelude.{◌++◌, [], ◌∷◌, List, OnOk, OnErr};
 ghost use Rattle.simplex_wire.specs.declared.artifact.Artifact.{Artifact};
 ghost use Rattle.simplex_disk.specs.Calls.{Call};
-ghost use Rattle.simplex_disk.specs.Chain.{record_bytes, Reads};
+ghost use Rattle.simplex_disk.specs.Chain.{OfRecord};
 ghost use Rattle.simplex_disk.specs.Ends.{Ends, IsNamed};
 ghost use Rattle.simplex_disk.specs.Gates.{Waits};
 ghost use Rattle.simplex_disk.specs.Left.{Stands, IsShut, HasChain, LeavesChain, LeavesFront};
 ghost use Rattle.simplex_disk.specs.Moments.{AlwaysOf, Then};
-ghost use Rattle.simplex_disk.specs.Segments.{IsKept, IsSegment};
+ghost use Rattle.simplex_disk.specs.Segments.{IsKept, IsSegment, IsSegmentBy};
 ghost use Rattle.simplex_disk.specs.Syncing.{CountsSynced};
 
 use crate::disk::Disk;
@@ -51,8 +51,10 @@ impl Segment {
 /// Makes the file anew, in which no record is read. It is one closed gate then, on the disk. [new-file]
 pub(crate) fn make_file<D: Disk>(disk: &mut D, file: u64) -> Result<(), DiskError>
     ensures stands { (calls : List Call) → D.StandsFor disk.old calls → IsShut file calls
-        → Then (D.StandsFor disk.new) (AlwaysOf file (IsShut file) calls) (λ now. OnOk result (Stands file [] [] now)) }
-    ensures ends { Ends (D.fault_count disk.old) (D.order disk.old) result (D.fault_count disk.new) (D.order disk.new) }
+        → Then (D.StandsFor disk.new) (AlwaysOf file (IsShut file) calls)
+        (λ now. OnOk result (Stands file [] [] now)) }
+    ensures ends { Ends (D.fault_count disk.old) (D.order disk.old) result
+        (D.fault_count disk.new) (D.order disk.new) }
     ensures named { IsNamed (D.order disk.old) result }
 {
     // Behind a gate that is torn open, what was there would count.
@@ -64,10 +66,15 @@ pub(crate) fn make_file<D: Disk>(disk: &mut D, file: u64) -> Result<(), DiskErro
 
 /// Opens these gates, which are those of the pending records.
 pub(crate) fn open_gates<D: Disk>(disk: &mut D, file: u64, gates: &[u64]) -> Result<(), DiskError>
-    requires { (calls : List Call) × D.StandsFor disk.old calls × ((synced pending : List Artifact) × Waits file synced pending gates.now calls) }
-    ensures stands { (calls : List Call) → D.StandsFor disk.old calls → (synced pending : List Artifact) → Waits file synced pending gates.now calls
-        → Then (D.StandsFor disk.new) (AlwaysOf file (LeavesChain file synced pending) calls) (λ now. HasChain file synced pending now × OnOk result (HasChain file (synced ++ pending) [] now)) }
-    ensures ends { Ends (D.fault_count disk.old) (D.order disk.old) result (D.fault_count disk.new) (D.order disk.new) }
+    requires { (calls : List Call) × D.StandsFor disk.old calls
+        × ((synced pending : List Artifact) × Waits file synced pending gates.now calls) }
+    ensures stands { (calls : List Call) → D.StandsFor disk.old calls → (synced pending : List Artifact)
+        → Waits file synced pending gates.now calls
+        → Then (D.StandsFor disk.new) (AlwaysOf file (LeavesChain file synced pending) calls)
+        (λ now. HasChain file synced pending now
+        × OnOk result (HasChain file (synced ++ pending) [] now)) }
+    ensures ends { Ends (D.fault_count disk.old) (D.order disk.old) result
+        (D.fault_count disk.new) (D.order disk.new) }
 {
     for place in gates {
         disk.write_at(file, *place, &[1])?;
@@ -82,13 +89,16 @@ pub(crate) fn append_record<D: Disk>(
     segment: &mut Segment,
     bytes: &[u8],
 ) -> Result<(), DiskError>
-    requires { (calls : List Call) × D.StandsFor disk.old calls × ((synced pending : List Artifact) × IsSegment file segment.old synced pending calls) }
-    ensures stands { (calls : List Call) → D.StandsFor disk.old calls → (synced pending : List Artifact) → IsSegment file segment.old synced pending calls
+    requires { IsSegmentBy (D.StandsFor disk.old) file segment.old }
+    ensures stands { (calls : List Call) → D.StandsFor disk.old calls → (synced pending : List Artifact)
+        → IsSegment file segment.old synced pending calls
         → Then (D.StandsFor disk.new) (AlwaysOf file (LeavesFront file synced pending) calls)
         (λ now. Stands file synced pending now
-        × OnOk result ((artifact : Artifact) → Reads artifact → bytes.now ≡ record_bytes artifact ++ 0 ∷ [] → IsSegment file segment.new synced (pending ++ artifact ∷ []) now)
+        × OnOk result (OfRecord bytes.now
+        (λ artifact. IsSegment file segment.new synced (pending ++ artifact ∷ []) now))
         × OnErr result (IsKept segment.new synced pending)) }
-    ensures ends { Ends (D.fault_count disk.old) (D.order disk.old) result (D.fault_count disk.new) (D.order disk.new) }
+    ensures ends { Ends (D.fault_count disk.old) (D.order disk.old) result
+        (D.fault_count disk.new) (D.order disk.new) }
     ensures named { IsNamed (D.order disk.old) result }
 {
     let Some(end) = segment.end.checked_add(bytes.len() as u64) else {
@@ -106,11 +116,14 @@ pub(crate) fn open_segment<D: Disk>(
     file: u64,
     segment: &Segment,
 ) -> Result<(), DiskError>
-    requires { (calls : List Call) × D.StandsFor disk.old calls × ((synced pending : List Artifact) × IsSegment file segment.now synced pending calls) }
-    ensures stands { (calls : List Call) → D.StandsFor disk.old calls → (synced pending : List Artifact) → IsSegment file segment.now synced pending calls
+    requires { IsSegmentBy (D.StandsFor disk.old) file segment.now }
+    ensures stands { (calls : List Call) → D.StandsFor disk.old calls → (synced pending : List Artifact)
+        → IsSegment file segment.now synced pending calls
         → Then (D.StandsFor disk.new) (AlwaysOf file (LeavesFront file synced pending) calls)
-        (λ now. Stands file synced pending now × OnOk result (Stands file (synced ++ pending) [] now)) }
-    ensures ends { Ends (D.fault_count disk.old) (D.order disk.old) result (D.fault_count disk.new) (D.order disk.new) }
+        (λ now. Stands file synced pending now
+        × OnOk result (Stands file (synced ++ pending) [] now)) }
+    ensures ends { Ends (D.fault_count disk.old) (D.order disk.old) result
+        (D.fault_count disk.new) (D.order disk.new) }
     ensures named { IsNamed (D.order disk.old) result }
 {
     disk.sync(file)?; // the records first

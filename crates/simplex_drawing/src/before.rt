@@ -21,7 +21,8 @@ pub fn whole_run(
     setup: &Setup,
     events: &[Event],
 ) -> Result<Option<Transcript>, AllocError>
-    ensures { IfOk result (λ whole. option_map (λ transcript. transcript.entries) whole ≡ entries_of setup.now events.now) }
+    ensures { IfOk result (λ whole. option_map (λ transcript. transcript.entries) whole
+        ≡ entries_of setup.now events.now) }
 {
     match run_network(alloc, setup, events) {
         Ok(transcript) => Ok(Some(transcript)),

@@ -103,7 +103,8 @@ fn whole(
     input: &Input,
     entries: &[Entry],
 ) -> Result<Drawing, AllocError>
-    ensures drawn { IfOk result (λ it. it.drawn ≡ drawns.Whole (picture_of wish.now.cut input.now.setup input.now.events entries.now)) }
+    ensures drawn { IfOk result (λ it. it.drawn
+        ≡ drawns.Whole (picture_of wish.now.cut input.now.setup input.now.events entries.now)) }
     ensures told { IfOk result (λ it. IsToldBy it.drawn (string_bytes it.text)) }
 {
     let events = input.events.as_slice();
@@ -128,7 +129,9 @@ fn before(
     input: &Input,
     refusal: Refusal,
 ) -> Result<Drawing, AllocError>
-    ensures drawn { IfOk result (λ it. it.drawn ≡ drawn_before refusal (picture_if wish.now.cut input.now.setup (earlier input.now refusal))) }
+    ensures drawn { IfOk result (λ it. it.drawn
+        ≡ drawn_before refusal
+        (picture_if wish.now.cut input.now.setup (earlier input.now refusal))) }
     ensures told { IfOk result (λ it. IsToldBy it.drawn (string_bytes it.text)) }
 {
     let events = events_before(input.events.as_slice(), refusal.event);

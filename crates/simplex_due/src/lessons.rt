@@ -30,7 +30,8 @@ pub(crate) fn take_in(
     lesson: &Option<Lesson>,
 ) -> Result<(), AllocError>
     ensures { OnOk result ((made : Made) (facts : List Fact) (now : ℕ) → Knows known.old made facts
-        → Knows known.new made (facts_of now lesson.now ++ (map (added_at now) added.now ++ facts))) }
+        → Knows known.new made
+        (facts_of now lesson.now ++ (map (added_at now) added.now ++ facts))) }
 {
     add_all(known, added)?;
     match lesson {

@@ -20,7 +20,8 @@ pub fn at_deadline<S: Scheme>(
     scheme: &S,
     added: &[Certificate],
 ) -> Result<Due, AllocError>
-    ensures { IfOk result (λ due. Steps known.old known.new (S.attests scheme.now) added.now Deadline due) }
+    ensures { IfOk result
+        (λ due. Steps known.old known.new (S.attests scheme.now) added.now Deadline due) }
 {
     let view = known.current();
     let gave_up = known.has_nullified(view);
@@ -42,7 +43,8 @@ pub fn on_proposal<S: Scheme>(
     added: &[Certificate],
     proposal: &Proposal,
 ) -> Result<Due, AllocError>
-    ensures { IfOk result (λ due. Steps known.old known.new (S.attests scheme.now) added.now (Mail (mail.Proposal proposal.now)) due) }
+    ensures { IfOk result (λ due. Steps known.old known.new (S.attests scheme.now) added.now
+        (Mail (mail.Proposal proposal.now)) due) }
 {
     let reading = read_proposal(known, proposal);
     step(known, scheme, added, &reading)
@@ -56,7 +58,8 @@ pub fn on_timeout<S: Scheme>(
     round: &Round,
 ) -> Result<Due, AllocError>
     ensures { IfOk result (λ due. (reason : TimeoutReason)
-        → Steps known.old known.new (S.attests scheme.now) added.now (Mail (mail.Timeout round.now reason)) due) }
+        → Steps known.old known.new (S.attests scheme.now) added.now
+        (Mail (mail.Timeout round.now reason)) due) }
 {
     let reading = Reading {
         lesson: None,
@@ -72,7 +75,8 @@ pub fn on_certificate<S: Scheme>(
     added: &[Certificate],
     certificate: &Certificate,
 ) -> Result<Due, AllocError>
-    ensures { IfOk result (λ due. Steps known.old known.new (S.attests scheme.now) added.now (Mail (mail.Verified certificate.now)) due) }
+    ensures { IfOk result (λ due. Steps known.old known.new (S.attests scheme.now) added.now
+        (Mail (mail.Verified certificate.now)) due) }
 {
     let reading = read_certificate(known, certificate);
     step(known, scheme, added, &reading)
@@ -86,7 +90,8 @@ pub fn on_answer<S: Scheme>(
     asked: &Asked,
     answer: &Answer,
 ) -> Result<Due, AllocError>
-    ensures { IfOk result (λ due. Steps known.old known.new (S.attests scheme.now) added.now (Reply asked.now answer.now) due) }
+    ensures { IfOk result (λ due. Steps known.old known.new (S.attests scheme.now) added.now
+        (Reply asked.now answer.now) due) }
 {
     let reading = read_answer(known, asked, answer);
     step(known, scheme, added, &reading)
@@ -99,7 +104,8 @@ fn step<S: Scheme>(
     added: &[Certificate],
     reading: &Reading,
 ) -> Result<Due, AllocError>
-    ensures { IfOk result (λ due. StepsAs known.old known.new (S.attests scheme.now) added.now reading.now due) }
+    ensures { IfOk result
+        (λ due. StepsAs known.old known.new (S.attests scheme.now) added.now reading.now due) }
 {
     take_in(known, added, &reading.lesson)?;
     Ok(due_on(known, scheme, reading.touched))

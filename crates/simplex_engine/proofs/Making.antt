@@ -23,9 +23,9 @@ module _ {S L J : Type 0} {s : scheme.Ghosts S} {l : elector.Ghosts L} {j : jour
       → unstarted.config ≡ voter_config s.members config
       → for_batcher ≡ batcher_config l.cuts config
       → for_resolver ≡ resolver_config l.cuts config
-      → batcher.StandsFor s.verifies s.recovers s.members s.member unstarted.batcher
+      → batcher.StandsFor unstarted.batcher
       (batcher_made s.verifies s.recovers s.members s.member for_batcher) []
-      → resolver.StandsFor s.verifies s.members s.member unstarted.resolver (resolver_made s.verifies s.members s.member for_resolver) []
+      → resolver.StandsFor unstarted.resolver (resolver_made s.verifies s.members s.member for_resolver) []
       → unstarted.boxes ≡ empty_boxes config.mailbox
       → Waits told unstarted (engine_made s.attests s.verifies s.recovers s.members s.member l.elects l.cuts config (j.sections unstarted.journal))
   unfolding engine_made voter_made made_of batcher_made resolver_made

@@ -44,12 +44,12 @@ module _ {S L J : Type 0} {s : scheme.Ghosts S} {l : elector.Ghosts L} {j : jour
   -- what the voter tells of it
   abbrev pub VoterTells : Crew S L J s l j → VoterInput → ℕ → Bool → Type 0
   VoterTells crew input now held =
-      voter.Answers s.attests l.elects j.sections j.order crew.voter (acts_on input now) held × voter.AnswersOver s.attests l.elects j.sections crew.voter (acts_on input now) held
+      voter.Answers crew.voter (acts_on input now) held
 
   acts : (told : Bool) (crew : Crew S L J s l j) (input : VoterInput) (now : ℕ) (held : Bool) → VoterTells crew input now held
       → TellsAs told crew (λ parts. acts_on input now parts.voter parts.given) held
   acts told crew input now held tells = λ parts h.
-      rw (← h.voter.place) (either-answers told crew (acts_on input now) held tells.0 tells.1 _ _ h.voter.stands)
+      rw (← h.voter.place) (either-answers told crew (acts_on input now) held tells _ _ h.voter.stands)
 
   pub timer-holds : (told : Bool) (crew : Crew S L J s l j) (held : Bool) (now : ℕ) → VoterTells crew inputs.Timer now held
       → CrewAnswersAs told crew (λ made past. holds made past sources.Timer now) held
@@ -72,7 +72,7 @@ module _ {S L J : Type 0} {s : scheme.Ghosts S} {l : elector.Ghosts L} {j : jour
   certify-holds told crew held now tells = λ made past h. acts told crew inputs.Certify now held tells (parts_of made past) h
 
   pub handler-holds : (told : Bool) (crew : Crew S L J s l j) (held : Bool) (now : ℕ)
-      → resolver.Answers s.verifies s.members s.member crew.resolver (λ made past. holds_handled made past) held
+      → resolver.Answers crew.resolver (λ made past. holds_handled made past) held
       → CrewAnswersAs told crew (λ made past. holds made past sources.Handler now) held
   unfolding CrewStands parts_of holds
   handler-holds told crew held now tells = λ made past h. tells _ _ h.resolver

@@ -30,7 +30,7 @@ use Rattle.model_resolver.specs.Asks.{holds_member}
 use Rattle.simplex_engine.specs.Holding.{holds}
 use Rattle.simplex_engine.specs.Parts.{parts_of}
 use Rattle.simplex_engine.specs.Polled.{is_taken, refusal_of, is_memory, taken_inside}
-use Rattle.simplex_engine.specs.Stands.{CrewStands, TellsAs, CrewTakes, CrewGives, CrewAnswers, CrewAnswersAs, CrewRefuses, CrewFares, CrewStarts, Fresh, StageStands, StandsFor, Takes, Gives, Starts, GivesFirst, FailsAfter, has_begun, has_failed, is_failed, Waits, settled, settled_with, StandsOver, Fares, FaresFirst, journal_of, faults_in, faults_of, is_stopped, has_stopped}
+use Rattle.simplex_engine.specs.Stands.{CrewStands, TellsAs, CrewTakes, CrewGives, CrewAnswers, CrewAnswersAs, CrewRefuses, CrewFares, CrewDoes, CrewStarts, Fresh, StageStands, StandsFor, Takes, Gives, Starts, GivesFirst, FailsAfter, has_begun, has_failed, is_failed, Waits, settled, settled_with, StandsOver, Fares, FaresFirst, journal_of, faults_in, faults_of, is_stopped, has_stopped}
 
 module _ {S L J : Type 0} {s : scheme.Ghosts S} {l : elector.Ghosts L} {j : journal.Ghosts J} where
   pub stage-settled : (told : Bool) (crew : Crew S L J s l j) (made : EngineMade) (past : List Did) (did : Did) (outcome : Outcome) → outcome ≡ did.outcome
@@ -101,6 +101,35 @@ module _ {S L J : Type 0} {s : scheme.Ghosts S} {l : elector.Ghosts L} {j : jour
   -- whatever history the stage stands for, the answer is the rule's
   abbrev pub StageAnswers : {R : Type 0} → Bool → Stage S L J s l j → (EngineMade → List Did → R) → R → Type 0
   StageAnswers told stage rule answer = (made : EngineMade) (past : List Did) → StageStands told stage made past → answer ≡ rule made past
+
+  -- what a poll did, where it did anything, and its parts
+  abbrev pub PollDoes : Crew S L J s l j → Crew S L J s l j → Stop → (Stop → EngineMade → List Did → Did) → StepOut → Result Polled PollError → Type 0
+  PollDoes old new stop rule out result = IfOk result (λ given. CrewDoes old new stop rule given out)
+
+  pub does-stands : (old new : Crew S L J s l j) (stop : Stop) (rule : Stop → EngineMade → List Did → Did) (out : StepOut) (result : Result Polled PollError)
+      → PollDoes old new stop rule out result → OnOk result (CrewTakes old new (rule stop))
+  does-stands old new stop rule out (Ok given) does = does.stands
+  does-stands old new stop rule out (Err error) does = tt
+
+  pub does-gives : (old new : Crew S L J s l j) (stop : Stop) (rule : Stop → EngineMade → List Did → Did) (out : StepOut) (result : Result Polled PollError)
+      → PollDoes old new stop rule out result → IfOk result (λ given. CrewGives old (rule stop) given.outcome out)
+  does-gives old new stop rule out (Ok given) does = does.gives
+  does-gives old new stop rule out (Err error) does = tt
+
+  pub does-taken : (old new : Crew S L J s l j) (stop : Stop) (rule : Stop → EngineMade → List Did → Did) (out : StepOut) (result : Result Polled PollError)
+      → PollDoes old new stop rule out result → IfOk result (λ given. CrewAnswers old (λ made past. taken_inside made past (rule stop made past)) given.taken)
+  does-taken old new stop rule out (Ok given) does = does.taken
+  does-taken old new stop rule out (Err error) does = tt
+
+  pub does-over : (old new : Crew S L J s l j) (stop : Stop) (rule : Stop → EngineMade → List Did → Did) (out : StepOut) (result : Result Polled PollError)
+      → PollDoes old new stop rule out result → IfOk result (λ given. CrewFares old new stop rule given.outcome given.taken out)
+  does-over old new stop rule out (Ok given) does = does.over
+  does-over old new stop rule out (Err error) does = tt
+
+  pub does-faults : (old new : Crew S L J s l j) (stop : Stop) (rule : Stop → EngineMade → List Did → Did) (out : StepOut) (result : Result Polled PollError)
+      → PollDoes old new stop rule out result → IfOk result (λ given. FaultsAt given.outcome (faults_in old) (faults_in new))
+  does-faults old new stop rule out (Ok given) does = does.faults
+  does-faults old new stop rule out (Err error) does = tt
 
   pub poll-accepted : (told : Bool) (old : Engine S L J s l j) (before : Crew S L J s l j) (result : Result Polled PollError) (input : Input)
       → old.stage ≡ stages.Running before

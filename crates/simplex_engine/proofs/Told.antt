@@ -3,34 +3,22 @@ use Rattle.std.proofs.Common.{◌≡◌, ℕ, List, Bool, true, false, Option, r
 use Rattle.simplex_wire.specs.declared.scheme.Scheme as scheme
 use Rattle.simplex_types.specs.declared.elector.Elector as elector
 use Rattle.simplex_journal.specs.declared.journal.Journal as journal
-use Rattle.simplex_journal.specs.Journal.{Section}
-use Rattle.simplex_journal.specs.Order.{Order}
-use Rattle.simplex_values.specs.declared.proposal.Subject.{Subject}
-use Rattle.simplex_values.specs.declared.round.Round.{Round}
-use Rattle.simplex_wire.specs.declared.attestation.Attestation.{Attestation}
-use Rattle.model_steps.specs.VoterLife.{VoterMade, Given}
 use Rattle.model_steps.specs.Engine.{EngineMade, Did, runs}
-use Rattle.simplex_voter.specs.Actor as voter
-use Rattle.simplex_voter.specs.declared.actor.Actor.{Actor}
+use Rattle.simplex_voter.proofs.LivesOver.{known-over}
 use Rattle.simplex_engine.specs.declared.crew.Crew.{Crew}
 use Rattle.simplex_engine.specs.declared.stage.Stage.{Stage}
 use Rattle.simplex_engine.specs.declared.stage.Stage.TheVariants as stages
 use Rattle.simplex_engine.specs.declared.unstarted.Unstarted.{Unstarted}
 use Rattle.simplex_engine.specs.declared.engine.Engine.{Engine}
 use Rattle.simplex_engine.specs.Parts.{Parts}
-use Rattle.simplex_engine.specs.Stands.{VoterStands, Placed, Holds, CrewStands, Waits, StageStands, StandsFor, StandsOver, is_at_work}
-
-voter-over : {S L J : Type 0} (attests : S → Subject → Option Attestation) (elects : L → Round → ℕ) (sections : J → List Section) (order : J → Option Order) (actor : Actor S L J) (made : VoterMade) (past : List Given)
-    → VoterStands attests elects sections order true actor made past → VoterStands attests elects sections order false actor made past
-unfolding voter.StandsFor voter.StandsOver
-voter-over attests elects sections order actor made past h = record { floor = h.floor; planner = h.planner; sections_are = h.sections_are }
+use Rattle.simplex_engine.specs.Stands.{Placed, Holds, CrewStands, Waits, StageStands, StandsFor, StandsOver, Answers, is_at_work}
 
 module _ {S L J : Type 0} {s : scheme.Ghosts S} {l : elector.Ghosts L} {j : journal.Ghosts J} where
   crew-over : (crew : Crew S L J s l j) (made : EngineMade) (past : List Did) → CrewStands true crew made past → CrewStands false crew made past
   unfolding CrewStands
   crew-over crew made past h =
       record {
-        voter = record { given = h.voter.given; stands = voter-over s.attests l.elects j.sections j.order crew.voter _ _ h.voter.stands; place = h.voter.place };
+        voter = record { given = h.voter.given; stands = known-over true crew.voter _ _ h.voter.stands; place = h.voter.place };
         batcher = h.batcher;
         resolver = h.resolver;
         to_batcher = h.to_batcher;
@@ -51,6 +39,11 @@ module _ {S L J : Type 0} {s : scheme.Ghosts S} {l : elector.Ghosts L} {j : jour
   pub told-over : (engine : Engine S L J s l j) (made : EngineMade) (past : List Did) → StandsFor engine made past → StandsOver engine made past
   unfolding StandsFor StandsOver
   told-over engine made past h = stage-over engine.stage made past h
+
+  -- what an engine answers over any journal, it answers over one that tells its order
+  pub answered-told : {R : Type 0} (engine : Engine S L J s l j) (rule : EngineMade → List Did → R) (answer : R) → Answers engine rule answer
+      → (made : EngineMade) (past : List Did) → StandsFor engine made past → answer ≡ rule made past
+  answered-told engine rule answer answers = λ made past stands. answers made past (told-over engine made past stands)
 
   -- ---- the actors of an engine that runs
 

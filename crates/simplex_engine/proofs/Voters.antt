@@ -11,30 +11,28 @@ use Rattle.simplex_voter.specs.declared.actor.Actor.{Actor}
 use Rattle.simplex_engine.specs.declared.crew.Crew.{Crew}
 use Rattle.simplex_engine.specs.declared.unstarted.Unstarted.{Unstarted}
 use Rattle.simplex_engine.specs.Stands.{VoterStands, TellsAs, Waits}
-use Rattle.simplex_voter.proofs.LivesOver.{held-over}
+use Rattle.simplex_voter.proofs.LivesOver.{held-over, known-over}
 
 module _ {S L J : Type 0} {s : scheme.Ghosts S} {l : elector.Ghosts L} {j : journal.Ghosts J} where
-  pub either-takes : (told : Bool) (old : Crew S L J s l j) (new : Actor S L J) (given : Given)
-      → voter.Takes s.attests l.elects j.sections j.order old.voter new given → voter.TakesOver s.attests l.elects j.sections old.voter new given
-      → (made : VoterMade) (past : List Given) → VoterStands s.attests l.elects j.sections j.order told old.voter made past → VoterStands s.attests l.elects j.sections j.order told new made (given ∷ past)
+  pub either-takes : (told : Bool) (old : Crew S L J s l j) (new : Actor S L J s l j) (given : Given)
+      → voter.Takes old.voter new given → voter.TakesOver old.voter new given
+      → (made : VoterMade) (past : List Given) → VoterStands told old.voter made past → VoterStands told new made (given ∷ past)
   either-takes true old new given takes over = takes
   either-takes false old new given takes over = over
 
   pub either-answers : {R : Type 0} (told : Bool) (crew : Crew S L J s l j) (rule : VoterMade → List Given → R) (answer : R)
-      → voter.Answers s.attests l.elects j.sections j.order crew.voter rule answer → voter.AnswersOver s.attests l.elects j.sections crew.voter rule answer
-      → (made : VoterMade) (past : List Given) → VoterStands s.attests l.elects j.sections j.order told crew.voter made past → answer ≡ rule made past
-  either-answers true crew rule answer told over = told
-  either-answers false crew rule answer told over = over
+      → voter.Answers crew.voter rule answer → (made : VoterMade) (past : List Given) → VoterStands told crew.voter made past → answer ≡ rule made past
+  either-answers told crew rule answer over = λ made past stands. over made past (known-over told crew.voter made past stands)
 
   -- what the journal of a crew holds
   pub crew-sections : (crew : Crew S L J s l j) → TellsAs false crew (λ parts. (place_of parts.voter parts.given).sections) (j.sections (voter.journal_of crew.voter))
-  crew-sections crew = λ parts h. held-over s.attests l.elects j.sections _ _ _ h.voter.stands ∙ ap (λ (place : Place). place.sections) h.voter.place
+  crew-sections crew = λ parts h. held-over _ _ _ h.voter.stands ∙ ap (λ (place : Place). place.sections) h.voter.place
 
   -- a voter that was just made
-  pub either-new : (told : Bool) (actor : Actor S L J) (unstarted : Unstarted S L J s l j) (made : EngineMade) (start : ℕ) → Waits told unstarted made
+  pub either-new : (told : Bool) (actor : Actor S L J s l j) (unstarted : Unstarted S L J s l j) (made : EngineMade) (start : ℕ) → Waits told unstarted made
       → (j.order unstarted.journal ≡ Some no_order
-      → voter.StandsFor s.attests l.elects j.sections j.order actor (voter.voter_made s.attests s.member l.elects l.cuts unstarted.config start (j.sections unstarted.journal)) [])
-      → voter.StandsOver s.attests l.elects j.sections actor (voter.voter_made s.attests s.member l.elects l.cuts unstarted.config start (j.sections unstarted.journal)) []
-      → VoterStands s.attests l.elects j.sections j.order told actor (made.voter start) []
+      → voter.StandsFor actor (voter.voter_made s.attests s.member l.elects l.cuts unstarted.config start (j.sections unstarted.journal)) [])
+      → voter.StandsOver actor (voter.voter_made s.attests s.member l.elects l.cuts unstarted.config start (j.sections unstarted.journal)) []
+      → VoterStands told actor (made.voter start) []
   either-new true actor unstarted made start waits stands over = rw (waits.voter start) (stands waits.order)
   either-new false actor unstarted made start waits stands over = rw (waits.voter start) over

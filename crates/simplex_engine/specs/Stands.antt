@@ -17,7 +17,7 @@ use Rattle.model_steps.specs.VoterLife.{VoterMade, Given, Stepped, place_of, ste
 use Rattle.model_steps.specs.Engine.{EngineMade, Did, begun, runs}
 use Rattle.simplex_voter.specs.Actor as voter
 pub use Rattle.simplex_voter.specs.Actor.{VoterStands}
-use Rattle.simplex_voter.specs.Turned.{Becomes, BecomesFirst, step_left, start_left}
+use Rattle.simplex_voter.specs.Turned.{Becomes, BecomesFirst, FaultsAt, step_left, start_left}
 use Rattle.simplex_batcher.specs.Stands as batcher
 use Rattle.simplex_resolver.specs.Stands as resolver
 use Rattle.simplex_engine.specs.declared.boxes.Boxes.{Boxes}
@@ -53,14 +53,14 @@ module _ {S L J : Type 0} {s : scheme.Ghosts S} {l : elector.Ghosts L} {j : jour
   -- the voter stands where this history leads. What it was given itself may hold answers more, which were not taken
   pub record Placed (told : Bool) (crew : Crew S L J s l j) (made : VoterMade) (past : List Given) : Type 0 where
     pub given : List Given
-    pub stands : VoterStands s.attests l.elects j.sections j.order told crew.voter made given
+    pub stands : VoterStands told crew.voter made given
     pub place : place_of made given ≡ place_of made past
 
   -- the actors and the mailboxes are these parts
   pub record Holds (told : Bool) (crew : Crew S L J s l j) (parts : Parts) : Type 0 where
     pub voter : Placed told crew parts.voter parts.given
-    pub batcher : batcher.StandsFor s.verifies s.recovers s.members s.member crew.batcher parts.batcher parts.timed
-    pub resolver : resolver.StandsFor s.verifies s.members s.member crew.resolver parts.resolver parts.asked
+    pub batcher : batcher.StandsFor crew.batcher parts.batcher parts.timed
+    pub resolver : resolver.StandsFor crew.resolver parts.resolver parts.asked
     pub to_batcher : crew.boxes.batcher ≡ parts.to_batcher
     pub to_voter : crew.boxes.voter ≡ parts.to_voter
     pub to_resolver : crew.boxes.resolver ≡ parts.to_resolver
@@ -68,9 +68,9 @@ module _ {S L J : Type 0} {s : scheme.Ghosts S} {l : elector.Ghosts L} {j : jour
 
   -- the actors were just made, the voter at this clock
   pub record Fresh (told : Bool) (crew : Crew S L J s l j) (made : EngineMade) (start : ℕ) : Type 0 where
-    pub voter : VoterStands s.attests l.elects j.sections j.order told crew.voter (made.voter start) []
-    pub batcher : batcher.StandsFor s.verifies s.recovers s.members s.member crew.batcher made.batcher []
-    pub resolver : resolver.StandsFor s.verifies s.members s.member crew.resolver made.resolver []
+    pub voter : VoterStands told crew.voter (made.voter start) []
+    pub batcher : batcher.StandsFor crew.batcher made.batcher []
+    pub resolver : resolver.StandsFor crew.resolver made.resolver []
     pub boxes : crew.boxes ≡ empty_boxes made.capacity
     pub blocked : crew.blocked.keys ≡ []
 
@@ -156,6 +156,16 @@ module _ {S L J : Type 0} {s : scheme.Ghosts S} {l : elector.Ghosts L} {j : jour
     pub leaves : CrewAnswersAs false old (λ made past. sections_left made past stop (rule turned made past)) (j.sections (voter.journal_of new.voter))
     pub takes : outcome ≢ outcomes.Journal → CrewTakesAs false old new (rule turned)
 
+  -- What a step or a poll does by a rule. Over a journal that tells that no call of it will fail the actors end, give and take from
+  -- inside what the rule says with the stop, and stand for it; over any journal they fare by it. The journal's count of faults rose
+  -- where a call of it that failed ended the step, and there alone.
+  pub record CrewDoes (old new : Crew S L J s l j) (stop : Stop) (rule : Stop → EngineMade → List Did → Did) (given : Polled) (out : StepOut) : Type 0 where
+    pub stands : CrewTakes old new (rule stop)
+    pub gives : CrewGives old (rule stop) given.outcome out
+    pub taken : CrewAnswers old (λ made past. taken_inside made past (rule stop made past)) given.taken
+    pub over : CrewFares old new stop rule given.outcome given.taken out
+    pub faults : FaultsAt given.outcome (faults_in old) (faults_in new)
+
   -- the same of a start
   pub record CrewStarts (old new : Crew S L J s l j) (now : ℕ) (stop : Stop) (outcome : Outcome) (out : StepOut) : Type 0 where
     pub turned : Stop
@@ -175,8 +185,8 @@ module _ {S L J : Type 0} {s : scheme.Ghosts S} {l : elector.Ghosts L} {j : jour
   pub record Waits (told : Bool) (unstarted : Unstarted S L J s l j) (made : EngineMade) : Type 0 where
     pub order : IsTold told unstarted
     pub voter : (start : ℕ) → made.voter start ≡ voter.voter_made s.attests s.member l.elects l.cuts unstarted.config start (j.sections unstarted.journal)
-    pub batcher : batcher.StandsFor s.verifies s.recovers s.members s.member unstarted.batcher made.batcher []
-    pub resolver : resolver.StandsFor s.verifies s.members s.member unstarted.resolver made.resolver []
+    pub batcher : batcher.StandsFor unstarted.batcher made.batcher []
+    pub resolver : resolver.StandsFor unstarted.resolver made.resolver []
     pub boxes : unstarted.boxes ≡ empty_boxes made.capacity
 
   abbrev pub StageStands : Bool → Stage S L J s l j → EngineMade → List Did → Type 0
@@ -225,10 +235,6 @@ module _ {S L J : Type 0} {s : scheme.Ghosts S} {l : elector.Ghosts L} {j : jour
   Gives engine rule outcome taken out =
       (made : EngineMade) (past : List Did) → StandsFor engine made past
       → (outcome ≡ (rule made past).outcome) × (taken ≡ taken_inside made past (rule made past)) × (out ≡ (rule made past).out)
-
-  -- whatever history the engine stands for, the answer is the rule's
-  abbrev pub Answers : {R : Type 0} → Engine S L J s l j → (EngineMade → List Did → R) → R → Type 0
-  Answers engine rule answer = (made : EngineMade) (past : List Did) → StandsFor engine made past → answer ≡ rule made past
 
   -- the same of a start, whose history is empty
   abbrev pub Starts : Engine S L J s l j → Engine S L J s l j → (EngineMade → Did) → Type 0
@@ -296,8 +302,9 @@ module _ {S L J : Type 0} {s : scheme.Ghosts S} {l : elector.Ghosts L} {j : jour
   abbrev pub StaysOver : Engine S L J s l j → Engine S L J s l j → Type 0
   StaysOver old new = (made : EngineMade) (past : List Did) → StandsOver old made past → StandsOver new made past
 
-  abbrev pub AnswersOver : {R : Type 0} → Engine S L J s l j → (EngineMade → List Did → R) → R → Type 0
-  AnswersOver engine rule answer = (made : EngineMade) (past : List Did) → StandsOver engine made past → answer ≡ rule made past
+  -- whatever history the engine stands for, the answer is the rule's
+  abbrev pub Answers : {R : Type 0} → Engine S L J s l j → (EngineMade → List Did → R) → R → Type 0
+  Answers engine rule answer = (made : EngineMade) (past : List Did) → StandsOver engine made past → answer ≡ rule made past
 
   -- What a poll does. There is a stop that the given one became by what the journal did: the poll ended, took from inside,
   -- and gave, what the rule says with that stop, and left of the journal what is left so. Where no call of the journal

@@ -10,10 +10,9 @@ ghost use Rattle.model_resolver.specs.Resolver.{handler_message, deadline_after}
 ghost use Rattle.model_resolver.specs.Views.{is_reached};
 ghost use Rattle.model_steps.specs.Engine.{let_in, stepped};
 ghost use Rattle.simplex_engine.specs.Parts.{after_resolver_mail, after_handler_mail};
-ghost use Rattle.simplex_engine.specs.Polled.{taken_inside};
 ghost use Rattle.simplex_voter.specs.Actor.{journal_of};
 ghost use Rattle.simplex_voter.specs.Turned.{FaultsAt};
-ghost use Rattle.simplex_engine.specs.Stands.{CrewTakes, CrewTakesAs, CrewGives, CrewGivesAs, CrewAnswers, CrewFares, WorksAs, TellsAs, faults_in};
+ghost use Rattle.simplex_engine.specs.Stands.{CrewDoes, CrewGivesAs, CrewTakesAs, TellsAs, WorksAs, faults_in};
 
 use crate::crew::Crew;
 use crate::input::{Polled, TakenInside};
@@ -36,10 +35,13 @@ impl<S: Scheme + Drop, L: Elector + Drop, J: Journal + Drop> Crew<S, L, J> {
     ) -> Result<Polled, AllocError>
         requires clock { now < 2 ^ 63 }
         requires empty { out.old ≡ no_out }
-        ensures stands { OnOk result ((told : Bool) → CrewTakesAs told self.old self.new (λ made past. let_in made past sender channels.Resolver bytes now)) }
-        ensures gives { IfOk result (λ given. (told : Bool) → CrewGivesAs told self.old (λ made past. let_in made past sender channels.Resolver bytes now) given.outcome out.new) }
+        ensures stands { OnOk result ((told : Bool) → CrewTakesAs told self.old self.new
+            (λ made past. let_in made past sender channels.Resolver bytes now)) }
+        ensures gives { IfOk result (λ given. (told : Bool) → CrewGivesAs told self.old
+            (λ made past. let_in made past sender channels.Resolver bytes now) given.outcome out.new) }
         ensures taken { IfOk result (λ given. given.taken ≡ None) }
-        ensures faults { IfOk result (λ given. FaultsAt given.outcome (faults_in self.old) (faults_in self.new)) }
+        ensures faults { IfOk result
+            (λ given. FaultsAt given.outcome (faults_in self.old) (faults_in self.new)) }
         ensures journal { OnOk result (journal_of self.new.voter ≡ journal_of self.old.voter) }
     {
         let input = ResolverInput::Packet { sender, bytes };
@@ -56,11 +58,8 @@ impl<S: Scheme + Drop, L: Elector + Drop, J: Journal + Drop> Crew<S, L, J> {
     ) -> Result<Polled, AllocError>
         requires clock { now < 2 ^ 63 }
         requires empty { out.old ≡ no_out }
-        ensures stands { OnOk result (CrewTakes self.old self.new (λ made past. stepped made past sources.Resolver now stop.now)) }
-        ensures gives { IfOk result (λ given. CrewGives self.old (λ made past. stepped made past sources.Resolver now stop.now) given.outcome out.new) }
-        ensures taken { IfOk result (λ given. CrewAnswers self.old (λ made past. taken_inside made past (stepped made past sources.Resolver now stop.now)) given.taken) }
-        ensures over { IfOk result (λ given. CrewFares self.old self.new stop.now (λ turned made past. stepped made past sources.Resolver now turned) given.outcome given.taken out.new) }
-        ensures faults { IfOk result (λ given. FaultsAt given.outcome (faults_in self.old) (faults_in self.new)) }
+        ensures { IfOk result (λ given. CrewDoes self.old self.new stop.now
+            (λ turned made past. stepped made past sources.Resolver now turned) given out.new) }
     {
         let Some(message) = self.take_resolver_mail() else {
             return Ok(polled(Outcome::Idle, None));
@@ -80,11 +79,8 @@ impl<S: Scheme + Drop, L: Elector + Drop, J: Journal + Drop> Crew<S, L, J> {
     ) -> Result<Polled, AllocError>
         requires clock { now < 2 ^ 63 }
         requires empty { out.old ≡ no_out }
-        ensures stands { OnOk result (CrewTakes self.old self.new (λ made past. stepped made past sources.Handler now stop.now)) }
-        ensures gives { IfOk result (λ given. CrewGives self.old (λ made past. stepped made past sources.Handler now stop.now) given.outcome out.new) }
-        ensures taken { IfOk result (λ given. CrewAnswers self.old (λ made past. taken_inside made past (stepped made past sources.Handler now stop.now)) given.taken) }
-        ensures over { IfOk result (λ given. CrewFares self.old self.new stop.now (λ turned made past. stepped made past sources.Handler now turned) given.outcome given.taken out.new) }
-        ensures faults { IfOk result (λ given. FaultsAt given.outcome (faults_in self.old) (faults_in self.new)) }
+        ensures { IfOk result (λ given. CrewDoes self.old self.new stop.now
+            (λ turned made past. stepped made past sources.Handler now turned) given out.new) }
     {
         let Some(message) = self.take_handler_mail() else {
             return Ok(polled(Outcome::Idle, None));
@@ -104,11 +100,8 @@ impl<S: Scheme + Drop, L: Elector + Drop, J: Journal + Drop> Crew<S, L, J> {
     ) -> Result<Polled, AllocError>
         requires clock { now < 2 ^ 63 }
         requires empty { out.old ≡ no_out }
-        ensures stands { OnOk result (CrewTakes self.old self.new (λ made past. stepped made past sources.Fetch now stop.now)) }
-        ensures gives { IfOk result (λ given. CrewGives self.old (λ made past. stepped made past sources.Fetch now stop.now) given.outcome out.new) }
-        ensures taken { IfOk result (λ given. CrewAnswers self.old (λ made past. taken_inside made past (stepped made past sources.Fetch now stop.now)) given.taken) }
-        ensures over { IfOk result (λ given. CrewFares self.old self.new stop.now (λ turned made past. stepped made past sources.Fetch now turned) given.outcome given.taken out.new) }
-        ensures faults { IfOk result (λ given. FaultsAt given.outcome (faults_in self.old) (faults_in self.new)) }
+        ensures { IfOk result (λ given. CrewDoes self.old self.new stop.now
+            (λ turned made past. stepped made past sources.Fetch now turned) given out.new) }
     {
         if !self.is_fetch_due(now) {
             return Ok(polled(Outcome::Idle, None));
@@ -119,9 +112,11 @@ impl<S: Scheme + Drop, L: Elector + Drop, J: Journal + Drop> Crew<S, L, J> {
 
     /// Takes the front of the resolver's mailbox.
     fn take_resolver_mail(&mut self) -> Option<MailboxMessage>
-        ensures message { (told : Bool) → TellsAs told self.old (λ parts. received parts.to_resolver) result }
+        ensures message { (told : Bool)
+            → TellsAs told self.old (λ parts. received parts.to_resolver) result }
         ensures takes { (told : Bool) → WorksAs told self.old self.new after_resolver_mail }
-        ensures none { IfNone result ((told : Bool) → WorksAs told self.old self.new (λ parts. parts)) }
+        ensures none { IfNone result ((told : Bool)
+            → WorksAs told self.old self.new (λ parts. parts)) }
         ensures journal { journal_of self.new.voter ≡ journal_of self.old.voter }
     {
         self.boxes.resolver.recv()
@@ -129,9 +124,12 @@ impl<S: Scheme + Drop, L: Elector + Drop, J: Journal + Drop> Crew<S, L, J> {
 
     /// Takes the front of the mailbox of the resolver's handler.
     fn take_handler_mail(&mut self) -> Option<HandlerMessage>
-        ensures message { (told : Bool) → TellsAs told self.old (λ parts. handler_message parts.resolver parts.asked) result }
-        ensures takes { IfSome result (λ _. (told : Bool) → WorksAs told self.old self.new after_handler_mail) }
-        ensures none { IfNone result ((told : Bool) → WorksAs told self.old self.new (λ parts. parts)) }
+        ensures message { (told : Bool)
+            → TellsAs told self.old (λ parts. handler_message parts.resolver parts.asked) result }
+        ensures takes { IfSome result (λ _. (told : Bool)
+            → WorksAs told self.old self.new after_handler_mail) }
+        ensures none { IfNone result ((told : Bool)
+            → WorksAs told self.old self.new (λ parts. parts)) }
         ensures journal { journal_of self.new.voter ≡ journal_of self.old.voter }
     {
         if self.resolver.holds_handler() {
@@ -143,7 +141,8 @@ impl<S: Scheme + Drop, L: Elector + Drop, J: Journal + Drop> Crew<S, L, J> {
 
     /// Whether the clock has reached a deadline of the fetcher.
     pub(crate) fn is_fetch_due(&self, now: u64) -> bool
-        ensures { (told : Bool) → TellsAs told self.now (λ parts. is_reached now (deadline_after parts.resolver parts.asked)) result }
+        ensures { (told : Bool) → TellsAs told self.now
+            (λ parts. is_reached now (deadline_after parts.resolver parts.asked)) result }
     {
         is_reached(now, self.resolver.next_deadline())
     }

@@ -21,14 +21,16 @@ use std::collections::BTreeSet;
 impl<S: Scheme + Drop, L: Elector + Drop, J: Journal + Drop> Crew<S, L, J> {
     /// Whether a call blocked the member since the start. [may-block-itself]
     pub(crate) fn is_blocked(&self, member: Participant) -> bool
-        ensures { (told : Bool) → TellsAs told self.now (λ parts. holds_member parts.blocked member) result }
+        ensures { (told : Bool)
+            → TellsAs told self.now (λ parts. holds_member parts.blocked member) result }
     {
         is_among(&self.blocked, &member)
     }
 
     /// The members that these calls of the resolver block are let in no more. [blocked-from-the-next-event]
     pub(crate) fn note_blocks(&mut self, calls: &[Call]) -> Result<(), AllocError>
-        ensures works { OnOk result ((told : Bool) → WorksAs told self.old self.new (shutting calls.now)) }
+        ensures works { OnOk result ((told : Bool)
+            → WorksAs told self.old self.new (shutting calls.now)) }
         ensures voter { OnOk result (self.new.voter ≡ self.old.voter) }
     {
         let members = blocked_by(self.alloc, calls)?;
@@ -39,7 +41,8 @@ impl<S: Scheme + Drop, L: Elector + Drop, J: Journal + Drop> Crew<S, L, J> {
 
     /// The members that these calls of the batcher or the voter block are let in no more, and the resolver is told.
     pub(crate) fn tell_blocks(&mut self, calls: &[Call]) -> Result<(), AllocError>
-        ensures works { OnOk result ((told : Bool) → WorksAs told self.old self.new (telling calls.now)) }
+        ensures works { OnOk result ((told : Bool)
+            → WorksAs told self.old self.new (telling calls.now)) }
         ensures voter { OnOk result (self.new.voter ≡ self.old.voter) }
     {
         let members = blocked_by(self.alloc, calls)?;
@@ -65,7 +68,8 @@ fn blocked_by(alloc: Global, calls: &[Call]) -> Result<Vec<Participant>, AllocEr
 
 /// These members are among the blocked.
 fn note_each(blocked: &mut BTreeSet<u32>, members: &[Participant]) -> Result<(), AllocError>
-    ensures { OnOk result ((q : ℕ) → holds_member blocked.new.keys q ≡ (holds_member members.now q || holds_member blocked.old.keys q)) }
+    ensures { OnOk result ((q : ℕ) → holds_member blocked.new.keys q
+        ≡ (holds_member members.now q || holds_member blocked.old.keys q)) }
 {
     for member in members {
         blocked.insert(member.0)?;
@@ -78,7 +82,9 @@ fn tell_each<S: Scheme + Drop>(
     resolver: &mut simplex_resolver::Actor<S>,
     members: &[Participant],
 ) -> Result<(), AllocError>
-    ensures { OnOk result ((made : Made) (past : List Given) → resolving.StandsFor S.verifies S.members S.member resolver.old made past → resolving.StandsFor S.verifies S.members S.member resolver.new made (reverse (map (λ member. Blocked member) members.now) ++ past)) }
+    ensures { OnOk result ((made : Made) (past : List Given) → resolving.StandsFor resolver.old made past
+        → resolving.StandsFor resolver.new made
+        (reverse (map (λ member. Blocked member) members.now) ++ past)) }
 {
     for member in members {
         resolver.block(*member)?;

@@ -21,7 +21,11 @@ impl Boxes {
     /// Empty mailboxes with room for so many ready messages each.
     pub(crate) fn new(alloc: Global, capacity: u32) -> Result<Boxes, AllocError>
         requires { 0 < capacity }
-        ensures { IfOk result (λ boxes. boxes ≡ record { batcher = no_mail capacity; voter = no_mail capacity; resolver = no_mail capacity }) }
+        ensures { IfOk result (λ boxes. boxes ≡ record {
+          batcher = no_mail capacity;
+          voter = no_mail capacity;
+          resolver = no_mail capacity;
+        }) }
     {
         Ok(Boxes {
             batcher: Mailbox::new(alloc, capacity)?,

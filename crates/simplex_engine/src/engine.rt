@@ -11,10 +11,10 @@ ghost use Rattle.simplex_engine.specs.Config.{engine_made, first_bad, Refused};
 ghost use Rattle.simplex_engine.specs.Holding.{holds};
 ghost use Rattle.simplex_engine.specs.Polled.{polled, refusal_of, is_memory};
 ghost use Rattle.simplex_voter.specs.Turned.{FaultsAt};
-ghost use Rattle.simplex_engine.specs.Stands.{StandsFor, Takes, Stays, Gives, Answers, Starts, GivesFirst, FailsAfter, has_begun, has_failed};
+ghost use Rattle.simplex_engine.specs.Stands.{StandsFor, Takes, Stays, Gives, Starts, GivesFirst, FailsAfter, has_begun, has_failed};
 ghost use Rattle.simplex_engine.specs.declared.stage.Stage.TheVariants as stages;
 ghost use Rattle.simplex_engine.specs.Settled.{halted, settled_in, clock_after};
-ghost use Rattle.simplex_engine.specs.Stands.{StandsOver, StaysOver, AnswersOver, Fares, FaresFirst, CrewStands, journal_of, faults_of, has_stopped, is_running, not_running, clock_of};
+ghost use Rattle.simplex_engine.specs.Stands.{StandsOver, StaysOver, Answers, Fares, FaresFirst, CrewStands, journal_of, faults_of, has_stopped, is_running, not_running, clock_of};
 ghost use Rattle.simplex_voter.specs.Actor as voters;
 
 use crate::boxes::Boxes;
@@ -67,9 +67,16 @@ impl<S: Scheme + Keep + Drop, L: Elector + Drop, J: Journal + Drop> Engine<S, L,
     ) -> Result<Engine<S, L, J>, NewError>
         requires built { L.built_for config.elector ≡ S.members config.scheme }
         requires lookahead { (L.cuts config.elector).lookahead ≤ 2 ^ 32 }
-        requires stall { IfSome (L.cuts config.elector).stall_timeout (λ stall. (config.certification_timeout < stall) × (stall ≤ 2 ^ 62)) }
-        ensures stands { IfOk result (λ engine. J.order journal ≡ Some no_order → StandsFor engine (engine_made S.attests S.verifies S.recovers S.members S.member L.elects L.cuts config (J.sections journal)) []) }
-        ensures over { IfOk result (λ engine. StandsOver engine (engine_made S.attests S.verifies S.recovers S.members S.member L.elects L.cuts config (J.sections journal)) []) }
+        requires stall { IfSome (L.cuts config.elector).stall_timeout
+            (λ stall. (config.certification_timeout < stall) × (stall ≤ 2 ^ 62)) }
+        ensures stands { IfOk result (λ engine. J.order journal ≡ Some no_order
+            → StandsFor engine
+            (engine_made S.attests S.verifies S.recovers S.members S.member L.elects L.cuts config
+            (J.sections journal)) []) }
+        ensures over { IfOk result
+            (λ engine. StandsOver engine
+            (engine_made S.attests S.verifies S.recovers S.members S.member L.elects L.cuts config
+            (J.sections journal)) []) }
         ensures journal { IfOk result (λ engine. journal_of engine ≡ Some journal) }
         ensures alive { IfOk result (λ engine. has_failed engine ≡ false) }
         ensures clock { IfOk result (λ engine. clock_of engine ≡ 0) }
@@ -91,9 +98,16 @@ impl<S: Scheme + Keep + Drop, L: Elector + Drop, J: Journal + Drop> Engine<S, L,
         requires good { first_bad config ≡ None }
         requires built { L.built_for config.elector ≡ S.members config.scheme }
         requires lookahead { (L.cuts config.elector).lookahead ≤ 2 ^ 32 }
-        requires stall { IfSome (L.cuts config.elector).stall_timeout (λ stall. (config.certification_timeout < stall) × (stall ≤ 2 ^ 62)) }
-        ensures stands { IfOk result (λ engine. J.order journal ≡ Some no_order → StandsFor engine (engine_made S.attests S.verifies S.recovers S.members S.member L.elects L.cuts config (J.sections journal)) []) }
-        ensures over { IfOk result (λ engine. StandsOver engine (engine_made S.attests S.verifies S.recovers S.members S.member L.elects L.cuts config (J.sections journal)) []) }
+        requires stall { IfSome (L.cuts config.elector).stall_timeout
+            (λ stall. (config.certification_timeout < stall) × (stall ≤ 2 ^ 62)) }
+        ensures stands { IfOk result (λ engine. J.order journal ≡ Some no_order
+            → StandsFor engine
+            (engine_made S.attests S.verifies S.recovers S.members S.member L.elects L.cuts config
+            (J.sections journal)) []) }
+        ensures over { IfOk result
+            (λ engine. StandsOver engine
+            (engine_made S.attests S.verifies S.recovers S.members S.member L.elects L.cuts config
+            (J.sections journal)) []) }
         ensures journal { IfOk result (λ engine. journal_of engine ≡ Some journal) }
         ensures alive { IfOk result (λ engine. has_failed engine ≡ false) }
         ensures clock { IfOk result (λ engine. clock_of engine ≡ 0) }
@@ -123,16 +137,20 @@ impl<S: Scheme + Drop, L: Elector + Drop, J: Journal + Drop> Engine<S, L, J> {
     pub fn start(&mut self, now: u64, stop: &Stop, out: &mut StepOut) -> Result<Outcome, PollError>
         requires clock { now < 2 ^ 63 }
         requires empty { out.old ≡ no_out }
-        ensures stands { IfOk result (λ _. Starts self.old self.new (λ made. begun made now stop.now)) }
-        ensures gives { IfOk result (λ outcome. GivesFirst self.old (λ made. begun made now stop.now) outcome out.new) }
-        ensures refused { IfErr result (λ error. (made : EngineMade) → StandsFor self.old made [] → is_memory error ≡ true) }
-        ensures again { (made : EngineMade) (past : List Did) → StandsFor self.old made past → has_begun past ≡ true → result ≡ Err PollError.Stopped }
-        ensures over { IfOk result (λ outcome. FaresFirst self.old self.new now stop.now outcome out.new) }
-        ensures faults { IfOk result (λ outcome. FaultsAt outcome (faults_of self.old) (faults_of self.new)) }
+        ensures stands { IfOk result (λ _. Starts self.old self.new
+            (λ made. begun made now stop.now)) }
+        ensures gives { IfOk result (λ outcome. GivesFirst self.old
+            (λ made. begun made now stop.now) outcome out.new) }
+        ensures over { IfOk result
+            (λ outcome. FaresFirst self.old self.new now stop.now outcome out.new) }
+        ensures faults { IfOk result
+            (λ outcome. FaultsAt outcome (faults_of self.old) (faults_of self.new)) }
         ensures stops { IfOk result (λ outcome. has_stopped self.new ≡ not (is_whole outcome)) }
         ensures stopped { has_stopped self.old ≡ true → result ≡ Err PollError.Stopped }
-        ensures refused_over { IfErr result (λ error. (made : EngineMade) → StandsOver self.old made [] → is_memory error ≡ true) }
-        ensures again_over { (made : EngineMade) (past : List Did) → StandsOver self.old made past → has_begun past ≡ true → result ≡ Err PollError.Stopped }
+        ensures refused { IfErr result (λ error. (made : EngineMade) → StandsOver self.old made []
+            → is_memory error ≡ true) }
+        ensures again { (made : EngineMade) (past : List Did) → StandsOver self.old made past
+            → has_begun past ≡ true → result ≡ Err PollError.Stopped }
         ensures same { IfErr result (λ error. is_memory error ≡ false → self.new ≡ self.old) }
         ensures clock { OnOk result (clock_of self.new ≡ now) }
         ensures stays { IfErr result (λ error. is_memory error ≡ false → Stays self.old self.new) }
@@ -170,21 +188,28 @@ impl<S: Scheme + Drop, L: Elector + Drop, J: Journal + Drop> Engine<S, L, J> {
     ) -> Result<Polled, PollError>
         requires clock { now < 2 ^ 63 }
         requires empty { out.old ≡ no_out }
-        ensures stands { IfOk result (λ _. Takes self.old self.new (λ made past. polled made past input now stop.now)) }
-        ensures gives { IfOk result (λ given. Gives self.old (λ made past. polled made past input now stop.now) given.outcome given.taken out.new) }
-        ensures accepted { IfOk result (λ _. Answers self.old (λ made past. refusal_of made past input) None) }
-        ensures refused { IfErr result (λ error. is_memory error ≡ false → Answers self.old (λ made past. refusal_of made past input) (Some error)) }
+        ensures stands { IfOk result (λ _. Takes self.old self.new
+            (λ made past. polled made past input now stop.now)) }
+        ensures gives { IfOk result (λ given. Gives self.old
+            (λ made past. polled made past input now stop.now) given.outcome given.taken out.new) }
         ensures stays { IfErr result (λ error. is_memory error ≡ false → Stays self.old self.new) }
-        ensures over { IfOk result (λ given. Fares self.old self.new stop.now (λ turned made past. polled made past input now turned) given.outcome given.taken out.new) }
-        ensures faults { IfOk result (λ given. FaultsAt given.outcome (faults_of self.old) (faults_of self.new)) }
+        ensures over { IfOk result (λ given. Fares self.old self.new stop.now
+            (λ turned made past. polled made past input now turned) given.outcome given.taken out.new) }
+        ensures faults { IfOk result
+            (λ given. FaultsAt given.outcome (faults_of self.old) (faults_of self.new)) }
         ensures stops { IfOk result (λ given. has_stopped self.new ≡ not (is_whole given.outcome)) }
         ensures stopped { has_stopped self.old ≡ true → result ≡ Err PollError.Stopped }
-        ensures accepted_over { IfOk result (λ _. AnswersOver self.old (λ made past. refusal_of made past input) None) }
-        ensures refused_over { IfErr result (λ error. is_memory error ≡ false → AnswersOver self.old (λ made past. refusal_of made past input) (Some error)) }
-        ensures stays_over { IfErr result (λ error. is_memory error ≡ false → StaysOver self.old self.new) }
+        ensures accepted { IfOk result (λ _. Answers self.old
+            (λ made past. refusal_of made past input) None) }
+        ensures refused { IfErr result (λ error. is_memory error ≡ false
+            → Answers self.old (λ made past. refusal_of made past input) (Some error)) }
+        ensures stays_over { IfErr result (λ error. is_memory error ≡ false
+            → StaysOver self.old self.new) }
         ensures clock { OnOk result (clock_of self.new ≡ now) }
-        ensures clock_stays { IfErr result (λ error. is_memory error ≡ false → clock_of self.new ≡ clock_of self.old) }
-        ensures journal { IfErr result (λ error. is_memory error ≡ false → journal_of self.new ≡ journal_of self.old) }
+        ensures clock_stays { IfErr result (λ error. is_memory error ≡ false
+            → clock_of self.new ≡ clock_of self.old) }
+        ensures journal { IfErr result (λ error. is_memory error ≡ false
+            → journal_of self.new ≡ journal_of self.old) }
         ensures failed { IfErr result (FailsAfter self.old self.new) }
         ensures sound { OnOk result (has_failed self.old ≡ false) }
         ensures alive { OnOk result (has_failed self.new ≡ false) }
@@ -253,8 +278,8 @@ impl<S: Scheme + Drop, L: Elector + Drop, J: Journal + Drop> Engine<S, L, J> {
     /// The journal.
     pub fn journal(&self) -> &J
         requires { has_failed self.now ≡ false }
-        ensures told { Answers self.now (λ made past. sections_of made past) (J.sections result.now) }
-        ensures over { AnswersOver self.now (λ made past. sections_of made past) (J.sections result.now) }
+        ensures sections { Answers self.now
+            (λ made past. sections_of made past) (J.sections result.now) }
         ensures whole { journal_of self.now ≡ Some result.now }
     {
         match &self.stage {
@@ -268,8 +293,7 @@ impl<S: Scheme + Drop, L: Elector + Drop, J: Journal + Drop> Engine<S, L, J> {
     /// The journal, by itself.
     pub fn into_journal(mut self) -> J
         requires { has_failed self ≡ false }
-        ensures told { Answers self (λ made past. sections_of made past) (J.sections result) }
-        ensures over { AnswersOver self (λ made past. sections_of made past) (J.sections result) }
+        ensures sections { Answers self (λ made past. sections_of made past) (J.sections result) }
         ensures whole { journal_of self ≡ Some result }
     {
         match mem::replace(&mut self.stage, Stage::Failed) {
@@ -283,11 +307,15 @@ impl<S: Scheme + Drop, L: Elector + Drop, J: Journal + Drop> Engine<S, L, J> {
     /// The actors of an engine that runs, and the mail between them, for whoever steps each of them itself.
     /// [threads-above-the-engine]
     pub fn into_crew(mut self) -> Result<Crew<S, L, J>, PollError>
-        ensures stands { IfOk result (λ crew. (made : EngineMade) (past : List Did) → StandsFor self made past → CrewStands true crew made past) }
-        ensures over { IfOk result (λ crew. (made : EngineMade) (past : List Did) → StandsOver self made past → CrewStands false crew made past) }
-        ensures journal { IfOk result (λ crew. journal_of self ≡ Some (voters.journal_of crew.voter)) }
+        ensures stands { IfOk result (λ crew. (made : EngineMade) (past : List Did)
+            → StandsFor self made past → CrewStands true crew made past) }
+        ensures over { IfOk result (λ crew. (made : EngineMade) (past : List Did)
+            → StandsOver self made past → CrewStands false crew made past) }
+        ensures journal { IfOk result (λ crew. journal_of self
+            ≡ Some (voters.journal_of crew.voter)) }
         ensures running { IfOk result (λ _. is_running self ≡ true) }
-        ensures refused { IfErr result (λ error. (is_running self ≡ false) × (error ≡ not_running self)) }
+        ensures refused { IfErr result (λ error. (is_running self ≡ false)
+            × (error ≡ not_running self)) }
     {
         match mem::replace(&mut self.stage, Stage::Failed) {
             Stage::Running(crew) => Ok(crew),
@@ -305,13 +333,15 @@ impl<S: Scheme + Drop, L: Elector + Drop, J: Journal + Drop> Engine<S, L, J> {
 
     /// What is known of an engine over a journal that tells that no call of it will fail is known of it over any.
     pub fn stands_over(&self)
-        ensures { (made : EngineMade) (past : List Did) → StandsFor self.now made past → StandsOver self.now made past }
+        ensures { (made : EngineMade) (past : List Did) → StandsFor self.now made past
+            → StandsOver self.now made past }
     {}
 
     /// Whether it takes inputs: it was started, and no step was broken off since.
     pub fn is_running(&self) -> bool
         ensures value { result ≡ is_running self.now }
-        ensures runs { (made : EngineMade) (past : List Did) → StandsOver self.now made past → is_running self.now ≡ runs past }
+        ensures runs { (made : EngineMade) (past : List Did) → StandsOver self.now made past
+            → is_running self.now ≡ runs past }
     {
         is_at_work(&self.stage)
     }
@@ -327,8 +357,7 @@ impl<S: Scheme + Drop, L: Elector + Drop, J: Journal + Drop> Engine<S, L, J> {
     /// Whether a call of the engine blocked the member since its start. Packets of such a member are refused. Before a
     /// start, and after want of memory, it is no one.
     pub fn is_blocked(&self, member: Participant) -> bool
-        ensures told { Answers self.now (λ made past. is_blocked past member) result }
-        ensures over { AnswersOver self.now (λ made past. is_blocked past member) result }
+        ensures { Answers self.now (λ made past. is_blocked past member) result }
     {
         match &self.stage {
             Stage::Running(crew) => crew.is_blocked(member),
@@ -340,8 +369,9 @@ impl<S: Scheme + Drop, L: Elector + Drop, J: Journal + Drop> Engine<S, L, J> {
 
     /// The view that the voter is in, while the engine runs; before its start 1.
     pub fn current_view(&self) -> View
-        ensures running { (made : EngineMade) (past : List Did) → StandsFor self.now made past → runs past ≡ true → result ≡ current_of (voter_in made past).rules (place_of (voter_in made past) (voter_past past)).standing.desk.known }
-        ensures running_over { (made : EngineMade) (past : List Did) → StandsOver self.now made past → runs past ≡ true → result ≡ current_of (voter_in made past).rules (place_of (voter_in made past) (voter_past past)).standing.desk.known }
+        ensures running { (made : EngineMade) (past : List Did) → StandsOver self.now made past
+            → runs past ≡ true → result ≡ current_of (voter_in made past).rules
+            (place_of (voter_in made past) (voter_past past)).standing.desk.known }
         ensures waiting { (made : EngineMade) → StandsOver self.now made [] → result ≡ 1 }
     {
         match &self.stage {
@@ -354,8 +384,8 @@ impl<S: Scheme + Drop, L: Elector + Drop, J: Journal + Drop> Engine<S, L, J> {
 
     /// Whether the source of a step holds something at this clock, while the engine runs.
     pub fn holds(&self, source: StepSource, now: u64) -> bool
-        ensures running { (made : EngineMade) (past : List Did) → StandsFor self.now made past → runs past ≡ true → result ≡ holds made past source now }
-        ensures running_over { (made : EngineMade) (past : List Did) → StandsOver self.now made past → runs past ≡ true → result ≡ holds made past source now }
+        ensures { (made : EngineMade) (past : List Did) → StandsOver self.now made past
+            → runs past ≡ true → result ≡ holds made past source now }
     {
         match &self.stage {
             Stage::Running(crew) => crew.holds(source, now),

@@ -10,10 +10,10 @@ ghost use Rattle.simplex_engine.specs.declared.error.PollError.TheVariants as po
 ghost use Rattle.simplex_transcript.specs.declared.event.StepSource.TheVariants as sources;
 ghost use Rattle.model_steps.specs.Engine.{heard, let_in, stepped, replied, takes_reply};
 ghost use Rattle.simplex_engine.specs.Parts.{after_voter_mail, after_batcher_mail};
-ghost use Rattle.simplex_engine.specs.Polled.{polled, taken_inside, is_taken};
+ghost use Rattle.simplex_engine.specs.Polled.{polled, is_taken};
 ghost use Rattle.simplex_voter.specs.Actor.{journal_of};
 ghost use Rattle.simplex_voter.specs.Turned.{FaultsAt};
-ghost use Rattle.simplex_engine.specs.Stands.{CrewTakes, CrewTakesAs, CrewStaysAs, CrewGives, CrewGivesAs, CrewAnswers, CrewAnswersAs, CrewRefuses, CrewFares, WorksAs, TellsAs, faults_in};
+ghost use Rattle.simplex_engine.specs.Stands.{CrewAnswersAs, CrewDoes, CrewGivesAs, CrewRefuses, CrewStaysAs, CrewTakesAs, TellsAs, WorksAs, faults_in};
 
 use crate::crew::Crew;
 use crate::error::PollError;
@@ -37,12 +37,10 @@ impl<S: Scheme + Drop, L: Elector + Drop, J: Journal + Drop> Crew<S, L, J> {
     ) -> Result<Polled, PollError>
         requires clock { now < 2 ^ 63 }
         requires empty { out.old ≡ no_out }
-        ensures stands { OnOk result (CrewTakes self.old self.new (λ made past. polled made past input now stop.now)) }
-        ensures gives { IfOk result (λ given. CrewGives self.old (λ made past. polled made past input now stop.now) given.outcome out.new) }
-        ensures taken { IfOk result (λ given. CrewAnswers self.old (λ made past. taken_inside made past (polled made past input now stop.now)) given.taken) }
-        ensures over { IfOk result (λ given. CrewFares self.old self.new stop.now (λ turned made past. polled made past input now turned) given.outcome given.taken out.new) }
-        ensures faults { IfOk result (λ given. FaultsAt given.outcome (faults_in self.old) (faults_in self.new)) }
-        ensures accepted { OnOk result ((told : Bool) → CrewAnswersAs told self.old (λ made past. is_taken made past input) true) }
+        ensures does { IfOk result (λ given. CrewDoes self.old self.new stop.now
+            (λ turned made past. polled made past input now turned) given out.new) }
+        ensures accepted { OnOk result ((told : Bool)
+            → CrewAnswersAs told self.old (λ made past. is_taken made past input) true) }
         ensures refused { IfErr result (CrewRefuses self.old self.new input) }
     {
         match input {
@@ -70,10 +68,14 @@ impl<S: Scheme + Drop, L: Elector + Drop, J: Journal + Drop> Crew<S, L, J> {
     ) -> Result<Polled, AllocError>
         requires clock { now < 2 ^ 63 }
         requires empty { out.old ≡ no_out }
-        ensures stands { OnOk result ((told : Bool) → CrewTakesAs told self.old self.new (λ made past. heard made past sender channel bytes now)) }
-        ensures gives { IfOk result (λ given. (told : Bool) → CrewGivesAs told self.old (λ made past. heard made past sender channel bytes now) given.outcome out.new) }
+        ensures stands { OnOk result ((told : Bool)
+            → CrewTakesAs told self.old self.new
+            (λ made past. heard made past sender channel bytes now)) }
+        ensures gives { IfOk result (λ given. (told : Bool) → CrewGivesAs told self.old
+            (λ made past. heard made past sender channel bytes now) given.outcome out.new) }
         ensures taken { IfOk result (λ given. given.taken ≡ None) }
-        ensures faults { IfOk result (λ given. FaultsAt given.outcome (faults_in self.old) (faults_in self.new)) }
+        ensures faults { IfOk result
+            (λ given. FaultsAt given.outcome (faults_in self.old) (faults_in self.new)) }
         ensures journal { OnOk result (journal_of self.new.voter ≡ journal_of self.old.voter) }
     {
         if self.is_blocked(sender) {
@@ -94,10 +96,14 @@ impl<S: Scheme + Drop, L: Elector + Drop, J: Journal + Drop> Crew<S, L, J> {
     ) -> Result<Polled, AllocError>
         requires clock { now < 2 ^ 63 }
         requires empty { out.old ≡ no_out }
-        ensures stands { OnOk result ((told : Bool) → CrewTakesAs told self.old self.new (λ made past. let_in made past sender channel bytes now)) }
-        ensures gives { IfOk result (λ given. (told : Bool) → CrewGivesAs told self.old (λ made past. let_in made past sender channel bytes now) given.outcome out.new) }
+        ensures stands { OnOk result ((told : Bool)
+            → CrewTakesAs told self.old self.new
+            (λ made past. let_in made past sender channel bytes now)) }
+        ensures gives { IfOk result (λ given. (told : Bool) → CrewGivesAs told self.old
+            (λ made past. let_in made past sender channel bytes now) given.outcome out.new) }
         ensures taken { IfOk result (λ given. given.taken ≡ None) }
-        ensures faults { IfOk result (λ given. FaultsAt given.outcome (faults_in self.old) (faults_in self.new)) }
+        ensures faults { IfOk result
+            (λ given. FaultsAt given.outcome (faults_in self.old) (faults_in self.new)) }
         ensures journal { OnOk result (journal_of self.new.voter ≡ journal_of self.old.voter) }
     {
         match channel {
@@ -117,10 +123,13 @@ impl<S: Scheme + Drop, L: Elector + Drop, J: Journal + Drop> Crew<S, L, J> {
     ) -> Result<Polled, AllocError>
         requires clock { now < 2 ^ 63 }
         requires empty { out.old ≡ no_out }
-        ensures stands { OnOk result ((told : Bool) → CrewTakesAs told self.old self.new (λ made past. let_in made past sender channels.Vote bytes now)) }
-        ensures gives { IfOk result (λ given. (told : Bool) → CrewGivesAs told self.old (λ made past. let_in made past sender channels.Vote bytes now) given.outcome out.new) }
+        ensures stands { OnOk result ((told : Bool) → CrewTakesAs told self.old self.new
+            (λ made past. let_in made past sender channels.Vote bytes now)) }
+        ensures gives { IfOk result (λ given. (told : Bool) → CrewGivesAs told self.old
+            (λ made past. let_in made past sender channels.Vote bytes now) given.outcome out.new) }
         ensures taken { IfOk result (λ given. given.taken ≡ None) }
-        ensures faults { IfOk result (λ given. FaultsAt given.outcome (faults_in self.old) (faults_in self.new)) }
+        ensures faults { IfOk result
+            (λ given. FaultsAt given.outcome (faults_in self.old) (faults_in self.new)) }
         ensures journal { OnOk result (journal_of self.new.voter ≡ journal_of self.old.voter) }
     {
         let input = BatcherInput::Vote { sender, bytes };
@@ -138,10 +147,13 @@ impl<S: Scheme + Drop, L: Elector + Drop, J: Journal + Drop> Crew<S, L, J> {
     ) -> Result<Polled, AllocError>
         requires clock { now < 2 ^ 63 }
         requires empty { out.old ≡ no_out }
-        ensures stands { OnOk result ((told : Bool) → CrewTakesAs told self.old self.new (λ made past. let_in made past sender channels.Certificate bytes now)) }
-        ensures gives { IfOk result (λ given. (told : Bool) → CrewGivesAs told self.old (λ made past. let_in made past sender channels.Certificate bytes now) given.outcome out.new) }
+        ensures stands { OnOk result ((told : Bool) → CrewTakesAs told self.old self.new
+            (λ made past. let_in made past sender channels.Certificate bytes now)) }
+        ensures gives { IfOk result (λ given. (told : Bool) → CrewGivesAs told self.old
+            (λ made past. let_in made past sender channels.Certificate bytes now) given.outcome out.new) }
         ensures taken { IfOk result (λ given. given.taken ≡ None) }
-        ensures faults { IfOk result (λ given. FaultsAt given.outcome (faults_in self.old) (faults_in self.new)) }
+        ensures faults { IfOk result
+            (λ given. FaultsAt given.outcome (faults_in self.old) (faults_in self.new)) }
         ensures journal { OnOk result (journal_of self.new.voter ≡ journal_of self.old.voter) }
     {
         let input = BatcherInput::Certificate { sender, bytes };
@@ -151,10 +163,18 @@ impl<S: Scheme + Drop, L: Elector + Drop, J: Journal + Drop> Crew<S, L, J> {
 
     /// The application answers a request.
     fn reply(&mut self, request: u64, answer: Answer) -> Result<Polled, PollError>
-        ensures stands { OnOk result ((told : Bool) (now : ℕ) → CrewTakesAs told self.old self.new (λ made past. replied request answer now)) }
-        ensures given { IfOk result (λ given. given ≡ record { outcome = outcomes.Done; taken = None }) }
-        ensures accepted { OnOk result ((told : Bool) → CrewAnswersAs told self.old (λ made past. takes_reply made past request answer) true) }
-        ensures refused { IfErr result (λ e. (e ≡ poll_errors.NotPending) × ((told : Bool) → CrewAnswersAs told self.old (λ made past. takes_reply made past request answer) false) × ((told : Bool) → CrewStaysAs told self.old self.new) × (journal_of self.new.voter ≡ journal_of self.old.voter)) }
+        ensures stands { OnOk result ((told : Bool) (now : ℕ)
+            → CrewTakesAs told self.old self.new (λ made past. replied request answer now)) }
+        ensures given { IfOk result (λ given. given
+            ≡ record { outcome = outcomes.Done; taken = None }) }
+        ensures accepted { OnOk result ((told : Bool)
+            → CrewAnswersAs told self.old
+            (λ made past. takes_reply made past request answer) true) }
+        ensures refused { IfErr result (λ e. (e ≡ poll_errors.NotPending)
+            × ((told : Bool) → CrewAnswersAs told self.old
+            (λ made past. takes_reply made past request answer) false) × ((told : Bool)
+            → CrewStaysAs told self.old self.new)
+            × (journal_of self.new.voter ≡ journal_of self.old.voter)) }
         ensures journal { OnOk result (journal_of self.new.voter ≡ journal_of self.old.voter) }
     {
         if self.answer(request, answer) {
@@ -174,11 +194,8 @@ impl<S: Scheme + Drop, L: Elector + Drop, J: Journal + Drop> Crew<S, L, J> {
     ) -> Result<Polled, AllocError>
         requires clock { now < 2 ^ 63 }
         requires empty { out.old ≡ no_out }
-        ensures stands { OnOk result (CrewTakes self.old self.new (λ made past. stepped made past source now stop.now)) }
-        ensures gives { IfOk result (λ given. CrewGives self.old (λ made past. stepped made past source now stop.now) given.outcome out.new) }
-        ensures taken { IfOk result (λ given. CrewAnswers self.old (λ made past. taken_inside made past (stepped made past source now stop.now)) given.taken) }
-        ensures over { IfOk result (λ given. CrewFares self.old self.new stop.now (λ turned made past. stepped made past source now turned) given.outcome given.taken out.new) }
-        ensures faults { IfOk result (λ given. FaultsAt given.outcome (faults_in self.old) (faults_in self.new)) }
+        ensures { IfOk result (λ given. CrewDoes self.old self.new stop.now
+            (λ turned made past. stepped made past source now turned) given out.new) }
     {
         match source {
             StepSource::Batcher => self.step_on_batcher_mail(now, stop, out),
@@ -202,11 +219,8 @@ impl<S: Scheme + Drop, L: Elector + Drop, J: Journal + Drop> Crew<S, L, J> {
     ) -> Result<Polled, AllocError>
         requires clock { now < 2 ^ 63 }
         requires empty { out.old ≡ no_out }
-        ensures stands { OnOk result (CrewTakes self.old self.new (λ made past. stepped made past sources.Batcher now stop.now)) }
-        ensures gives { IfOk result (λ given. CrewGives self.old (λ made past. stepped made past sources.Batcher now stop.now) given.outcome out.new) }
-        ensures taken { IfOk result (λ given. CrewAnswers self.old (λ made past. taken_inside made past (stepped made past sources.Batcher now stop.now)) given.taken) }
-        ensures over { IfOk result (λ given. CrewFares self.old self.new stop.now (λ turned made past. stepped made past sources.Batcher now turned) given.outcome given.taken out.new) }
-        ensures faults { IfOk result (λ given. FaultsAt given.outcome (faults_in self.old) (faults_in self.new)) }
+        ensures { IfOk result (λ given. CrewDoes self.old self.new stop.now
+            (λ turned made past. stepped made past sources.Batcher now turned) given out.new) }
     {
         let Some(message) = self.take_batcher_mail() else {
             return Ok(polled(Outcome::Idle, None));
@@ -226,11 +240,8 @@ impl<S: Scheme + Drop, L: Elector + Drop, J: Journal + Drop> Crew<S, L, J> {
     ) -> Result<Polled, AllocError>
         requires clock { now < 2 ^ 63 }
         requires empty { out.old ≡ no_out }
-        ensures stands { OnOk result (CrewTakes self.old self.new (λ made past. stepped made past sources.Voter now stop.now)) }
-        ensures gives { IfOk result (λ given. CrewGives self.old (λ made past. stepped made past sources.Voter now stop.now) given.outcome out.new) }
-        ensures taken { IfOk result (λ given. CrewAnswers self.old (λ made past. taken_inside made past (stepped made past sources.Voter now stop.now)) given.taken) }
-        ensures over { IfOk result (λ given. CrewFares self.old self.new stop.now (λ turned made past. stepped made past sources.Voter now turned) given.outcome given.taken out.new) }
-        ensures faults { IfOk result (λ given. FaultsAt given.outcome (faults_in self.old) (faults_in self.new)) }
+        ensures { IfOk result (λ given. CrewDoes self.old self.new stop.now
+            (λ turned made past. stepped made past sources.Voter now turned) given out.new) }
     {
         let Some(message) = self.take_voter_mail() else {
             return Ok(polled(Outcome::Idle, None));
@@ -243,9 +254,11 @@ impl<S: Scheme + Drop, L: Elector + Drop, J: Journal + Drop> Crew<S, L, J> {
 
     /// Takes the front of the batcher's mailbox.
     fn take_batcher_mail(&mut self) -> Option<batcher::Message>
-        ensures message { (told : Bool) → TellsAs told self.old (λ parts. received parts.to_batcher) result }
+        ensures message { (told : Bool)
+            → TellsAs told self.old (λ parts. received parts.to_batcher) result }
         ensures takes { (told : Bool) → WorksAs told self.old self.new after_batcher_mail }
-        ensures none { IfNone result ((told : Bool) → WorksAs told self.old self.new (λ parts. parts)) }
+        ensures none { IfNone result ((told : Bool)
+            → WorksAs told self.old self.new (λ parts. parts)) }
         ensures journal { journal_of self.new.voter ≡ journal_of self.old.voter }
     {
         self.boxes.batcher.recv()
@@ -253,9 +266,11 @@ impl<S: Scheme + Drop, L: Elector + Drop, J: Journal + Drop> Crew<S, L, J> {
 
     /// Takes the front of the voter's mailbox.
     fn take_voter_mail(&mut self) -> Option<voter::Message>
-        ensures message { (told : Bool) → TellsAs told self.old (λ parts. received parts.to_voter) result }
+        ensures message { (told : Bool)
+            → TellsAs told self.old (λ parts. received parts.to_voter) result }
         ensures takes { (told : Bool) → WorksAs told self.old self.new after_voter_mail }
-        ensures none { IfNone result ((told : Bool) → WorksAs told self.old self.new (λ parts. parts)) }
+        ensures none { IfNone result ((told : Bool)
+            → WorksAs told self.old self.new (λ parts. parts)) }
         ensures journal { journal_of self.new.voter ≡ journal_of self.old.voter }
     {
         self.boxes.voter.recv()
@@ -270,11 +285,8 @@ impl<S: Scheme + Drop, L: Elector + Drop, J: Journal + Drop> Crew<S, L, J> {
     ) -> Result<Polled, AllocError>
         requires clock { now < 2 ^ 63 }
         requires empty { out.old ≡ no_out }
-        ensures stands { OnOk result (CrewTakes self.old self.new (λ made past. stepped made past sources.Timer now stop.now)) }
-        ensures gives { IfOk result (λ given. CrewGives self.old (λ made past. stepped made past sources.Timer now stop.now) given.outcome out.new) }
-        ensures taken { IfOk result (λ given. CrewAnswers self.old (λ made past. taken_inside made past (stepped made past sources.Timer now stop.now)) given.taken) }
-        ensures over { IfOk result (λ given. CrewFares self.old self.new stop.now (λ turned made past. stepped made past sources.Timer now turned) given.outcome given.taken out.new) }
-        ensures faults { IfOk result (λ given. FaultsAt given.outcome (faults_in self.old) (faults_in self.new)) }
+        ensures { IfOk result (λ given. CrewDoes self.old self.new stop.now
+            (λ turned made past. stepped made past sources.Timer now turned) given out.new) }
     {
         let outcome = self.step_voter(VoterInput::Timer, now, stop, out)?;
         Ok(polled(outcome, Some(TakenInside::Deadline)))
@@ -289,11 +301,8 @@ impl<S: Scheme + Drop, L: Elector + Drop, J: Journal + Drop> Crew<S, L, J> {
     ) -> Result<Polled, AllocError>
         requires clock { now < 2 ^ 63 }
         requires empty { out.old ≡ no_out }
-        ensures stands { OnOk result (CrewTakes self.old self.new (λ made past. stepped made past sources.Propose now stop.now)) }
-        ensures gives { IfOk result (λ given. CrewGives self.old (λ made past. stepped made past sources.Propose now stop.now) given.outcome out.new) }
-        ensures taken { IfOk result (λ given. CrewAnswers self.old (λ made past. taken_inside made past (stepped made past sources.Propose now stop.now)) given.taken) }
-        ensures over { IfOk result (λ given. CrewFares self.old self.new stop.now (λ turned made past. stepped made past sources.Propose now turned) given.outcome given.taken out.new) }
-        ensures faults { IfOk result (λ given. FaultsAt given.outcome (faults_in self.old) (faults_in self.new)) }
+        ensures { IfOk result (λ given. CrewDoes self.old self.new stop.now
+            (λ turned made past. stepped made past sources.Propose now turned) given out.new) }
     {
         let given = self.step_on_answer(VoterInput::Propose, now, stop, out)?;
         Ok(given)
@@ -308,11 +317,8 @@ impl<S: Scheme + Drop, L: Elector + Drop, J: Journal + Drop> Crew<S, L, J> {
     ) -> Result<Polled, AllocError>
         requires clock { now < 2 ^ 63 }
         requires empty { out.old ≡ no_out }
-        ensures stands { OnOk result (CrewTakes self.old self.new (λ made past. stepped made past sources.Verify now stop.now)) }
-        ensures gives { IfOk result (λ given. CrewGives self.old (λ made past. stepped made past sources.Verify now stop.now) given.outcome out.new) }
-        ensures taken { IfOk result (λ given. CrewAnswers self.old (λ made past. taken_inside made past (stepped made past sources.Verify now stop.now)) given.taken) }
-        ensures over { IfOk result (λ given. CrewFares self.old self.new stop.now (λ turned made past. stepped made past sources.Verify now turned) given.outcome given.taken out.new) }
-        ensures faults { IfOk result (λ given. FaultsAt given.outcome (faults_in self.old) (faults_in self.new)) }
+        ensures { IfOk result (λ given. CrewDoes self.old self.new stop.now
+            (λ turned made past. stepped made past sources.Verify now turned) given out.new) }
     {
         let given = self.step_on_answer(VoterInput::Verify, now, stop, out)?;
         Ok(given)
@@ -327,11 +333,8 @@ impl<S: Scheme + Drop, L: Elector + Drop, J: Journal + Drop> Crew<S, L, J> {
     ) -> Result<Polled, AllocError>
         requires clock { now < 2 ^ 63 }
         requires empty { out.old ≡ no_out }
-        ensures stands { OnOk result (CrewTakes self.old self.new (λ made past. stepped made past sources.Certify now stop.now)) }
-        ensures gives { IfOk result (λ given. CrewGives self.old (λ made past. stepped made past sources.Certify now stop.now) given.outcome out.new) }
-        ensures taken { IfOk result (λ given. CrewAnswers self.old (λ made past. taken_inside made past (stepped made past sources.Certify now stop.now)) given.taken) }
-        ensures over { IfOk result (λ given. CrewFares self.old self.new stop.now (λ turned made past. stepped made past sources.Certify now turned) given.outcome given.taken out.new) }
-        ensures faults { IfOk result (λ given. FaultsAt given.outcome (faults_in self.old) (faults_in self.new)) }
+        ensures { IfOk result (λ given. CrewDoes self.old self.new stop.now
+            (λ turned made past. stepped made past sources.Certify now turned) given out.new) }
     {
         let given = self.step_on_answer(VoterInput::Certify, now, stop, out)?;
         Ok(given)

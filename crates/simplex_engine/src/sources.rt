@@ -15,7 +15,8 @@ use simplex_types::elector::Elector;
 impl<S: Scheme + Drop, L: Elector + Drop, J: Journal + Drop> Crew<S, L, J> {
     /// Whether the source holds something at this clock.
     pub(crate) fn holds(&self, source: StepSource, now: u64) -> bool
-        ensures { (told : Bool) → CrewAnswersAs told self.now (λ made past. holds made past source now) result }
+        ensures { (told : Bool)
+            → CrewAnswersAs told self.now (λ made past. holds made past source now) result }
     {
         match source {
             StepSource::Batcher => !self.boxes.batcher.is_empty(),

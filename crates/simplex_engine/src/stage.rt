@@ -35,7 +35,8 @@ pub(crate) fn crew_of<S: Scheme + Drop, L: Elector + Drop, J: Journal + Drop>(
     now: u64,
 ) -> Result<Crew<S, L, J>, AllocError>
     requires clock { now < 2 ^ 63 }
-    ensures fresh { IfOk result (λ crew. (told : Bool) (made : EngineMade) → Waits told unstarted made → Fresh told crew made now) }
+    ensures fresh { IfOk result (λ crew. (told : Bool) (made : EngineMade)
+        → Waits told unstarted made → Fresh told crew made now) }
     ensures journal { IfOk result (λ crew. journal_of crew.voter ≡ unstarted.journal) }
 {
     let Unstarted {

@@ -39,10 +39,15 @@ impl<S: Scheme + Drop, L: Elector + Drop, J: Journal + Drop> Crew<S, L, J> {
     ) -> Result<Outcome, AllocError>
         requires clock { now < 2 ^ 63 }
         requires empty { out.old ≡ no_out }
-        ensures stands { OnOk result ((made : EngineMade) → Fresh true self.old made now → CrewStands true self.new made (begun made now stop.now ∷ [])) }
-        ensures gives { IfOk result (λ outcome. (made : EngineMade) → Fresh true self.old made now → (outcome ≡ (begun made now stop.now).outcome) × (out.new ≡ (begun made now stop.now).out)) }
-        ensures over { IfOk result (λ outcome. CrewStarts self.old self.new now stop.now outcome out.new) }
-        ensures faults { IfOk result (λ outcome. FaultsAt outcome (faults_in self.old) (faults_in self.new)) }
+        ensures stands { OnOk result ((made : EngineMade) → Fresh true self.old made now
+            → CrewStands true self.new made (begun made now stop.now ∷ [])) }
+        ensures gives { IfOk result (λ outcome. (made : EngineMade) → Fresh true self.old made now
+            → (outcome ≡ (begun made now stop.now).outcome)
+            × (out.new ≡ (begun made now stop.now).out)) }
+        ensures over { IfOk result
+            (λ outcome. CrewStarts self.old self.new now stop.now outcome out.new) }
+        ensures faults { IfOk result
+            (λ outcome. FaultsAt outcome (faults_in self.old) (faults_in self.new)) }
     {
         posted_are_enqueued::<batcher::Message>();
         posted_are_enqueued::<resolver::MailboxMessage>();
@@ -64,10 +69,14 @@ impl<S: Scheme + Drop, L: Elector + Drop, J: Journal + Drop> Crew<S, L, J> {
     ) -> Result<Outcome, AllocError>
         requires clock { now < 2 ^ 63 }
         requires empty { out.old ≡ no_out }
-        ensures stands { OnOk result (Works self.old self.new (after_voter (Stepped input now stop.now) out.new)) }
-        ensures gives { IfOk result (λ outcome. Ends self.old (λ parts. ended (step_given parts.voter parts.given input now stop.now)) outcome out.new) }
-        ensures over { IfOk result (λ outcome. VoterFares self.old self.new stop.now input now outcome out.new) }
-        ensures faults { IfOk result (λ outcome. FaultsAt outcome (faults_in self.old) (faults_in self.new)) }
+        ensures stands { OnOk result (Works self.old self.new
+            (after_voter (Stepped input now stop.now) out.new)) }
+        ensures gives { IfOk result (λ outcome. Ends self.old
+            (λ parts. ended (step_given parts.voter parts.given input now stop.now)) outcome out.new) }
+        ensures over { IfOk result
+            (λ outcome. VoterFares self.old self.new stop.now input now outcome out.new) }
+        ensures faults { IfOk result
+            (λ outcome. FaultsAt outcome (faults_in self.old) (faults_in self.new)) }
     {
         posted_are_enqueued::<batcher::Message>();
         posted_are_enqueued::<resolver::MailboxMessage>();
@@ -94,11 +103,18 @@ impl<S: Scheme + Drop, L: Elector + Drop, J: Journal + Drop> Crew<S, L, J> {
     ) -> Result<Polled, AllocError>
         requires clock { now < 2 ^ 63 }
         requires empty { out.old ≡ no_out }
-        ensures stands { OnOk result (Works self.old self.new (after_voter (Stepped input now stop.now) out.new)) }
-        ensures gives { IfOk result (λ polled. Ends self.old (λ parts. ended (step_given parts.voter parts.given input now stop.now)) polled.outcome out.new) }
-        ensures taken { IfOk result (λ polled. (told : Bool) → TellsAs told self.old (λ parts. unless_idle polled.outcome (option_map answer_inside (next_answer (place_of parts.voter parts.given).standing input))) polled.taken) }
-        ensures over { IfOk result (λ polled. VoterFares self.old self.new stop.now input now polled.outcome out.new) }
-        ensures faults { IfOk result (λ polled. FaultsAt polled.outcome (faults_in self.old) (faults_in self.new)) }
+        ensures stands { OnOk result (Works self.old self.new
+            (after_voter (Stepped input now stop.now) out.new)) }
+        ensures gives { IfOk result (λ polled. Ends self.old (λ parts. ended
+            (step_given parts.voter parts.given input now stop.now)) polled.outcome out.new) }
+        ensures taken { IfOk result
+            (λ polled. (told : Bool)
+            → TellsAs told self.old (λ parts. unless_idle polled.outcome (option_map answer_inside
+            (next_answer (place_of parts.voter parts.given).standing input))) polled.taken) }
+        ensures over { IfOk result
+            (λ polled. VoterFares self.old self.new stop.now input now polled.outcome out.new) }
+        ensures faults { IfOk result
+            (λ polled. FaultsAt polled.outcome (faults_in self.old) (faults_in self.new)) }
     {
         let taken = self.next_answer(&input);
         let outcome = self.step_voter(input, now, stop, out)?;
@@ -107,7 +123,8 @@ impl<S: Scheme + Drop, L: Elector + Drop, J: Journal + Drop> Crew<S, L, J> {
 
     /// The answer that a step of the voter on this input takes.
     fn next_answer(&self, input: &VoterInput) -> Option<TakenInside>
-        ensures { (told : Bool) → TellsAs told self.now (λ parts. option_map answer_inside (next_answer (place_of parts.voter parts.given).standing input.now)) result }
+        ensures { (told : Bool) → TellsAs told self.now (λ parts. option_map answer_inside
+            (next_answer (place_of parts.voter parts.given).standing input.now)) result }
     {
         let (request, answer) = self.voter.next_answer(input)?;
         Some(TakenInside::Answer { request, answer })
@@ -125,9 +142,14 @@ impl<S: Scheme + Drop, L: Elector + Drop, J: Journal + Drop> Crew<S, L, J> {
     ) -> Result<Outcome, AllocError>
         requires clock { now < 2 ^ 63 }
         requires empty { out.old ≡ no_out }
-        ensures stands { OnOk result ((told : Bool) → WorksAs told self.old self.new (after_batcher (record { input = input; now = now }) out.new)) }
-        ensures gives { IfOk result (λ outcome. (told : Bool) → EndsAs told self.old (λ parts. cut_short stop.now (step_out parts.batcher parts.timed (record { input = input; now = now }))) outcome out.new) }
-        ensures faults { IfOk result (λ outcome. FaultsAt outcome (faults_in self.old) (faults_in self.new)) }
+        ensures stands { OnOk result ((told : Bool) → WorksAs told self.old self.new
+            (after_batcher (record { input = input; now = now }) out.new)) }
+        ensures gives { IfOk result (λ outcome. (told : Bool)
+            → EndsAs told self.old (λ parts. cut_short stop.now
+            (step_out parts.batcher parts.timed
+            (record { input = input; now = now }))) outcome out.new) }
+        ensures faults { IfOk result
+            (λ outcome. FaultsAt outcome (faults_in self.old) (faults_in self.new)) }
         ensures journal { OnOk result (journal_of self.new.voter ≡ journal_of self.old.voter) }
     {
         let mut held = Held::new(self.alloc);
@@ -152,9 +174,14 @@ impl<S: Scheme + Drop, L: Elector + Drop, J: Journal + Drop> Crew<S, L, J> {
     ) -> Result<Outcome, AllocError>
         requires clock { now < 2 ^ 63 }
         requires empty { out.old ≡ no_out }
-        ensures stands { OnOk result ((told : Bool) → WorksAs told self.old self.new (after_resolver (resolving.Stepped input now) out.new)) }
-        ensures gives { IfOk result (λ outcome. (told : Bool) → EndsAs told self.old (λ parts. cut_short stop.now (resolving.step_out parts.resolver parts.asked input now)) outcome out.new) }
-        ensures faults { IfOk result (λ outcome. FaultsAt outcome (faults_in self.old) (faults_in self.new)) }
+        ensures stands { OnOk result ((told : Bool)
+            → WorksAs told self.old self.new
+            (after_resolver (resolving.Stepped input now) out.new)) }
+        ensures gives { IfOk result (λ outcome. (told : Bool)
+            → EndsAs told self.old (λ parts. cut_short stop.now
+            (resolving.step_out parts.resolver parts.asked input now)) outcome out.new) }
+        ensures faults { IfOk result
+            (λ outcome. FaultsAt outcome (faults_in self.old) (faults_in self.new)) }
         ensures journal { OnOk result (journal_of self.new.voter ≡ journal_of self.old.voter) }
     {
         let mut held = Held::new(self.alloc);
@@ -170,9 +197,13 @@ impl<S: Scheme + Drop, L: Elector + Drop, J: Journal + Drop> Crew<S, L, J> {
 
     /// Gives the voter an answer of the application. Tells whether it was taken.
     pub(crate) fn answer(&mut self, request: u64, answer: Answer) -> bool
-        ensures taken { (told : Bool) → TellsAs told self.old (λ parts. takes_answer (place_of parts.voter parts.given).standing request answer) result }
-        ensures stands { result ≡ true → (told : Bool) → WorksAs told self.old self.new (after_answer request answer) }
-        ensures stays { result ≡ false → (told : Bool) → WorksAs told self.old self.new (λ parts. parts) }
+        ensures taken { (told : Bool) → TellsAs told self.old
+            (λ parts. takes_answer
+            (place_of parts.voter parts.given).standing request answer) result }
+        ensures stands { result ≡ true → (told : Bool)
+            → WorksAs told self.old self.new (after_answer request answer) }
+        ensures stays { result ≡ false → (told : Bool)
+            → WorksAs told self.old self.new (λ parts. parts) }
         ensures journal { journal_of self.new.voter ≡ journal_of self.old.voter }
     {
         self.voter.answer(request, answer)
@@ -180,7 +211,8 @@ impl<S: Scheme + Drop, L: Elector + Drop, J: Journal + Drop> Crew<S, L, J> {
 
     /// The journal.
     pub(crate) fn journal(&self) -> &J
-        ensures sections { (told : Bool) → TellsAs told self.now (λ parts. (place_of parts.voter parts.given).sections) (J.sections result.now) }
+        ensures sections { (told : Bool) → TellsAs told self.now
+            (λ parts. (place_of parts.voter parts.given).sections) (J.sections result.now) }
         ensures whole { result.now ≡ journal_of self.now.voter }
     {
         self.voter.journal()
@@ -188,7 +220,9 @@ impl<S: Scheme + Drop, L: Elector + Drop, J: Journal + Drop> Crew<S, L, J> {
 
     /// The journal, by itself.
     pub(crate) fn into_journal(self) -> J
-        ensures sections { (told : Bool) → TellsAs told self (λ parts. (place_of parts.voter parts.given).sections) (J.sections result) }
+        ensures sections { (told : Bool)
+            → TellsAs told self
+            (λ parts. (place_of parts.voter parts.given).sections) (J.sections result) }
         ensures whole { result ≡ journal_of self.voter }
     {
         let Crew {
@@ -206,7 +240,8 @@ impl<S: Scheme + Drop, L: Elector + Drop, J: Journal + Drop> Crew<S, L, J> {
 
     /// The view that the voter is in.
     pub(crate) fn current_view(&self) -> View
-        ensures { (told : Bool) → TellsAs told self.now (λ parts. current_of parts.voter.rules (place_of parts.voter parts.given).standing.desk.known) result }
+        ensures { (told : Bool) → TellsAs told self.now (λ parts. current_of parts.voter.rules
+            (place_of parts.voter parts.given).standing.desk.known) result }
     {
         self.voter.current_view()
     }
@@ -246,7 +281,13 @@ fn cut_short(alloc: Global, stop: &Stop, out: &mut StepOut) -> bool
 
 /// Keeps the first so many calls, and nothing else.
 fn keep_calls(alloc: Global, out: &mut StepOut, count: usize)
-    ensures { out.new ≡ record { added = []; asked = []; dropped = []; handed = []; calls = take count out.old.calls } }
+    ensures { out.new ≡ record {
+      added = [];
+      asked = [];
+      dropped = [];
+      handed = [];
+      calls = take count out.old.calls;
+    } }
 {
     let mut calls = mem::replace(&mut out.calls, Sequence::new(alloc)).into_vec();
     calls.truncate(count);

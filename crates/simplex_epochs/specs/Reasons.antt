@@ -23,7 +23,8 @@ reason_of errors.Memory = None
 
 -- a run was refused for the cause of this name, at this event of the epoch at this place
 abbrev pub refused_line : List ℕ → ℕ → ℕ → List ℕ
-refused_line name event place = pieces (codes "refused " ∷ name ∷ codes " at " ∷ decimal event ∷ codes " in " ∷ decimal place ∷ codes "\n" ∷ [])
+refused_line name event place = pieces
+    (codes "refused " ∷ name ∷ codes " at " ∷ decimal event ∷ codes " in " ∷ decimal place ∷ codes "\n" ∷ [])
 
 -- the line on a reason
 abbrev pub reason_text : ChainReason → List ℕ

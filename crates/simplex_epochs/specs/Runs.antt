@@ -1,5 +1,5 @@
 -- Inputs and runs of epochs as the definitions have them, and what holds of each.
-use Rattle.std.specs.Prelude.{ℕ, ◌≡◌, Bool, true, false, List, [], ◌∷◌, ◌++◌, map, Result, Ok, Err}
+use Rattle.std.specs.Prelude.{ℕ, ◌≡◌, Bool, true, false, List, [], ◌∷◌, ◌++◌, filter, flat_map, map, Result, Ok, Err}
 use Rattle.simplex_form.specs.declared.input.Input as read
 use Rattle.simplex_transcript.specs.declared.event.Event.{Event}
 use Rattle.simplex_transcript.specs.declared.refusal.Refusal.{Refusal}
@@ -10,6 +10,7 @@ use Rattle.simplex_network.specs.WholeRuns.{WholeRunFrom}
 use Rattle.model_epochs.specs.declared.chain.EpochError.{EpochError}
 use Rattle.model_epochs.specs.declared.chain.EpochError.TheVariants as errors
 use Rattle.model_epochs.specs.Epochs.{Input, Ran, behind, cut_at}
+use Rattle.model_epochs.specs.Lines.{is_honest_in, member_lines}
 use Rattle.simplex_epochs.specs.declared.epoch.EpochRun.{EpochRun}
 
 abbrev pub given_of : read.Input → Input
@@ -35,6 +36,11 @@ AreEpochRuns height [] [] = Unit {0}
 AreEpochRuns height (input ∷ later) (run ∷ rest) = IsEpochRun height input run × AreEpochRuns height later rest
 AreEpochRuns height _ _ = ⊥
 
+-- the lines of the chains of those of these members that are honest in each epoch
+abbrev pub honest_lines : (height : ℕ) → List Input → List Ran → (members : List ℕ) → List ℕ
+honest_lines height inputs rans members =
+    flat_map (member_lines height inputs rans) (filter (is_honest_in inputs) members)
+
 abbrev pub is_memory : EpochError → Bool
 is_memory errors.Memory = true
 is_memory _ = false
@@ -51,7 +57,8 @@ all_behind [] later = later
 all_behind (ran ∷ rans) later = behind ran (all_behind rans later)
 
 -- one more run stands behind those before: it is whole, and what the epochs come to is this run, and behind it what the rest comes to
-pub record HasOneMore (height : ℕ) (before now : List EpochRun) (input : read.Input) (all rest : Result (List Ran) EpochError) : Type 0 where
+pub record HasOneMore (height : ℕ) (before now : List EpochRun) (input : read.Input)
+    (all rest : Result (List Ran) EpochError) : Type 0 where
   pub run : EpochRun
   pub pushed : now ≡ before ++ run ∷ []
   pub whole : IsEpochRun height input run

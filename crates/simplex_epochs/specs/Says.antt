@@ -38,7 +38,8 @@ ChainSays bytes done text = (input : ChainInput) × (chain_input_of bytes ≡ Ok
 
 -- the epochs have no runs for this reason, which the text tells
 abbrev pub IsRefused : ChainInput → ChainReason → List ℕ → Type 0
-IsRefused input reason text = (Epochs input.height (inputs_of input.epochs) ≡ Err (error_of reason)) × (text ≡ reason_text reason)
+IsRefused input reason text =
+    (Epochs input.height (inputs_of input.epochs) ≡ Err (error_of reason)) × (text ≡ reason_text reason)
 
 -- the bytes say a height and epochs of which this is so
 abbrev pub ReasonSays : List ℕ → ChainReason → List ℕ → Type 0

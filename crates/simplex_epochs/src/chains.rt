@@ -63,7 +63,8 @@ pub(crate) fn chain_of_member(
     height: u64,
     member: u64,
 ) -> Result<Sequence<ChainEntry>, AllocError>
-    ensures { IfOk result (λ chain. chain ≡ chain_of height (member_logs (inputs_of epochs.now) (rans_of runs.now) member)) }
+    ensures { IfOk result (λ chain. chain
+        ≡ chain_of height (member_logs (inputs_of epochs.now) (rans_of runs.now) member)) }
 {
     let mut chain = Sequence::new(alloc);
     let mut inputs = epochs;
@@ -92,7 +93,8 @@ pub fn chain(
     height: u64,
     member: u32,
 ) -> Result<Sequence<ChainEntry>, AllocError>
-    ensures { IfOk result (λ chain. chain ≡ chain_of height (member_logs (inputs_of epochs.now) (rans_of runs.now) member)) }
+    ensures { IfOk result (λ chain. chain
+        ≡ chain_of height (member_logs (inputs_of epochs.now) (rans_of runs.now) member)) }
 {
     chain_of_member(alloc, runs, epochs, height, u64::from(member))
 }

@@ -64,8 +64,10 @@ fn refused(place: u64, refusal: Refusal) -> EpochError
 // The run of the epoch.
 #[tactic(auto, using(crate::proofs::Epochs::made_whole, crate::proofs::Epochs::was_refused))]
 fn run_whole(alloc: Global, at: Beginning, input: &EpochInput) -> Result<Transcript, EpochError>
-    ensures ok { IfOk result (λ transcript. WholeRunFrom (setting_of input.now.setup at.genesis) input.now.events transcript) }
-    ensures err { IfErr result (λ error. is_memory error ≡ false → WasRefused (setting_of input.now.setup at.genesis) input.now.events at.place error) }
+    ensures ok { IfOk result (λ transcript.
+        WholeRunFrom (setting_of input.now.setup at.genesis) input.now.events transcript) }
+    ensures err { IfErr result (λ error. is_memory error ≡ false
+        → WasRefused (setting_of input.now.setup at.genesis) input.now.events at.place error) }
 {
     match run_network_from(alloc, &input.setup, at.genesis, input.events.as_slice()) {
         Ok(transcript) => Ok(transcript),
@@ -76,9 +78,12 @@ fn run_whole(alloc: Global, at: Beginning, input: &EpochInput) -> Result<Transcr
 // The whole run, and the whole logs.
 #[tactic(auto, using(crate::proofs::Epochs::is_transcript))]
 fn run_logged(alloc: Global, at: Beginning, input: &EpochInput) -> Result<Logged, EpochError>
-    ensures whole { IfOk result (λ logged. WholeRunFrom (setting_of input.now.setup at.genesis) input.now.events logged.transcript) }
-    ensures logs { IfOk result (λ logged. logged.logs ≡ logs_in input.now.setup logged.transcript.entries) }
-    ensures err { IfErr result (λ error. is_memory error ≡ false → WasRefused (setting_of input.now.setup at.genesis) input.now.events at.place error) }
+    ensures whole { IfOk result (λ logged.
+        WholeRunFrom (setting_of input.now.setup at.genesis) input.now.events logged.transcript) }
+    ensures logs { IfOk result (λ logged. logged.logs
+        ≡ logs_in input.now.setup logged.transcript.entries) }
+    ensures err { IfErr result (λ error. is_memory error ≡ false
+        → WasRefused (setting_of input.now.setup at.genesis) input.now.events at.place error) }
 {
     let transcript = run_whole(alloc, at, input)?;
     let logs = logs(alloc, &input.setup, transcript.entries.as_slice())?;
@@ -92,7 +97,8 @@ fn cut_run(
     genesis: Digest,
     logged: Logged,
 ) -> Result<EpochRun, AllocError>
-    ensures { IfOk result (λ run. (run.genesis ≡ genesis) × (run.transcript ≡ logged.transcript) × (run.logs ≡ cut_at height logged.logs)) }
+    ensures { IfOk result (λ run. (run.genesis ≡ genesis) × (run.transcript ≡ logged.transcript)
+        × (run.logs ≡ cut_at height logged.logs)) }
 {
     let logs = cut_logs(alloc, height, logged.logs.as_slice())?;
     Ok(EpochRun {
@@ -105,7 +111,8 @@ fn cut_run(
 // The epoch has the number that it must have.
 fn check_number(at: Beginning, input: &EpochInput) -> Result<(), EpochError>
     ensures ok { OnOk result (input.now.setup.epoch ≡ at.epoch) }
-    ensures err { IfErr result (λ error. (error ≡ errors.WrongEpoch at.place) × (input.now.setup.epoch ≢ at.epoch)) }
+    ensures err { IfErr result (λ error. (error ≡ errors.WrongEpoch at.place)
+        × (input.now.setup.epoch ≢ at.epoch)) }
 {
     if input.setup.epoch == at.epoch {
         Ok(())
@@ -122,9 +129,12 @@ fn run_last(
     at: Beginning,
     input: &EpochInput,
 ) -> Result<EpochRun, EpochError>
-    ensures ran { IfOk result (λ run. epochs_from RunFrom height at.place at.epoch at.genesis (given_of input.now ∷ []) ≡ Ok (ran_of run ∷ [])) }
+    ensures ran { IfOk result (λ run. epochs_from RunFrom height at.place at.epoch at.genesis (given_of input.now ∷ [])
+        ≡ Ok (ran_of run ∷ [])) }
     ensures whole { IfOk result (λ run. IsEpochRun height input.now run) }
-    ensures err { IfErr result (λ error. is_memory error ≡ false → epochs_from RunFrom height at.place at.epoch at.genesis (given_of input.now ∷ []) ≡ Err error) }
+    ensures err { IfErr result (λ error. is_memory error ≡ false
+        → epochs_from RunFrom height at.place at.epoch at.genesis
+        (given_of input.now ∷ []) ≡ Err error) }
 {
     check_number(at, input)?;
     let logged = run_logged(alloc, at, input)?;
@@ -136,8 +146,10 @@ fn next_of(height: u64, at: Beginning, logs: &[NodeLog]) -> Result<Beginning, Ep
     requires height { 0 < height }
     requires place { at.place < 2 ^ 64 - 1 }
     requires epoch { at.epoch < 2 ^ 64 - 1 }
-    ensures ok { IfOk result (λ next. (next.place ≡ at.place + 1) × (next.epoch ≡ at.epoch + 1) × (closing_payload height (lists_of logs.now) ≡ Some next.genesis)) }
-    ensures err { IfErr result (λ error. (error ≡ errors.Open at.place (greatest_of length (lists_of logs.now))) × (closing_payload height (lists_of logs.now) ≡ None)) }
+    ensures ok { IfOk result (λ next. (next.place ≡ at.place + 1) × (next.epoch ≡ at.epoch + 1)
+        × (closing_payload height (lists_of logs.now) ≡ Some next.genesis)) }
+    ensures err { IfErr result (λ error. (error ≡ errors.Open at.place (greatest_of length (lists_of logs.now)))
+        × (closing_payload height (lists_of logs.now) ≡ None)) }
 {
     match closing_payload(height, logs) {
         Some(genesis) => Ok(Beginning {
@@ -163,11 +175,15 @@ fn run_next(
     requires height { 0 < height }
     requires place { at.place < 2 ^ 64 - 1 }
     ensures place { IfOk result (λ r. r.1.place ≡ at.place + 1) }
-    ensures ran { IfOk result (λ r. (next : Input) (later : List Input) → epochs_from RunFrom height at.place at.epoch at.genesis (given_of input.now ∷ next ∷ later)
-        ≡ behind (ran_of r.0) (epochs_from RunFrom height r.1.place r.1.epoch r.1.genesis (next ∷ later))) }
+    ensures ran { IfOk result (λ r. (next : Input) (later : List Input)
+        → epochs_from RunFrom height at.place at.epoch at.genesis
+        (given_of input.now ∷ next ∷ later)
+        ≡ behind (ran_of r.0)
+        (epochs_from RunFrom height r.1.place r.1.epoch r.1.genesis (next ∷ later))) }
     ensures whole { IfOk result (λ r. IsEpochRun height input.now r.0) }
     ensures err { IfErr result (λ error. (next : Input) (later : List Input) → is_memory error ≡ false
-        → epochs_from RunFrom height at.place at.epoch at.genesis (given_of input.now ∷ next ∷ later) ≡ Err error) }
+        → epochs_from RunFrom height at.place at.epoch at.genesis
+        (given_of input.now ∷ next ∷ later) ≡ Err error) }
 {
     check_number(at, input)?;
     let logged = run_logged(alloc, at, input)?;
@@ -189,10 +205,13 @@ fn add_run(
     requires place { at.place < 2 ^ 64 - 1 }
     ensures place { IfOk result (λ next. next.place ≤ at.place + 1) }
     ensures ran { IfOk result (λ next. HasOneMore height runs.old runs.new input.now
-        (epochs_from RunFrom height at.place at.epoch at.genesis (given_of input.now ∷ inputs_of later.now))
+        (epochs_from RunFrom height at.place at.epoch at.genesis
+        (given_of input.now ∷ inputs_of later.now))
         (epochs_from RunFrom height next.place next.epoch next.genesis (inputs_of later.now))) }
     ensures err { IfErr result (λ error. is_memory error ≡ false
-        → epochs_from RunFrom height at.place at.epoch at.genesis (given_of input.now ∷ inputs_of later.now) ≡ Err error) }
+        → epochs_from RunFrom height at.place at.epoch at.genesis
+        (given_of input.now ∷ inputs_of later.now)
+        ≡ Err error) }
 {
     let [_next, ..] = later else {
         runs.push(run_last(alloc, height, at, input)?)?;
@@ -216,7 +235,8 @@ pub fn run_epochs(
     ensures ran { IfOk result (λ runs. Epochs height (inputs_of epochs.now) ≡ Ok (rans_of runs)) }
     // Each epoch's run is whole and safe, from the genesis digest that stands with it.
     ensures whole { IfOk result (λ runs. AreEpochRuns height epochs.now runs) }
-    ensures refused { IfErr result (λ error. is_memory error ≡ false → Epochs height (inputs_of epochs.now) ≡ Err error) }
+    ensures refused { IfErr result (λ error. is_memory error ≡ false
+        → Epochs height (inputs_of epochs.now) ≡ Err error) }
 {
     let mut runs = Sequence::new(alloc);
     let [first, ..] = epochs else {

@@ -1,10 +1,10 @@
 //! The text of chains.
-ghost use Rattle.std.specs.Prelude.{◌≡◌, ◌++◌, ◌∷◌, [], codes, decimal, filter, flat_map, IfOk, OnOk, string_bytes};
+ghost use Rattle.std.specs.Prelude.{◌≡◌, ◌++◌, ◌∷◌, [], codes, decimal, flat_map, IfOk, OnOk, string_bytes};
 ghost use Rattle.std.specs.List.{enumerate_from, range_with_len};
 ghost use Rattle.simplex_text.specs.Lines.{pieces};
 ghost use Rattle.model_run.specs.Kinds.{is_honest};
-ghost use Rattle.model_epochs.specs.Lines.{chain_lines as lines_of, entry_line, genesis_line, genesis_lines, is_honest_in, later_lines, member_lines};
-ghost use Rattle.simplex_epochs.specs.Runs.{inputs_of, rans_of};
+ghost use Rattle.model_epochs.specs.Lines.{chain_lines as lines_of, entry_line, genesis_line, genesis_lines, is_honest_in, later_lines};
+ghost use Rattle.simplex_epochs.specs.Runs.{inputs_of, rans_of, honest_lines};
 
 use crate::chains::chain_of_member;
 use crate::epoch::{EpochInput, EpochRun};
@@ -14,7 +14,8 @@ use simplex_transcript::Setup;
 use std::alloc::{AllocError, Global};
 
 fn genesis_text(alloc: Global, epoch: u64, genesis: &str) -> Result<String, AllocError>
-    ensures { IfOk result (λ text. string_bytes text ≡ pieces (codes "epoch " ∷ decimal epoch ∷ codes " genesis " ∷ genesis.now ∷ codes "\n" ∷ [])) }
+    ensures { IfOk result (λ text. string_bytes text ≡ pieces
+        (codes "epoch " ∷ decimal epoch ∷ codes " genesis " ∷ genesis.now ∷ codes "\n" ∷ [])) }
 {
     format!(in alloc; "epoch {epoch} genesis {genesis}\n")
 }
@@ -26,7 +27,8 @@ fn write_genesis(
     input: &EpochInput,
     run: &EpochRun,
 ) -> Result<(), AllocError>
-    ensures { OnOk result (string_bytes text.new ≡ string_bytes text.old ++ genesis_line input.now.setup.epoch run.now.genesis) }
+    ensures { OnOk result (string_bytes text.new
+        ≡ string_bytes text.old ++ genesis_line input.now.setup.epoch run.now.genesis) }
 {
     let digest = hex::encode(alloc, run.genesis.0.as_slice())?;
     let line = genesis_text(alloc, input.setup.epoch, digest.as_str())?;
@@ -41,7 +43,8 @@ fn write_later(
     epochs: &[EpochInput],
     runs: &[EpochRun],
 ) -> Result<(), AllocError>
-    ensures { OnOk result (string_bytes text.new ≡ string_bytes text.old ++ later_lines (inputs_of epochs.now) (rans_of runs.now)) }
+    ensures { OnOk result (string_bytes text.new ≡ string_bytes text.old
+        ++ later_lines (inputs_of epochs.now) (rans_of runs.now)) }
 {
     let [_, inputs @ ..] = epochs else {
         return Ok(());
@@ -60,7 +63,8 @@ fn write_all(
     epochs: &[EpochInput],
     runs: &[EpochRun],
 ) -> Result<(), AllocError>
-    ensures { OnOk result (string_bytes text.new ≡ string_bytes text.old ++ genesis_lines (inputs_of epochs.now) (rans_of runs.now)) }
+    ensures { OnOk result (string_bytes text.new ≡ string_bytes text.old
+        ++ genesis_lines (inputs_of epochs.now) (rans_of runs.now)) }
 {
     let mut inputs = epochs;
     let mut made = runs;
@@ -82,8 +86,11 @@ fn entry_text(
     placed: &ChainEntry,
     payload: &str,
 ) -> Result<String, AllocError>
-    ensures { IfOk result (λ text. string_bytes text ≡ pieces (codes "member " ∷ decimal member ∷ codes " entry " ∷ decimal place ∷ codes " epoch " ∷ decimal placed.now.epoch
-        ∷ codes " view " ∷ decimal placed.now.entry.view ∷ codes " payload " ∷ payload.now ∷ codes "\n" ∷ [])) }
+    ensures { IfOk result (λ text. string_bytes text ≡ pieces
+        (codes "member " ∷ decimal member ∷ codes " entry " ∷ decimal place ∷ codes " epoch "
+        ∷ decimal placed.now.epoch
+        ∷ codes " view " ∷ decimal placed.now.entry.view ∷ codes " payload "
+        ∷ payload.now ∷ codes "\n" ∷ [])) }
 {
     let epoch = placed.epoch.0;
     let view = placed.entry.view.0;
@@ -110,7 +117,8 @@ fn write_chain(
     member: u64,
     chain: &[ChainEntry],
 ) -> Result<(), AllocError>
-    ensures { OnOk result (string_bytes text.new ≡ string_bytes text.old ++ flat_map (entry_line member) (enumerate_from 1 chain.now)) }
+    ensures { OnOk result (string_bytes text.new ≡ string_bytes text.old
+        ++ flat_map (entry_line member) (enumerate_from 1 chain.now)) }
 {
     for (place, placed) in chain.iter().enumerate() {
         let line = entry_line(alloc, member, place as u64 + 1, placed)?;
@@ -144,7 +152,7 @@ fn write_member(
     member: u64,
 ) -> Result<(), AllocError>
     ensures { OnOk result (string_bytes text.new ≡ string_bytes text.old
-        ++ flat_map (member_lines height (inputs_of epochs.now) (rans_of runs.now)) (filter (is_honest_in (inputs_of epochs.now)) (member ∷ []))) }
+        ++ honest_lines height (inputs_of epochs.now) (rans_of runs.now) (member ∷ [])) }
 {
     if !is_honest_in(epochs, member) {
         return Ok(());
@@ -163,7 +171,8 @@ fn write_members(
     members: u64,
 ) -> Result<(), AllocError>
     ensures { OnOk result (string_bytes text.new ≡ string_bytes text.old
-        ++ flat_map (member_lines height (inputs_of epochs.now) (rans_of runs.now)) (filter (is_honest_in (inputs_of epochs.now)) (range_with_len 0 members))) }
+        ++ honest_lines height (inputs_of epochs.now) (rans_of runs.now)
+        (range_with_len 0 members)) }
 {
     for member in 0..members {
         write_member(alloc, text, height, epochs, runs, member)?;
@@ -180,7 +189,8 @@ pub fn chain_lines(
     epochs: &[EpochInput],
     height: u64,
 ) -> Result<String, AllocError>
-    ensures { IfOk result (λ text. string_bytes text ≡ lines_of height (inputs_of epochs.now) (rans_of runs.now)) }
+    ensures { IfOk result (λ text. string_bytes text
+        ≡ lines_of height (inputs_of epochs.now) (rans_of runs.now)) }
 {
     let mut text = String::new(alloc);
     write_later(alloc, &mut text, epochs, runs)?;

@@ -66,7 +66,8 @@ fn refuse(
     input: &ChainInput,
     error: EpochError,
 ) -> Result<Answer<ChainDone, ChainReason>, AllocError>
-    requires { is_memory error ≡ false → Epochs input.now.height (inputs_of input.now.epochs) ≡ Err error }
+    requires { is_memory error ≡ false
+        → Epochs input.now.height (inputs_of input.now.epochs) ≡ Err error }
     ensures { IfOk result (IsAnswer (AreChained input.now) (IsRefused input.now) (λ place. ⊥)) }
 {
     let _input = input;
@@ -135,16 +136,20 @@ pub fn epochs_program<S: Source, K: Sink>(
     sink: &mut K,
 ) -> Exit<ChainDone, ChainReason>
     // A write fault comes only where a count of faults rose.
-    ensures write_fault { result ≡ exits.WriteFault → Rose (K.fault_count sink.old) (K.fault_count sink.new) }
+    ensures write_fault { result ≡ exits.WriteFault
+        → Rose (K.fault_count sink.old) (K.fault_count sink.new) }
 
     // What is written is the text of the exit, or where writing or memory failed the first part of the text of an exit that
     // had its cause. Of whole epochs these are their genesis digests and the chains of their members; each epoch's run is
     // safe, its requests on view 0 name its genesis digest, and of any two chains one begins the other.
     ensures part { (exit : Exit ChainDone ChainReason) × ((text : List ℕ)
-        × (Cause usage (λ ask. ChainSays) (λ ask. ReasonSays) (λ ask. IsMisread) (asks_for_chains words.now)
-        (S.left source.old) (S.left source.new) (S.fault_count source.old) (S.fault_count source.new) exit text
+        × (Cause usage (λ ask. ChainSays) (λ ask. ReasonSays)
+        (λ ask. IsMisread) (asks_for_chains words.now)
+        (S.left source.old) (S.left source.new) (S.fault_count source.old)
+        (S.fault_count source.new) exit text
         × AddsPart (K.written sink.old) text (K.written sink.new)
-        × (((result ≡ exit) × Adds (K.written sink.old) text (K.written sink.new)) ⊎ IsCut result))) }
+        × (((result ≡ exit)
+        × Adds (K.written sink.old) text (K.written sink.new)) ⊎ IsCut result))) }
 {
     program(alloc, &ChainWork, words, source, sink)
 }

@@ -36,7 +36,8 @@ pair_cmp x y = ordering_then (nat_cmp x.0 y.0) (nat_cmp x.1 y.1)
 -- the pairs are the deadlines of the views, and each number leads to its view
 pub record IsIndexed (views : List (ℕ × Entry)) (timers : List (ℕ × ℕ)) (opened : List (ℕ × ℕ)) : Type 0 where
   pub rising : IsStrictlySortedBy nat_cmp (keys_of views)
-  pub timed : (deadline view : ℕ) → list_any (is_at (pair_cmp (deadline, view))) timers ≡ has_deadline deadline (entry_at views view)
+  pub timed : (deadline view : ℕ) → list_any (is_at (pair_cmp (deadline, view))) timers
+      ≡ has_deadline deadline (entry_at views view)
   pub numbered : (id view : ℕ) → is_value view (lookup (is_at (nat_cmp id)) opened) ≡ has_id id (entry_at views view)
 
 -- no view has the number

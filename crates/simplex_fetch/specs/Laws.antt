@@ -14,16 +14,19 @@ abbrev pub AsksAll : FetchConfig → (blocked : List ℕ) → ℕ → Entry → 
 AsksAll config blocked view entry =
     let peers = unblocked blocked (others_of config) in
     (peer : ℕ) → Contains peers peer
-    → (more : ℕ) × (more < length peers) × (peer_of config blocked view (record entry { attempts = entry.attempts + more }) ≡ Some peer)
+    → (more : ℕ) × (more < length peers)
+    × (peer_of config blocked view (record entry { attempts = entry.attempts + more }) ≡ Some peer)
 
 -- no attempt asks a member that is blocked
 abbrev pub AsksNoneBlocked : FetchConfig → (blocked : List ℕ) → ℕ → Entry → Type 0
-AsksNoneBlocked config blocked view entry = (peer : ℕ) → peer_of config blocked view entry ≡ Some peer → holds_member blocked peer ≡ false
+AsksNoneBlocked config blocked view entry = (peer : ℕ) → peer_of config blocked view entry ≡ Some peer
+    → holds_member blocked peer ≡ false
 
 -- what is delivered of a message answers the request that was open with its sender, under the number that it names
 abbrev pub DeliversOpen : Machine → ℕ → List ℕ → ℕ → Type 0
 DeliversOpen fetcher sender bytes now =
-    (id view : ℕ) (answer : List ℕ) (asks : List Ask) → Contains (heard sender bytes now fetcher).outs (out.Deliver id view answer asks)
+    (id view : ℕ) (answer : List ℕ) (asks : List Ask)
+    → Contains (heard sender bytes now fetcher).outs (out.Deliver id view answer asks)
     → asked_view id sender fetcher.views ≡ Some view
 
 -- a second answer to a request is not sent

@@ -40,7 +40,14 @@ impl Model for Fetcher {
 
     ghost Value = { Machine };
 
-    ghost view = { λ f. record { config = f.config; views = f.views; next_id = f.next_id; serving = f.serving.entries; next_serve = f.next_serve; blocked = f.blocked.keys } };
+    ghost view = { λ f. record {
+      config = f.config;
+      views = f.views;
+      next_id = f.next_id;
+      serving = f.serving.entries;
+      next_serve = f.next_serve;
+      blocked = f.blocked.keys;
+    } };
 
     ghost use Rattle.model_resolver.specs.Fetcher.{IsSound};
 
@@ -82,7 +89,8 @@ impl Fetcher {
 
     /// Whether numbers are left for each call. [few-requests]
     pub fn has_room(&self) -> bool
-        ensures { result ≡ (nat_lt self.now.next_id (2 ^ 62) && nat_lt self.now.next_serve (2 ^ 62)) }
+        ensures { result ≡ (nat_lt self.now.next_id (2 ^ 62)
+            && nat_lt self.now.next_serve (2 ^ 62)) }
     {
         self.next_id < ROOM && self.next_serve < ROOM
     }
@@ -95,7 +103,8 @@ impl Fetcher {
         view: u64,
         entry: &Entry,
     ) -> Result<Option<Participant>, AllocError>
-        ensures { IfOk result (λ peer. peer ≡ peer_of self.now.config self.now.blocked view entry.now) }
+        ensures { IfOk result (λ peer. peer
+            ≡ peer_of self.now.config self.now.blocked view entry.now) }
     {
         if self.config.n == 1 {
             return Ok(None);
@@ -123,7 +132,8 @@ impl Fetcher {
         requires early { now < 2 ^ 63 }
         requires ids { self.old.next_id + 1 < 2 ^ 64 }
         ensures fetcher { OnOk result (self.new ≡ (attempted now view entry self.old).fetcher) }
-        ensures outs { OnOk result (outs.new.items ≡ outs.old.items ++ (attempted now view entry self.old).outs) }
+        ensures outs { OnOk result (outs.new.items
+            ≡ outs.old.items ++ (attempted now view entry self.old).outs) }
     {
         let Some(peer) = self.peer_of(alloc, view, &entry)? else {
             return self.ask_nobody(view, entry, now);
@@ -171,7 +181,8 @@ impl Fetcher {
         requires early { now < 2 ^ 63 }
         requires ids { self.old.next_id + 1 < 2 ^ 64 }
         ensures fetcher { OnOk result (self.new ≡ (attempting now view self.old).fetcher) }
-        ensures outs { OnOk result (outs.new.items ≡ outs.old.items ++ (attempting now view self.old).outs) }
+        ensures outs { OnOk result (outs.new.items
+            ≡ outs.old.items ++ (attempting now view self.old).outs) }
     {
         match self.views.take(view) {
             None => Ok(()),
@@ -191,7 +202,8 @@ impl Fetcher {
         requires early { now < 2 ^ 63 }
         requires ids { self.old.next_id + 1 < 2 ^ 64 }
         ensures fetcher { OnOk result (self.new ≡ (expiring now view self.old).fetcher) }
-        ensures outs { OnOk result (outs.new.items ≡ outs.old.items ++ (expiring now view self.old).outs) }
+        ensures outs { OnOk result (outs.new.items
+            ≡ outs.old.items ++ (expiring now view self.old).outs) }
     {
         let Some(entry) = self.views.take(view) else {
             return Ok(());
@@ -212,7 +224,8 @@ impl Fetcher {
         outs: &mut Vec<Out>,
     ) -> Result<(), AllocError>
         ensures fetcher { OnOk result (self.new ≡ (retiring retire.now view self.old).fetcher) }
-        ensures outs { OnOk result (outs.new.items ≡ outs.old.items ++ (retiring retire.now view self.old).outs) }
+        ensures outs { OnOk result (outs.new.items
+            ≡ outs.old.items ++ (retiring retire.now view self.old).outs) }
     {
         let Some(mut entry) = self.views.take(view) else {
             return Ok(());
@@ -259,9 +272,16 @@ impl Fetcher {
         target: Option<Participant>,
         new: &mut BTreeSet<u64>,
     ) -> Result<(), AllocError>
-        ensures fetcher { OnOk result (self.new ≡ adding (record { view = fetch.now.view; arrival = record { ask = fetch.now.ask; target = target } }) self.old) }
+        ensures fetcher { OnOk result (self.new ≡ adding
+            (record {
+              view = fetch.now.view;
+              arrival = record { ask = fetch.now.ask; target = target };
+            }) self.old) }
         ensures ids { OnOk result (self.new.next_id ≡ self.old.next_id) }
-        ensures new { OnOk result (new.new.keys ≡ noting (record { view = fetch.now.view; arrival = record { ask = fetch.now.ask; target = target } }) self.old new.old.keys) }
+        ensures new { OnOk result (new.new.keys ≡ noting (record {
+          view = fetch.now.view;
+          arrival = record { ask = fetch.now.ask; target = target };
+        }) self.old new.old.keys) }
     {
         let view = fetch.view.0;
         let ask = fetch.ask;
@@ -284,8 +304,10 @@ impl Fetcher {
     fn start(&mut self, alloc: Global, new: BTreeSet<u64>, now: u64) -> Result<Vec<Out>, AllocError>
         requires early { now < 2 ^ 63 }
         requires ids { self.old.next_id < 2 ^ 62 }
-        ensures fetcher { OnOk result (self.new ≡ (visited (attempting now) new.keys self.old).fetcher) }
-        ensures outs { IfOk result (λ outs. outs.items ≡ (visited (attempting now) new.keys self.old).outs) }
+        ensures fetcher { OnOk result (self.new
+            ≡ (visited (attempting now) new.keys self.old).fetcher) }
+        ensures outs { IfOk result (λ outs. outs.items
+            ≡ (visited (attempting now) new.keys self.old).outs) }
     {
         let mut views = new;
         let mut outs = Vec::with_capacity(alloc, views.len())?;
@@ -300,8 +322,10 @@ impl Fetcher {
     pub fn fetch(&mut self, alloc: Global, fetch: Fetch, now: u64) -> Result<Vec<Out>, AllocError>
         requires early { now < 2 ^ 63 }
         requires ids { self.old.next_id < 2 ^ 62 }
-        ensures fetcher { OnOk result (self.new ≡ (fetched (of_all fetch ∷ []) now self.old).fetcher) }
-        ensures outs { IfOk result (λ outs. outs.items ≡ (fetched (of_all fetch ∷ []) now self.old).outs) }
+        ensures fetcher { OnOk result (self.new
+            ≡ (fetched (of_all fetch ∷ []) now self.old).fetcher) }
+        ensures outs { IfOk result (λ outs. outs.items
+            ≡ (fetched (of_all fetch ∷ []) now self.old).outs) }
     {
         let mut new = BTreeSet::new(alloc);
         self.add(alloc, &fetch, None, &mut new)?;
@@ -319,8 +343,10 @@ impl Fetcher {
     ) -> Result<Vec<Out>, AllocError>
         requires early { now < 2 ^ 63 }
         requires ids { self.old.next_id < 2 ^ 62 }
-        ensures fetcher { OnOk result (self.new ≡ (fetched (of_target fetch target ∷ []) now self.old).fetcher) }
-        ensures outs { IfOk result (λ outs. outs.items ≡ (fetched (of_target fetch target ∷ []) now self.old).outs) }
+        ensures fetcher { OnOk result (self.new
+            ≡ (fetched (of_target fetch target ∷ []) now self.old).fetcher) }
+        ensures outs { IfOk result (λ outs. outs.items
+            ≡ (fetched (of_target fetch target ∷ []) now self.old).outs) }
     {
         let mut new = BTreeSet::new(alloc);
         self.add(alloc, &fetch, Some(target), &mut new)?;
@@ -337,8 +363,10 @@ impl Fetcher {
     ) -> Result<Vec<Out>, AllocError>
         requires early { now < 2 ^ 63 }
         requires ids { self.old.next_id < 2 ^ 62 }
-        ensures fetcher { OnOk result (self.new ≡ (fetched (map of_all fetches.items) now self.old).fetcher) }
-        ensures outs { IfOk result (λ outs. outs.items ≡ (fetched (map of_all fetches.items) now self.old).outs) }
+        ensures fetcher { OnOk result (self.new
+            ≡ (fetched (map of_all fetches.items) now self.old).fetcher) }
+        ensures outs { IfOk result (λ outs. outs.items
+            ≡ (fetched (map of_all fetches.items) now self.old).outs) }
     {
         let mut new = BTreeSet::new(alloc);
         for fetch in &fetches {
@@ -373,7 +401,8 @@ impl Fetcher {
         requires early { now < 2 ^ 63 }
         requires serves { self.old.next_serve < 2 ^ 62 }
         ensures fetcher { OnOk result (self.new ≡ (heard sender bytes.now now self.old).fetcher) }
-        ensures outs { IfOk result (λ outs. outs.items ≡ (heard sender bytes.now now self.old).outs) }
+        ensures outs { IfOk result (λ outs. outs.items
+            ≡ (heard sender bytes.now now self.old).outs) }
     {
         match ResolverMessage::decode(alloc, bytes) {
             Ok(message) => self.hear_message(alloc, sender, message, now),
@@ -396,8 +425,10 @@ impl Fetcher {
     ) -> Result<Vec<Out>, AllocError>
         requires early { now < 2 ^ 63 }
         requires serves { self.old.next_serve < 2 ^ 62 }
-        ensures fetcher { OnOk result (self.new ≡ (heard_body sender message.id now self.old message.body).fetcher) }
-        ensures outs { IfOk result (λ outs. outs.items ≡ (heard_body sender message.id now self.old message.body).outs) }
+        ensures fetcher { OnOk result (self.new
+            ≡ (heard_body sender message.id now self.old message.body).fetcher) }
+        ensures outs { IfOk result (λ outs. outs.items
+            ≡ (heard_body sender message.id now self.old message.body).outs) }
     {
         let ResolverMessage { id, body } = message;
         match body {
@@ -420,8 +451,10 @@ impl Fetcher {
         view: View,
     ) -> Result<Vec<Out>, AllocError>
         requires serves { self.old.next_serve < 2 ^ 62 }
-        ensures fetcher { OnOk result (self.new ≡ (requested sender request view self.old).fetcher) }
-        ensures outs { IfOk result (λ outs. outs.items ≡ (requested sender request view self.old).outs) }
+        ensures fetcher { OnOk result (self.new
+            ≡ (requested sender request view self.old).fetcher) }
+        ensures outs { IfOk result (λ outs. outs.items
+            ≡ (requested sender request view self.old).outs) }
     {
         let id = self.next_serve;
         let out = Out::Produce { id, view };
@@ -440,8 +473,12 @@ impl Fetcher {
         id: u64,
         bytes: Bytes,
     ) -> Result<Vec<Out>, AllocError>
-        ensures fetcher { OnOk result (self.new ≡ (answered sender.now id bytes self.old (asked_view id sender.now self.old.views)).fetcher) }
-        ensures outs { IfOk result (λ outs. outs.items ≡ (answered sender.now id bytes self.old (asked_view id sender.now self.old.views)).outs) }
+        ensures fetcher { OnOk result (self.new
+            ≡ (answered sender.now id bytes self.old
+            (asked_view id sender.now self.old.views)).fetcher) }
+        ensures outs { IfOk result (λ outs. outs.items
+            ≡ (answered sender.now id bytes self.old
+            (asked_view id sender.now self.old.views)).outs) }
     {
         let Some(view) = self.views.asked_view(id, sender) else {
             return Ok(Vec::new(alloc));
@@ -472,7 +509,8 @@ impl Fetcher {
     #[tactic(auto, unfolding(model_resolver::specs::Fetcher::refused, model_resolver::specs::Fetcher::retried))]
     fn hear_error(&mut self, sender: &Participant, id: u64, now: u64) -> Result<(), AllocError>
         requires early { now < 2 ^ 63 }
-        ensures { OnOk result (self.new ≡ refused now self.old (asked_view id sender.now self.old.views)) }
+        ensures { OnOk result (self.new
+            ≡ refused now self.old (asked_view id sender.now self.old.views)) }
     {
         let Some(view) = self.views.asked_view(id, sender) else {
             return Ok(());
@@ -523,8 +561,10 @@ impl Fetcher {
         requires sound { IsSoundEntry self.old.next_id entry }
         requires early { now < 2 ^ 63 }
         requires ids { self.old.next_id < 2 ^ 62 }
-        ensures fetcher { OnOk result (self.new ≡ (judged_as verdict.now now view entry self.old).fetcher) }
-        ensures outs { OnOk result (outs.new.items ≡ outs.old.items ++ (judged_as verdict.now now view entry self.old).outs) }
+        ensures fetcher { OnOk result (self.new
+            ≡ (judged_as verdict.now now view entry self.old).fetcher) }
+        ensures outs { OnOk result (outs.new.items ≡ outs.old.items
+            ++ (judged_as verdict.now now view entry self.old).outs) }
     {
         let mut entry = entry;
         if is_done(verdict) {
@@ -545,8 +585,10 @@ impl Fetcher {
         state: &State,
         outs: &mut Vec<Out>,
     ) -> Result<(), AllocError>
-        ensures fetcher { OnOk result (self.new ≡ (blocked_by verdict.now state.now self.old).fetcher) }
-        ensures outs { OnOk result (outs.new.items ≡ outs.old.items ++ (blocked_by verdict.now state.now self.old).outs) }
+        ensures fetcher { OnOk result (self.new
+            ≡ (blocked_by verdict.now state.now self.old).fetcher) }
+        ensures outs { OnOk result (outs.new.items ≡ outs.old.items
+            ++ (blocked_by verdict.now state.now self.old).outs) }
     {
         if let (Some(Outcome::Invalid), State::Judged { peer, .. }) = (verdict, state) {
             self.block(*peer)?;
@@ -563,8 +605,10 @@ impl Fetcher {
         id: u64,
         bytes: Option<Vec<u8>>,
     ) -> Result<Vec<Out>, AllocError>
-        ensures fetcher { OnOk result (self.new ≡ (served id (option_map (λ vector. vector.items) bytes) self.old).fetcher) }
-        ensures outs { IfOk result (λ outs. outs.items ≡ (served id (option_map (λ vector. vector.items) bytes) self.old).outs) }
+        ensures fetcher { OnOk result (self.new
+            ≡ (served id (option_map (λ vector. vector.items) bytes) self.old).fetcher) }
+        ensures outs { IfOk result (λ outs. outs.items
+            ≡ (served id (option_map (λ vector. vector.items) bytes) self.old).outs) }
     {
         let Some(serving) = self.serving.remove(&id) else {
             return Ok(Vec::new(alloc));

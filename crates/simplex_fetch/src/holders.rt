@@ -25,8 +25,10 @@ pub(crate) struct Holders {
 
 /// Adds the view, if it holds such an ask.
 fn add(views: &mut BTreeSet<u64>, holds: bool, view: u64) -> Result<(), AllocError>
-    ensures ok { OnOk result ((q : ℕ) → is_there q views.new.keys ≡ ((holds && q == view) || is_there q views.old.keys)) }
-    ensures elsewhere { (q : ℕ) → (not (holds && q == view) && is_there q views.new.keys) ≡ (not (holds && q == view) && is_there q views.old.keys) }
+    ensures ok { OnOk result ((q : ℕ)
+        → is_there q views.new.keys ≡ ((holds && q == view) || is_there q views.old.keys)) }
+    ensures elsewhere { (q : ℕ) → (not (holds && q == view) && is_there q views.new.keys)
+        ≡ (not (holds && q == view) && is_there q views.old.keys) }
 {
     if holds {
         views.insert(view)?;
@@ -36,7 +38,8 @@ fn add(views: &mut BTreeSet<u64>, holds: bool, view: u64) -> Result<(), AllocErr
 
 /// Takes the view away, if it holds such an ask.
 fn remove(views: &mut BTreeSet<u64>, holds: bool, view: u64)
-    ensures { (q : ℕ) → is_there q views.new.keys ≡ (not (holds && q == view) && is_there q views.old.keys) }
+    ensures { (q : ℕ) → is_there q views.new.keys
+        ≡ (not (holds && q == view) && is_there q views.old.keys) }
 {
     if holds {
         views.remove(&view);
@@ -51,7 +54,8 @@ pub(crate) fn within(
     last: u64,
 ) -> Result<Vec<u64>, AllocError>
     requires { first ≤ last }
-    ensures items { IfOk result (λ found. found.items ≡ filter (range_contains nat_cmp (Included first) (Included last)) views.now.keys) }
+    ensures items { IfOk result (λ found. found.items
+        ≡ filter (range_contains nat_cmp (Included first) (Included last)) views.now.keys) }
     ensures rising { IsStrictlySortedBy nat_cmp views.now.keys }
 {
     views.range(first..=last).copied().collect(alloc)
@@ -96,9 +100,15 @@ impl Holders {
     /// Notes what the view holds, or some of it.
     fn note_each(&mut self, view: u64, held: &Held) -> Result<(), AllocError>
         ensures ok { OnOk result (IsNoted view held.now self.old self.new) }
-        ensures nullifications { (q : ℕ) → (not (held.now.nullification && q == view) && is_there q self.new.nullifications.keys) ≡ (not (held.now.nullification && q == view) && is_there q self.old.nullifications.keys) }
-        ensures notarizations { (q : ℕ) → (not (held.now.notarization && q == view) && is_there q self.new.notarizations.keys) ≡ (not (held.now.notarization && q == view) && is_there q self.old.notarizations.keys) }
-        ensures floors { (q : ℕ) → (not (held.now.floor && q == view) && is_there q self.new.floors.keys) ≡ (not (held.now.floor && q == view) && is_there q self.old.floors.keys) }
+        ensures nullifications { (q : ℕ)
+            → (not (held.now.nullification && q == view) && is_there q self.new.nullifications.keys)
+            ≡ (not (held.now.nullification && q == view)
+            && is_there q self.old.nullifications.keys) }
+        ensures notarizations { (q : ℕ)
+            → (not (held.now.notarization && q == view) && is_there q self.new.notarizations.keys)
+            ≡ (not (held.now.notarization && q == view) && is_there q self.old.notarizations.keys) }
+        ensures floors { (q : ℕ) → (not (held.now.floor && q == view) && is_there q self.new.floors.keys)
+            ≡ (not (held.now.floor && q == view) && is_there q self.old.floors.keys) }
     {
         add(&mut self.nullifications, held.nullification, view)?;
         add(&mut self.notarizations, held.notarization, view)?;

@@ -13,7 +13,8 @@ pub(crate) type Numbers = BTreeMap<u64, u64>;
 
 /// Notes the view of the request, if there is one.
 pub(crate) fn open(numbers: &mut Numbers, id: Option<u64>, view: u64) -> Result<(), AllocError>
-    ensures ok { OnOk result ((q : ℕ) → lookup (is_at (nat_cmp q)) numbers.new.entries ≡ (if is_value q id then Some view else lookup (is_at (nat_cmp q)) numbers.old.entries)) }
+    ensures ok { OnOk result ((q : ℕ) → lookup (is_at (nat_cmp q)) numbers.new.entries
+        ≡ (if is_value q id then Some view else lookup (is_at (nat_cmp q)) numbers.old.entries)) }
     ensures err { OnErr result (numbers.new.entries ≡ numbers.old.entries) }
 {
     if let Some(id) = id {
@@ -24,7 +25,8 @@ pub(crate) fn open(numbers: &mut Numbers, id: Option<u64>, view: u64) -> Result<
 
 /// Forgets the request, if there is one.
 pub(crate) fn close(numbers: &mut Numbers, id: Option<u64>)
-    ensures { (q : ℕ) → lookup (is_at (nat_cmp q)) numbers.new.entries ≡ (if is_value q id then None else lookup (is_at (nat_cmp q)) numbers.old.entries) }
+    ensures { (q : ℕ) → lookup (is_at (nat_cmp q)) numbers.new.entries
+        ≡ (if is_value q id then None else lookup (is_at (nat_cmp q)) numbers.old.entries) }
 {
     if let Some(id) = id {
         numbers.remove(&id);

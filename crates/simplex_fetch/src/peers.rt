@@ -41,7 +41,8 @@ pub(crate) fn cyclic_other(
     attempts: u64,
 ) -> Option<Participant>
     requires me { config.now.me < config.now.n }
-    ensures { result ≡ cyclic (unblocked blocked.now.keys (others_of config.now)) (view + attempts) }
+    ensures { result ≡ cyclic (unblocked blocked.now.keys
+        (others_of config.now)) (view + attempts) }
 {
     let others = count_unblocked(config, blocked);
     if others == 0 {

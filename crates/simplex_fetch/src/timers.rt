@@ -20,7 +20,9 @@ pub(crate) fn set_timer(
     deadline: Option<u64>,
     view: u64,
 ) -> Result<(), AllocError>
-    ensures ok { OnOk result ((d v : ℕ) → list_any (is_at (pair_cmp (d, v))) timers.new.keys ≡ ((is_value d deadline && v == view) || list_any (is_at (pair_cmp (d, v))) timers.old.keys)) }
+    ensures ok { OnOk result ((d v : ℕ) → list_any (is_at (pair_cmp (d, v))) timers.new.keys
+        ≡ ((is_value d deadline && v == view)
+        || list_any (is_at (pair_cmp (d, v))) timers.old.keys)) }
     ensures err { OnErr result (timers.new.keys ≡ timers.old.keys) }
 {
     if let Some(deadline) = deadline {
@@ -31,7 +33,9 @@ pub(crate) fn set_timer(
 
 /// Takes the view's deadline away, if there is one.
 pub(crate) fn clear_timer(timers: &mut Timers, deadline: Option<u64>, view: u64)
-    ensures { (d v : ℕ) → list_any (is_at (pair_cmp (d, v))) timers.new.keys ≡ (not (is_value d deadline && v == view) && list_any (is_at (pair_cmp (d, v))) timers.old.keys) }
+    ensures { (d v : ℕ) → list_any (is_at (pair_cmp (d, v))) timers.new.keys
+        ≡ (not (is_value d deadline && v == view)
+        && list_any (is_at (pair_cmp (d, v))) timers.old.keys) }
 {
     if let Some(deadline) = deadline {
         timers.remove(&(deadline, view));
@@ -41,7 +45,9 @@ pub(crate) fn clear_timer(timers: &mut Timers, deadline: Option<u64>, view: u64)
 /// The views whose deadline is reached.
 pub(crate) fn reached(alloc: Global, timers: &Timers, now: u64) -> Result<BTreeSet<u64>, AllocError>
     requires { now < 2 ^ 63 }
-    ensures { IfOk result (λ views. IsFromIterResult nat_cmp (map (λ t. t.1) (filter (range_contains pair_cmp Unbounded (Excluded (now + 1, 0))) timers.now.keys)) views) }
+    ensures { IfOk result (λ views. IsFromIterResult nat_cmp
+        (map (λ t. t.1) (filter
+        (range_contains pair_cmp Unbounded (Excluded (now + 1, 0))) timers.now.keys)) views) }
 {
     timers
         .range(..(now + 1, 0))

@@ -40,7 +40,9 @@ impl Model for Views {
 
     ghost use Rattle.simplex_fetch.specs.Index.{IsIndexed, IsHeld};
 
-    ghost invariant = { λ views. IsIndexed views.entries.entries views.timers.keys views.numbers.entries × IsHeld views.entries.entries views.holders.nullifications.keys views.holders.notarizations.keys views.holders.floors.keys };
+    ghost invariant = { λ views. IsIndexed views.entries.entries views.timers.keys views.numbers.entries
+        × IsHeld views.entries.entries views.holders.nullifications.keys
+        views.holders.notarizations.keys views.holders.floors.keys };
 }
 
 /// The keys from the first of these to the last.
@@ -51,7 +53,9 @@ fn keys_between(
     last: u64,
 ) -> Result<Vec<u64>, AllocError>
     requires { first ≤ last }
-    ensures { IfOk result (λ keys. keys.items ≡ map (λ e. e.0) (entries_between nat_cmp (Included first) (Included last) entries.now.entries)) }
+    ensures { IfOk result (λ keys. keys.items
+        ≡ map (λ e. e.0) (entries_between nat_cmp (Included first)
+        (Included last) entries.now.entries)) }
 {
     entries
         .range(first..=last)
@@ -85,12 +89,14 @@ impl Views {
     pub(crate) fn take(&mut self, view: u64) -> Option<Entry>
         ensures entry { result ≡ entry_at self.old view }
         ensures without { self.new ≡ without_entry view self.old }
-        ensures at { (q : ℕ) → entry_at self.new q ≡ (if view == q then None else entry_at self.old q) }
+        ensures at { (q : ℕ) → entry_at self.new q ≡ (if view == q then None
+            else entry_at self.old q) }
         ensures free { IfSome result (λ entry. IsFree (id_of entry.state) self.new) }
         ensures none { IfNone result (self.new ≡ self.old) }
         ensures rising { IsStrictlySortedBy nat_cmp (keys_of self.new) }
         // What is put there then is put there.
-        ensures put { (entry : Entry) → with_entry view entry self.new ≡ with_entry view entry self.old }
+        ensures put { (entry : Entry)
+            → with_entry view entry self.new ≡ with_entry view entry self.old }
         // Where it is put back, all is as before.
         ensures back { IfSome result (λ entry. with_entry view entry self.new ≡ self.old) }
     {
@@ -107,7 +113,8 @@ impl Views {
         requires absent { entry_at self.old view ≡ None }
         requires free { IsFree (id_of entry.state) self.old }
         ensures ok { OnOk result (self.new ≡ with_entry view entry self.old) }
-        ensures at { OnOk result ((q : ℕ) → entry_at self.new q ≡ (if view == q then Some entry else entry_at self.old q)) }
+        ensures at { OnOk result ((q : ℕ)
+            → entry_at self.new q ≡ (if view == q then Some entry else entry_at self.old q)) }
         ensures rising { IsStrictlySortedBy nat_cmp (keys_of self.new) }
         ensures err { OnErr result (self.new ≡ self.old) }
     {
@@ -170,14 +177,17 @@ impl Views {
     /// The views whose deadline is reached.
     pub(crate) fn due(&self, alloc: Global, now: u64) -> Result<BTreeSet<u64>, AllocError>
         requires { now < 2 ^ 63 }
-        ensures { IfOk result (λ views. views.keys ≡ views_where (λ view entry. is_due now entry) self.now) }
+        ensures { IfOk result (λ views. views.keys
+            ≡ views_where (λ view entry. is_due now entry) self.now) }
     {
         timers::reached(alloc, &self.timers, now)
     }
 
     /// The views with an ask that is done with.
     pub(crate) fn touched(&self, alloc: Global, retire: &Retire) -> Result<Vec<u64>, AllocError>
-        ensures { IfOk result (λ views. views.items ≡ views_where (λ view entry. reaches retire.now view && touches retire.now entry.arrivals) self.now) }
+        ensures { IfOk result (λ views. views.items
+            ≡ views_where (λ view entry. reaches retire.now view
+            && touches retire.now entry.arrivals) self.now) }
     {
         let (first, last) = retire.reach();
         if last < first {

@@ -133,7 +133,9 @@ verdict_of d = option_map (λ verdict. answers.Verdict verdict) (flag_at (codes 
 
 -- an answer that is written as an object of one member
 abbrev pub valued_answer_of : Data → Option Answer
-valued_answer_of d = if has_members 1 d then option_or (payload_of d) (option_or (stage_of d) (option_or (vote_of d) (verdict_of d))) else None
+valued_answer_of d =
+    if has_members 1 d then option_or (payload_of d) (option_or (stage_of d) (option_or (vote_of d) (verdict_of d)))
+    else None
 
 -- "wait" or "closed"
 abbrev pub named_answer_of : List ℕ → Option Answer

@@ -26,7 +26,9 @@ both_of (Some setup) (Some items) = with_events setup (list_from event_of 2 item
 
 -- {"setup": SETUP, "events": [..]}
 abbrev pub form_of : Data → Result Input ℕ
-form_of d = if has_members 2 d then both_of (get (codes "setup") d >>= setup_of) (get (codes "events") d >>= as_array) else Err 1
+form_of d =
+    if has_members 2 d then both_of (get (codes "setup") d >>= setup_of) (get (codes "events") d >>= as_array)
+    else Err 1
 
 -- place 0 stands for a text that is no JSON
 abbrev pub document_of : Option Data → Result Input ℕ

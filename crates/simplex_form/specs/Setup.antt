@@ -22,7 +22,8 @@ use Rattle.simplex_form.specs.Form.{◌>>=◌, has_members, is_null, number_of, 
 
 -- {"outdated": 3}
 abbrev pub outdated_of : Data → Option MemberKind
-outdated_of d = if has_members 1 d then option_map (λ views. kinds.Outdated views) (number_at (codes "outdated") d) else None
+outdated_of d =
+    if has_members 1 d then option_map (λ views. kinds.Outdated views) (number_at (codes "outdated") d) else None
 
 -- a text, or else the object of an outdated member
 abbrev pub kind_or : Data → Option (List ℕ) → Option MemberKind
@@ -91,7 +92,13 @@ timing_of d = do
   retry ← number_at (codes "retry") d
   stall ← get (codes "stall") d >>= limit_of
   retention ← number_at (codes "retention") d
-  Some (record { leader_timeout = leader_timeout; certification_timeout = certification_timeout; retry = retry; stall = stall; retention = retention })
+  Some (record {
+    leader_timeout = leader_timeout;
+    certification_timeout = certification_timeout;
+    retry = retry;
+    stall = stall;
+    retention = retention;
+  })
 
 -- those on what a member does beyond the rules
 abbrev pub policies_of : Data → Option Policies

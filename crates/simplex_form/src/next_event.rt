@@ -1,10 +1,10 @@
-//! Reads the next event of a text: a delivery or a step, whose members stand in the order of docs/INPUT.md, with no tree of it, since
-//! most events are these, and any other event by its tree.
+//! Reads the next event of a text: a delivery or a step, whose members stand in the order of docs/INPUT.md, with no
+//! tree of it, since most events are these, and any other event by its tree.
 ghost use Rattle.std.specs.Prelude.{◌≡◌, codes, Some, IfOk};
-ghost use Rattle.serde_json.specs.Data.{Data, Members, string, object, no_members, put};
+ghost use Rattle.serde_json.specs.Data.{Data, string, no_members, put};
 ghost use Rattle.serde_json.specs.View.{view};
 ghost use Rattle.simplex_form.specs.Events.{event_of, node_of, ref_of, stop_of};
-ghost use Rattle.simplex_form.specs.Stream.{Reads, ReadsRest, IsPair, IsSource};
+ghost use Rattle.simplex_form.specs.Stream.{Reads, EndsEvent, IsPair, IsSource};
 
 use crate::events::read_event;
 use crate::stops::read_stop;
@@ -25,7 +25,8 @@ const DEPTH: usize = 124;
 
 /// The next value of the text, where it is an event. [events-one-by-one]
 pub(crate) fn next_event(alloc: Global, reader: &mut Reader<'_>) -> Result<Event, Halt>
-    ensures { IfOk result (λ event. (d : Data) × Reads 125 reader.old d reader.new × (event_of d ≡ Some event)) }
+    ensures { IfOk result (λ event. (d : Data) × Reads 125 reader.old d reader.new
+        × (event_of d ≡ Some event)) }
 {
     take_open_object(reader)?;
     let Some(name) = reader.next_key()? else {
@@ -42,8 +43,8 @@ pub(crate) fn next_event(alloc: Global, reader: &mut Reader<'_>) -> Result<Event
 
 /// The event of this kind, of which the kind is read.
 fn rest_of_kind(alloc: Global, reader: &mut Reader<'_>, kind: &str) -> Result<Event, Halt>
-    ensures { IfOk result (λ event. (ms : Members) × ReadsRest reader.old (put (codes "do") (string kind.now) no_members) ms reader.new
-        × (event_of (object ms) ≡ Some event)) }
+    ensures { IfOk result (λ event. EndsEvent reader.old
+        (put (codes "do") (string kind.now) no_members) reader.new event) }
 {
     if is_same(kind, "deliver") {
         return rest_of_delivery(reader);
@@ -62,8 +63,8 @@ fn rest_of_any(
     name: &str,
     member: Value,
 ) -> Result<Event, Halt>
-    ensures { IfOk result (λ event. (ms : Members) × ReadsRest reader.old (put name.now (view member) no_members) ms reader.new
-        × (event_of (object ms) ≡ Some event)) }
+    ensures { IfOk result
+        (λ event. EndsEvent reader.old (put name.now (view member) no_members) reader.new event) }
 {
     let mut found = Map::new(alloc);
     let key = String::from_str(alloc, name)?;
@@ -75,8 +76,8 @@ fn rest_of_any(
 
 /// The delivery of which the kind is read.
 fn rest_of_delivery(reader: &mut Reader<'_>) -> Result<Event, Halt>
-    ensures { IfOk result (λ event. (ms : Members) × ReadsRest reader.old (put (codes "do") (string (codes "deliver")) no_members) ms reader.new
-        × (event_of (object ms) ≡ Some event)) }
+    ensures { IfOk result (λ event. EndsEvent reader.old
+        (put (codes "do") (string (codes "deliver")) no_members) reader.new event) }
 {
     take_key(reader, "node")?;
     let node = next_node(reader)?;
@@ -88,8 +89,8 @@ fn rest_of_delivery(reader: &mut Reader<'_>) -> Result<Event, Halt>
 
 /// The step of which the kind is read.
 fn rest_of_step(alloc: Global, reader: &mut Reader<'_>) -> Result<Event, Halt>
-    ensures { IfOk result (λ event. (ms : Members) × ReadsRest reader.old (put (codes "do") (string (codes "step")) no_members) ms reader.new
-        × (event_of (object ms) ≡ Some event)) }
+    ensures { IfOk result (λ event. EndsEvent reader.old
+        (put (codes "do") (string (codes "step")) no_members) reader.new event) }
 {
     take_key(reader, "node")?;
     let node = next_node(reader)?;
@@ -103,7 +104,8 @@ fn rest_of_step(alloc: Global, reader: &mut Reader<'_>) -> Result<Event, Halt>
 
 /// A list of two numbers.
 fn next_pair(reader: &mut Reader<'_>) -> Result<(u64, u64), Halt>
-    ensures { IfOk result (λ pair. (d : Data) × Reads 124 reader.old d reader.new × IsPair d pair.0 pair.1) }
+    ensures { IfOk result (λ pair. (d : Data) × Reads 124 reader.old d reader.new
+        × IsPair d pair.0 pair.1) }
 {
     take_open_list(reader)?;
     let first = take_number(reader)?;
@@ -114,7 +116,8 @@ fn next_pair(reader: &mut Reader<'_>) -> Result<(u64, u64), Halt>
 
 /// What names a node.
 fn next_node(reader: &mut Reader<'_>) -> Result<Node, Halt>
-    ensures { IfOk result (λ node. (d : Data) × Reads 124 reader.old d reader.new × (node_of d ≡ Some node)) }
+    ensures { IfOk result (λ node. (d : Data) × Reads 124 reader.old d reader.new
+        × (node_of d ≡ Some node)) }
 {
     let (member, half) = next_pair(reader)?;
     Ok(Node { member, half })
@@ -122,7 +125,8 @@ fn next_node(reader: &mut Reader<'_>) -> Result<Node, Halt>
 
 /// What names a packet or a request.
 fn next_ref(reader: &mut Reader<'_>) -> Result<Ref, Halt>
-    ensures { IfOk result (λ it. (d : Data) × Reads 124 reader.old d reader.new × (ref_of d ≡ Some it)) }
+    ensures { IfOk result (λ it. (d : Data) × Reads 124 reader.old d reader.new
+        × (ref_of d ≡ Some it)) }
 {
     let (event, place) = next_pair(reader)?;
     Ok(Ref { event, place })
@@ -130,7 +134,8 @@ fn next_ref(reader: &mut Reader<'_>) -> Result<Ref, Halt>
 
 /// What a step takes from.
 fn next_source(reader: &mut Reader<'_>) -> Result<StepSource, Halt>
-    ensures { IfOk result (λ source. (d : Data) × Reads 124 reader.old d reader.new × IsSource d source) }
+    ensures { IfOk result (λ source. (d : Data) × Reads 124 reader.old d reader.new
+        × IsSource d source) }
 {
     let name = take_text(reader)?;
     let source = source_of(name).ok_or(Halt::Other)?;
@@ -139,7 +144,8 @@ fn next_source(reader: &mut Reader<'_>) -> Result<StepSource, Halt>
 
 /// The order to stop inside a step, if there is one.
 fn next_stop(alloc: Global, reader: &mut Reader<'_>) -> Result<Stop, Halt>
-    ensures { IfOk result (λ stop. (d : Data) × Reads 124 reader.old d reader.new × (stop_of d ≡ Some stop)) }
+    ensures { IfOk result (λ stop. (d : Data) × Reads 124 reader.old d reader.new
+        × (stop_of d ≡ Some stop)) }
 {
     let value = next_value(alloc, reader, DEPTH)?;
     read_stop(&value).ok_or(Halt::Other)

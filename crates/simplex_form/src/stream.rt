@@ -1,6 +1,6 @@
-//! Reads an input event by event, so that no tree of the whole text stands: the text of a long run is a tree of many times
-//! its size. Only the usual spelling is read so, an object with the setup and then the events, each of its form; of any
-//! other text, also one that is no JSON, nothing is said here, and the whole tree is read.
+//! Reads an input event by event, so that no tree of the whole text stands: the text of a long run is a tree of many
+//! times its size. Only the usual spelling is read so, an object with the setup and then the events, each of its form;
+//! of any other text, also one that is no JSON, nothing is said here, and the whole tree is read.
 ghost use Rattle.std.specs.Prelude.{◌≡◌, [], ◌∷◌, length, Some, Ok, IfOk, IfSome, OnOk};
 ghost use Rattle.json.specs.Token.{Token as kind};
 ghost use Rattle.serde_json.specs.Data.{Data, Items, array};
@@ -67,7 +67,8 @@ fn take_end(reader: &mut Reader<'_>) -> Result<(), Halt>
 
 /// The setup, where the next value is one.
 fn read_setup_part(alloc: Global, reader: &mut Reader<'_>) -> Result<Setup, Halt>
-    ensures { IfOk result (λ setup. (d : Data) × Reads 126 reader.old d reader.new × (setup_of d ≡ Some setup)) }
+    ensures { IfOk result (λ setup. (d : Data) × Reads 126 reader.old d reader.new
+        × (setup_of d ≡ Some setup)) }
 {
     let value = next_value(alloc, reader, DEPTH)?;
     read_setup(alloc, &value)?.ok_or(Halt::Other)

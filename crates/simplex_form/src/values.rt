@@ -71,7 +71,8 @@ pub(crate) fn next_value(
 /// The items up to the bracket that closes their list.
 #[cycle(next_value)]
 fn next_items(alloc: Global, reader: &mut Reader<'_>, depth: usize) -> Result<Vec<Value>, Halt>
-    ensures said { IfOk result (λ v. ReadsItems depth (length reader.old) reader.old (items_view v.items) reader.new) }
+    ensures said { IfOk result
+        (λ v. ReadsItems depth (length reader.old) reader.old (items_view v.items) reader.new) }
     ensures shorter { OnOk result (length reader.new < length reader.old) }
 {
     let mut found = Vec::new(alloc);
@@ -82,7 +83,8 @@ fn next_items(alloc: Global, reader: &mut Reader<'_>, depth: usize) -> Result<Ve
     Ok(found)
 }
 
-/// The members up to the brace that closes their object, behind those found. Of a name that comes twice the last value stays.
+/// The members up to the brace that closes their object, behind those found. Of a name that comes twice the last value
+/// stays.
 #[cycle(next_value)]
 pub(crate) fn rest_of_members(
     alloc: Global,
@@ -91,7 +93,8 @@ pub(crate) fn rest_of_members(
     found: Map<String, Value>,
 ) -> Result<Map<String, Value>, Halt>
     ensures said { IfOk result (λ m. (n : ℕ) → length reader.old ≤ n
-        → ReadsMembers depth n reader.old (members_view found.entries) (members_view m.entries) reader.new) }
+        → ReadsMembers depth n reader.old (members_view found.entries)
+        (members_view m.entries) reader.new) }
     ensures shorter { OnOk result (length reader.new < length reader.old) }
 {
     let mut found = found;

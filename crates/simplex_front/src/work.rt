@@ -34,5 +34,6 @@ pub trait Work<A: Drop, D: Drop, R: Drop> {
 
     /// Does what was asked with the bytes of an input. An error is want of memory.
     fn work(&self, alloc: Global, ask: A, bytes: Vec<u8>) -> Result<Answer<D, R>, AllocError>
-        ensures { IfOk result (λ answer. IsAnswer (does self.now ask bytes.items) (refuses self.now ask bytes.items) (misreads self.now ask bytes.items) answer) };
+        ensures { IfOk result (λ answer. IsAnswer (does self.now ask bytes.items) (refuses self.now ask bytes.items)
+            (misreads self.now ask bytes.items) answer) };
 }

@@ -39,7 +39,8 @@ pause = events.Tick 50
 
 -- the first 64 packets that were not delivered to nodes that run
 unfoldable pub deliveries : (running : List Node) → List Noted → List Parcel
-deliveries running before = take 64 (filter (λ parcel. list_any (is_same_node parcel.node) running) (undelivered before))
+deliveries running before =
+    take 64 (filter (λ parcel. list_any (is_same_node parcel.node) running) (undelivered before))
 
 abbrev pub delivery : Parcel → Event
 delivery parcel = events.Deliver parcel.node parcel.packet
@@ -72,8 +73,12 @@ drawn_digest word = sha256 (to_be_bytes w64 word)
 -- yes; or the digest of the next word, staged where a payload of the next term is asked for
 abbrev pub reply : Unanswered → (next : ℕ) → Asked → Drawn
 reply it next (asks.Prepare context) =
-    record { event = events.Answer it.node it.request (answers.Handoff (handoffs.Stage (drawn_digest next))); words = 1 }
-reply it next (asks.Propose context) = record { event = events.Answer it.node it.request (answers.Payload (drawn_digest next)); words = 1 }
+    record {
+      event = events.Answer it.node it.request (answers.Handoff (handoffs.Stage (drawn_digest next)));
+      words = 1;
+    }
+reply it next (asks.Propose context) =
+    record { event = events.Answer it.node it.request (answers.Payload (drawn_digest next)); words = 1 }
 reply it next _ = without_words (events.Answer it.node it.request (answers.Verdict true))
 
 abbrev pub reply_to : (next : ℕ) → Option Unanswered → Drawn
@@ -93,7 +98,8 @@ drawn_by running held before part place next =
 
 -- by the word at a place, and the next
 unfoldable pub drawn : (running : List Node) → List Held → List Noted → Words → ℕ → Drawn
-drawn running held before words at = behind_word (drawn_by running held before (words at % 8) (words at / 8) (words (at + 1)))
+drawn running held before words at =
+    behind_word (drawn_by running held before (words at % 8) (words at / 8) (words (at + 1)))
 
 -- ---- one event
 

@@ -20,7 +20,8 @@ runs (Stopped sections) = false
 runs (Running made past) = true
 
 unfoldable pub is_running : Setting → List Noted → Node → Bool
-is_running setting before node = if runs_engine setting.setup node.member then runs (life_in setting before node) else true
+is_running setting before node =
+    if runs_engine setting.setup node.member then runs (life_in setting before node) else true
 
 abbrev pub running_nodes : Setting → List Noted → List Node
 running_nodes setting before = filter (is_running setting before) all_nodes
@@ -48,7 +49,8 @@ setting_for number = at_epoch_genesis (setup_of number)
 
 -- the event behind these entries, with words from this place on
 unfoldable pub event_behind : ℕ → List Noted → ℕ → Drawn
-event_behind number before at = next_event (running_nodes (setting_for number) before) (held (setting_for number) before) number before at
+event_behind number before at =
+    next_event (running_nodes (setting_for number) before) (held (setting_for number) before) number before at
 
 -- an event that is refused is the last
 abbrev pub unless_refused : Result Noted RunError → (Noted → List Event) → List Event
@@ -60,7 +62,8 @@ unfoldable pub events_behind : ℕ → ℕ → List Noted → ℕ → List Event
 events_behind number zero before at = []
 events_behind number (suc left) before at =
     (let drawn = event_behind number before at in
-    drawn.event ∷ unless_refused (entry_of (setting_for number) before drawn.event) (λ noted. events_behind number left (noted ∷ before) (at + drawn.words)))
+    drawn.event ∷ unless_refused (entry_of (setting_for number) before drawn.event)
+    (λ noted. events_behind number left (noted ∷ before) (at + drawn.words)))
 
 -- the events that the number makes, so many of them
 unfoldable pub generated : ℕ → ℕ → List Event

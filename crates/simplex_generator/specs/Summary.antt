@@ -40,7 +40,8 @@ evidence_in (entry ∷ entries) = length (filter is_evidence entry.calls) + evid
 
 -- how many events, each with its entry, stopped a node
 unfoldable pub stops_in : List Event → List Entry → ℕ
-stops_in (event ∷ events) (entry ∷ entries) = (if is_some (stop_at event entry.outcome) then 1 else 0) + stops_in events entries
+stops_in (event ∷ events) (entry ∷ entries) =
+    (if is_some (stop_at event entry.outcome) then 1 else 0) + stops_in events entries
 stops_in events entries = 0
 
 -- how many events there were, and these numbers

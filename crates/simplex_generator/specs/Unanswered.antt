@@ -1,5 +1,5 @@
 -- The requests that are open and were not answered.
-use Rattle.std.specs.Prelude.{ℕ, ◌+◌, ◌==◌, ◌&&◌, Bool, false, not, List, [], ◌∷◌, ◌++◌, length, filter, Option, Some, None, if◌then◌else◌}
+use Rattle.std.specs.Prelude.{◌≡◌, ℕ, ◌+◌, ◌==◌, ◌&&◌, Bool, false, not, List, [], ◌∷◌, ◌++◌, length, filter, Option, Some, None, if◌then◌else◌}
 use Rattle.std.specs.List.{list_any}
 use Rattle.std.specs.Option.{option_map_or}
 use Rattle.model_rules.specs.declared.request.Asked.{Asked}
@@ -31,7 +31,8 @@ node_in (events.Crash node) = Some node
 node_in _ = None
 
 abbrev pub asked_in : Event → Entry → (Node → ℕ) → List Unanswered
-asked_in event entry first = option_map_or (λ node. asked_from node entry.event 0 (first node) entry.asked) (node_in event) []
+asked_in event entry first =
+    option_map_or (λ node. asked_from node entry.event 0 (first node) entry.asked) (node_in event) []
 
 -- whether the event answers the request, or ends it with its node's engine
 abbrev pub is_ended_by : Event → Unanswered → Bool
@@ -47,7 +48,8 @@ is_dropped_in event entry it = is_of it.node event && list_any (λ number. numbe
 -- what is open behind an event, whose entry's first request has this number at the event's node
 unfoldable pub unanswered_behind : Event → Entry → (Node → ℕ) → List Unanswered → List Unanswered
 unanswered_behind event entry first before =
-    filter (λ it. not (is_dropped_in event entry it)) (filter (λ it. not (is_ended_by event it)) before ++ asked_in event entry first)
+    filter (λ it. not (is_dropped_in event entry it))
+    (filter (λ it. not (is_ended_by event it)) before ++ asked_in event entry first)
 
 -- what is open and was not answered, by event, then place
 unfoldable pub unanswered : List Noted → List Unanswered
@@ -69,3 +71,7 @@ first_in event counts node = if is_start event then 0 else count_in counts node
 unfoldable pub count_behind : Event → Entry → List Count → Node → ℕ
 count_behind event entry counts node =
     if is_of node event then first_in event counts node + length entry.asked else count_in counts node
+
+-- each node's count is that behind the event
+abbrev pub Counted : List Count → List Count → Event → Entry → Type 0
+Counted old new event entry = (node : Node) → count_in new node ≡ count_behind event entry old node

@@ -18,7 +18,8 @@ is_same_ref a b = a.event == b.event && a.place == b.place
 
 -- a packet for each of the nodes that it may be delivered to
 abbrev pub parcels_of : Ref → (to nodes : List Node) → List Parcel
-parcels_of at to nodes = map (λ node. record { packet = at; node = node }) (filter (λ node. list_any (is_same_node node) to) nodes)
+parcels_of at to nodes =
+    map (λ node. record { packet = at; node = node }) (filter (λ node. list_any (is_same_node node) to) nodes)
 
 -- the same for all nodes, in their order
 abbrev pub parcels_at : Ref → List Node → List Parcel
@@ -46,7 +47,8 @@ is_delivered_by _ parcel = false
 
 -- what is undelivered behind an event: no more what it delivers, and what its entry sends
 unfoldable pub undelivered_behind : Event → Entry → List Parcel → List Parcel
-undelivered_behind event entry before = without_first (is_delivered_by event) before ++ parcels_from entry.event 0 entry.packets
+undelivered_behind event entry before =
+    without_first (is_delivered_by event) before ++ parcels_from entry.event 0 entry.packets
 
 -- what was not delivered, by packet, then node. A delivery stands for one packet at one node, also where it is made again
 unfoldable pub undelivered : List Noted → List Parcel

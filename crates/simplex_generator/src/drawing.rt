@@ -10,7 +10,7 @@ ghost use Rattle.simplex_transcript.specs.declared.node.Node as nodes;
 ghost use Rattle.simplex_generator.specs.declared.source.Held as helds;
 ghost use Rattle.simplex_generator.specs.Setup.{engine_nodes};
 ghost use Rattle.simplex_generator.specs.Drawing as drawing;
-ghost use Rattle.simplex_generator.specs.Draws.{DrawsBehind, Chooses, Chose, TookIn, chosen};
+ghost use Rattle.simplex_generator.specs.Draws.{DrawsBehind, Chooses, Chose, TookIn, chosen, Gives, GoesOn};
 
 use crate::choice::Choice;
 use crate::nodes::ENGINE_NODES;
@@ -87,8 +87,12 @@ impl Drawing {
 
     // Of eight parts three deliver, three step, one answers, and in the last time passes.
     fn drawn(&mut self) -> Choice
-        ensures choice { (running : List nodes.Node) (held : List helds.Held) (number : ℕ) (before : List Noted) (at : ℕ) → DrawsBehind self.old number before at → chosen running held before result ≡ (drawing.drawn running held before (words_of (list_seed number)) at).event }
-        ensures later { (running : List nodes.Node) (held : List helds.Held) (number : ℕ) (before : List Noted) (at : ℕ) → DrawsBehind self.old number before at → DrawsBehind self.new number before (at + (drawing.drawn running held before (words_of (list_seed number)) at).words) }
+        ensures choice { (running : List nodes.Node) (held : List helds.Held)
+            (number : ℕ) (before : List Noted) (at : ℕ) → DrawsBehind self.old number before at
+            → chosen running held before result
+            ≡ (drawing.drawn running held before (words_of (list_seed number)) at).event }
+        ensures later { (running : List nodes.Node) (held : List helds.Held)
+            → GoesOn self.old self.new (drawing.drawn running held) }
     {
         let word = draw(&mut self.random);
         let place = word / 8;
@@ -101,8 +105,10 @@ impl Drawing {
     }
 
     fn answer(&mut self, place: u64) -> Event
-        ensures event { (number : ℕ) (before : List Noted) (at : ℕ) → DrawsBehind self.old number before at → result ≡ (drawing.answer_at before place (words_of (list_seed number) at)).event }
-        ensures later { (number : ℕ) (before : List Noted) (at : ℕ) → DrawsBehind self.old number before at → DrawsBehind self.new number before (at + (drawing.answer_at before place (words_of (list_seed number) at)).words) }
+        ensures event { Gives self.old
+            (λ before words at. drawing.answer_at before place (words at)) result }
+        ensures later { GoesOn self.old self.new
+            (λ before words at. drawing.answer_at before place (words at)) }
     {
         match item_at(self.requests.open(), place) {
             Some(it) => {
@@ -115,8 +121,10 @@ impl Drawing {
 
     // Yes; or the digest of the next word, staged where a payload of the next term is asked for.
     fn reply(&mut self, it: &Unanswered) -> Event
-        ensures event { (number : ℕ) (before : List Noted) (at : ℕ) → DrawsBehind self.old number before at → result ≡ (drawing.reply it.now (words_of (list_seed number) at) it.now.asked).event }
-        ensures later { (number : ℕ) (before : List Noted) (at : ℕ) → DrawsBehind self.old number before at → DrawsBehind self.new number before (at + (drawing.reply it.now (words_of (list_seed number) at) it.now.asked).words) }
+        ensures event { Gives self.old
+            (λ before words at. drawing.reply it.now (words at) it.now.asked) result }
+        ensures later { GoesOn self.old self.new
+            (λ before words at. drawing.reply it.now (words at) it.now.asked) }
     {
         let answer = match it.asked {
             Asked::Prepare(_) => {
@@ -140,7 +148,9 @@ impl Drawing {
         running: &[Node],
         place: u64,
     ) -> Result<Event, AllocError>
-        ensures { IfOk result (λ event. (number : ℕ) (before : List Noted) (at : ℕ) → DrawsBehind self.now number before at → event ≡ drawing.delivery_at running.now before place) }
+        ensures { IfOk result (λ event. (number : ℕ) (before : List Noted) (at : ℕ)
+            → DrawsBehind self.now number before at
+            → event ≡ drawing.delivery_at running.now before place) }
     {
         let first = self.undelivered.first_for(alloc, running)?;
         match item_at(&first, place) {

@@ -22,7 +22,8 @@ impl Generator {
     /// The number's generator, before any event.
     #[tactic(auto, using(crate::proofs::Steps::begins))]
     pub(crate) fn new(alloc: Global, number: u64, setup: &Setup) -> Result<Generator, RunError>
-        ensures { IfOk result (λ generator. setup.now ≡ setup_of number → Generates generator number [] 0) }
+        ensures { IfOk result (λ generator. setup.now ≡ setup_of number
+            → Generates generator number [] 0) }
     {
         Ok(Generator {
             alloc,
@@ -54,7 +55,8 @@ impl Generator {
     #[tactic(auto, using(crate::proofs::Steps::makes, crate::proofs::Steps::refuses))]
     pub(crate) fn make(&mut self, event: &Event) -> Result<(), RunError>
         ensures made { OnOk result (Makes self.old self.new event.now) }
-        ensures refused { IfErr result (λ error. is_memory error ≡ false → Refuses self.old event.now error) }
+        ensures refused { IfErr result (λ error. is_memory error ≡ false
+            → Refuses self.old event.now error) }
     {
         match self.network.apply(event) {
             Err(error) => Err(error),

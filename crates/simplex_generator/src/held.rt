@@ -1,14 +1,12 @@
 //! What the engines of a network hold.
 #![tactic(auto)]
 
-ghost use Rattle.std.specs.Prelude.{◌≡◌, ◌++◌, ◌&&◌, ℕ, IfOk, OnOk, List, true};
-ghost use Rattle.model_steps.specs.Engine.{EngineMade, Did, runs};
-ghost use Rattle.model_run.specs.Life.{Noted, Running, clock_of, life_in};
+ghost use Rattle.std.specs.Prelude.{◌≡◌, ◌++◌, ◌&&◌, ℕ, IfOk, OnOk, true};
+ghost use Rattle.model_run.specs.Life.{Running, clock_of, life_in};
 ghost use Rattle.model_run.specs.Kinds.{is_node, runs_engine};
 ghost use Rattle.simplex_generator.specs.Setup.{setup_of};
 ghost use Rattle.simplex_generator.specs.Generated as generated;
-ghost use Rattle.simplex_network.specs.NodeEngine.{EngineStands};
-ghost use Rattle.simplex_network.specs.Stands.{StandsFor};
+ghost use Rattle.simplex_generator.specs.Stands.{Answers, AnswersAt, EngineAnswers};
 
 use crate::{ENGINE_NODES, Held, NODES, SOURCES};
 use simplex_network::{Network, NodeEngine};
@@ -18,7 +16,7 @@ use std::alloc::{AllocError, Global};
 /// The sources that hold something, by node, then in order.
 #[tactic(auto, unfolding(crate::specs::Generated::held, crate::specs::Setup::setup_of))]
 pub(crate) fn all_held(alloc: Global, network: &Network, now: u64) -> Result<Vec<Held>, AllocError>
-    ensures { IfOk result (λ held. (number : ℕ) (before : List Noted) → StandsFor network.now (generated.setting_for number) before → clock_of before ≡ now → held.items ≡ generated.held (generated.setting_for number) before) }
+    ensures { IfOk result (λ held. AnswersAt network.now now generated.held held.items) }
 {
     let mut held = Vec::new(alloc);
     let mut rest = ENGINE_NODES.as_slice();
@@ -38,7 +36,10 @@ fn push_held(
     now: u64,
 ) -> Result<(), AllocError>
     requires { (is_node (setup_of 0) node && runs_engine (setup_of 0) node.member) ≡ true }
-    ensures { OnOk result ((number : ℕ) (before : List Noted) → StandsFor network.now (generated.setting_for number) before → clock_of before ≡ now → held.new.items ≡ held.old.items ++ generated.held_at (life_in (generated.setting_for number) before node) (clock_of before) node) }
+    ensures { OnOk result (AnswersAt network.now now
+        (λ setting before. held.old.items
+        ++ generated.held_at (life_in setting before node) (clock_of before) node)
+        held.new.items) }
 {
     match network.engine(node) {
         None => Ok(()),
@@ -53,7 +54,9 @@ fn push_sources(
     node: Node,
     now: u64,
 ) -> Result<(), AllocError>
-    ensures { OnOk result ((made : EngineMade) (past : List Did) → EngineStands engine.now made past → runs past ≡ true → held.new.items ≡ held.old.items ++ generated.held_at (Running made past) now node) }
+    ensures { OnOk result (EngineAnswers engine.now
+        (λ made past. held.old.items
+        ++ generated.held_at (Running made past) now node) held.new.items) }
 {
     let mut rest = SOURCES.as_slice();
     while let [source, after @ ..] = rest {
@@ -71,7 +74,7 @@ fn push_sources(
 /// The nodes that are given packets: those whose engine runs, and those that have none.
 #[tactic(auto, unfolding(crate::specs::Setup::setup_of))]
 pub(crate) fn running_nodes(alloc: Global, network: &Network) -> Result<Vec<Node>, AllocError>
-    ensures { IfOk result (λ running. (number : ℕ) (before : List Noted) → StandsFor network.now (generated.setting_for number) before → running.items ≡ generated.running_nodes (generated.setting_for number) before) }
+    ensures { IfOk result (λ running. Answers network.now generated.running_nodes running.items) }
 {
     let mut running = Vec::new(alloc);
     let mut rest = NODES.as_slice();
@@ -87,7 +90,8 @@ pub(crate) fn running_nodes(alloc: Global, network: &Network) -> Result<Vec<Node
 #[tactic(auto, using(crate::proofs::Shown::runs_shown, crate::proofs::Shown::runs_without))]
 fn is_running(network: &Network, node: Node) -> bool
     requires { is_node (setup_of 0) node ≡ true }
-    ensures { (number : ℕ) (before : List Noted) → StandsFor network.now (generated.setting_for number) before → result ≡ generated.is_running (generated.setting_for number) before node }
+    ensures { Answers network.now
+        (λ setting before. generated.is_running setting before node) result }
 {
     if has_engine(node) {
         network.engine(node).is_some()

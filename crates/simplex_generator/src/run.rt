@@ -26,7 +26,8 @@ fn events_of(
     setup: &Setup,
     steps: u64,
 ) -> Result<Vec<Event>, AllocError>
-    ensures { IfOk result (λ events. setup.now ≡ setups.setup_of number → events.items ≡ generated number steps) }
+    ensures { IfOk result (λ events. setup.now ≡ setups.setup_of number
+        → events.items ≡ generated number steps) }
 {
     let Ok(mut generator) = Generator::new(alloc, number, setup) else {
         return Err(AllocError);

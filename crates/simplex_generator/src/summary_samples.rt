@@ -12,5 +12,6 @@ pub fn sums_come_out()
     ensures finalized { finalized_in (blank_entry 1 None ∷ []) ≡ 0 }
     ensures greatest { greatest_in (blank_entry 1 None ∷ []) ≡ 0 }
     ensures evidence { evidence_in (blank_entry 1 None ∷ []) ≡ 0 }
-    ensures stopped { stops_in (events.Tick 50 ∷ events.Crash (node_of 0) ∷ []) (blank_entry 1 None ∷ blank_entry 2 (Some (node_of 0)) ∷ []) ≡ 1 }
+    ensures stopped { stops_in (events.Tick 50 ∷ events.Crash (node_of 0) ∷ [])
+        (blank_entry 1 None ∷ blank_entry 2 (Some (node_of 0)) ∷ []) ≡ 1 }
 {}

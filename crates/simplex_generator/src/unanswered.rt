@@ -60,8 +60,10 @@ impl Requests {
     /// Takes in an event and its entry.
     #[tactic(auto, unfolding(crate::specs::Unanswered::unanswered_behind, crate::specs::Unanswered::count_behind), using(crate::proofs::Dropped::none_asked))]
     pub fn take_in(&mut self, event: &Event, entry: &Entry) -> Result<(), AllocError>
-        ensures open { OnOk result (self.new.open.items ≡ waiting.unanswered_behind event.now entry.now (waiting.first_in event.now self.old.counts.items) self.old.open.items) }
-        ensures counts { OnOk result ((node : nodes.Node) → waiting.count_in self.new.counts.items node ≡ waiting.count_behind event.now entry.now self.old.counts.items node) }
+        ensures open { OnOk result (self.new.open.items ≡ waiting.unanswered_behind event.now entry.now
+            (waiting.first_in event.now self.old.counts.items) self.old.open.items) }
+        ensures counts { OnOk result
+            (waiting.Counted self.old.counts.items self.new.counts.items event.now entry.now) }
     {
         self.end(event);
         match node_in(event) {
@@ -72,7 +74,8 @@ impl Requests {
 
     // Requests that the event answers or ends are no more open.
     fn end(&mut self, event: &Event)
-        ensures open { self.new.open.items ≡ filter (λ it. not (waiting.is_ended_by event.now it)) self.old.open.items }
+        ensures open { self.new.open.items
+            ≡ filter (λ it. not (waiting.is_ended_by event.now it)) self.old.open.items }
         ensures counts { self.new.counts ≡ self.old.counts }
     {
         self.open.retain(|it| !is_ended_by(event, it));
@@ -81,8 +84,12 @@ impl Requests {
     // The event's node asks what the entry says, and drops what it says.
     fn ask(&mut self, event: &Event, node: Node, entry: &Entry) -> Result<(), AllocError>
         requires { waiting.node_in event.now ≡ Some node }
-        ensures open { OnOk result (self.new.open.items ≡ filter (λ it. not (waiting.is_dropped_in event.now entry.now it)) (self.old.open.items ++ waiting.asked_in event.now entry.now (waiting.first_in event.now self.old.counts.items))) }
-        ensures counts { OnOk result ((other : nodes.Node) → waiting.count_in self.new.counts.items other ≡ waiting.count_behind event.now entry.now self.old.counts.items other) }
+        ensures open { OnOk result (self.new.open.items
+            ≡ filter (λ it. not (waiting.is_dropped_in event.now entry.now it)) (self.old.open.items
+            ++ waiting.asked_in event.now entry.now
+            (waiting.first_in event.now self.old.counts.items))) }
+        ensures counts { OnOk result
+            (waiting.Counted self.old.counts.items self.new.counts.items event.now entry.now) }
     {
         let first = first_in(event, &self.counts, node);
         let next = push_asked(&mut self.open, node, entry, first)?;
@@ -123,7 +130,8 @@ fn is_at(count: &Count, node: Node) -> bool
 }
 
 fn set_count(counts: &mut Vec<Count>, node: Node, asked: u64) -> Result<(), AllocError>
-    ensures { OnOk result ((other : nodes.Node) → waiting.count_in counts.new.items other ≡ (if is_same_node node other then asked else waiting.count_in counts.old.items other)) }
+    ensures { OnOk result ((other : nodes.Node) → waiting.count_in counts.new.items other
+        ≡ (if is_same_node node other then asked else waiting.count_in counts.old.items other)) }
 {
     counts.retain(|count| !is_at(count, node));
     counts.push(Count { node, asked })?;
@@ -137,7 +145,8 @@ fn push_asked(
     entry: &Entry,
     first: u64,
 ) -> Result<u64, AllocError>
-    ensures open { OnOk result (open.new.items ≡ open.old.items ++ waiting.asked_from node entry.now.event 0 first entry.now.asked) }
+    ensures open { OnOk result (open.new.items ≡ open.old.items
+        ++ waiting.asked_from node entry.now.event 0 first entry.now.asked) }
     ensures next { IfOk result (λ next. next ≡ first + length entry.now.asked) }
 {
     let mut number = first;
@@ -164,13 +173,16 @@ fn push_asked(
 
 // The node's requests of these numbers are no more open.
 fn drop_requests(open: &mut Vec<Unanswered>, node: Node, numbers: &[u64])
-    ensures { open.new.items ≡ filter (λ it. not (is_same_node node it.node && list_any (λ number. number == it.number) numbers.now)) open.old.items }
+    ensures { open.new.items ≡ filter
+        (λ it. not (is_same_node node it.node && list_any
+        (λ number. number == it.number) numbers.now)) open.old.items }
 {
     open.retain(|it| !is_dropped(it, node, numbers));
 }
 
 fn is_dropped(it: &Unanswered, node: Node, numbers: &[u64]) -> bool
-    ensures { result ≡ (is_same_node node it.now.node && list_any (λ number. number == it.now.number) numbers.now) }
+    ensures { result ≡ (is_same_node node it.now.node && list_any
+        (λ number. number == it.now.number) numbers.now) }
 {
     node == it.node && numbers.contains(&it.number)
 }

@@ -60,7 +60,8 @@ impl Undelivered {
 
     /// The first 64 for these nodes.
     pub fn first_for(&self, alloc: Global, nodes: &[Node]) -> Result<Vec<Parcel>, AllocError>
-        ensures { IfOk result (λ first. first.items ≡ take 64 (filter (λ parcel. list_any (is_same_node parcel.node) nodes.now) self.now)) }
+        ensures { IfOk result (λ first. first.items
+            ≡ take 64 (filter (λ parcel. list_any (is_same_node parcel.node) nodes.now) self.now)) }
     {
         let first = first_of(alloc, &self.parcels, nodes)?;
         Ok(first)
@@ -111,7 +112,8 @@ fn is_delivered_by(event: &Event, parcel: &Parcel) -> bool
 
 // An event sends packets.
 fn send(parcels: &mut VecDeque<Parcel>, event: u64, packets: &[Packet]) -> Result<(), AllocError>
-    ensures { OnOk result (parcels.new.items ≡ parcels.old.items ++ parcels_from event 0 packets.now) }
+    ensures { OnOk result (parcels.new.items
+        ≡ parcels.old.items ++ parcels_from event 0 packets.now) }
 {
     let mut place = 0;
     let mut rest = packets;
@@ -137,7 +139,8 @@ fn push_parcels(
     to: &[Node],
     nodes: &[Node],
 ) -> Result<(), AllocError>
-    ensures { OnOk result (parcels.new.items ≡ parcels.old.items ++ parcels_of packet to.now nodes.now) }
+    ensures { OnOk result (parcels.new.items
+        ≡ parcels.old.items ++ parcels_of packet to.now nodes.now) }
 {
     let mut rest = nodes;
     while let [node, after @ ..] = rest {
@@ -165,7 +168,9 @@ fn first_of(
     parcels: &VecDeque<Parcel>,
     nodes: &[Node],
 ) -> Result<Vec<Parcel>, AllocError>
-    ensures { IfOk result (λ first. first.items ≡ take 64 (filter (λ parcel. list_any (is_same_node parcel.node) nodes.now) parcels.now.items)) }
+    ensures { IfOk result (λ first. first.items
+        ≡ take 64 (filter
+        (λ parcel. list_any (is_same_node parcel.node) nodes.now) parcels.now.items)) }
 {
     let mut first = Vec::new(alloc);
     let mut at = 0;

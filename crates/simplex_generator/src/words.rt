@@ -27,8 +27,10 @@ fn seed_of(number: u64) -> [u8; 32]
 /// The next word.
 #[tactic(auto, using(model_faults::proofs::Drawing::drawn_word, model_faults::proofs::Drawing::drawn_later))]
 pub fn draw<R: Rng>(random: &mut R) -> u64
-    ensures word { (words : Words) (from : ℕ) → Draws (R.stream random.old) words from → result ≡ words from }
-    ensures later { (words : Words) (from : ℕ) → Draws (R.stream random.old) words from → Draws (R.stream random.new) words (from + 1) }
+    ensures word { (words : Words) (from : ℕ) → Draws (R.stream random.old) words from
+        → result ≡ words from }
+    ensures later { (words : Words) (from : ℕ) → Draws (R.stream random.old) words from
+        → Draws (R.stream random.new) words (from + 1) }
 {
     random.next_u64()
 }

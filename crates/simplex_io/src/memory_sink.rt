@@ -72,7 +72,8 @@ impl Sink for MemorySink {
         ensures later { self.old.writes.faults ≤ self.new.writes.faults }
         ensures failed { IsErrOf result SinkError.Failed
             → Rose self.old.writes.faults self.new.writes.faults }
-        ensures quiet { ¬ IsErrOf result SinkError.Failed → self.new.writes.faults ≡ self.old.writes.faults }
+        ensures quiet { ¬ IsErrOf result SinkError.Failed
+            → self.new.writes.faults ≡ self.old.writes.faults }
 
         // It fails exactly where it was told to.
         ensures listed { IsErrOf result SinkError.Failed ↔ IsTrue (next_fails self.old.writes) }

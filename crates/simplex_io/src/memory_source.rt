@@ -57,7 +57,8 @@ impl Source for MemorySource {
     fn read(&mut self, max: u32) -> Result<Vec<u8>, SourceError>
         requires { 1 ≤ max }
 
-        ensures bytes { IfOk result (λ bytes. Takes (Some self.old.left) bytes.items (Some self.new.left)) }
+        ensures bytes { IfOk result
+            (λ bytes. Takes (Some self.old.left) bytes.items (Some self.new.left)) }
         ensures few { IfOk result (λ bytes. vec_len bytes ≤ max) }
         ensures end { IfOk result (λ bytes. bytes.items ≡ []
             → TakesAll (Some self.old.left) [] (Some self.new.left)) }
@@ -66,7 +67,8 @@ impl Source for MemorySource {
         ensures later { self.old.reads.faults ≤ self.new.reads.faults }
         ensures failed { IsErrOf result SourceError.Failed
             → Rose self.old.reads.faults self.new.reads.faults }
-        ensures quiet { ¬ IsErrOf result SourceError.Failed → self.new.reads.faults ≡ self.old.reads.faults }
+        ensures quiet { ¬ IsErrOf result SourceError.Failed
+            → self.new.reads.faults ≡ self.old.reads.faults }
 
         // It fails exactly where it was told to.
         ensures listed { IsErrOf result SourceError.Failed ↔ IsTrue (next_fails self.old.reads) }

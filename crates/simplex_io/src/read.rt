@@ -69,7 +69,8 @@ pub fn read_to_end<S: Source>(
 
     ensures failed { IsErrOf result InputEnd.ReadFault
         → Rose (S.fault_count source.old) (S.fault_count source.new) }
-    ensures quiet { ¬ IsErrOf result InputEnd.ReadFault → S.fault_count source.new ≡ S.fault_count source.old }
+    ensures quiet { ¬ IsErrOf result InputEnd.ReadFault
+        → S.fault_count source.new ≡ S.fault_count source.old }
     ensures later { S.fault_count source.old ≤ S.fault_count source.new }
 {
     let mut input = Vec::new(alloc);
@@ -100,7 +101,8 @@ pub fn read_bytes<S: Source>(alloc: Global, source: &mut S) -> Result<Vec<u8>, I
 
     ensures failed { IsErrOf result InputEnd.ReadFault
         → Rose (S.fault_count source.old) (S.fault_count source.new) }
-    ensures quiet { ¬ IsErrOf result InputEnd.ReadFault → S.fault_count source.new ≡ S.fault_count source.old }
+    ensures quiet { ¬ IsErrOf result InputEnd.ReadFault
+        → S.fault_count source.new ≡ S.fault_count source.old }
     ensures later { S.fault_count source.old ≤ S.fault_count source.new }
 {
     read_to_end(alloc, source, LIMIT)

@@ -38,7 +38,8 @@ pub trait Sink {
         ensures later { fault_count self.old ≤ fault_count self.new }
         ensures failed { IsErrOf result SinkError.Failed
             → Rose (fault_count self.old) (fault_count self.new) }
-        ensures quiet { ¬ IsErrOf result SinkError.Failed → fault_count self.new ≡ fault_count self.old };
+        ensures quiet { ¬ IsErrOf result SinkError.Failed
+            → fault_count self.new ≡ fault_count self.old };
 
     /// How many writes have failed.
     fn faults(&self) -> u64

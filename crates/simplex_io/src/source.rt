@@ -37,7 +37,8 @@ pub trait Source {
         ensures later { fault_count self.old ≤ fault_count self.new }
         ensures failed { IsErrOf result SourceError.Failed
             → Rose (fault_count self.old) (fault_count self.new) }
-        ensures quiet { ¬ IsErrOf result SourceError.Failed → fault_count self.new ≡ fault_count self.old };
+        ensures quiet { ¬ IsErrOf result SourceError.Failed
+            → fault_count self.new ≡ fault_count self.old };
 
     /// How many reads have failed.
     fn faults(&self) -> u64

@@ -19,7 +19,8 @@ pub fn write_text<K: Sink>(sink: &mut K, bytes: &[u8]) -> Result<(), SinkError>
 
     ensures failed { IsErrOf result SinkError.Failed
         → Rose (K.fault_count sink.old) (K.fault_count sink.new) }
-    ensures quiet { ¬ IsErrOf result SinkError.Failed → K.fault_count sink.new ≡ K.fault_count sink.old }
+    ensures quiet { ¬ IsErrOf result SinkError.Failed
+        → K.fault_count sink.new ≡ K.fault_count sink.old }
     ensures later { K.fault_count sink.old ≤ K.fault_count sink.new }
 {
     let mut rest = bytes;

@@ -28,7 +28,8 @@ pub trait Journal {
         section: u64,
         artifact: &Artifact,
     ) -> Result<(), JournalError>
-        ensures ok { OnOk result (sections self.new ≡ appended section artifact.now (sections self.old)) }
+        ensures ok { OnOk result (sections self.new
+            ≡ appended section artifact.now (sections self.old)) }
         ensures err { OnErr result (sections self.new ≡ sections self.old) }
         ensures ordered { Obeys (order self.old) result (order self.new) }
         ensures faults { Counts (fault_count self.old) result (fault_count self.new) };
@@ -50,8 +51,10 @@ pub trait Journal {
     /// Drops the sections below `min`. A prune that fails may drop the first of them.
     fn prune(&mut self, min: u64) -> Result<(), JournalError>
         ensures ok { OnOk result (sections self.new ≡ pruned min (sections self.old)) }
-        ensures in_part { IsErrOf result JournalError.Failed → PrunesInPart (order self.old) min (sections self.old) (sections self.new) }
-        ensures memory { IsErrOf result JournalError.Memory → sections self.new ≡ sections self.old }
+        ensures in_part { IsErrOf result JournalError.Failed
+            → PrunesInPart (order self.old) min (sections self.old) (sections self.new) }
+        ensures memory { IsErrOf result JournalError.Memory
+            → sections self.new ≡ sections self.old }
         ensures ordered { Obeys (order self.old) result (order self.new) }
         ensures faults { Counts (fault_count self.old) result (fault_count self.new) };
 
@@ -76,7 +79,8 @@ pub trait Journal {
     /// Orders that the call of this number fails, counted from now on and from 1, and that a prune that fails
     /// so drops that many sections. The number 0 takes the order back. Takes no memory. [journals-tell-or-not]
     fn fail_next(&mut self, call: u64, dropped: u64)
-        ensures order { IfSome (order self.old) (λ _. order self.new ≡ Some (record { call = call; sections = dropped })) }
+        ensures order { IfSome (order self.old) (λ _. order self.new
+            ≡ Some (record { call = call; sections = dropped })) }
         ensures stays { sections self.new ≡ sections self.old }
         ensures faults { fault_count self.new ≡ fault_count self.old };
 }

@@ -17,7 +17,10 @@ pub struct SectionLists {
 impl Model for SectionLists {
     ghost Value = { Lists };
 
-    ghost view = { λ lists. record { synced = take lists.synced lists.records.items; pending = drop lists.synced lists.records.items } };
+    ghost view = { λ lists. record {
+      synced = take lists.synced lists.records.items;
+      pending = drop lists.synced lists.records.items;
+    } };
 
     ghost invariant = { λ lists. lists.synced ≤ vec_len lists.records };
 }
@@ -42,7 +45,8 @@ impl SectionLists {
 
     /// Puts a record behind the pending ones.
     pub(crate) fn append(&mut self, artifact: Artifact) -> Result<(), AllocError>
-        ensures ok { OnOk result (self.new ≡ record self.old { pending = self.old.pending ++ artifact ∷ [] }) }
+        ensures ok { OnOk result (self.new
+            ≡ record self.old { pending = self.old.pending ++ artifact ∷ [] }) }
         ensures err { OnErr result (self.new ≡ self.old) }
     {
         self.records.push(artifact)?;
@@ -58,7 +62,11 @@ impl SectionLists {
 
     /// Keeps the first pending records alone, and counts them as synced.
     pub(crate) fn crash(&mut self, keep: u64)
-        ensures { self.new ≡ record { synced = self.old.synced ++ take keep self.old.pending; pending = [] } }
+        ensures { self.new ≡ record {
+          synced = self.old.synced
+              ++ take keep self.old.pending;
+          pending = [];
+        } }
     {
         let pending = self.records.len() - self.synced;
         let kept = keep.min(pending as u64) as usize;
@@ -72,7 +80,8 @@ impl SectionLists {
         alloc: Global,
         copies: &mut Vec<Artifact>,
     ) -> Result<(), AllocError>
-        ensures { OnOk result (copies.new.items ≡ copies.old.items ++ self.now.synced ++ self.now.pending) }
+        ensures { OnOk result (copies.new.items
+            ≡ copies.old.items ++ self.now.synced ++ self.now.pending) }
     {
         for record in &self.records {
             copies.push(record.keep(alloc)?)?;

@@ -30,7 +30,11 @@ pub struct MemoryJournal {
 impl Model for MemoryJournal {
     ghost Value = { Contents };
 
-    ghost view = { λ journal. record { sections = sections_of journal.sections.entries; faults = journal.faults; order = record { call = journal.failing_call; sections = journal.failing_sections } } };
+    ghost view = { λ journal. record {
+      sections = sections_of journal.sections.entries;
+      faults = journal.faults;
+      order = record { call = journal.failing_call; sections = journal.failing_sections };
+    } };
 }
 
 impl MemoryJournal {
@@ -59,7 +63,8 @@ impl MemoryJournal {
     // Fails where the order names this call, which is counted then.
     fn obey(&mut self) -> Result<(), JournalError>
         ensures answer { result ≡ answer_of self.old.order }
-        ensures contents { self.new ≡ (if names_next self.old.order then after_call self.old self.old.sections self.old.sections else self.old) }
+        ensures contents { self.new ≡ (if names_next self.old.order
+            then after_call self.old self.old.sections self.old.sections else self.old) }
     {
         if self.failing_call != 1 {
             return Ok(());
@@ -71,7 +76,11 @@ impl MemoryJournal {
 
     // Counts a call that ended well.
     fn count_call(&mut self)
-        ensures { self.new ≡ record { sections = self.old.sections; faults = self.old.faults; order = counted self.old.order } }
+        ensures { self.new ≡ record {
+          sections = self.old.sections;
+          faults = self.old.faults;
+          order = counted self.old.order;
+        } }
     {
         self.failing_call = self.failing_call.saturating_sub(1);
     }
@@ -91,7 +100,9 @@ impl Journal for MemoryJournal {
         artifact: &Artifact,
     ) -> Result<(), JournalError>
         ensures named { IsErrOf result JournalError.Failed ↔ IsTrue (names_next self.old.order) }
-        ensures contents { ¬ IsErrOf result JournalError.Memory → self.new ≡ after_call self.old self.old.sections (appended section artifact.now self.old.sections) }
+        ensures contents { ¬ IsErrOf result JournalError.Memory
+            → self.new ≡ after_call self.old self.old.sections
+            (appended section artifact.now self.old.sections) }
         ensures memory { IsErrOf result JournalError.Memory → self.new ≡ self.old }
     {
         // The order comes first: a call that fails copies nothing.
@@ -103,7 +114,8 @@ impl Journal for MemoryJournal {
 
     fn sync(&mut self, section: u64) -> Result<(), JournalError>
         ensures answer { result ≡ answer_of self.old.order }
-        ensures contents { self.new ≡ after_call self.old self.old.sections (synced_at section self.old.sections) }
+        ensures contents { self.new
+            ≡ after_call self.old self.old.sections (synced_at section self.old.sections) }
     {
         self.obey()?;
         sync_at(&mut self.sections, section);
@@ -113,7 +125,8 @@ impl Journal for MemoryJournal {
 
     fn sync_all(&mut self) -> Result<(), JournalError>
         ensures answer { result ≡ answer_of self.old.order }
-        ensures contents { self.new ≡ after_call self.old self.old.sections (all_synced self.old.sections) }
+        ensures contents { self.new
+            ≡ after_call self.old self.old.sections (all_synced self.old.sections) }
     {
         self.obey()?;
         sync_each(&mut self.sections);
@@ -123,7 +136,8 @@ impl Journal for MemoryJournal {
 
     fn prune(&mut self, min: u64) -> Result<(), JournalError>
         ensures answer { result ≡ answer_of self.old.order }
-        ensures contents { self.new ≡ after_call self.old (pruned_first self.old.order.sections min self.old.sections) (pruned min self.old.sections) }
+        ensures contents { self.new ≡ after_call self.old (pruned_first self.old.order.sections min self.old.sections)
+            (pruned min self.old.sections) }
     {
         if let Err(failed) = self.obey() {
             drop_first(&mut self.sections, self.failing_sections, min);
@@ -137,7 +151,8 @@ impl Journal for MemoryJournal {
     fn replay(&mut self, alloc: Global) -> Result<Vec<Artifact>, JournalError>
         ensures records { IfOk result (λ records. records.items ≡ replayed self.old.sections) }
         ensures named { IsErrOf result JournalError.Failed ↔ IsTrue (names_next self.old.order) }
-        ensures contents { ¬ IsErrOf result JournalError.Memory → self.new ≡ after_call self.old self.old.sections self.old.sections }
+        ensures contents { ¬ IsErrOf result JournalError.Memory
+            → self.new ≡ after_call self.old self.old.sections self.old.sections }
         ensures memory { IsErrOf result JournalError.Memory → self.new ≡ self.old }
     {
         self.obey()?;
@@ -158,7 +173,12 @@ impl Journal for MemoryJournal {
     }
 
     fn fail_next(&mut self, call: u64, dropped: u64)
-        ensures { self.new ≡ record self.old { order = record { call = call; sections = dropped } } }
+        ensures { self.new ≡ record self.old {
+          order = record {
+            call = call;
+            sections = dropped;
+          };
+        } }
     {
         self.failing_call = call;
         self.failing_sections = dropped;

@@ -18,8 +18,10 @@ pub(crate) fn append_to(
     number: u64,
     artifact: Artifact,
 ) -> Result<(), AllocError>
-    ensures ok { OnOk result (sections_of sections.new.entries ≡ appended number artifact (sections_of sections.old.entries)) }
-    ensures err { OnErr result (sections_of sections.new.entries ≡ sections_of sections.old.entries) }
+    ensures ok { OnOk result (sections_of sections.new.entries
+        ≡ appended number artifact (sections_of sections.old.entries)) }
+    ensures err { OnErr result (sections_of sections.new.entries
+        ≡ sections_of sections.old.entries) }
 {
     if let Some(lists) = sections.get_mut(&number) {
         return lists.append(artifact);
@@ -32,7 +34,8 @@ pub(crate) fn append_to(
 
 /// Syncs the section of this number, if it is there.
 pub(crate) fn sync_at(sections: &mut Sections, number: u64)
-    ensures { sections_of sections.new.entries ≡ synced_at number (sections_of sections.old.entries) }
+    ensures { sections_of sections.new.entries
+        ≡ synced_at number (sections_of sections.old.entries) }
 {
     if let Some(lists) = sections.get_mut(&number) {
         lists.sync();
@@ -61,7 +64,8 @@ pub(crate) fn crash_each(sections: &mut Sections, keep: u64)
 
 /// Drops the first sections below the least number, at most so many.
 pub(crate) fn drop_first(sections: &mut Sections, count: u64, least: u64)
-    ensures { sections_of sections.new.entries ≡ pruned_first count least (sections_of sections.old.entries) }
+    ensures { sections_of sections.new.entries
+        ≡ pruned_first count least (sections_of sections.old.entries) }
 {
     let mut left = count;
     while left > 0 {

@@ -94,7 +94,8 @@ impl Follower {
         stop: Stop,
         entry: &AuditEntry,
     ) -> Result<bool, AllocError>
-        ensures { IfOk result (λ due. StepsOn self.old self.new prior.now source stop entry.now due) }
+        ensures { IfOk result
+            (λ due. StepsOn self.old self.new prior.now source stop entry.now due) }
     {
         let asked = request_of(prior, &entry.took);
         match self

@@ -33,7 +33,8 @@ impl Followers {
     #[tactic(auto, using(simplex_members::proofs::Good::good))]
     pub(crate) fn new(alloc: Global, setup: &Setup) -> Result<Followers, AllocError>
         requires good { IsNone (setups.first_bad setup.now) }
-        ensures { IfOk result (λ followers. (setting : Setting) → setting.setup ≡ setup.now → FollowersStand followers.seats.items setting []) }
+        ensures { IfOk result (λ followers. (setting : Setting) → setting.setup ≡ setup.now
+            → FollowersStand followers.seats.items setting []) }
     {
         let mut seats = Vec::new(alloc);
         for place in 0..2 * setup.members.len() as u32 {
@@ -45,7 +46,8 @@ impl Followers {
 
     // What is followed at this seat.
     fn at(&self, place: usize) -> Option<&Follower>
-        ensures { option_map (λ follower. follower.now) result ≡ option_and_then same (slice_get self.now.seats.items place) }
+        ensures { option_map (λ follower. follower.now) result
+            ≡ option_and_then same (slice_get self.now.seats.items place) }
     {
         self.seats.get(place)?.as_ref()
     }
@@ -54,7 +56,8 @@ impl Followers {
     #[tactic(auto, unfolding(crate::specs::Followers::at_seat))]
     fn get(&self, setup: &Setup, node: Node) -> Option<&Follower>
         requires few { length setup.now.members < 2 ^ 32 }
-        ensures { option_map (λ follower. follower.now) result ≡ at_seat self.now.seats.items setup.now node }
+        ensures { option_map (λ follower. follower.now) result
+            ≡ at_seat self.now.seats.items setup.now node }
     {
         if is_node(setup, node) {
             self.at(seat_of(node))
@@ -89,7 +92,8 @@ impl Followers {
         requires few { length setup.now.members < 2 ^ 32 }
         ensures { IfOk result (λ stored. (setting : Setting) (before : List Noted) → setting.setup ≡ setup.now → FollowersStand self.now.seats.items setting before
             → is_allowed setting before event.now ≡ true
-            → stored ≡ audit.if_honest setting (node_named event.now) (audit.stores_first setting before (rebuilt_entry entry.now))) }
+            → stored ≡ audit.if_honest setting (node_named event.now)
+            (audit.stores_first setting before (rebuilt_entry entry.now))) }
     {
         let Some(node) = node_named(event) else {
             return Ok(true);
@@ -113,7 +117,8 @@ impl Followers {
         entry: &AuditEntry,
     ) -> Result<bool, AllocError>
         requires few { length setup.now.members < 2 ^ 32 }
-        ensures { IfOk result (λ due. FollowOn self.old.seats.items self.new.seats.items setup.now prior.now event.now entry.now due) }
+        ensures { IfOk result
+            (λ due. FollowOn self.old.seats.items self.new.seats.items setup.now prior.now event.now entry.now due) }
     {
         let Some(node) = own_node(event) else {
             return Ok(true);
@@ -133,7 +138,8 @@ impl Followers {
         entry: &AuditEntry,
     ) -> Result<bool, AllocError>
         requires few { length setup.now.members < 2 ^ 32 }
-        ensures { IfOk result (λ due. FollowAt self.old.seats.items self.new.seats.items setup.now node prior.now event.now entry.now due) }
+        ensures { IfOk result
+            (λ due. FollowAt self.old.seats.items self.new.seats.items setup.now node prior.now event.now entry.now due) }
     {
         if !is_node(setup, node) {
             return Ok(true);

@@ -25,7 +25,8 @@ impl Judge {
     #[tactic(auto, using(simplex_members::proofs::Good::good))]
     pub fn new(alloc: Global, setup: &Setup) -> Result<Judge, AllocError>
         requires good { IsNone (setups.first_bad setup.now) }
-        ensures { IfOk result (λ judge. (setting : Setting) → setting.setup ≡ setup.now → JudgeStands judge setting [] []) }
+        ensures { IfOk result (λ judge. (setting : Setting) → setting.setup ≡ setup.now
+            → JudgeStands judge setting [] []) }
     {
         Ok(Judge {
             case: Case::new(alloc, setup)?,

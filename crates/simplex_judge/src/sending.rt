@@ -27,7 +27,9 @@ pub(crate) fn nothing_due() -> Due
 
 /// Whether the votes among the packets are these and no other.
 pub(crate) fn sends(alloc: Global, packets: &[Packet], due: &Due) -> Result<bool, AllocError>
-    ensures { IfOk result (λ sent. sent ≡ are_those (map format.vote.spelling (votes_in due.now)) (filter_map vote_bytes packets.now)) }
+    ensures { IfOk result (λ sent. sent
+        ≡ are_those (map format.vote.spelling (votes_in due.now))
+        (filter_map vote_bytes packets.now)) }
 {
     if votes_among(packets) != votes_due(due) {
         return Ok(false);
@@ -102,7 +104,8 @@ fn is_sent(alloc: Global, packets: &[Packet], vote: &Vote) -> Result<bool, Alloc
 
 // Whether the vote, if there is one, is among the packets.
 fn is_sent_if(alloc: Global, packets: &[Packet], vote: Option<Vote>) -> Result<bool, AllocError>
-    ensures { IfOk result (λ sent. sent ≡ option_map_or (is_sent (filter_map vote_bytes packets.now)) vote true) }
+    ensures { IfOk result (λ sent. sent
+        ≡ option_map_or (is_sent (filter_map vote_bytes packets.now)) vote true) }
 {
     match vote {
         None => Ok(true),

@@ -28,10 +28,13 @@ pub fn audit(
     events: &[Event],
     entries: &[AuditEntry],
 ) -> Result<Verdict, AllocError>
-    ensures verdict { IfOk result (λ verdict. verdict ≡ audited (at_epoch_genesis setup.now) events.now entries.now) }
+    ensures verdict { IfOk result (λ verdict. verdict
+        ≡ audited (at_epoch_genesis setup.now) events.now entries.now) }
     // It is sound exactly where the record has none of the faults, and then no two of its certificates conflict.
-    ensures sound { IfOk result (λ verdict. verdict ≡ Sound ↔ IsSound (at_epoch_genesis setup.now) events.now entries.now) }
-    ensures agrees { IfOk result (λ verdict. verdict ≡ Sound → AgreeAll setup.now (all_rebuilt events.now entries.now)) }
+    ensures sound { IfOk result (λ verdict. verdict
+        ≡ Sound ↔ IsSound (at_epoch_genesis setup.now) events.now entries.now) }
+    ensures agrees { IfOk result (λ verdict. verdict ≡ Sound
+        → AgreeAll setup.now (all_rebuilt events.now entries.now)) }
     // So is the record of each run whose values keep to their types.
     ensures recorded { IfOk result (λ verdict. (transcript : List Entry) → Run setup.now events.now ≡ Ok transcript → Each IsTyped transcript
         → entries.now ≡ record_of transcript → verdict ≡ Sound) }
@@ -48,7 +51,8 @@ fn verdict_on(
     events: &[Event],
     entries: &[AuditEntry],
 ) -> Result<Verdict, AllocError>
-    ensures { IfOk result (λ verdict. verdict ≡ audited (at_epoch_genesis setup.now) events.now entries.now) }
+    ensures { IfOk result (λ verdict. verdict
+        ≡ audited (at_epoch_genesis setup.now) events.now entries.now) }
 {
     if !are_few(setup, events) {
         return Ok(fault_at(0, AuditFault::Setup));
@@ -68,7 +72,8 @@ fn judge_all(
     entries: &[AuditEntry],
 ) -> Result<Verdict, AllocError>
     requires good { IsNone (setups.first_bad setup.now) }
-    ensures { IfOk result (λ verdict. (setting : Setting) → setting.setup ≡ setup.now → verdict ≡ judged_from setting [] events.now entries.now) }
+    ensures { IfOk result (λ verdict. (setting : Setting) → setting.setup ≡ setup.now
+        → verdict ≡ judged_from setting [] events.now entries.now) }
 {
     let mut kept = Judge::new(alloc, setup)?;
     for (place, event) in events.iter().enumerate() {

@@ -69,7 +69,8 @@ impl Known {
     /// Whether nullifications cover each view strictly between the two.
     #[tactic(auto, unfolding(crate::specs::Opened::parents))]
     fn spans(&self, parent: View, view: View) -> bool
-        ensures { Answers self.now (λ made known. is_none (gap_between made known parent view)) result }
+        ensures { Answers self.now
+            (λ made known. is_none (gap_between made known parent view)) result }
     {
         self.covers.spans(parent, view)
     }

@@ -54,7 +54,8 @@ impl Covers {
     /// Whether each view strictly between the two is covered.
     pub(crate) fn spans(&self, lower: View, upper: View) -> bool
         ensures { (covered : ℕ → Bool) → CoversStand self.now covered
-            → result ≡ is_none (find (λ v. not (covered v)) (range_with_len (lower + 1) (upper - (lower + 1)))) }
+            → result ≡ is_none
+            (find (λ v. not (covered v)) (range_with_len (lower + 1) (upper - (lower + 1)))) }
     {
         if upper <= lower {
             return true;
@@ -66,7 +67,9 @@ impl Covers {
     fn covers_from(&self, first: View, end: View) -> bool
         requires { end < 2 ^ 64 }
         ensures { are_whole self.now.whole self.now.least self.now.length first
-            → result ≡ is_none (find (λ v. not (covered_in self.now.length self.now.least v)) (range_with_len first (end - first))) }
+            → result ≡ is_none (find
+            (λ v. not (covered_in self.now.length self.now.least v))
+            (range_with_len first (end - first))) }
     {
         let mut view = first;
         while view < end {
@@ -81,7 +84,8 @@ impl Covers {
 
 /// Covers the rest of the view's term from the view on.
 fn cover(least: &mut BTreeMap<u64, u64>, length: TermLength, view: View) -> Result<(), AllocError>
-    ensures { OnOk result ((q : ℕ) → covered_in length least.new q ≡ (covers length view q || covered_in length least.old q)) }
+    ensures { OnOk result ((q : ℕ)
+        → covered_in length least.new q ≡ (covers length view q || covered_in length least.old q)) }
 {
     let term = view.term_index(length);
     let first = match least.get(&term) {
@@ -93,7 +97,8 @@ fn cover(least: &mut BTreeMap<u64, u64>, length: TermLength, view: View) -> Resu
 
 /// Takes the view's term for whole, where the view is its first.
 fn complete(whole: &mut Ranges, length: TermLength, view: View) -> Result<(), AllocError>
-    ensures { OnOk result ((q : ℕ) → holds whole.new (term_index length q) ≡ true → (covers length view q || holds whole.old (term_index length q)) ≡ true) }
+    ensures { OnOk result ((q : ℕ) → holds whole.new (term_index length q) ≡ true
+        → (covers length view q || holds whole.old (term_index length q)) ≡ true) }
 {
     if view != view.term_start(length) {
         return Ok(());
@@ -115,7 +120,9 @@ fn is_covered(least: &BTreeMap<u64, u64>, length: TermLength, view: View) -> boo
 /// The view behind the whole terms that follow the view's term, or the first of the next term.
 fn behind(whole: &Ranges, length: TermLength, view: View) -> View
     ensures later { view < greatest_view → view < result }
-    ensures passed { (q : ℕ) → view ≤ q → q < result → (term_index length q == term_index length view || holds whole.now (term_index length q)) ≡ true }
+    ensures passed { (q : ℕ) → view ≤ q → q < result
+        → (term_index length q == term_index length view
+        || holds whole.now (term_index length q)) ≡ true }
 {
     let next = view.next_term_start(length);
     match whole.run_end(next.term_index(length)) {

@@ -83,7 +83,8 @@ impl Known {
 
     /// A notarization was added.
     pub(crate) fn add_notarization(&mut self, notarization: &Notarization) -> Result<(), AllocError>
-        ensures { OnOk result ((now : ℕ) → Learns self.old self.new (Added (certificates.Notarization notarization.now) now)) }
+        ensures { OnOk result ((now : ℕ)
+            → Learns self.old self.new (Added (certificates.Notarization notarization.now) now)) }
     {
         let view = notarization.view().0;
         let mut round = round_at(&self.rounds, view);
@@ -96,7 +97,8 @@ impl Known {
         &mut self,
         nullification: &Nullification,
     ) -> Result<(), AllocError>
-        ensures { OnOk result ((now : ℕ) → Learns self.old self.new (Added (certificates.Nullification nullification.now) now)) }
+        ensures { OnOk result ((now : ℕ)
+            → Learns self.old self.new (Added (certificates.Nullification nullification.now) now)) }
     {
         let view = nullification.view();
         let mut round = round_at(&self.rounds, view.0);
@@ -110,7 +112,8 @@ impl Known {
 
     /// A finalization was added.
     pub(crate) fn add_finalization(&mut self, finalization: &Finalization) -> Result<(), AllocError>
-        ensures { OnOk result ((now : ℕ) → Learns self.old self.new (Added (certificates.Finalization finalization.now) now)) }
+        ensures { OnOk result ((now : ℕ)
+            → Learns self.old self.new (Added (certificates.Finalization finalization.now) now)) }
     {
         let view = finalization.view();
         let mut round = round_at(&self.rounds, view.0);

@@ -29,7 +29,9 @@ pub(crate) fn holds_proposal(proposals: &Proposals, p: &Proposal) -> bool
 
 /// Puts the proposal among them.
 pub(crate) fn add_proposal(proposals: &mut Proposals, p: &Proposal) -> Result<(), AllocError>
-    ensures { OnOk result ((q : Proposal) → has_proposal proposals.new q ≡ (is_same_proposal p.now q || has_proposal proposals.old q)) }
+    ensures { OnOk result ((q : Proposal)
+        → has_proposal proposals.new q
+        ≡ (is_same_proposal p.now q || has_proposal proposals.old q)) }
 {
     proposals.insert((p.round.epoch.0, p.round.view.0, p.parent.0, p.payload.0))?;
     Ok(())

@@ -68,7 +68,8 @@ pub(crate) fn put_round(
     view: u64,
     round: RoundRecord,
 ) -> Result<(), AllocError>
-    ensures { OnOk result ((q : ℕ) → round_in rounds.new q ≡ (if view == q then round else round_in rounds.old q)) }
+    ensures { OnOk result ((q : ℕ)
+        → round_in rounds.new q ≡ (if view == q then round else round_in rounds.old q)) }
 {
     // The proof of the move wants the types of the parts named.
     let (_, _): (Option<Proposal>, Option<bool>) = (round.proposed, round.verdict);

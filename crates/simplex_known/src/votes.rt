@@ -17,7 +17,8 @@ impl Known {
     /// The vote for the proposal of the view, where the vote rule gives it and the node's scheme signs it.
     #[tactic(auto, unfolding(crate::specs::Opened::signing))]
     pub fn notarize_at<S: Scheme>(&self, scheme: &S, view: View) -> Option<Notarize>
-        ensures { (made : Made) (known : List Fact) → Knows self.now made known → S.attests scheme.now ≡ made.signs → result ≡ notarize_at made known view }
+        ensures { (made : Made) (known : List Fact) → Knows self.now made known
+            → S.attests scheme.now ≡ made.signs → result ≡ notarize_at made known view }
     {
         let proposal = self.slot(view)?;
         if !self.notarizes(&proposal) {
@@ -29,7 +30,8 @@ impl Known {
     /// The vote that the view's proposal is final, where the vote rule gives it and the node's scheme signs it.
     #[tactic(auto, unfolding(crate::specs::Opened::signing))]
     pub fn finalize_at<S: Scheme>(&self, scheme: &S, view: View) -> Option<Finalize>
-        ensures { (made : Made) (known : List Fact) → Knows self.now made known → S.attests scheme.now ≡ made.signs → result ≡ finalize_at made known view }
+        ensures { (made : Made) (known : List Fact) → Knows self.now made known
+            → S.attests scheme.now ≡ made.signs → result ≡ finalize_at made known view }
     {
         if !self.finalizes(view) {
             return None;
@@ -41,7 +43,8 @@ impl Known {
     /// The vote that gives the view up, where the node's scheme signs it.
     #[tactic(auto, unfolding(crate::specs::Opened::signing))]
     pub fn nullify_at<S: Scheme>(&self, scheme: &S, view: View) -> Option<Nullify>
-        ensures { (made : Made) (known : List Fact) → Knows self.now made known → S.attests scheme.now ≡ made.signs → result ≡ nullify_at made view }
+        ensures { (made : Made) (known : List Fact) → Knows self.now made known
+            → S.attests scheme.now ≡ made.signs → result ≡ nullify_at made view }
     {
         let round = Round {
             epoch: self.rules.epoch,

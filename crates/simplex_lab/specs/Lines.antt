@@ -27,7 +27,8 @@ occurs wanted (byte ∷ bytes) = starts_with nat_eq (byte ∷ bytes) wanted || o
 
 -- the line stands behind the number of an event, or the text is a refusal that the line says up to the number of its event
 abbrev pub says_line : List ℕ → List ℕ → Bool
-says_line line text = occurs ((codes " " ++ line) ++ codes "\n") text || starts_with nat_eq text (([] ++ line) ++ codes " at ")
+says_line line text =
+    occurs ((codes " " ++ line) ++ codes "\n") text || starts_with nat_eq text (([] ++ line) ++ codes " at ")
 
 -- the run of the input makes the line
 abbrev pub makes_line : List ℕ → Input → Bool

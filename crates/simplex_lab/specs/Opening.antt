@@ -33,13 +33,16 @@ takes node at _ = false
 -- a packet by its channel and its name, where it is for the node and no event delivers it there
 abbrev pub packet_item : Node → List Event → Ref → Packet → List ℕ
 packet_item node events at packet =
-    if list_any (is_same_node node) packet.to && not (list_any (takes node at) events) then item (spaced (channel_word packet.channel) (ref_text at)) else []
+    if list_any (is_same_node node) packet.to && not (list_any (takes node at) events)
+    then item (spaced (channel_word packet.channel) (ref_text at))
+    else []
 
 -- those of an event, from this place on
 abbrev pub packets_from : Node → List Event → (event place : ℕ) → List Packet → List ℕ
 packets_from node events event place [] = []
 packets_from node events event place (packet ∷ packets) =
-    packet_item node events (record { event = event; place = place }) packet ++ packets_from node events event (place + 1) packets
+    packet_item node events (record { event = event; place = place }) packet
+    ++ packets_from node events event (place + 1) packets
 
 -- those of all entries
 abbrev pub packet_items : Node → List Event → List Entry → List ℕ
@@ -55,7 +58,8 @@ counts_behind event entry counts node =
 -- what is open behind the other events, with these counts and these requests before them
 abbrev pub open_from : (Node → ℕ) → List Unanswered → List Event → List Entry → List Unanswered
 open_from counts before (event ∷ events) (entry ∷ entries) =
-    open_from (counts_behind event entry counts) (unanswered_behind event entry (λ node. if is_start event then 0 else counts node) before) events entries
+    open_from (counts_behind event entry counts)
+    (unanswered_behind event entry (λ node. if is_start event then 0 else counts node) before) events entries
 open_from counts before events entries = before
 
 -- what is open behind these events
@@ -64,7 +68,9 @@ open_requests events entries = open_from (λ node. 0) [] events entries
 
 -- a request by what it asks and its name, where it is the node's
 abbrev pub request_item : Node → Unanswered → List ℕ
-request_item node it = if is_same_node it.node node then item (spaced (ask_text it.asked) (spaced (codes "as") (ref_text it.request))) else []
+request_item node it =
+    if is_same_node it.node node then item (spaced (ask_text it.asked) (spaced (codes "as") (ref_text it.request)))
+    else []
 
 abbrev pub request_items : Node → List Unanswered → List ℕ
 request_items node requests = flat_map (request_item node) requests
@@ -90,4 +96,6 @@ lines_on node packets requests sources =
 -- the text tells what these events and entries leave open for the node, and some sources: of these nothing is said
 abbrev pub TellsOpen : List Event → List Entry → Node → List ℕ → Type 0
 TellsOpen events entries node text =
-    (held : List StepSource) × (text ≡ lines_on node (packet_items node events entries) (request_items node (open_requests events entries)) (source_items held))
+    (held : List StepSource)
+    × (text ≡ lines_on node (packet_items node events entries) (request_items node (open_requests events entries))
+    (source_items held))

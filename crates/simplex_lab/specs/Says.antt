@@ -82,8 +82,10 @@ TellsOpenIf events (Some entries) (Some node) text = TellsOpen events entries no
 -- the text tells the events before the one that is refused, and that one, the refusal and its reason, and what was open then for its node
 pub record TellsRefusal (input : Input) (refusal : Refusal) (text : List ℕ) : Type 0 where
   pub left : List ℕ
-  pub tells : TellsOpenIf (earlier input refusal) (entries_of input.setup (earlier input refusal)) (refused_node input refusal) left
-  pub told : text ≡ (((lines_if (earlier input refusal) (entries_of input.setup (earlier input refusal)) ++ deed_if input.events refusal.event)
+  pub tells : TellsOpenIf (earlier input refusal) (entries_of input.setup (earlier input refusal))
+      (refused_node input refusal) left
+  pub told : text ≡ (((lines_if (earlier input refusal) (entries_of input.setup (earlier input refusal))
+      ++ deed_if input.events refusal.event)
       ++ refusal_text refusal) ++ reason_line refusal.error) ++ left
 
 -- the run of the input is this refusal, which the text tells
@@ -95,7 +97,8 @@ IsRefused input refusal text = (Run input.setup input.events ≡ Err refusal) ×
 -- the text is an input of this setup, with no more events than choices were asked for, of which none is refused
 abbrev pub IsMadeFor : Order → Setup → List ℕ → Type 0
 IsMadeFor order setup written =
-    (events : List Event) × (length events ≤ order.plan.steps) × IsRunnable setup events × (written ≡ input_text setup events)
+    (events : List Event) × (length events ≤ order.plan.steps) × IsRunnable setup events
+    × (written ≡ input_text setup events)
 
 -- the input itself, or what its run reports
 abbrev pub simulated_text : Order → List ℕ → Input → Transcript → List ℕ
@@ -184,11 +187,13 @@ pub record IsScriptRefused (bytes : List ℕ) (refusal : Refusal) (text : List �
 
 -- the first bad line of a text: one that cannot be read, or else one that names what is not there
 abbrev pub IsBadLine : List ℕ → BadLine → Type 0
-IsBadLine bytes bad = (script_of bytes ≡ Err bad) ⊎ ((script : Script) × (script_of bytes ≡ Ok script) × (compiled script ≡ Err bad))
+IsBadLine bytes bad =
+    (script_of bytes ≡ Err bad) ⊎ ((script : Script) × (script_of bytes ≡ Ok script) × (compiled script ≡ Err bad))
 
 -- it is the line at this place; or the bytes are no text
 abbrev pub IsBadScript : List ℕ → ℕ → Type 0
-IsBadScript bytes place = ((bad : BadLine) × IsBadLine bytes bad × (place ≡ bad.line)) ⊎ ((¬ IsUtf8 bytes) × (place ≡ 0))
+IsBadScript bytes place =
+    ((bad : BadLine) × IsBadLine bytes bad × (place ≡ bad.line)) ⊎ ((¬ IsUtf8 bytes) × (place ≡ 0))
 
 abbrev pub ScriptDone : Bool → List ℕ → Told → List ℕ → Type 0
 ScriptDone shows bytes (tells.Run done) text = IsScripted shows bytes done text
@@ -211,12 +216,16 @@ DoneOn _ input _ text = ⊥
 -- why it ends before, and its text
 abbrev pub RefusedOn : Word → Input → LabReason → List ℕ → Type 0
 RefusedOn asks.Trace input (reasons.Refused refusal) text = IsRefused input refusal text
-RefusedOn (asks.Draw wish) input (reasons.Refused refusal) text = (drawn_of wish.cut input ≡ drawns.Refused refusal) × (text ≡ refusal_text refusal)
-RefusedOn (asks.Draw wish) input (reasons.DrawnBefore refusal picture) text = drawn_of wish.cut input ≡ drawns.Before refusal picture
-RefusedOn (asks.Draw wish) input (reasons.NoNode node) text = (drawn_of wish.cut input ≡ drawns.NoNode node) × (text ≡ absent_line node)
+RefusedOn (asks.Draw wish) input (reasons.Refused refusal) text =
+    (drawn_of wish.cut input ≡ drawns.Refused refusal) × (text ≡ refusal_text refusal)
+RefusedOn (asks.Draw wish) input (reasons.DrawnBefore refusal picture) text =
+    drawn_of wish.cut input ≡ drawns.Before refusal picture
+RefusedOn (asks.Draw wish) input (reasons.NoNode node) text =
+    (drawn_of wish.cut input ≡ drawns.NoNode node) × (text ≡ absent_line node)
 RefusedOn (asks.Simulate order) input (reasons.Refused refusal) text = IsRefusedBehind order input refusal text
 RefusedOn (asks.Simulate order) input (reasons.Unread place) text = IsUnread order input place text
-RefusedOn (asks.Shrink line) input reasons.NotMade text = (makes_as_written input.setup line input.events ≡ false) × (text ≡ codes "not made\n")
+RefusedOn (asks.Shrink line) input reasons.NotMade text =
+    (makes_as_written input.setup line input.events ≡ false) × (text ≡ codes "not made\n")
 RefusedOn _ input _ text = ⊥
 
 -- the input is not what the word takes: a simulation wants no events

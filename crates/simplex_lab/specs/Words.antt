@@ -26,12 +26,16 @@ with_chance chances name chance =
 
 abbrev pub with_chances : Order → Chances → Order
 with_chances order chances =
-    record { plan = record { seed = order.plan.seed; steps = order.plan.steps; chances = chances }; shows_events = order.shows_events }
+    record {
+      plan = record { seed = order.plan.seed; steps = order.plan.steps; chances = chances };
+      shows_events = order.shows_events;
+    }
 
 -- an option and its value, of so many of 100
 abbrev pub with_option : Order → List ℕ → List ℕ → Option Order
 with_option order name value =
-    option_and_then (λ chance. option_map (with_chances order) (with_chance order.plan.chances name chance)) (number_up_to ALWAYS value)
+    option_and_then (λ chance. option_map (with_chances order) (with_chance order.plan.chances name chance))
+    (number_up_to ALWAYS value)
 
 abbrev pub showing : Order → Order
 showing order = record { plan = order.plan; shows_events = true }
@@ -40,11 +44,13 @@ showing order = record { plan = order.plan; shows_events = true }
 abbrev mutual
   pub with_options : Order → List (List ℕ) → Option Order
   with_options order [] = Some order
-  with_options order (name ∷ after) = if bytes_eq name (codes "--events") then with_options (showing order) after else with_value order name after
+  with_options order (name ∷ after) =
+      if bytes_eq name (codes "--events") then with_options (showing order) after else with_value order name after
 
   pub with_value : Order → List ℕ → List (List ℕ) → Option Order
   with_value order name [] = None
-  with_value order name (value ∷ after) = option_and_then (λ later. with_options later after) (with_option order name value)
+  with_value order name (value ∷ after) =
+      option_and_then (λ later. with_options later after) (with_option order name value)
 
 -- nothing goes wrong, and the events are not shown
 abbrev pub order_of : ℕ → ℕ → Order
@@ -57,7 +63,8 @@ order_of seed steps = record {
 abbrev pub simulation_from : ℕ → List (List ℕ) → Option Word
 simulation_from seed [] = None
 simulation_from seed (steps ∷ options) =
-    option_and_then (λ most. option_map (λ order. asks.Simulate order) (with_options (order_of seed most) options)) (number_up_to MOST_STEPS steps)
+    option_and_then (λ most. option_map (λ order. asks.Simulate order) (with_options (order_of seed most) options))
+    (number_up_to MOST_STEPS steps)
 
 -- SEED STEPS OPTION ..
 abbrev pub simulation_of : List (List ℕ) → Option Word
@@ -89,7 +96,8 @@ draw_of words = option_map (λ wish. asks.Draw wish) (wish_of words)
 -- nothing, or --events
 abbrev pub script_of : List (List ℕ) → Option Word
 script_of [] = Some (asks.Script false)
-script_of (word ∷ after) = if bytes_eq word (codes "--events") && length after == 0 then Some (asks.Script true) else None
+script_of (word ∷ after) =
+    if bytes_eq word (codes "--events") && length after == 0 then Some (asks.Script true) else None
 
 -- whether the first word is that for a script
 abbrev pub begins_script : List (List ℕ) → Bool
@@ -115,4 +123,5 @@ asked words = asked_by (map string_bytes words)
 
 -- what is said of other words
 abbrev pub usage : List ℕ
-usage = codes "usage: trace | draw [--html] [FROM TO [NODE ..]] | simulate SEED STEPS [--drop P] [--repeat P] [--crash P] [--delay P] [--events] | shrink LINE | script [--events] | --help | --version\n"
+usage =
+    codes "usage: trace | draw [--html] [FROM TO [NODE ..]] | simulate SEED STEPS [--drop P] [--repeat P] [--crash P] [--delay P] [--events] | shrink LINE | script [--events] | --help | --version\n"

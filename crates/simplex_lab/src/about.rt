@@ -50,9 +50,11 @@ pub(crate) fn about(words: &[String]) -> Option<&'static str>
 
 /// Writes words on the program.
 pub(crate) fn say<K: Sink>(text: &str, sink: &mut K) -> Exit<Told, LabReason>
-    ensures whole { ((result ≡ exits.Done tells.Words) × Adds (K.written sink.old) text.now (K.written sink.new)) ⊎ IsCut result }
+    ensures whole { ((result ≡ exits.Done tells.Words) × Adds (K.written sink.old) text.now (K.written sink.new))
+        ⊎ IsCut result }
     ensures part { AddsPart (K.written sink.old) text.now (K.written sink.new) }
-    ensures fault { result ≡ exits.WriteFault → Rose (K.fault_count sink.old) (K.fault_count sink.new) }
+    ensures fault { result ≡ exits.WriteFault
+        → Rose (K.fault_count sink.old) (K.fault_count sink.new) }
 {
     match write_text(sink, text.as_bytes()) {
         Ok(()) => Exit::Done(Told::Words),

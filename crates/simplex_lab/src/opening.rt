@@ -65,7 +65,8 @@ fn push_packet(
     at: Ref,
     packet: &Packet,
 ) -> Result<(), AllocError>
-    ensures { OnOk result (string_bytes text.new ≡ string_bytes text.old ++ opening.packet_item node events.now at packet.now) }
+    ensures { OnOk result (string_bytes text.new
+        ≡ string_bytes text.old ++ opening.packet_item node events.now at packet.now) }
 {
     if is_for(packet, node) && !was_taken(events, node, at) {
         let name = ref_text(alloc, &at)?;
@@ -83,7 +84,8 @@ fn push_packets(
     node: Node,
     entry: &Entry,
 ) -> Result<(), AllocError>
-    ensures { OnOk result (string_bytes text.new ≡ string_bytes text.old ++ opening.packets_from node events.now entry.now.event 0 entry.now.packets) }
+    ensures { OnOk result (string_bytes text.new ≡ string_bytes text.old
+        ++ opening.packets_from node events.now entry.now.event 0 entry.now.packets) }
 {
     let mut rest = entry.packets.as_slice();
     let mut place = 0;
@@ -107,7 +109,8 @@ fn packet_items(
     entries: &[Entry],
     node: Node,
 ) -> Result<String, AllocError>
-    ensures { IfOk result (λ text. string_bytes text ≡ opening.packet_items node events.now entries.now) }
+    ensures { IfOk result (λ text. string_bytes text
+        ≡ opening.packet_items node events.now entries.now) }
 {
     let mut text = String::new(alloc);
     let mut rest = entries;
@@ -125,7 +128,8 @@ fn requests_behind(
     events: &[Event],
     entries: &[Entry],
 ) -> Result<Requests, AllocError>
-    ensures { IfOk result (λ requests. requests.«open».items ≡ opening.open_requests events.now entries.now) }
+    ensures { IfOk result (λ requests. requests.«open».items
+        ≡ opening.open_requests events.now entries.now) }
 {
     let mut requests = Requests::new(alloc);
     let mut deeds = events;
@@ -148,7 +152,8 @@ fn push_request(
     node: Node,
     it: &Unanswered,
 ) -> Result<(), AllocError>
-    ensures { OnOk result (string_bytes text.new ≡ string_bytes text.old ++ opening.request_item node it.now) }
+    ensures { OnOk result (string_bytes text.new
+        ≡ string_bytes text.old ++ opening.request_item node it.now) }
 {
     if it.node == node {
         let name = ref_text(alloc, &it.request)?;
@@ -167,7 +172,8 @@ fn request_items(
     entries: &[Entry],
     node: Node,
 ) -> Result<String, AllocError>
-    ensures { IfOk result (λ text. string_bytes text ≡ opening.request_items node (opening.open_requests events.now entries.now)) }
+    ensures { IfOk result (λ text. string_bytes text
+        ≡ opening.request_items node (opening.open_requests events.now entries.now)) }
 {
     let requests = requests_behind(alloc, events, entries)?;
     let mut text = String::new(alloc);
@@ -245,7 +251,8 @@ fn lines(
     requests: &str,
     sources: &str,
 ) -> Result<String, AllocError>
-    ensures { IfOk result (λ text. string_bytes text ≡ opening.lines_on node packets.now requests.now sources.now) }
+    ensures { IfOk result (λ text. string_bytes text
+        ≡ opening.lines_on node packets.now requests.now sources.now) }
 {
     let node = node_text(alloc, &node)?;
     let mut text = line(alloc, "packets for", node.as_str(), packets)?;
@@ -261,7 +268,8 @@ pub(crate) fn open_lines(
     transcript: &Transcript,
     node: Node,
 ) -> Result<String, AllocError>
-    ensures { IfOk result (λ text. opening.TellsOpen events.now transcript.now.entries node (string_bytes text)) }
+    ensures { IfOk result
+        (λ text. opening.TellsOpen events.now transcript.now.entries node (string_bytes text)) }
 {
     let entries = transcript.entries.as_slice();
     let packets = packet_items(alloc, events, entries, node)?;

@@ -27,7 +27,8 @@ fn scripted_text(
     compiled: &Compiled,
     transcript: &Transcript,
 ) -> Result<String, AllocError>
-    ensures { IfOk result (λ it. string_bytes it ≡ says.scripted_text shows_events text.now script.now compiled.now transcript.now.entries) }
+    ensures { IfOk result (λ it. string_bytes it
+        ≡ says.scripted_text shows_events text.now script.now compiled.now transcript.now.entries) }
 {
     let events = compiled.events.as_slice();
     if shows_events {

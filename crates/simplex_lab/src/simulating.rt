@@ -51,7 +51,8 @@ fn told(
     made: &Input,
     transcript: &Transcript,
 ) -> Result<String, AllocError>
-    ensures { IfOk result (λ text. string_bytes text ≡ simulated_text order.now (string_bytes written) made.now transcript.now) }
+    ensures { IfOk result (λ text. string_bytes text
+        ≡ simulated_text order.now (string_bytes written) made.now transcript.now) }
 {
     if order.shows_events {
         return Ok(written);

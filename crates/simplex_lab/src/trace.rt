@@ -101,7 +101,8 @@ fn lines_if(
     events: &[Event],
     whole: Option<&Transcript>,
 ) -> Result<String, AllocError>
-    ensures { IfOk result (λ text. string_bytes text ≡ lines_if events.now (option_map (λ it. it.now.entries) whole.entry)) }
+    ensures { IfOk result (λ text. string_bytes text
+        ≡ lines_if events.now (option_map (λ it. it.now.entries) whole.entry)) }
 {
     match whole {
         None => Ok(String::new(alloc)),
@@ -116,7 +117,8 @@ fn open_if(
     whole: Option<&Transcript>,
     node: Option<Node>,
 ) -> Result<String, AllocError>
-    ensures { IfOk result (λ text. TellsOpenIf events.now (option_map (λ it. it.now.entries) whole.entry) node (string_bytes text)) }
+    ensures { IfOk result (λ text. TellsOpenIf events.now
+        (option_map (λ it. it.now.entries) whole.entry) node (string_bytes text)) }
 {
     match whole {
         None => Ok(String::new(alloc)),
@@ -135,7 +137,8 @@ fn refused_behind(
     refusal: &Refusal,
     whole: Option<&Transcript>,
 ) -> Result<String, AllocError>
-    requires { option_map (λ it. it.now.entries) whole ≡ entries_of input.now.setup (earlier input.now refusal.now) }
+    requires { option_map (λ it. it.now.entries) whole
+        ≡ entries_of input.now.setup (earlier input.now refusal.now) }
     ensures { IfOk result (λ text. TellsRefusal input.now refusal.now (string_bytes text)) }
 {
     let events = events_before(input.events.as_slice(), refusal.event);

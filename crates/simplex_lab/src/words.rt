@@ -112,7 +112,8 @@ fn with_options(order: &Order, options: &[String]) -> Option<Order>
 // The order, with the option of this name, whose value comes first, and what the other words say.
 #[cycle(options)]
 fn with_value(order: &Order, name: &String, after: &[String]) -> Option<Order>
-    ensures { result ≡ said.with_value order.now (string_bytes name.now) (map string_bytes after.now) }
+    ensures { result ≡ said.with_value order.now (string_bytes name.now)
+        (map string_bytes after.now) }
 {
     match after {
         [] => None,
@@ -165,7 +166,8 @@ fn simulation_from(seed: u64, words: &[String]) -> Option<Word>
 
 // The words, with a space between two of them.
 fn joined(alloc: Global, first: &String, others: &[String]) -> Result<Vec<u8>, AllocError>
-    ensures { IfOk result (λ line. line.items ≡ said.joined (string_bytes first.now) (map string_bytes others.now)) }
+    ensures { IfOk result (λ line. line.items
+        ≡ said.joined (string_bytes first.now) (map string_bytes others.now)) }
 {
     let mut line = first.as_bytes().to_vec(alloc)?;
     let mut rest = others;
@@ -235,7 +237,8 @@ fn script_of(words: &[String]) -> Option<Word>
 
 // What the first word asks for, with the others.
 fn word_with(alloc: Global, word: &String, others: &[String]) -> Result<Option<Word>, AllocError>
-    ensures { IfOk result (λ it. it ≡ said.asked_with (string_bytes word.now) (map string_bytes others.now)) }
+    ensures { IfOk result (λ it. it
+        ≡ said.asked_with (string_bytes word.now) (map string_bytes others.now)) }
 {
     match word.as_str() {
         "trace" => Ok(trace_of(others)),

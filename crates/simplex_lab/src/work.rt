@@ -126,15 +126,19 @@ pub fn lab_program<S: Source, K: Sink>(
     sink: &mut K,
 ) -> Exit<Told, LabReason>
     // A write fault comes only where a count of faults rose.
-    ensures write_fault { result ≡ exits.WriteFault → Rose (K.fault_count sink.old) (K.fault_count sink.new) }
+    ensures write_fault { result ≡ exits.WriteFault
+        → Rose (K.fault_count sink.old) (K.fault_count sink.new) }
 
     // What is written is the text of the exit, or where writing or memory failed the first part of the text of an exit that
     // had its cause. `Does`, `Refuses` and `Misreads` say what each word makes of the bytes.
     ensures part { (exit : Exit Told LabReason) × ((text : List ℕ)
-        × (SaidOr (said_on words.now) (S.left source.old) (S.left source.new) exit text (Cause usage Does Refuses Misreads (asked words.now)
-        (S.left source.old) (S.left source.new) (S.fault_count source.old) (S.fault_count source.new) exit text)
+        × (SaidOr (said_on words.now) (S.left source.old) (S.left source.new) exit text
+        (Cause usage Does Refuses Misreads (asked words.now)
+        (S.left source.old) (S.left source.new) (S.fault_count source.old)
+        (S.fault_count source.new) exit text)
         × AddsPart (K.written sink.old) text (K.written sink.new)
-        × (((result ≡ exit) × Adds (K.written sink.old) text (K.written sink.new)) ⊎ IsCut result))) }
+        × (((result ≡ exit)
+        × Adds (K.written sink.old) text (K.written sink.new)) ⊎ IsCut result))) }
 {
     match about(words) {
         Some(text) => say(text, sink),

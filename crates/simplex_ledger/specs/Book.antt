@@ -23,7 +23,8 @@ step_of blocks entry = (entry, transfers_of blocks entry.payload)
 
 -- the rest of the log is applied, with the transfers that these blocks have for it
 abbrev pub extended : Book → List (List ℕ) → List LogEntry → Book
-extended book blocks log = record book { applied = book.applied ++ map (step_of blocks) (drop (length book.applied) log) }
+extended book blocks log =
+    record book { applied = book.applied ++ map (step_of blocks) (drop (length book.applied) log) }
 
 -- each payload of the log has a sound block
 abbrev pub AreSound : List (List ℕ) → List LogEntry → Type 0

@@ -60,9 +60,11 @@ fn whole_block(alloc: Global, bytes: &[u8]) -> Result<Sequence<Transfer>, Decode
 /// behind the last transfer (`Rest`).
 pub fn decode_block(alloc: Global, bytes: &[u8]) -> Result<Sequence<Transfer>, DecodeError>
     // What is read is spelled so.
-    ensures found { IfOk result (λ transfers. FitsBlock transfers × (bytes.now ≡ block.spelling transfers)) }
+    ensures found { IfOk result (λ transfers. FitsBlock transfers
+        × (bytes.now ≡ block.spelling transfers)) }
     // What is spelled so is read.
-    ensures only { (transfers : List Transfer) → FitsBlock transfers → bytes.now ≡ block.spelling transfers → IsUnlessMemory result (Ok transfers) }
+    ensures only { (transfers : List Transfer) → FitsBlock transfers → bytes.now ≡ block.spelling transfers
+        → IsUnlessMemory result (Ok transfers) }
     // Which fault it is, and where.
     ensures exact { IsUnlessMemory result (decoded bytes.now) }
 {
@@ -80,7 +82,8 @@ fn push_transfer(out: &mut Vec<u8>, written: &Transfer) -> Result<(), AllocError
 }
 
 fn push_transfers(out: &mut Vec<u8>, transfers: &[Transfer]) -> Result<(), AllocError>
-    ensures spelled { OnOk result (out.new.items ≡ out.old.items ++ flat_map transfer.spelling transfers.now) }
+    ensures spelled { OnOk result (out.new.items
+        ≡ out.old.items ++ flat_map transfer.spelling transfers.now) }
     ensures fits { OnOk result (AllByRecursion FitsTransfer transfers.now) }
 {
     for written in transfers {
@@ -94,7 +97,8 @@ fn push_transfers(out: &mut Vec<u8>, transfers: &[Transfer]) -> Result<(), Alloc
 pub fn encode_block(alloc: Global, transfers: &[Transfer]) -> Result<Bytes, AllocError>
     ensures spelled { IfOk result (λ bytes. bytes ≡ block.spelling transfers.now) }
     // They are read again.
-    ensures again { IfOk result (λ bytes. length transfers.now < 2 ^ 32 → decoded bytes ≡ Ok transfers.now) }
+    ensures again { IfOk result (λ bytes. length transfers.now < 2 ^ 32
+        → decoded bytes ≡ Ok transfers.now) }
 {
     let mut out = Vec::new(alloc);
     push_number(&mut out, transfers.len() as u64)?;

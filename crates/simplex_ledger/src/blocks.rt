@@ -57,10 +57,13 @@ fn transfers_in(alloc: Global, bytes: &[u8]) -> Result<Option<Sequence<Transfer>
 
 /// Takes one more block into the index, whose place is this, where no block in it has its digest.
 fn add_block(alloc: Global, index: &mut Index, place: u64, bytes: &[u8]) -> Result<(), LedgerError>
-    ensures added { OnOk result ((before : List (List ℕ)) → length before ≡ place → IsIndexOf index.old before → IsIndexOf index.new (before ++ bytes.now ∷ [])) }
-    ensures first { OnOk result ((before : List (List ℕ)) → IsIndexOf index.old before → place_from 0 before (sha256 bytes.now) ≡ None) }
+    ensures added { OnOk result ((before : List (List ℕ)) → length before ≡ place → IsIndexOf index.old before
+        → IsIndexOf index.new (before ++ bytes.now ∷ [])) }
+    ensures first { OnOk result ((before : List (List ℕ)) → IsIndexOf index.old before
+        → place_from 0 before (sha256 bytes.now) ≡ None) }
     ensures fault { IfErr result (λ e. (e ≡ Memory) ⊎ ((first : ℕ) × (e ≡ Double first place)
-        × ((before : List (List ℕ)) → IsIndexOf index.old before → place_from 0 before (sha256 bytes.now) ≡ Some first))) }
+        × ((before : List (List ℕ)) → IsIndexOf index.old before
+        → place_from 0 before (sha256 bytes.now) ≡ Some first))) }
 {
     let digest = digest_of(bytes);
     if let Some(found) = index.get(&digest) {

@@ -45,7 +45,9 @@ impl Index {
 
     /// Makes this what is known of the block with this digest.
     pub(crate) fn insert(&mut self, digest: [u8; 32], found: Found) -> Result<(), AllocError>
-        ensures { OnOk result ((q : List ℕ) → found_at self.new q ≡ (if bytes_eq digest q then Some found else found_at self.old q)) }
+        ensures { OnOk result ((q : List ℕ)
+            → found_at self.new q
+            ≡ (if bytes_eq digest q then Some found else found_at self.old q)) }
     {
         self.found.insert(digest, found)?;
         Ok(())

@@ -42,12 +42,16 @@ impl Model for Ledger {
 
     ghost view = { λ ledger. record { accounts = ledger.accounts.items; applied = ledger.applied.items } };
 
-    ghost invariant = { λ ledger. IsKept (record { accounts = ledger.accounts.items; applied = ledger.applied.items }) ledger.balances.items ledger.total };
+    ghost invariant = { λ ledger. IsKept (record {
+      accounts = ledger.accounts.items;
+      applied = ledger.applied.items;
+    }) ledger.balances.items ledger.total };
 }
 
 /// The sum, where it is not too great.
 fn total_of(accounts: &[u64]) -> Option<u64>
-    ensures { result ≡ (if nat_le (sum accounts.now) (2 ^ 63) then Some (sum accounts.now) else None) }
+    ensures { result ≡ (if nat_le (sum accounts.now) (2 ^ 63) then Some
+        (sum accounts.now) else None) }
 {
     let mut total: u64 = 0;
     for account in accounts {
@@ -110,8 +114,10 @@ fn apply_steps(balances: &mut [u64], steps: &[Step])
 impl Ledger {
     /// A ledger of these accounts, to which nothing was applied: one to 65,536 of them, with a sum of at most 2^63.
     pub fn new(alloc: Global, accounts: &[u64]) -> Result<Ledger, LedgerError>
-        ensures made { IfOk result (λ ledger. ledger ≡ record { accounts = accounts.now; applied = [] }) }
-        ensures fault { FailsBy (if are_accounts accounts.now then None else Some BadAccounts) result }
+        ensures made { IfOk result (λ ledger. ledger
+            ≡ record { accounts = accounts.now; applied = [] }) }
+        ensures fault { FailsBy (if are_accounts accounts.now then None
+            else Some BadAccounts) result }
     {
         let Some(total) = checked_total(accounts) else {
             return Err(LedgerError::BadAccounts);
@@ -137,9 +143,11 @@ impl Ledger {
         ensures applied { OnOk result (self.new ≡ extended self.old blocks.now log.now) }
         ensures whole { OnOk result (entries_of self.new ≡ log.now) }
         // Over the same blocks throughout, the balances are those that the log gives at its height.
-        ensures along { OnOk result (IsAlong blocks.now (entries_of self.old) self.old → IsAlong blocks.now log.now self.new) }
+        ensures along { OnOk result (IsAlong blocks.now (entries_of self.old) self.old
+            → IsAlong blocks.now log.now self.new) }
         ensures balances { OnOk result (IsAlong blocks.now (entries_of self.old) self.old
-            → balances_of self.new ≡ balances_at blocks.now self.new.accounts log.now (length log.now)) }
+            → balances_of self.new
+            ≡ balances_at blocks.now self.new.accounts log.now (length log.now)) }
         ensures same { OnErr result (self.new ≡ self.old) }
     {
         let first = self.applied.len();

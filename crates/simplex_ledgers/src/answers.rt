@@ -103,7 +103,8 @@ pub fn check_answers(
     entries: &[Entry],
     blocks: &Blocks,
 ) -> Result<(), LedgerError>
-    ensures { FailsBy (option_map BadAnswer (bad_answer (is_sound blocks.now) setup.now entries.now events.now)) result }
+    ensures { FailsBy (option_map BadAnswer
+        (bad_answer (is_sound blocks.now) setup.now entries.now events.now)) result }
 {
     match bad_answer(setup, events, entries, blocks) {
         Some(event) => Err(LedgerError::BadAnswer { event }),

@@ -21,7 +21,8 @@ pub(crate) fn judge(
     blocks: Sequence<Bytes>,
 ) -> Result<Blocks, LedgerError>
     ensures blocks { IfOk result (λ taken. taken ≡ blocks) }
-    ensures fault { FailsBy (ledger_fault setup.now entries.now events.now accounts.now blocks) result }
+    ensures fault { FailsBy
+        (ledger_fault setup.now entries.now events.now accounts.now blocks) result }
 {
     if !are_accounts(accounts) {
         return Err(LedgerError::BadAccounts);

@@ -34,7 +34,8 @@ fn account_line(alloc: Global, place: u64, balance: u64) -> Result<String, Alloc
 
 /// Writes the lines of the accounts behind the text.
 fn write_balances(alloc: Global, text: &mut String, balances: &[u64]) -> Result<(), AllocError>
-    ensures { OnOk result (string_bytes text.new ≡ string_bytes text.old ++ balance_lines balances.now) }
+    ensures { OnOk result (string_bytes text.new
+        ≡ string_bytes text.old ++ balance_lines balances.now) }
 {
     for (place, balance) in balances.iter().enumerate() {
         let line = account_line(alloc, place as u64, *balance)?;
@@ -53,7 +54,8 @@ fn ledger_of(
     requires accounts { are_accounts accounts.now ≡ true }
     requires sound { AreSound blocks.now log.now }
     ensures height { IfOk result (λ ledger. length ledger.applied ≡ length log.now) }
-    ensures balances { IfOk result (λ ledger. balances_of ledger ≡ final_balances blocks.now accounts.now log.now) }
+    ensures balances { IfOk result (λ ledger. balances_of ledger
+        ≡ final_balances blocks.now accounts.now log.now) }
 {
     match Ledger::new(alloc, accounts) {
         Ok(mut ledger) => {
@@ -75,7 +77,8 @@ fn write_log(
 ) -> Result<(), AllocError>
     requires accounts { are_accounts accounts.now ≡ true }
     requires sound { AreSound blocks.now log.now }
-    ensures { OnOk result (string_bytes text.new ≡ string_bytes text.old ++ log_lines blocks.now accounts.now (node.now, log.now)) }
+    ensures { OnOk result (string_bytes text.new
+        ≡ string_bytes text.old ++ log_lines blocks.now accounts.now (node.now, log.now)) }
 {
     let ledger = ledger_of(alloc, blocks, accounts, log)?;
     let line = node_line(alloc, node, ledger.height(), ledger.total())?;

@@ -54,7 +54,8 @@ fn tell(
 ) -> Result<Answer<LedgerDone, LedgerEnd>, AllocError>
     requires { (events : List Event) × WholeRunFrom (at_epoch_genesis setup.now) events transcript
         × (ledger_fault setup.now transcript.entries events accounts.now blocks.now ≡ None) }
-    ensures { IfOk result (IsAnswer (IsTold setup.now accounts.now blocks.now transcript) (λ reason text. ⊥) (λ place. ⊥)) }
+    ensures { IfOk result (IsAnswer (IsTold setup.now accounts.now blocks.now transcript)
+        (λ reason text. ⊥) (λ place. ⊥)) }
 {
     ledger_of_a_whole_run();
     let logs = logs(alloc, setup, transcript.entries.as_slice())?;
@@ -67,7 +68,8 @@ fn tell(
 
 // The line on an end that is the program's own.
 fn end(alloc: Global, reason: LedgerEnd) -> Result<Answer<LedgerDone, LedgerEnd>, AllocError>
-    ensures { IfOk result (IsAnswer (λ done text. ⊥) (λ end text. (end ≡ reason) × (text ≡ end_text reason)) (λ place. ⊥)) }
+    ensures { IfOk result (IsAnswer (λ done text. ⊥) (λ end text. (end ≡ reason)
+        × (text ≡ end_text reason)) (λ place. ⊥)) }
 {
     let text = end_text(alloc, &reason)?;
     Ok(Answer::Refused { reason, text })
@@ -85,7 +87,12 @@ fn conclude(
 ) -> Result<Answer<LedgerDone, LedgerEnd>, AllocError>
     requires { WholeRunFrom (at_epoch_genesis setup.now) events.now transcript }
     ensures { IfOk result (IsAnswer (AreBalanced (record { setup = setup.now; events = events.now; accounts = accounts.now; blocks = blocks }))
-        (IsEnded (record { setup = setup.now; events = events.now; accounts = accounts.now; blocks = blocks })) (λ place. ⊥)) }
+        (IsEnded (record {
+          setup = setup.now;
+          events = events.now;
+          accounts = accounts.now;
+          blocks = blocks;
+        })) (λ place. ⊥)) }
 {
     let entries = transcript.entries.as_slice();
     match judge(alloc, setup, events, entries, accounts, blocks) {
@@ -174,7 +181,8 @@ pub fn ledger_program<S: Source, K: Sink>(
     sink: &mut K,
 ) -> Exit<LedgerDone, LedgerEnd>
     // A write fault comes only where a count of faults rose.
-    ensures write_fault { result ≡ exits.WriteFault → Rose (K.fault_count sink.old) (K.fault_count sink.new) }
+    ensures write_fault { result ≡ exits.WriteFault
+        → Rose (K.fault_count sink.old) (K.fault_count sink.new) }
 
     // What is written is the text of the exit, or where writing or memory failed the first part of the text of an exit that
     // had its cause. Of a whole run these are the lines of each honest node: the height of its log, and the balances that its
@@ -182,10 +190,13 @@ pub fn ledger_program<S: Source, K: Sink>(
     // the accounts. Where the run is whole and has no ledger, it is the line on the first of the accounts, the blocks and the
     // answers that is wrong.
     ensures part { (exit : Exit LedgerDone LedgerEnd) × ((text : List ℕ)
-        × (Cause usage (λ ask. BalancesSay) (λ ask. EndSays) (λ ask. IsMisread) (asks_for_balances words.now)
-        (S.left source.old) (S.left source.new) (S.fault_count source.old) (S.fault_count source.new) exit text
+        × (Cause usage (λ ask. BalancesSay) (λ ask. EndSays)
+        (λ ask. IsMisread) (asks_for_balances words.now)
+        (S.left source.old) (S.left source.new) (S.fault_count source.old)
+        (S.fault_count source.new) exit text
         × AddsPart (K.written sink.old) text (K.written sink.new)
-        × (((result ≡ exit) × Adds (K.written sink.old) text (K.written sink.new)) ⊎ IsCut result))) }
+        × (((result ≡ exit)
+        × Adds (K.written sink.old) text (K.written sink.new)) ⊎ IsCut result))) }
 {
     program(alloc, &LedgerWork, words, source, sink)
 }

@@ -1,5 +1,5 @@
 -- What is kept by view.
-use Rattle.std.specs.Prelude.{ℕ, Bool, true, false, List, [], ◌∷◌, ◌++◌, map, filter, reverse, Option, Some, None, option_map, unwrap_or}
+use Rattle.std.specs.Prelude.{◌≡◌, ◌==◌, ℕ, Bool, true, false, List, [], ◌∷◌, ◌++◌, map, filter, reverse, Option, Some, None, option_map, unwrap_or, if◌then◌else◌}
 use Rattle.std.specs.Option.{option_to_list}
 use Rattle.std.specs.BTreeMap.{BTreeMap}
 use Rattle.simplex_values.specs.Maps.{found}
@@ -19,6 +19,12 @@ held_at views view = option_map (λ (l : Link). l.proposal) (found views view)
 abbrev pub pointing : ℕ → Option Link → Option Link
 pointing down None = None
 pointing down (Some l) = Some (record { proposal = l.proposal; down = down })
+
+-- the proposal's link is put at its view, and goes down to its parent
+abbrev pub Puts : BTreeMap ℕ Link → BTreeMap ℕ Link → Proposal → Type 0
+Puts old new p =
+    (view : ℕ) → found new view
+    ≡ (if p.round.view == view then Some (record { proposal = p; down = p.parent }) else found old view)
 
 -- the greatest final view that is kept as ending there, or 0
 unfoldable pub top_in : BTreeMap ℕ ℕ → ℕ → ℕ

@@ -36,7 +36,8 @@ pub record FinalsOf (kept : Finals) (links : List Proposal) (finals : List ℕ) 
 
 -- a final view was raised whose walk ends there
 pub record Raised (links : List Proposal) (old new : Finals) (at top : ℕ) : Type 0 where
-  pub tops_rise : (view : ℕ) → 0 < view → top_in new.tops view ≡ max (top_in old.tops view) (if at == view then top else 0)
+  pub tops_rise : (view : ℕ) → 0 < view
+      → top_in new.tops view ≡ max (top_in old.tops view) (if at == view then top else 0)
   pub tip_rises : new.tip ≡ max old.tip (if at == 0 then top else 0)
   pub entries_rise : old.entries.items ≡ log_to links old.tip → new.entries.items ≡ log_to links new.tip
 
@@ -57,8 +58,13 @@ pub record KeptAt (kept : Kept) (links : List Proposal) (finals : List ℕ) (las
 abbrev pub KeptOf : Kept → List Proposal → List ℕ → Type 0
 KeptOf kept links finals = KeptAt kept links finals (greatest finals)
 
+-- whatever it was made from, it is made from that still
+abbrev pub Stays : Kept → Kept → Type 0
+Stays old new = (links : List Proposal) (finals : List ℕ) → KeptOf old links finals → KeptOf new links finals
+
 -- the link is the first of its view, and `top` is the greatest final view whose walk ends there
-pub record IsJoining (kept : Kept) (links : List Proposal) (finals : List ℕ) (p : Proposal) (top last : ℕ) : Type 0 where
+pub record IsJoining (kept : Kept) (links : List Proposal) (finals : List ℕ) (p : Proposal)
+    (top last : ℕ) : Type 0 where
   pub links_are : LinksOf kept.links links
   pub first_is : link_at links p.round.view ≡ None
   pub tops_are : (view : ℕ) → 0 < view → view ≢ p.round.view → top_in kept.finals.tops view ≡ top_at links finals view
@@ -76,7 +82,15 @@ IsUnlessMemory (Err (Clash held other)) expected = Err (Clash held other) ≡ ex
 
 module _ {S : Type 0} where
   -- the log verifies so, and these activities were taken, in order
-  unfoldable pub StandsFor : (S → Subject → Attestation → Bool) → (S → ℕ) → FinalizedLog S → (Activity → Bool) → List Activity → Type 0
+  unfoldable pub StandsFor : (S → Subject → Attestation → Bool) → (S → ℕ) → FinalizedLog S → (Activity → Bool)
+      → List Activity → Type 0
   StandsFor verified_by members log verifies taken =
       (verifies ≡ activity_verifies (verified_by log.scheme) (members log.scheme))
       × KeptOf log.kept (links_of verifies taken) (finals_of verifies taken)
+
+  -- whatever activities the log took, the answer is the rule's of them
+  abbrev pub Answers : {R : Type 0} → (S → Subject → Attestation → Bool) → (S → ℕ) → FinalizedLog S
+      → ((Activity → Bool) → List Activity → R) → R → Type 0
+  Answers verified_by members log rule answer =
+      (verifies : Activity → Bool) (taken : List Activity) → StandsFor verified_by members log verifies taken
+      → answer ≡ rule verifies taken

@@ -1,12 +1,12 @@
 //! The finalized log.
 #![tactic(auto, unfolding(crate::specs::Stands::StandsFor, crate::specs::Kept::log_to, model_log::specs::Log::log_of, model_log::specs::Log::gap_of))]
 
-ghost use Rattle.std.specs.Prelude.{◌≡◌, [], Bool, List, OnOk, OnErr};
+ghost use Rattle.std.specs.Prelude.{[], Bool, List, OnOk, OnErr};
 ghost use Rattle.simplex_types.specs.declared.activity.Activity.{Activity};
 ghost use Rattle.simplex_types.specs.Evidence.{activity_verifies};
 ghost use Rattle.model_log.specs.Log.{log_of, gap_of};
 ghost use Rattle.model_log.specs.Observing.{observed, with_next};
-ghost use Rattle.simplex_log.specs.Stands.{StandsFor, IsUnlessMemory};
+ghost use Rattle.simplex_log.specs.Stands.{StandsFor, IsUnlessMemory, Answers};
 
 use crate::kept::Kept;
 use model_log::{LogEntry, LogError};
@@ -27,7 +27,8 @@ pub struct FinalizedLog<S> {
 impl<S: Scheme> FinalizedLog<S> {
     /// The log of nothing. The scheme verifies what is reported.
     pub fn new(alloc: Global, scheme: S) -> FinalizedLog<S>
-        ensures { StandsFor S.verifies S.members result (activity_verifies (S.verifies scheme) (S.members scheme)) [] }
+        ensures { StandsFor S.verifies S.members result (activity_verifies (S.verifies scheme)
+            (S.members scheme)) [] }
     {
         FinalizedLog {
             alloc,
@@ -39,11 +40,14 @@ impl<S: Scheme> FinalizedLog<S> {
     /// Takes what was reported: whether the log is another than before. A certificate that verifies, with another proposal than the
     /// link that is held of its view, is a clash; it is not taken. Nor is what memory is wanting for.
     pub fn observe(&mut self, activity: &Activity) -> Result<bool, LogError>
-        ensures answer { (verifies : Activity → Bool) (taken : List Activity) → StandsFor S.verifies S.members self.old verifies taken
+        ensures answer { (verifies : Activity → Bool) (taken : List Activity)
+            → StandsFor S.verifies S.members self.old verifies taken
             → IsUnlessMemory result (observed verifies taken activity.now) }
-        ensures taken { OnOk result ((verifies : Activity → Bool) (taken : List Activity) → StandsFor S.verifies S.members self.old verifies taken
+        ensures taken { OnOk result ((verifies : Activity → Bool) (taken : List Activity)
+            → StandsFor S.verifies S.members self.old verifies taken
             → StandsFor S.verifies S.members self.new verifies (with_next taken activity.now)) }
-        ensures same { OnErr result ((verifies : Activity → Bool) (taken : List Activity) → StandsFor S.verifies S.members self.old verifies taken
+        ensures same { OnErr result ((verifies : Activity → Bool) (taken : List Activity)
+            → StandsFor S.verifies S.members self.old verifies taken
             → StandsFor S.verifies S.members self.new verifies taken) }
     {
         if !activity.verify(&self.scheme) {
@@ -54,7 +58,7 @@ impl<S: Scheme> FinalizedLog<S> {
 
     /// The log: the walk from the lowest view up.
     pub fn entries(&self) -> &[LogEntry]
-        ensures { (verifies : Activity → Bool) (taken : List Activity) → StandsFor S.verifies S.members self.now verifies taken → result.now ≡ log_of verifies taken }
+        ensures { Answers S.verifies S.members self.now log_of result.now }
     {
         self.kept.finals.entries.as_slice()
     }
@@ -62,7 +66,7 @@ impl<S: Scheme> FinalizedLog<S> {
     /// The view without a link at which the walk of the greatest final view ends. None where it comes to genesis, or nothing is
     /// final.
     pub fn gap(&self) -> Option<View>
-        ensures { (verifies : Activity → Bool) (taken : List Activity) → StandsFor S.verifies S.members self.now verifies taken → result ≡ gap_of verifies taken }
+        ensures { Answers S.verifies S.members self.now gap_of result }
     {
         if self.kept.end == 0 {
             None

@@ -34,7 +34,8 @@ fn top_in(tops: &BTreeMap<u64, u64>, end: u64) -> u64
 
 /// Keeps a final view whose walk ends there, where it is the greatest.
 fn keep_top(tops: &mut BTreeMap<u64, u64>, end: u64, top: u64) -> Result<(), AllocError>
-    ensures ok { OnOk result ((q : ℕ) → top_in tops.new q ≡ max (top_in tops.old q) (if end == q then top else 0)) }
+    ensures ok { OnOk result ((q : ℕ)
+        → top_in tops.new q ≡ max (top_in tops.old q) (if end == q then top else 0)) }
     ensures err { OnErr result ((q : ℕ) → top_in tops.new q ≡ top_in tops.old q) }
 {
     if top <= top_in(tops, end) {
@@ -73,7 +74,9 @@ impl Finals {
     fn extend(&mut self, alloc: Global, links: &Links, top: u64) -> Result<(), AllocError>
         ensures tops { self.new.tops ≡ self.old.tops }
         ensures tip { OnOk result (self.new.tip ≡ top) }
-        ensures entries { OnOk result ((held : List Proposal) → LinksOf links.now held → end_in held top ≡ 0 → self.old.entries.items ≡ log_to held self.old.tip → self.new.entries.items ≡ log_to held top) }
+        ensures entries { OnOk result ((held : List Proposal) → LinksOf links.now held → end_in held top ≡ 0
+            → self.old.entries.items ≡ log_to held self.old.tip
+            → self.new.entries.items ≡ log_to held top) }
         ensures err { OnErr result (Untouched self.old self.new) }
     {
         let Branch { mut entries, foot } = links.branch(alloc, top, self.tip)?;
@@ -95,7 +98,8 @@ impl Finals {
         end: u64,
         top: u64,
     ) -> Result<bool, AllocError>
-        ensures ok { OnOk result ((held : List Proposal) → LinksOf links.now held → (end ≡ 0 → end_in held top ≡ 0) → Raised held self.old self.new end top) }
+        ensures ok { OnOk result ((held : List Proposal) → LinksOf links.now held → (end ≡ 0 → end_in held top ≡ 0)
+            → Raised held self.old self.new end top) }
         ensures moved { IfOk result (λ moved. moved ≡ not (self.new.tip == self.old.tip)) }
         ensures err { OnErr result (Untouched self.old self.new) }
     {
@@ -112,7 +116,8 @@ impl Finals {
 
     /// No final view ends there any more.
     pub(crate) fn leave(&mut self, end: u64)
-        ensures tops { (q : ℕ) → top_in self.new.tops q ≡ (if end == q then 0 else top_in self.old.tops q) }
+        ensures tops { (q : ℕ)
+            → top_in self.new.tops q ≡ (if end == q then 0 else top_in self.old.tops q) }
         ensures tip { self.new.tip ≡ self.old.tip }
         ensures entries { self.new.entries.items ≡ self.old.entries.items }
     {

@@ -9,7 +9,7 @@ ghost use Rattle.model_log.specs.Links.{is_link, proposal_in};
 ghost use Rattle.model_log.specs.Observing.{clash_with, unless_clash};
 ghost use Rattle.model_log.specs.Walks.{link_at};
 ghost use Rattle.simplex_log.specs.Kept.{links_in, finals_in, finals_with};
-ghost use Rattle.simplex_log.specs.Stands.{KeptAt, KeptOf, IsJoining, IsUnlessMemory};
+ghost use Rattle.simplex_log.specs.Stands.{KeptAt, KeptOf, IsJoining, IsUnlessMemory, Stays};
 
 use crate::finals::Finals;
 use crate::links::{Links, parent_of, view_of};
@@ -44,7 +44,8 @@ impl Kept {
 
     /// The view is final: where it is the greatest that is, its walk is followed.
     fn close(&mut self, view: u64)
-        ensures stands { (links : List Proposal) (finals : List ℕ) (last : ℕ) → KeptAt self.old links finals last → KeptAt self.new links finals (max last view) }
+        ensures stands { (links : List Proposal) (finals : List ℕ) (last : ℕ) → KeptAt self.old links finals last
+            → KeptAt self.new links finals (max last view) }
         ensures tip { self.new.finals.tip ≡ self.old.finals.tip }
     {
         if self.last < view {
@@ -55,9 +56,11 @@ impl Kept {
 
     /// Takes a final view whose link is held, or has none.
     fn finish(&mut self, alloc: Global, view: u64) -> Result<bool, AllocError>
-        ensures ok { OnOk result ((links : List Proposal) (finals : List ℕ) → KeptOf self.old links finals → KeptOf self.new links (finals ++ view ∷ [])) }
-        ensures moved { IfOk result (λ moved. moved ≡ not (self.new.finals.tip == self.old.finals.tip)) }
-        ensures err { OnErr result ((links : List Proposal) (finals : List ℕ) → KeptOf self.old links finals → KeptOf self.new links finals) }
+        ensures ok { OnOk result ((links : List Proposal) (finals : List ℕ) → KeptOf self.old links finals
+            → KeptOf self.new links (finals ++ view ∷ [])) }
+        ensures moved { IfOk result (λ moved. moved
+            ≡ not (self.new.finals.tip == self.old.finals.tip)) }
+        ensures err { OnErr result (Stays self.old self.new) }
     {
         let end = self.links.end(view);
         let moved = self.finals.raise(alloc, &self.links, end, view)?;
@@ -68,9 +71,14 @@ impl Kept {
     /// Takes the first link of its view, at which the walk of the final view `top` ended, or of none where this is 0.
     fn join(&mut self, alloc: Global, proposal: &Proposal, top: u64) -> Result<bool, AllocError>
         requires { proposal.now.parent < proposal.now.round.view }
-        ensures ok { OnOk result ((links : List Proposal) (finals : List ℕ) (last : ℕ) → IsJoining self.old links finals proposal.now top last → KeptAt self.new (links ++ proposal.now ∷ []) finals last) }
-        ensures moved { IfOk result (λ moved. moved ≡ not (self.new.finals.tip == self.old.finals.tip)) }
-        ensures err { OnErr result ((links : List Proposal) (finals : List ℕ) (last : ℕ) → link_at links proposal.now.round.view ≡ None → KeptAt self.old links finals last → KeptAt self.new links finals last) }
+        ensures ok { OnOk result ((links : List Proposal) (finals : List ℕ) (last : ℕ)
+            → IsJoining self.old links finals proposal.now top last
+            → KeptAt self.new (links ++ proposal.now ∷ []) finals last) }
+        ensures moved { IfOk result (λ moved. moved
+            ≡ not (self.new.finals.tip == self.old.finals.tip)) }
+        ensures err { OnErr result ((links : List Proposal) (finals : List ℕ) (last : ℕ)
+            → link_at links proposal.now.round.view ≡ None → KeptAt self.old links finals last
+            → KeptAt self.new links finals last) }
     {
         let view = view_of(proposal);
         let end = self.links.end(parent_of(proposal));
@@ -96,10 +104,15 @@ impl Kept {
         is_final: bool,
     ) -> Result<bool, AllocError>
         requires { proposal.now.parent < proposal.now.round.view }
-        ensures ok { OnOk result ((links : List Proposal) (finals : List ℕ) → link_at links proposal.now.round.view ≡ None → KeptOf self.old links finals
-            → KeptOf self.new (links ++ proposal.now ∷ []) (finals_with finals proposal.now.round.view is_final)) }
-        ensures moved { IfOk result (λ moved. moved ≡ not (self.new.finals.tip == self.old.finals.tip)) }
-        ensures err { OnErr result ((links : List Proposal) (finals : List ℕ) → link_at links proposal.now.round.view ≡ None → KeptOf self.old links finals → KeptOf self.new links finals) }
+        ensures ok { OnOk result ((links : List Proposal) (finals : List ℕ)
+            → link_at links proposal.now.round.view ≡ None → KeptOf self.old links finals
+            → KeptOf self.new (links ++ proposal.now ∷ [])
+            (finals_with finals proposal.now.round.view is_final)) }
+        ensures moved { IfOk result (λ moved. moved
+            ≡ not (self.new.finals.tip == self.old.finals.tip)) }
+        ensures err { OnErr result ((links : List Proposal) (finals : List ℕ)
+            → link_at links proposal.now.round.view ≡ None → KeptOf self.old links finals
+            → KeptOf self.new links finals) }
     {
         let view = view_of(proposal);
         let top = self.finals.top(view);
@@ -113,9 +126,11 @@ impl Kept {
 
     /// Takes a proposal that is no new link, which is final or not.
     fn pass(&mut self, alloc: Global, view: u64, is_final: bool) -> Result<bool, AllocError>
-        ensures ok { OnOk result ((links : List Proposal) (finals : List ℕ) → KeptOf self.old links finals → KeptOf self.new links (finals_with finals view is_final)) }
-        ensures moved { IfOk result (λ moved. moved ≡ not (self.new.finals.tip == self.old.finals.tip)) }
-        ensures err { OnErr result ((links : List Proposal) (finals : List ℕ) → KeptOf self.old links finals → KeptOf self.new links finals) }
+        ensures ok { OnOk result ((links : List Proposal) (finals : List ℕ) → KeptOf self.old links finals
+            → KeptOf self.new links (finals_with finals view is_final)) }
+        ensures moved { IfOk result (λ moved. moved
+            ≡ not (self.new.finals.tip == self.old.finals.tip)) }
+        ensures err { OnErr result (Stays self.old self.new) }
     {
         if is_final {
             self.finish(alloc, view)
@@ -127,10 +142,12 @@ impl Kept {
     /// Takes a proposal of a certificate that verifies, which is final or not.
     fn name(&mut self, alloc: Global, proposal: &Proposal, is_final: bool) -> Result<bool, LogError>
         ensures ok { OnOk result ((links : List Proposal) (finals : List ℕ) → KeptOf self.old links finals
-            → KeptOf self.new (links ++ filter is_link (proposal.now ∷ [])) (finals_with finals proposal.now.round.view is_final)) }
+            → KeptOf self.new (links ++ filter is_link (proposal.now ∷ []))
+            (finals_with finals proposal.now.round.view is_final)) }
         ensures answer { (links : List Proposal) (finals : List ℕ) → KeptOf self.old links finals
-            → IsUnlessMemory result (unless_clash (clash_with links proposal.now) (not (self.new.finals.tip == self.old.finals.tip))) }
-        ensures err { OnErr result ((links : List Proposal) (finals : List ℕ) → KeptOf self.old links finals → KeptOf self.new links finals) }
+            → IsUnlessMemory result (unless_clash (clash_with links proposal.now)
+            (not (self.new.finals.tip == self.old.finals.tip))) }
+        ensures err { OnErr result (Stays self.old self.new) }
     {
         let view = view_of(proposal);
         if let Some(held) = self.links.at(view) {
@@ -153,8 +170,10 @@ impl Kept {
         ensures ok { OnOk result ((links : List Proposal) (finals : List ℕ) → KeptOf self.old links finals
             → KeptOf self.new (links ++ links_in activity.now) (finals ++ finals_in activity.now)) }
         ensures answer { (links : List Proposal) (finals : List ℕ) → KeptOf self.old links finals
-            → IsUnlessMemory result (unless_clash (option_and_then (clash_with links) (proposal_in activity.now)) (not (self.new.finals.tip == self.old.finals.tip))) }
-        ensures err { OnErr result ((links : List Proposal) (finals : List ℕ) → KeptOf self.old links finals → KeptOf self.new links finals) }
+            → IsUnlessMemory result
+            (unless_clash (option_and_then (clash_with links) (proposal_in activity.now))
+            (not (self.new.finals.tip == self.old.finals.tip))) }
+        ensures err { OnErr result (Stays self.old self.new) }
     {
         match activity {
             Activity::Notarization(it) | Activity::Certification(it) => {

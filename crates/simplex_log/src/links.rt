@@ -1,13 +1,13 @@
 //! The links that are held.
 #![tactic(auto, unfolding(simplex_values::specs::Maps::found, crate::specs::Kept::held_at))]
 
-ghost use Rattle.std.specs.Prelude.{◌≡◌, ◌==◌, ◌<◌, ◌&&◌, ◌++◌, ◌∷◌, ◌⊎◌, [], nat_lt, ℕ, List, Option, Some, None, IfSome, OnOk, OnErr, IfOk, map, if◌then◌else◌};
+ghost use Rattle.std.specs.Prelude.{◌≡◌, ◌==◌, ◌<◌, ◌&&◌, ◌++◌, ◌∷◌, ◌⊎◌, [], nat_lt, ℕ, List, Option, None, IfSome, OnOk, OnErr, IfOk, map, if◌then◌else◌};
 ghost use Rattle.simplex_values.specs.Maps.{found};
 ghost use Rattle.simplex_values.specs.declared.proposal.Proposal.{Proposal};
 ghost use Rattle.model_log.specs.Ends.{end_in};
 ghost use Rattle.model_log.specs.Log.{entry_for};
 ghost use Rattle.model_log.specs.Walks.{link_at, walk};
-ghost use Rattle.simplex_log.specs.Kept.{held_at, pointing};
+ghost use Rattle.simplex_log.specs.Kept.{held_at, pointing, Puts};
 ghost use Rattle.simplex_log.specs.Stands.{LinksOf};
 
 use model_log::LogEntry;
@@ -47,7 +47,8 @@ fn falls(link: &Link, view: u64) -> bool
 
 /// Lets the link of the view point further down. [walks-are-shortened]
 fn shorten(views: &mut BTreeMap<u64, Link>, view: u64, down: u64)
-    ensures { (q : ℕ) → found views.new q ≡ (if view == q then pointing down (found views.old q) else found views.old q) }
+    ensures { (q : ℕ) → found views.new q ≡ (if view == q then pointing down (found views.old q)
+        else found views.old q) }
 {
     if let Some(link) = views.get_mut(&view) {
         link.down = down;
@@ -56,7 +57,7 @@ fn shorten(views: &mut BTreeMap<u64, Link>, view: u64, down: u64)
 
 /// Puts the link, which points to its parent, at its view.
 fn put_link(views: &mut BTreeMap<u64, Link>, proposal: &Proposal) -> Result<(), AllocError>
-    ensures ok { OnOk result ((q : ℕ) → found views.new q ≡ (if proposal.now.round.view == q then Some (record { proposal = proposal.now; down = proposal.now.parent }) else found views.old q)) }
+    ensures ok { OnOk result (Puts views.old views.new proposal.now) }
     ensures err { OnErr result ((q : ℕ) → found views.new q ≡ found views.old q) }
 {
     let link = Link {
@@ -119,7 +120,8 @@ impl Links {
     /// The link of the view, with the view further down. All go down.
     fn below(&self, view: u64) -> Option<Link>
         ensures falls { IfSome result (λ l. (l.down < view) × (l.proposal.parent < view)) }
-        ensures held { (links : List Proposal) → LinksOf self.now links → result ≡ found self.now.views view }
+        ensures held { (links : List Proposal) → LinksOf self.now links
+            → result ≡ found self.now.views view }
     {
         let link = self.views.get(&view).copied()?;
         if falls(&link, view) { Some(link) } else { None }
@@ -138,7 +140,8 @@ impl Links {
 
     /// Lets the link of the view point to where its walk ends.
     fn shorten(&mut self, view: u64, end: u64)
-        ensures { (links : List Proposal) → LinksOf self.old links → end ≡ end_in links view → LinksOf self.new links }
+        ensures { (links : List Proposal) → LinksOf self.old links → end ≡ end_in links view
+            → LinksOf self.new links }
     {
         shorten(&mut self.views, view, end);
     }
@@ -146,7 +149,8 @@ impl Links {
     /// Where the walk of the view ends. All links that it goes by point there then.
     pub(crate) fn end(&mut self, view: u64) -> u64
         ensures same { (links : List Proposal) → LinksOf self.old links → LinksOf self.new links }
-        ensures answer { (links : List Proposal) → LinksOf self.old links → result ≡ end_in links view }
+        ensures answer { (links : List Proposal) → LinksOf self.old links
+            → result ≡ end_in links view }
     {
         let end = self.end_from(view);
         let mut from = view;
@@ -159,25 +163,32 @@ impl Links {
 
     /// Takes a link.
     pub(crate) fn insert(&mut self, proposal: &Proposal) -> Result<(), AllocError>
-        ensures put { OnOk result ((q : ℕ) → found self.new.views q ≡ (if proposal.now.round.view == q then Some (record { proposal = proposal.now; down = proposal.now.parent }) else found self.old.views q)) }
-        ensures taken { OnOk result ((links : List Proposal) → LinksOf self.old links → proposal.now.parent < proposal.now.round.view → link_at links proposal.now.round.view ≡ None
+        ensures put { OnOk result (Puts self.old.views self.new.views proposal.now) }
+        ensures taken { OnOk result ((links : List Proposal) → LinksOf self.old links
+            → proposal.now.parent < proposal.now.round.view
+            → link_at links proposal.now.round.view ≡ None
             → LinksOf self.new (links ++ proposal.now ∷ [])) }
-        ensures err { OnErr result ((links : List Proposal) → LinksOf self.old links → LinksOf self.new links) }
+        ensures err { OnErr result ((links : List Proposal) → LinksOf self.old links
+            → LinksOf self.new links) }
     {
         put_link(&mut self.views, proposal)
     }
 
     /// Forgets the link of the view.
     pub(crate) fn remove(&mut self, view: u64)
-        ensures { (q : ℕ) → found self.new.views q ≡ (if view == q then None else found self.old.views q) }
+        ensures { (q : ℕ) → found self.new.views q ≡ (if view == q then None
+            else found self.old.views q) }
     {
         forget(&mut self.views, view);
     }
 
     /// The links from the view down, to where its walk ends or comes to `foot`.
     pub(crate) fn branch(&self, alloc: Global, view: u64, foot: u64) -> Result<Branch, AllocError>
-        ensures walked { IfOk result (λ b. (links : List Proposal) → LinksOf self.now links → b.entries.items ++ map entry_for (walk links b.foot) ≡ map entry_for (walk links view)) }
-        ensures ended { IfOk result (λ b. (links : List Proposal) → LinksOf self.now links → (b.foot ≡ foot) ⊎ (b.foot ≡ end_in links view)) }
+        ensures walked { IfOk result (λ b. (links : List Proposal) → LinksOf self.now links
+            → b.entries.items ++ map entry_for (walk links b.foot)
+            ≡ map entry_for (walk links view)) }
+        ensures ended { IfOk result (λ b. (links : List Proposal) → LinksOf self.now links
+            → (b.foot ≡ foot) ⊎ (b.foot ≡ end_in links view)) }
     {
         let mut entries = Vec::new(alloc);
         let mut at = view;

@@ -29,7 +29,8 @@ fn is_faulty(kind: &MemberKind) -> bool
 fn scheme_of(alloc: Global, setup: &Setup) -> Result<Keyed, AllocError>
     requires some { 0 < length setup.now.members }
     requires few { length setup.now.members ≤ 256 }
-    ensures { IfOk result (λ scheme. (scheme.key_base ≡ setup.now.key_base) × (scheme.participants ≡ length setup.now.members)) }
+    ensures { IfOk result (λ scheme. (scheme.key_base ≡ setup.now.key_base)
+        × (scheme.participants ≡ length setup.now.members)) }
 {
     Keyed::new(alloc, setup.key_base, setup.members.len() as u32, None)
 }
@@ -60,7 +61,8 @@ fn add_log(
 ) -> Result<(), AllocError>
     requires some { 0 < length setup.now.members }
     requires few { length setup.now.members ≤ 256 }
-    ensures { OnOk result (logs.new ≡ logs.old ++ map (with_log setup.now entries.now) (honest_from member (kind.now ∷ []))) }
+    ensures { OnOk result (logs.new
+        ≡ logs.old ++ map (with_log setup.now entries.now) (honest_from member (kind.now ∷ []))) }
 {
     if is_faulty(kind) {
         return Ok(());

@@ -1,14 +1,12 @@
 //! What the entries of a run report, told to a log.
 #![tactic(auto, unfolding(crate::specs::Taken::taken_of, law_log::specs::Reports::reported))]
 
-ghost use Rattle.std.specs.Prelude.{◌≡◌, [], ◌∷◌, Bool, List, OnOk, IfOk, filter_map};
+ghost use Rattle.std.specs.Prelude.{◌≡◌, [], ◌∷◌, OnOk, IfOk, filter_map};
 ghost use Rattle.std.specs.Option.{option_to_list};
-ghost use Rattle.simplex_types.specs.declared.activity.Activity.{Activity};
 ghost use Rattle.simplex_types.specs.Evidence.{activity_verifies};
 ghost use Rattle.model_log.specs.Log.{log_of};
 ghost use Rattle.law_log.specs.Reports.{report_in, is_entry_of, reported};
-ghost use Rattle.simplex_log.specs.Stands.{StandsFor};
-ghost use Rattle.simplex_logs.specs.Taken.{taken_with, taken_of};
+ghost use Rattle.simplex_logs.specs.Taken.{taken_with, taken_of, Takes};
 
 use model_log::{LogEntry, LogError};
 use simplex_log::FinalizedLog;
@@ -19,8 +17,8 @@ use std::alloc::{AllocError, Global};
 
 /// Tells the log; what clashes is not taken.
 fn tell<S: Scheme>(log: &mut FinalizedLog<S>, activity: &Activity) -> Result<(), AllocError>
-    ensures { OnOk result ((verifies : Activity → Bool) (taken : List Activity) → StandsFor S.verifies S.members log.old verifies taken
-        → StandsFor S.verifies S.members log.new verifies (taken_with verifies taken activity.now)) }
+    ensures { OnOk result (Takes S.verifies S.members log.old log.new
+        (λ verifies taken. taken_with verifies taken activity.now)) }
 {
     match log.observe(activity) {
         Ok(_) | Err(LogError::Clash { .. }) => Ok(()),
@@ -30,8 +28,8 @@ fn tell<S: Scheme>(log: &mut FinalizedLog<S>, activity: &Activity) -> Result<(),
 
 /// Tells the log of the call, where it is a report.
 fn tell_call<S: Scheme>(log: &mut FinalizedLog<S>, call: &Call) -> Result<(), AllocError>
-    ensures { OnOk result ((verifies : Activity → Bool) (taken : List Activity) → StandsFor S.verifies S.members log.old verifies taken
-        → StandsFor S.verifies S.members log.new verifies (taken_of verifies taken (option_to_list (report_in call.now)))) }
+    ensures { OnOk result (Takes S.verifies S.members log.old log.new
+        (λ verifies taken. taken_of verifies taken (option_to_list (report_in call.now)))) }
 {
     match call {
         Call::Report(activity) => tell(log, activity),
@@ -41,8 +39,8 @@ fn tell_call<S: Scheme>(log: &mut FinalizedLog<S>, call: &Call) -> Result<(), Al
 
 /// Tells the log of the reports among the calls, in order.
 fn tell_calls<S: Scheme>(log: &mut FinalizedLog<S>, calls: &[Call]) -> Result<(), AllocError>
-    ensures { OnOk result ((verifies : Activity → Bool) (taken : List Activity) → StandsFor S.verifies S.members log.old verifies taken
-        → StandsFor S.verifies S.members log.new verifies (taken_of verifies taken (filter_map report_in calls.now))) }
+    ensures { OnOk result (Takes S.verifies S.members log.old log.new
+        (λ verifies taken. taken_of verifies taken (filter_map report_in calls.now))) }
 {
     for call in calls {
         tell_call(log, call)?;
@@ -66,8 +64,8 @@ fn tell_entry<S: Scheme>(
     entry: &Entry,
     node: Node,
 ) -> Result<(), AllocError>
-    ensures { OnOk result ((verifies : Activity → Bool) (taken : List Activity) → StandsFor S.verifies S.members log.old verifies taken
-        → StandsFor S.verifies S.members log.new verifies (taken_of verifies taken (reported (entry.now ∷ []) node))) }
+    ensures { OnOk result (Takes S.verifies S.members log.old log.new
+        (λ verifies taken. taken_of verifies taken (reported (entry.now ∷ []) node))) }
 {
     if is_entry_of(entry, node) {
         tell_calls(log, entry.calls.as_slice())
@@ -84,7 +82,8 @@ pub(crate) fn log_of_node<S: Scheme + Drop>(
     node: Node,
 ) -> Result<Vec<LogEntry>, AllocError>
     ensures { let verifies = activity_verifies (S.verifies scheme) (S.members scheme) in
-        IfOk result (λ log. log.items ≡ log_of verifies (taken_of verifies [] (reported entries.now node))) }
+        IfOk result (λ log. log.items
+        ≡ log_of verifies (taken_of verifies [] (reported entries.now node))) }
 {
     let mut log = FinalizedLog::new(alloc, scheme);
     for entry in entries {

@@ -18,7 +18,9 @@ fn line(
     view: u64,
     payload: &str,
 ) -> Result<String, AllocError>
-    ensures { IfOk result (λ text. string_bytes text ≡ pieces (codes "node " ∷ decimal node.now.member ∷ codes "." ∷ decimal node.now.half ∷ codes " log " ∷ decimal place
+    ensures { IfOk result (λ text. string_bytes text ≡ pieces
+        (codes "node " ∷ decimal node.now.member ∷ codes "." ∷ decimal node.now.half
+        ∷ codes " log " ∷ decimal place
         ∷ codes " view " ∷ decimal view ∷ codes " payload " ∷ payload.now ∷ codes "\n" ∷ [])) }
 {
     let member = node.member;
@@ -46,7 +48,8 @@ fn write_log(
     node: &Node,
     log: &[LogEntry],
 ) -> Result<(), AllocError>
-    ensures { OnOk result (string_bytes text.new ≡ string_bytes text.old ++ flat_map (entry_line node.now) (enumerate_from 1 log.now)) }
+    ensures { OnOk result (string_bytes text.new ≡ string_bytes text.old
+        ++ flat_map (entry_line node.now) (enumerate_from 1 log.now)) }
 {
     for (place, entry) in log.iter().enumerate() {
         let line = entry_line(alloc, node, place as u64 + 1, entry)?;

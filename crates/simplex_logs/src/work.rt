@@ -59,7 +59,8 @@ fn tell(
 
 // The line on a refusal, which is not want of memory.
 fn refuse(alloc: Global, refusal: Refusal) -> Result<Answer<LogsDone, Refusal>, AllocError>
-    ensures { IfOk result (IsAnswer (λ done text. ⊥) (λ reason text. (reason ≡ refusal) × (text ≡ refusal_text refusal)) (λ place. ⊥)) }
+    ensures { IfOk result (IsAnswer (λ done text. ⊥)
+        (λ reason text. (reason ≡ refusal) × (text ≡ refusal_text refusal)) (λ place. ⊥)) }
 {
     let text = refusal_text(alloc, &refusal)?;
     Ok(Answer::Refused {
@@ -131,16 +132,20 @@ pub fn log_program<S: Source, K: Sink>(
     sink: &mut K,
 ) -> Exit<LogsDone, Refusal>
     // A write fault comes only where a count of faults rose.
-    ensures write_fault { result ≡ exits.WriteFault → Rose (K.fault_count sink.old) (K.fault_count sink.new) }
+    ensures write_fault { result ≡ exits.WriteFault
+        → Rose (K.fault_count sink.old) (K.fault_count sink.new) }
 
     // What is written is the text of the exit, or where writing or memory failed the first part of the text of an exit that
     // had its cause. Of a whole run these are the lines of what each honest node reported, and of the logs of any two nodes
     // at any two points one begins the other.
     ensures part { (exit : Exit LogsDone Refusal) × ((text : List ℕ)
-        × (Cause usage (λ ask. LogsSay) (λ ask. RefusalSays) (λ ask. IsMisread) (asks_for_logs words.now)
-        (S.left source.old) (S.left source.new) (S.fault_count source.old) (S.fault_count source.new) exit text
+        × (Cause usage (λ ask. LogsSay) (λ ask. RefusalSays)
+        (λ ask. IsMisread) (asks_for_logs words.now)
+        (S.left source.old) (S.left source.new) (S.fault_count source.old)
+        (S.fault_count source.new) exit text
         × AddsPart (K.written sink.old) text (K.written sink.new)
-        × (((result ≡ exit) × Adds (K.written sink.old) text (K.written sink.new)) ⊎ IsCut result))) }
+        × (((result ≡ exit)
+        × Adds (K.written sink.old) text (K.written sink.new)) ⊎ IsCut result))) }
 {
     program(alloc, &LogWork, words, source, sink)
 }

@@ -29,7 +29,12 @@ impl<M: Policy> Model for Mailbox<M> {
 
     ghost Value = { Mail M };
 
-    ghost view = { λ m. record { capacity = m.capacity; ready = m.ready.items; waiting = M.Overflow.waiting m.overflow; closed = m.is_closed } };
+    ghost view = { λ m. record {
+      capacity = m.capacity;
+      ready = m.ready.items;
+      waiting = M.Overflow.waiting m.overflow;
+      closed = m.is_closed;
+    } };
 
     ghost invariant = { λ m. Keeps (deque_capacity m.ready) m.capacity m.ready.items (M.Overflow.waiting m.overflow) };
 }
@@ -131,7 +136,8 @@ impl<M: Policy + Keep> Mailbox<M> {
 }
 
 impl<M: Policy> Post<M> for Mailbox<M> {
-    ghost puts = { λ before message answer after. (answer ≡ feedback_of before) × (after ≡ enqueued M.handle before message) };
+    ghost puts = { λ before message answer after. (answer ≡ feedback_of before)
+        × (after ≡ enqueued M.handle before message) };
 
     fn enqueue(&mut self, message: M) -> Result<Feedback, AllocError> {
         Mailbox::enqueue(self, message)
@@ -141,11 +147,16 @@ impl<M: Policy> Post<M> for Mailbox<M> {
 /// Makes ready what waits, while fewer than `capacity` are ready.
 fn refill<M: Policy>(ready: &mut VecDeque<M>, overflow: &mut M::Overflow, capacity: u32)
     requires { capacity ≤ deque_capacity ready.old }
-    ensures ready { ready.new.items ≡ ready.old.items ++ drained M.is_skipped (capacity - length ready.old.items) (M.Overflow.waiting overflow.old) }
-    ensures overflow { M.Overflow.waiting overflow.new ≡ undrained M.is_skipped (capacity - length ready.old.items) (M.Overflow.waiting overflow.old) }
+    ensures ready { ready.new.items ≡ ready.old.items
+        ++ drained M.is_skipped (capacity - length ready.old.items)
+        (M.Overflow.waiting overflow.old) }
+    ensures overflow { M.Overflow.waiting overflow.new
+        ≡ undrained M.is_skipped (capacity - length ready.old.items)
+        (M.Overflow.waiting overflow.old) }
     ensures memory { deque_capacity ready.new ≡ deque_capacity ready.old }
     ensures within { length ready.old.items ≤ capacity → length ready.new.items ≤ capacity }
-    ensures full { length ready.new.items < capacity → IsTrue (is_clear (M.Overflow.waiting overflow.new)) }
+    ensures full { length ready.new.items < capacity
+        → IsTrue (is_clear (M.Overflow.waiting overflow.new)) }
 {
     while ready.len() < capacity as usize {
         match overflow.pop() {

@@ -16,6 +16,8 @@ pub trait Policy: Requested {
     /// Takes a message for which there is no room: it waits, takes the place of others, or is dropped.
     /// For want of memory what waits stays as it was.
     fn handle(overflow: &mut Self::Overflow, message: Self) -> Result<(), AllocError>
-        ensures ok { OnOk result (Self.Overflow.waiting overflow.new ≡ handle (Self.Overflow.waiting overflow.old) message) }
-        ensures err { OnErr result (Self.Overflow.waiting overflow.new ≡ Self.Overflow.waiting overflow.old) };
+        ensures ok { OnOk result (Self.Overflow.waiting overflow.new
+            ≡ handle (Self.Overflow.waiting overflow.old) message) }
+        ensures err { OnErr result (Self.Overflow.waiting overflow.new
+            ≡ Self.Overflow.waiting overflow.old) };
 }

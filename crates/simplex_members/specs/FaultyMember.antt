@@ -29,13 +29,24 @@ signs scheme = keyed_attests scheme.key_base scheme.me
 unfoldable pub FaultyStands : FaultyMember → Setup → ℕ → List Heard → Type 0
 FaultyStands faulty.Silent setup member past = kind_of setup member ≡ kinds.Silent
 FaultyStands (faulty.Conflicter c) setup member past =
-    (kind_of setup member ≡ kinds.Conflicter) × conflicting.StandsFor signs c (attests_of setup member) (words_for setup member) past
+    (kind_of setup member ≡ kinds.Conflicter)
+    × conflicting.StandsFor signs c (attests_of setup member) (words_for setup member) past
 FaultyStands (faulty.Equivocator e) setup member past =
     (kind_of setup member ≡ kinds.Equivocator)
     × equivocating.StandsFor signs (λ s. s.me) (λ s. s.participants) elects e (equivocator_of setup member) past
-FaultyStands (faulty.Impersonator scheme) setup member past = (kind_of setup member ≡ kinds.Impersonator) × (signs scheme ≡ attests_of setup member)
-FaultyStands (faulty.Nuller scheme) setup member past = (kind_of setup member ≡ kinds.Nuller) × (signs scheme ≡ attests_of setup member)
-FaultyStands (faulty.NullifyOnly scheme) setup member past = (kind_of setup member ≡ kinds.NullifyOnly) × (signs scheme ≡ attests_of setup member)
+FaultyStands (faulty.Impersonator scheme) setup member past =
+    (kind_of setup member ≡ kinds.Impersonator) × (signs scheme ≡ attests_of setup member)
+FaultyStands (faulty.Nuller scheme) setup member past =
+    (kind_of setup member ≡ kinds.Nuller) × (signs scheme ≡ attests_of setup member)
+FaultyStands (faulty.NullifyOnly scheme) setup member past =
+    (kind_of setup member ≡ kinds.NullifyOnly) × (signs scheme ≡ attests_of setup member)
 FaultyStands (faulty.Outdated o) setup member past =
-    (delta : ℕ) × (kind_of setup member ≡ kinds.Outdated delta) × remembering.StandsFor signs o (attests_of setup member) delta past
-FaultyStands (faulty.Reconfigurer scheme) setup member past = (kind_of setup member ≡ kinds.Reconfigurer) × (signs scheme ≡ attests_of setup member)
+    (delta : ℕ) × (kind_of setup member ≡ kinds.Outdated delta)
+    × remembering.StandsFor signs o (attests_of setup member) delta past
+FaultyStands (faulty.Reconfigurer scheme) setup member past =
+    (kind_of setup member ≡ kinds.Reconfigurer) × (signs scheme ≡ attests_of setup member)
+
+-- whichever member it is, and whatever it has heard, this holds of it
+abbrev pub OfItsPast : FaultyMember → (Setup → ℕ → List Heard → Type 0) → Type 0
+OfItsPast member Holds =
+    (setup : Setup) (number : ℕ) (past : List Heard) → FaultyStands member setup number past → Holds setup number past

@@ -14,7 +14,9 @@ NodeElector = ElectorState RoundRobinElector turns.ghosts
 
 -- who leads a round
 abbrev pub elects : NodeElector → Round → ℕ
-elects elector = scripted_leader elector.leaders elector.fallback.terms.length (leader_of elector.fallback.terms.length elector.fallback.members)
+elects elector =
+    scripted_leader elector.leaders elector.fallback.terms.length
+    (leader_of elector.fallback.terms.length elector.fallback.members)
 
 -- how a setup cuts views into terms
 abbrev pub terms_in : Setup → Terms

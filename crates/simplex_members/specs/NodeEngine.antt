@@ -1,4 +1,5 @@
--- The engine of a node: its scheme is wrapped as its member's kind wants it, and its elector follows the setup's script.
+-- The engine of a node: its scheme is wrapped as its member's kind wants it, and its elector follows the setup's
+-- script.
 use Rattle.std.specs.Prelude.{◌≡◌, true, List}
 use Rattle.simplex_types.specs.declared.keyed.Keyed.{Keyed}
 use Rattle.simplex_types.specs.Keyed.{keyed_attests, keyed_verifies}
@@ -37,6 +38,8 @@ pub record IsSetUp (config : NodeConfig) (setting : Setting) : Type 0 where
 abbrev pub made_with : NodeConfig → List Section → EngineMade
 made_with config sections =
     configs.engine_made
-    (λ s. wrapped_attests s.behavior (keyed_attests s.inner.key_base s.inner.me) (keyed_verifies s.inner.key_base s.inner.participants))
-    (λ s. keyed_verifies s.inner.key_base s.inner.participants) (λ s. wrapped_recovers s.behavior true) (λ s. s.inner.participants)
+    (λ s. wrapped_attests s.behavior (keyed_attests s.inner.key_base s.inner.me)
+    (keyed_verifies s.inner.key_base s.inner.participants))
+    (λ s. keyed_verifies s.inner.key_base s.inner.participants) (λ s. wrapped_recovers s.behavior true)
+    (λ s. s.inner.participants)
     (λ s. s.inner.me) elects (λ e. e.fallback.terms) config sections

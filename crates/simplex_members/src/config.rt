@@ -22,8 +22,8 @@ pub type NodeScheme = Scheme<Keyed>;
 /// What a node's engine is made with.
 pub type NodeConfig = EngineConfig<NodeScheme, NodeElector>;
 
-/// What the engine of a member is made with, where it starts at the floor and the digest is the payload of view 0. Another
-/// kind than those with an engine makes that of an honest member.
+/// What the engine of a member is made with, where it starts at the floor and the digest is the payload of view 0.
+/// Another kind than those with an engine makes that of an honest member.
 #[tactic(auto, using(crate::proofs::Good::good))]
 pub fn config_of(
     alloc: Global,
@@ -34,11 +34,15 @@ pub fn config_of(
 ) -> Result<NodeConfig, AllocError>
     requires good { IsNone (setups.first_bad setup.now) }
     requires below { member < length setup.now.members }
-    ensures built { IfOk result (λ config. config.elector.fallback.members ≡ config.scheme.inner.participants) }
+    ensures built { IfOk result (λ config. config.elector.fallback.members
+        ≡ config.scheme.inner.participants) }
     ensures lookahead { IfOk result (λ config. config.elector.fallback.terms.lookahead ≤ 2 ^ 32) }
-    ensures stall { IfOk result (λ config. IfSome config.elector.fallback.terms.stall_timeout (λ stall. (config.certification_timeout < stall) × (stall ≤ 2 ^ 62))) }
+    ensures stall { IfOk result (λ config. IfSome config.elector.fallback.terms.stall_timeout
+        (λ stall. (config.certification_timeout < stall) × (stall ≤ 2 ^ 62))) }
     ensures allowed { IfOk result (λ config. first_bad config ≡ None) }
-    ensures made { IfOk result (λ config. (sections : List Section) → made_with config sections ≡ members.engine_of (setting_of setup.now genesis) member (members.floor_of genesis floor.now) sections) }
+    ensures made { IfOk result (λ config. (sections : List Section)
+        → made_with config sections ≡ members.engine_of (setting_of setup.now genesis) member
+        (members.floor_of genesis floor.now) sections) }
 {
     let inner = scheme_of(alloc, setup, member)?;
     let scheme = Scheme::new(inner, behavior_of(kind_of(setup, member)));

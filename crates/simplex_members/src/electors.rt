@@ -29,7 +29,8 @@ pub(crate) fn elector_of(alloc: Global, setup: &Setup) -> Result<NodeElector, Al
 #[tactic(auto, using(crate::proofs::Good::good, crate::proofs::Electing::electing))]
 fn electing(alloc: Global, setup: &Setup) -> Result<Elector<RoundRobin>, AllocError>
     requires { IsNone (setups.first_bad setup.now) }
-    ensures leaders { IfOk result (λ made. made.leaders ≡ map (λ round. round.leader) setup.now.scenario) }
+    ensures leaders { IfOk result (λ made. made.leaders
+        ≡ map (λ round. round.leader) setup.now.scenario) }
     ensures terms { IfOk result (λ made. made.fallback.terms ≡ terms_in setup.now) }
     ensures members { IfOk result (λ made. made.members ≤ length setup.now.members) }
 {

@@ -1,11 +1,11 @@
 //! Faulty members without an engine.
-ghost use Rattle.std.specs.Prelude.{◌≡◌, ◌<◌, ◌∷◌, [], ℕ, List, length, true, false, IsNone, IfOk, OnOk};
-ghost use Rattle.simplex_transcript.specs.declared.setup.Setup as setup;
+ghost use Rattle.std.specs.Prelude.{◌≡◌, ◌<◌, ◌∷◌, [], length, true, false, IsNone, IfOk, OnOk};
 ghost use Rattle.model_run.specs.Kinds as kinds;
 ghost use Rattle.model_run.specs.Members.{kind_of};
-ghost use Rattle.model_run.specs.Mocks.{Heard, heard_by};
+ghost use Rattle.model_run.specs.Mocks.{heard_by};
 ghost use Rattle.model_run.specs.Setups as setups;
-ghost use Rattle.simplex_members.specs.FaultyMember.{FaultyStands, is_impersonator};
+ghost use Rattle.simplex_members.specs.FaultyMember.{FaultyStands, OfItsPast, is_impersonator};
+ghost use Rattle.simplex_mocks.specs.Hearing.{bytes_heard};
 
 use crate::electors::{NodeElector, elector_of};
 use crate::schemes::{kind_of, random_of, scheme_of};
@@ -110,14 +110,16 @@ impl FaultyMember {
         bytes: &[u8],
     ) -> Result<Sequence<Sent>, AllocError>
         // The messages of the definition.
-        ensures sends { (setup : setup.Setup) (member : ℕ) (past : List Heard) → FaultyStands self.old setup member past
-            → IfOk result (λ sent. sent ≡ heard_by setup member (kind_of setup member) past (record { channel = channel; bytes = bytes.now })) }
+        ensures sends { OfItsPast self.old (λ setup member past. IfOk result
+            (λ sent. sent ≡ heard_by setup member (kind_of setup member) past
+            (bytes_heard channel bytes.now))) }
         // It has heard this too.
-        ensures stands { (setup : setup.Setup) (member : ℕ) (past : List Heard) → FaultyStands self.old setup member past
-            → OnOk result (FaultyStands self.new setup member (record { channel = channel; bytes = bytes.now } ∷ past)) }
+        ensures stands { OfItsPast self.old (λ setup member past. OnOk result
+            (FaultyStands self.new setup member (bytes_heard channel bytes.now ∷ past))) }
         // Nothing that an impersonator hears changes it.
-        ensures unmoved { (setup : setup.Setup) (member : ℕ) (past : List Heard) → FaultyStands self.old setup member past
-            → is_impersonator (kind_of setup member) ≡ true → OnOk result (FaultyStands self.new setup member past) }
+        ensures unmoved { OfItsPast self.old (λ setup member past.
+            is_impersonator (kind_of setup member) ≡ true
+            → OnOk result (FaultyStands self.new setup member past)) }
     {
         match self {
             FaultyMember::Silent => Ok(Sequence::new(alloc)),

@@ -44,7 +44,8 @@ pub(crate) fn scheme_of(
 ) -> Result<Keyed, AllocError>
     requires good { IsNone (setups.first_bad setup.now) }
     requires below { member < length setup.now.members }
-    ensures { IfOk result (λ scheme. (scheme.key_base ≡ setup.now.key_base) × (scheme.participants ≡ length setup.now.members) × (scheme.me ≡ Some member)) }
+    ensures { IfOk result (λ scheme. (scheme.key_base ≡ setup.now.key_base)
+        × (scheme.participants ≡ length setup.now.members) × (scheme.me ≡ Some member)) }
 {
     let members = setup.members.len() as u32;
     Keyed::new(alloc, setup.key_base, members, Some(member))

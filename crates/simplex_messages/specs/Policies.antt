@@ -53,7 +53,8 @@ unfoldable pub handled_by_view : {M : Type 0} → (view_of : M → ℕ) (is_fina
     (outlasts stands_for : M → M → Bool) (changed_by : M → M → M) → Waiting M → M → Waiting M
 handled_by_view view_of is_final outlasts stands_for changed_by waiting message =
     if is_final_from view_of waiting.place (view_of message) then waiting
-    else if is_final message then record { place = Some message; rest = filter (λ queued. outlasts queued message) waiting.rest }
+    else if is_final message
+    then record { place = Some message; rest = filter (λ queued. outlasts queued message) waiting.rest }
     else if list_any (λ queued. stands_for queued message) waiting.rest
     then record waiting { rest = map (changed_by message) waiting.rest }
     else put_last waiting message
@@ -133,7 +134,8 @@ outlasts_for_resolver queued final = is_replayed queued || nat_lt (resolver_view
 unfoldable pub resolver_handled : Waiting MailboxMessage → MailboxMessage → Waiting MailboxMessage
 resolver_handled waiting message =
     if is_replayed message then put_last waiting message
-    else handled_by_view resolver_view is_final_for_resolver outlasts_for_resolver stands_for_resolver changed_for_resolver waiting message
+    else handled_by_view resolver_view is_final_for_resolver
+    outlasts_for_resolver stands_for_resolver changed_for_resolver waiting message
 
 -- ---- the batcher
 
@@ -148,7 +150,8 @@ outdates_message current finalized (batcher.Update c leader f proposal) = false
 
 -- whether an update is queued that is as great, by the current view and then by the finalized one
 abbrev pub is_as_great : Option batcher_message.Message → (current finalized : ℕ) → Bool
-is_as_great (Some (batcher.Update c leader f proposal)) current finalized = nat_lt current c || (c == current && nat_le finalized f)
+is_as_great (Some (batcher.Update c leader f proposal)) current finalized =
+    nat_lt current c || (c == current && nat_le finalized f)
 is_as_great _ current finalized = false
 
 -- whether an update is queued that makes the vote needless
@@ -163,12 +166,14 @@ is_needless place (batcher.Update c leader f proposal) = false
 
 -- a vote of one view and kind
 abbrev pub stands_for_batcher : (queued message : batcher_message.Message) → Bool
-stands_for_batcher (batcher.Constructed v) (batcher.Constructed w) = vote_view v == vote_view w && is_same_kind (vote_kind v) (vote_kind w)
+stands_for_batcher (batcher.Constructed v) (batcher.Constructed w) =
+    vote_view v == vote_view w && is_same_kind (vote_kind v) (vote_kind w)
 stands_for_batcher _ _ = false
 
 -- An update takes the place unless the queued one is as great, and of the votes those stay that it does not make
 -- needless. A vote is last, unless the queued update makes it needless or one of its view and kind is queued.
-unfoldable pub batcher_handled : Waiting batcher_message.Message → batcher_message.Message → Waiting batcher_message.Message
+unfoldable pub batcher_handled : Waiting batcher_message.Message
+    → batcher_message.Message → Waiting batcher_message.Message
 batcher_handled waiting (batcher.Update current leader finalized proposal) =
     if is_as_great waiting.place current finalized then waiting
     else record {
@@ -176,7 +181,8 @@ batcher_handled waiting (batcher.Update current leader finalized proposal) =
       rest = filter (λ queued. not (outdates_message current finalized queued)) waiting.rest;
     }
 batcher_handled waiting (batcher.Constructed vote) =
-    if is_outdated waiting.place vote || list_any (λ queued. stands_for_batcher queued (batcher.Constructed vote)) waiting.rest
+    if is_outdated waiting.place vote
+    || list_any (λ queued. stands_for_batcher queued (batcher.Constructed vote)) waiting.rest
     then waiting
     else put_last waiting (batcher.Constructed vote)
 
@@ -195,5 +201,6 @@ handler_handled waiting (handler.Deliver id view bytes asks waits) =
 
 -- the message once the requester of this number left
 abbrev pub handler_leave : ℕ → HandlerMessage → HandlerMessage
-handler_leave left (handler.Deliver id view bytes asks waiting) = handler.Deliver id view bytes asks (waiting && not (id == left))
+handler_leave left (handler.Deliver id view bytes asks waiting) =
+    handler.Deliver id view bytes asks (waiting && not (id == left))
 handler_leave left (handler.Produce id view) = handler.Produce id view

@@ -48,7 +48,9 @@ pub(crate) fn handle_by_view<M: ByView>(
     pending: &mut Pending<M>,
     message: M,
 ) -> Result<(), AllocError>
-    ensures ok { OnOk result (waits_in pending.new ≡ handled_by_view M.view_of M.is_final M.outlasts M.stands_for M.changed_by (waits_in pending.old) message) }
+    ensures ok { OnOk result (waits_in pending.new
+        ≡ handled_by_view M.view_of M.is_final M.outlasts M.stands_for M.changed_by
+        (waits_in pending.old) message) }
     ensures err { OnErr result (waits_in pending.new ≡ waits_in pending.old) }
 {
     if is_final_from(&pending.place, message.view()) {

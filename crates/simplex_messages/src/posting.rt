@@ -17,7 +17,9 @@ fn post_one<V: Post<voter::Message>>(
     post: &mut V,
 ) -> Result<(), AllocError>
     // What is posted behind it is posted behind its copy.
-    ensures { OnOk result ((rest : List Message) (after : V) → Posted V.puts post.new rest after → Posted V.puts post.old (cons_option (for_voter message.now) rest) after) }
+    ensures { OnOk result ((rest : List Message) (after : V)
+        → Posted V.puts post.new rest after
+        → Posted V.puts post.old (cons_option (for_voter message.now) rest) after) }
 {
     match message {
         Handed::Voter(message) => {

@@ -52,7 +52,8 @@ impl StepOut {
 
 impl Blocker for StepOut {
     // The call is noted behind the others, or nothing is for want of memory.
-    ghost blocks = { λ before member cause answer after. MatchResult answer (λ _. after ≡ with_call (Block member cause) before) (λ _. after ≡ before) };
+    ghost blocks = { λ before member cause answer after.
+        MatchResult answer (λ _. after ≡ with_call (Block member cause) before) (λ _. after ≡ before) };
 
     fn block(&mut self, member: Participant, cause: BlockCause) -> Result<(), AllocError> {
         self.calls.push(Call::Block(member, cause))

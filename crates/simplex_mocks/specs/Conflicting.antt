@@ -14,6 +14,7 @@ pair_list None = []
 pair_list (Some both) = both.0 ∷ both.1 ∷ []
 
 -- it signs so, and of these words those are left that its answers did not take
-unfoldable pub StandsFor : {S : Type 0} → (S → Subject → Option Attestation) → Conflicter S → (Subject → Option Attestation) → Words → List Heard → Type 0
+unfoldable pub StandsFor : {S : Type 0} → (S → Subject → Option Attestation) → Conflicter S
+    → (Subject → Option Attestation) → Words → List Heard → Type 0
 StandsFor signs conflicter attests words before =
     (signs conflicter.scheme ≡ attests) × Draws (answers_of conflicter.random) words (conflicter_drew before)

@@ -17,16 +17,31 @@ unfoldable pub has_view : Views → ℕ → Bool
 has_view views view = set.contains nat_cmp views.views view
 
 -- what it is made with, by what its scheme and elector mean
-abbrev pub made_of : {S L : Type 0} → (S → Subject → Option Attestation) → (S → Option ℕ) → (S → ℕ) → (L → Round → ℕ) → S → L → ℕ → Words → Made
+abbrev pub made_of : {S L : Type 0} → (S → Subject → Option Attestation) → (S → Option ℕ) → (S → ℕ) → (L → Round → ℕ)
+    → S → L → ℕ → Words → Made
 made_of attests member members elects scheme elector epoch words =
-    record { attests = attests scheme; leader = elects elector; me = member scheme; members = members scheme; epoch = epoch; words = words }
+    record {
+      attests = attests scheme;
+      leader = elects elector;
+      me = member scheme;
+      members = members scheme;
+      epoch = epoch;
+      words = words;
+    }
 
 -- it is made so, has heard of these views, and of its words those are left that its answers did not take
-unfoldable pub StandsFor : {S L : Type 0} → (S → Subject → Option Attestation) → (S → Option ℕ) → (S → ℕ) → (L → Round → ℕ) → Equivocator S L → Made → List Heard → Type 0
+unfoldable pub StandsFor : {S L : Type 0} → (S → Subject → Option Attestation) → (S → Option ℕ) → (S → ℕ)
+    → (L → Round → ℕ) → Equivocator S L → Made → List Heard → Type 0
 StandsFor attests member members elects e made before =
     (made ≡ made_of attests member members elects e.scheme e.elector e.epoch made.words)
     × ((view : ℕ) → has_view e.heard view ≡ was_heard before view)
     × Draws (answers_of e.random) made.words (equivocator_drew made before)
+
+-- whatever it is made with and has heard, this holds of it
+abbrev pub OfItsPast : {S L : Type 0} → (S → Subject → Option Attestation) → (S → Option ℕ) → (S → ℕ) → (L → Round → ℕ)
+    → Equivocator S L → (Made → List Heard → Type 0) → Type 0
+OfItsPast attests member members elects e Holds =
+    (made : Made) (before : List Heard) → StandsFor attests member members elects e made before → Holds made before
 
 -- who is to answer the proposal of a certificate, if anyone
 abbrev pub speaker : Made → List Heard → Proposal → Option ℕ

@@ -2,6 +2,7 @@ pub mod Certifier
 pub mod Conflicting
 pub mod Drawing
 pub mod Equivocating
+pub mod Hearing
 pub mod Opened
 pub mod Queue
 pub mod Relay

@@ -32,8 +32,10 @@ after_take queue = record queue { waiting = drop 1 queue.waiting }
 
 -- the answer is the number under which the request went last, and for want of memory nothing is asked
 abbrev pub Asks : Queue → (ℕ → Message) → Result ℕ AllocError → Queue → Type 0
-Asks before request answer after = MatchResult answer (λ number. (number ≡ before.next) × (after ≡ asked before request)) (λ _. after ≡ before)
+Asks before request answer after =
+    MatchResult answer (λ number. (number ≡ before.next) × (after ≡ asked before request)) (λ _. after ≡ before)
 
 -- the answer is that all is well, and the payload went last, and for want of memory nothing is told
 abbrev pub Tells : Queue → List ℕ → Plan → Result Feedback AllocError → Queue → Type 0
-Tells before payload plan answer after = MatchResult answer (λ fed. (fed ≡ feedback.Ok) × (after ≡ told before payload plan)) (λ _. after ≡ before)
+Tells before payload plan answer after =
+    MatchResult answer (λ fed. (fed ≡ feedback.Ok) × (after ≡ told before payload plan)) (λ _. after ≡ before)

@@ -33,11 +33,13 @@ times_for sender to (Some member) = if member == sender then 0 else times_named 
 
 -- last into the inbox of a recipient other than the sender, once for each time that it is named
 abbrev pub with_relayed : ℕ → Recipients → Relayed → Place → Place
-with_relayed sender to relayed place = record place { holds = place.holds ++ replicate (times_for sender to place.member) relayed }
+with_relayed sender to relayed place =
+    record place { holds = place.holds ++ replicate (times_for sender to place.member) relayed }
 
 -- without its newest, as many as the times that it is named
 abbrev pub taken_back : ℕ → Recipients → Place → Place
-taken_back sender to place = record place { holds = take (length place.holds - times_for sender to place.member) place.holds }
+taken_back sender to place =
+    record place { holds = take (length place.holds - times_for sender to place.member) place.holds }
 
 unfoldable pub broadcast : List Place → ℕ → Recipients → Relayed → List Place
 broadcast relay sender to relayed = map (with_relayed sender to relayed) relay

@@ -14,7 +14,8 @@ unfoldable pub stored_in : Stored → ℕ → Option Proposal
 stored_in stored view = tree.get nat_cmp stored.proposals view
 
 -- it signs so, is so many views behind, and has what was heard last of each view
-unfoldable pub StandsFor : {S : Type 0} → (S → Subject → Option Attestation) → Outdated S → (Subject → Option Attestation) → (delta : ℕ) → List Heard → Type 0
+unfoldable pub StandsFor : {S : Type 0} → (S → Subject → Option Attestation) → Outdated S
+    → (Subject → Option Attestation) → (delta : ℕ) → List Heard → Type 0
 StandsFor signs outdated attests delta before =
     (signs outdated.scheme ≡ attests)
     × (outdated.view_delta ≡ delta)

@@ -30,8 +30,10 @@ impl Certifier {
     /// The answer, unless the request is left open.
     pub fn certify(&self, round: Round, payload: Digest) -> Option<Answer>
         ensures always { self.now ≡ certifiers.Always → always round payload result }
-        ensures custom { (by : _) → self.now ≡ certifiers.Custom by → by_closure (Decide.post by.decide) round payload result }
-        ensures controlled { (by : _) → self.now ≡ certifiers.Controlled by → by_controller (Control.post by.decide) round payload result }
+        ensures custom { (by : _) → self.now ≡ certifiers.Custom by
+            → by_closure (Decide.post by.decide) round payload result }
+        ensures controlled { (by : _) → self.now ≡ certifiers.Controlled by
+            → by_controller (Control.post by.decide) round payload result }
         ensures cancel { self.now ≡ certifiers.Cancel → cancels round payload result }
         ensures pending { self.now ≡ certifiers.Pending → leaves_open round payload result }
     {

@@ -1,14 +1,15 @@
 //! A member that votes for two proposals.
 #![tactic(auto, unfolding(crate::specs::Conflicting::StandsFor, model_faults::specs::Conflicter::conflicter_drew, model_faults::specs::Conflicter::conflicter_sends))]
 
-ghost use Rattle.std.specs.Prelude.{◌≡◌, ◌∷◌, [], ℕ, ◌+◌, List, Option, IfOk, OnOk};
+ghost use Rattle.std.specs.Prelude.{◌≡◌, ◌∷◌, [], List, Option, IfOk, OnOk};
 ghost use Rattle.simplex_values.specs.declared.proposal.Subject.{Subject};
 ghost use Rattle.simplex_wire.specs.declared.attestation.Attestation.{Attestation};
 ghost use Rattle.model_faults.specs.Heard.{Heard};
-ghost use Rattle.model_faults.specs.Words.{Words, Draws};
+ghost use Rattle.model_faults.specs.Words.{Words};
 ghost use Rattle.model_faults.specs.Conflicter.{drawn_payload, conflicter_subjects, words_for, conflicter_sends};
 ghost use Rattle.simplex_mocks.specs.Conflicting.{StandsFor, pair_list};
-ghost use Rattle.simplex_mocks.specs.Drawing.{words_left};
+ghost use Rattle.simplex_mocks.specs.Drawing.{words_left, IsDrawn, Uses};
+ghost use Rattle.simplex_mocks.specs.Hearing.{bytes_heard};
 
 use crate::drawing::draw_payload;
 use crate::hearing::heard_subject;
@@ -37,8 +38,9 @@ pub struct Conflicter<S> {
 
 /// What it votes for: nothing, or twice.
 fn conflict<R: Rng>(random: &mut R, heard: Option<Subject>) -> Option<(Subject, Subject)>
-    ensures value { (words : Words) (from : ℕ) → Draws (R.stream random.old) words from → pair_list result ≡ conflicter_subjects (drawn_payload words from) heard }
-    ensures later { (words : Words) (from : ℕ) → Draws (R.stream random.old) words from → Draws (R.stream random.new) words (from + words_for heard) }
+    ensures value { IsDrawn (R.stream random.old)
+        (λ words from. conflicter_subjects (drawn_payload words from) heard) (pair_list result) }
+    ensures later { Uses (R.stream random.old) (R.stream random.new) (words_for heard) }
 {
     match heard {
         Some(Subject::Notarize(proposal)) => {
@@ -65,7 +67,8 @@ impl<S: Scheme> Conflicter<S> {
     /// A conflicter that heard nothing.
     #[tactic(auto, unfolding(crate::specs::Conflicting::StandsFor, model_faults::specs::Conflicter::conflicter_drew), using(crate::proofs::Words::left_draws))]
     pub fn new(config: Config<S>) -> Conflicter<S>
-        ensures { StandsFor S.attests result (S.attests config.scheme) (words_left config.random) [] }
+        ensures { StandsFor S.attests result (S.attests config.scheme)
+            (words_left config.random) [] }
     {
         Conflicter {
             scheme: config.scheme,
@@ -82,11 +85,15 @@ impl<S: Scheme> Conflicter<S> {
         bytes: &[u8],
     ) -> Result<Sequence<Sent>, AllocError>
         // The votes of the definition.
-        ensures sends { (attests : Subject → Option Attestation) (words : Words) (before : List Heard) → StandsFor S.attests self.old attests words before
-            → IfOk result (λ sent. sent ≡ conflicter_sends attests words before (record { channel = channel; bytes = bytes.now })) }
+        ensures sends { (attests : Subject → Option Attestation) (words : Words) (before : List Heard)
+            → StandsFor S.attests self.old attests words before
+            → IfOk result (λ sent. sent
+            ≡ conflicter_sends attests words before (bytes_heard channel bytes.now)) }
         // It has heard this too.
-        ensures stands { (attests : Subject → Option Attestation) (words : Words) (before : List Heard) → StandsFor S.attests self.old attests words before
-            → OnOk result (StandsFor S.attests self.new attests words (record { channel = channel; bytes = bytes.now } ∷ before)) }
+        ensures stands { (attests : Subject → Option Attestation) (words : Words) (before : List Heard)
+            → StandsFor S.attests self.old attests words before
+            → OnOk result (StandsFor S.attests self.new attests words
+            (bytes_heard channel bytes.now ∷ before)) }
     {
         match conflict(&mut self.random, heard_subject(channel, bytes)) {
             None => votes_to_all(alloc, &self.scheme, &[]),

@@ -1,8 +1,8 @@
 //! Random words.
-ghost use Rattle.std.specs.Prelude.{◌≡◌, ◌++◌, ℕ, ◌+◌};
+ghost use Rattle.std.specs.Prelude.{◌≡◌, ◌++◌, ◌+◌};
 ghost use Rattle.std.specs.Int.{w64, to_be_bytes};
-ghost use Rattle.model_faults.specs.Words.{Words, Draws};
 ghost use Rattle.model_faults.specs.Conflicter.{drawn_payload};
+ghost use Rattle.simplex_mocks.specs.Drawing.{IsDrawn, Uses};
 
 use rand_core::Rng;
 use simplex_types::Digest;
@@ -10,8 +10,8 @@ use simplex_types::Digest;
 /// The next word. [random-words-by-place]
 #[tactic(auto, using(model_faults::proofs::Drawing::drawn_word, model_faults::proofs::Drawing::drawn_later))]
 pub(crate) fn draw<R: Rng>(random: &mut R) -> u64
-    ensures word { (words : Words) (from : ℕ) → Draws (R.stream random.old) words from → result ≡ words from }
-    ensures later { (words : Words) (from : ℕ) → Draws (R.stream random.old) words from → Draws (R.stream random.new) words (from + 1) }
+    ensures word { IsDrawn (R.stream random.old) (λ words from. words from) result }
+    ensures later { Uses (R.stream random.old) (R.stream random.new) 1 }
 {
     random.next_u64()
 }
@@ -19,10 +19,10 @@ pub(crate) fn draw<R: Rng>(random: &mut R) -> u64
 /// Three words.
 #[tactic(auto, using(crate::proofs::Words::three_on, crate::proofs::Words::two_on))]
 pub(crate) fn draw_three<R: Rng>(random: &mut R) -> (u64, u64, u64)
-    ensures first { (words : Words) (from : ℕ) → Draws (R.stream random.old) words from → result.0 ≡ words from }
-    ensures second { (words : Words) (from : ℕ) → Draws (R.stream random.old) words from → result.1 ≡ words (from + 1) }
-    ensures third { (words : Words) (from : ℕ) → Draws (R.stream random.old) words from → result.2 ≡ words (from + 2) }
-    ensures later { (words : Words) (from : ℕ) → Draws (R.stream random.old) words from → Draws (R.stream random.new) words (from + 3) }
+    ensures first { IsDrawn (R.stream random.old) (λ words from. words from) result.0 }
+    ensures second { IsDrawn (R.stream random.old) (λ words from. words (from + 1)) result.1 }
+    ensures third { IsDrawn (R.stream random.old) (λ words from. words (from + 2)) result.2 }
+    ensures later { Uses (R.stream random.old) (R.stream random.new) 3 }
 {
     let first = draw(random);
     let second = draw(random);
@@ -31,7 +31,8 @@ pub(crate) fn draw_three<R: Rng>(random: &mut R) -> (u64, u64, u64)
 
 /// The four words as bytes, the highest byte of each first.
 fn spread(a: u64, b: u64, c: u64, d: u64) -> [u8; 32]
-    ensures { result ≡ to_be_bytes w64 a ++ to_be_bytes w64 b ++ to_be_bytes w64 c ++ to_be_bytes w64 d }
+    ensures { result ≡ to_be_bytes w64 a ++ to_be_bytes w64 b ++ to_be_bytes w64 c
+        ++ to_be_bytes w64 d }
 {
     let mut bytes = [0; 32];
     bytes[0..8].copy_from_slice(&a.to_be_bytes());
@@ -44,8 +45,8 @@ fn spread(a: u64, b: u64, c: u64, d: u64) -> [u8; 32]
 /// A payload of four words.
 #[tactic(auto, unfolding(model_faults::specs::Conflicter::drawn_payload), using(crate::proofs::Words::four_on, crate::proofs::Words::four_words))]
 pub(crate) fn draw_payload<R: Rng>(random: &mut R) -> Digest
-    ensures value { (words : Words) (from : ℕ) → Draws (R.stream random.old) words from → result ≡ drawn_payload words from }
-    ensures later { (words : Words) (from : ℕ) → Draws (R.stream random.old) words from → Draws (R.stream random.new) words (from + 4) }
+    ensures value { IsDrawn (R.stream random.old) drawn_payload result }
+    ensures later { Uses (R.stream random.old) (R.stream random.new) 4 }
 {
     let first = draw(random);
     let second = draw(random);

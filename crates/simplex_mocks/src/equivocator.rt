@@ -4,7 +4,8 @@ ghost use Rattle.model_faults.specs.Heard.{Heard, certificate_heard};
 ghost use Rattle.model_faults.specs.Equivocator.{Made, was_heard, proposal_in, equivocator_sends};
 ghost use Rattle.model_faults.specs.Words.{Words};
 ghost use Rattle.simplex_mocks.specs.Drawing.{words_left};
-ghost use Rattle.simplex_mocks.specs.Equivocating.{StandsFor, made_of, has_view, speaker};
+ghost use Rattle.simplex_mocks.specs.Equivocating.{StandsFor, OfItsPast, made_of, has_view, speaker};
+ghost use Rattle.simplex_mocks.specs.Hearing.{bytes_heard};
 
 use crate::drawing::draw_three;
 use crate::hearing::heard_proposal;
@@ -44,7 +45,8 @@ impl<S: Scheme, L: Elector> Equivocator<S, L> {
     #[tactic(auto, unfolding(crate::specs::Opened::equivocations), using(crate::proofs::Words::left_draws))]
     pub fn new(alloc: Global, config: Config<S, L>) -> Equivocator<S, L>
         ensures { StandsFor S.attests S.member S.members L.elects result
-            (made_of S.attests S.member S.members L.elects config.scheme config.elector config.epoch (words_left config.random)) [] }
+            (made_of S.attests S.member S.members L.elects config.scheme config.elector config.epoch
+            (words_left config.random)) [] }
     {
         Equivocator {
             scheme: config.scheme,
@@ -62,10 +64,11 @@ impl<S: Scheme, L: Elector> Equivocator<S, L> {
         ensures room { IfOk result (λ who. OnSome who (parent.now.round.view < 2 ^ 64 - 1)) }
         ensures others { IfOk result (λ who. OnSome who (1 < S.members self.new.scheme)) }
         ensures below { IfOk result (λ who. IfSome who (λ me. me < S.members self.new.scheme)) }
-        ensures who { (made : Made) (before : List Heard) → StandsFor S.attests S.member S.members L.elects self.old made before
-            → IfOk result (λ who. who ≡ speaker made before parent.now) }
-        ensures heard { (made : Made) (before : List Heard) → StandsFor S.attests S.member S.members L.elects self.old made before
-            → OnOk result ((view : ℕ) → has_view self.new.heard view ≡ (view == parent.now.round.view || was_heard before view)) }
+        ensures who { OfItsPast S.attests S.member S.members L.elects self.old
+            (λ made before. IfOk result (λ who. who ≡ speaker made before parent.now)) }
+        ensures heard { OfItsPast S.attests S.member S.members L.elects self.old (λ made before. OnOk result ((view : ℕ)
+            → has_view self.new.heard view
+            ≡ (view == parent.now.round.view || was_heard before view))) }
         ensures scheme { self.new.scheme ≡ self.old.scheme }
         ensures elector { self.new.elector ≡ self.old.elector }
         ensures epoch { self.new.epoch ≡ self.old.epoch }
@@ -81,10 +84,14 @@ impl<S: Scheme, L: Elector> Equivocator<S, L> {
 
     /// The votes on the proposal of a certificate, if it is to answer it.
     fn answer(&mut self, alloc: Global, parent: &Proposal) -> Result<Sequence<Sent>, AllocError>
-        ensures sends { (made : Made) (before : List Heard) (heard : Heard) → proposal_in (certificate_heard heard) ≡ Some parent.now
-            → StandsFor S.attests S.member S.members L.elects self.old made before → IfOk result (λ sent. sent ≡ equivocator_sends made before heard) }
-        ensures stands { (made : Made) (before : List Heard) (heard : Heard) → proposal_in (certificate_heard heard) ≡ Some parent.now
-            → StandsFor S.attests S.member S.members L.elects self.old made before → OnOk result (StandsFor S.attests S.member S.members L.elects self.new made (heard ∷ before)) }
+        ensures sends { (made : Made) (before : List Heard) (heard : Heard)
+            → proposal_in (certificate_heard heard) ≡ Some parent.now
+            → StandsFor S.attests S.member S.members L.elects self.old made before
+            → IfOk result (λ sent. sent ≡ equivocator_sends made before heard) }
+        ensures stands { (made : Made) (before : List Heard) (heard : Heard)
+            → proposal_in (certificate_heard heard) ≡ Some parent.now
+            → StandsFor S.attests S.member S.members L.elects self.old made before
+            → OnOk result (StandsFor S.attests S.member S.members L.elects self.new made (heard ∷ before)) }
     {
         match self.speaker(parent)? {
             None => Ok(Sequence::new(alloc)),
@@ -104,11 +111,13 @@ impl<S: Scheme, L: Elector> Equivocator<S, L> {
         bytes: &[u8],
     ) -> Result<Sequence<Sent>, AllocError>
         // The votes of the definition.
-        ensures sends { (made : Made) (before : List Heard) → StandsFor S.attests S.member S.members L.elects self.old made before
-            → IfOk result (λ sent. sent ≡ equivocator_sends made before (record { channel = channel; bytes = bytes.now })) }
+        ensures sends { OfItsPast S.attests S.member S.members L.elects self.old
+            (λ made before. IfOk result
+            (λ sent. sent ≡ equivocator_sends made before (bytes_heard channel bytes.now))) }
         // It has heard this too.
-        ensures stands { (made : Made) (before : List Heard) → StandsFor S.attests S.member S.members L.elects self.old made before
-            → OnOk result (StandsFor S.attests S.member S.members L.elects self.new made (record { channel = channel; bytes = bytes.now } ∷ before)) }
+        ensures stands { OfItsPast S.attests S.member S.members L.elects self.old (λ made before. OnOk result
+            (StandsFor S.attests S.member S.members L.elects self.new made
+            (bytes_heard channel bytes.now ∷ before))) }
     {
         match heard_proposal(alloc, channel, bytes)? {
             None => Ok(Sequence::new(alloc)),

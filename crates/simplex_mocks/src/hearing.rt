@@ -2,6 +2,7 @@
 ghost use Rattle.std.specs.Prelude.{◌≡◌, IfOk};
 ghost use Rattle.model_faults.specs.Heard.{subject_heard, certificate_heard};
 ghost use Rattle.model_faults.specs.Equivocator.{proposal_in};
+ghost use Rattle.simplex_mocks.specs.Hearing.{bytes_heard};
 
 use simplex_types::{Certificate, Channel, DecodeError, Proposal, Subject, Vote};
 use std::alloc::{AllocError, Global};
@@ -9,7 +10,7 @@ use std::alloc::{AllocError, Global};
 /// What the vote that was heard is about. Nothing where the bytes are no vote, or came on another channel.
 #[tactic(auto, unfolding(model_faults::specs::Heard::subject_heard))]
 pub(crate) fn heard_subject(channel: Channel, bytes: &[u8]) -> Option<Subject>
-    ensures { result ≡ subject_heard (record { channel = channel; bytes = bytes.now }) }
+    ensures { result ≡ subject_heard (bytes_heard channel bytes.now) }
 {
     match channel {
         Channel::Vote => match Vote::decode(bytes) {
@@ -28,7 +29,8 @@ pub(crate) fn heard_proposal(
     channel: Channel,
     bytes: &[u8],
 ) -> Result<Option<Proposal>, AllocError>
-    ensures { IfOk result (λ found. found ≡ proposal_in (certificate_heard (record { channel = channel; bytes = bytes.now }))) }
+    ensures { IfOk result (λ found. found
+        ≡ proposal_in (certificate_heard (bytes_heard channel bytes.now))) }
 {
     match channel {
         Channel::Certificate => match Certificate::decode(alloc, bytes) {

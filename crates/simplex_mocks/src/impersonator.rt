@@ -4,6 +4,7 @@
 ghost use Rattle.std.specs.Prelude.{◌≡◌, ◌∷◌, [], IfOk, option_map};
 ghost use Rattle.model_faults.specs.Heard.{own_vote, votes_to_all};
 ghost use Rattle.model_faults.specs.Impersonator.{another_number, as_another, impersonator_sends};
+ghost use Rattle.simplex_mocks.specs.Hearing.{bytes_heard};
 
 use crate::hearing::heard_subject;
 use crate::sending::{send, vote_with};
@@ -51,7 +52,8 @@ fn another(member: Participant) -> Participant
 /// The own vote on the subject under another's number, where the scheme signs it.
 #[tactic(auto, unfolding(model_faults::specs::Heard::own_vote))]
 fn disguised<S: Scheme>(scheme: &S, subject: &Subject) -> Option<Vote>
-    ensures { result ≡ own_vote (λ subject. option_map as_another (S.attests scheme.now subject)) subject.now }
+    ensures { result ≡ own_vote
+        (λ subject. option_map as_another (S.attests scheme.now subject)) subject.now }
 {
     let attestation = scheme.sign(subject)?;
     let signer = another(attestation.signer);
@@ -71,7 +73,8 @@ fn impersonate<S: Scheme>(
     scheme: &S,
     subject: &Subject,
 ) -> Result<Sequence<Sent>, AllocError>
-    ensures { IfOk result (λ sent. sent ≡ votes_to_all (λ subject. option_map as_another (S.attests scheme.now subject)) (subject.now ∷ [])) }
+    ensures { IfOk result (λ sent. sent ≡ votes_to_all
+        (λ subject. option_map as_another (S.attests scheme.now subject)) (subject.now ∷ [])) }
 {
     let mut sent = Sequence::new(alloc);
     send(
@@ -101,7 +104,8 @@ impl<S: Scheme> Impersonator<S> {
         channel: Channel,
         bytes: &[u8],
     ) -> Result<Sequence<Sent>, AllocError>
-        ensures sends { IfOk result (λ sent. sent ≡ impersonator_sends (S.attests self.old) (record { channel = channel; bytes = bytes.now })) }
+        ensures sends { IfOk result (λ sent. sent
+            ≡ impersonator_sends (S.attests self.old) (bytes_heard channel bytes.now)) }
         ensures same { self.new ≡ self.old }
     {
         match heard_subject(channel, bytes) {

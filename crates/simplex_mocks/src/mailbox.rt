@@ -70,9 +70,11 @@ impl Mailbox {
 }
 
 impl Automaton for Mailbox {
-    ghost proposes = { λ before context answer after. Asks before (λ number. messages.Propose context number) answer after };
+    ghost proposes = { λ before context answer after. Asks before
+        (λ number. messages.Propose context number) answer after };
 
-    ghost verifies = { λ before context payload answer after. Asks before (λ number. messages.Verify context payload number) answer after };
+    ghost verifies = { λ before context payload answer after. Asks before
+        (λ number. messages.Verify context payload number) answer after };
 
     #[tactic(auto, unfolding(crate::specs::Queue::asked))]
     fn propose(&mut self, context: Context) -> Result<u64, AllocError> {
@@ -92,9 +94,11 @@ impl Automaton for Mailbox {
 }
 
 impl CertifiableAutomaton for Mailbox {
-    ghost prepares = { λ before context answer after. Asks before (λ number. messages.Prepare context number) answer after };
+    ghost prepares = { λ before context answer after. Asks before
+        (λ number. messages.Prepare context number) answer after };
 
-    ghost certifies = { λ before round payload answer after. Asks before (λ number. messages.Certify round payload number) answer after };
+    ghost certifies = { λ before round payload answer after. Asks before
+        (λ number. messages.Certify round payload number) answer after };
 
     #[tactic(auto, unfolding(crate::specs::Queue::asked))]
     fn prepare(&mut self, context: Context) -> Result<u64, AllocError> {

@@ -3,6 +3,7 @@
 
 ghost use Rattle.std.specs.Prelude.{◌≡◌, IfOk};
 ghost use Rattle.model_faults.specs.Nuller.{nuller_sends};
+ghost use Rattle.simplex_mocks.specs.Hearing.{bytes_heard};
 
 use crate::hearing::heard_subject;
 use crate::sending::votes_to_all;
@@ -51,7 +52,8 @@ impl<S: Scheme> Nuller<S> {
         channel: Channel,
         bytes: &[u8],
     ) -> Result<Sequence<Sent>, AllocError>
-        ensures sends { IfOk result (λ sent. sent ≡ nuller_sends (S.attests self.old) (record { channel = channel; bytes = bytes.now })) }
+        ensures sends { IfOk result (λ sent. sent
+            ≡ nuller_sends (S.attests self.old) (bytes_heard channel bytes.now)) }
         ensures same { self.new ≡ self.old }
     {
         match heard_subject(channel, bytes) {

@@ -24,7 +24,9 @@ fn push_unless(
     me: Participant,
     victim: Participant,
 ) -> Result<(), AllocError>
-    ensures { OnOk result (others.new ≡ others.old ++ filter (λ m. not (m == victim)) (filter (λ m. not (m == me)) (member ∷ []))) }
+    ensures { OnOk result (others.new
+        ≡ others.old ++ filter
+        (λ m. not (m == victim)) (filter (λ m. not (m == me)) (member ∷ []))) }
 {
     if member == me.0 || member == victim.0 {
         return Ok(());

@@ -6,6 +6,7 @@ ghost use Rattle.simplex_values.specs.declared.proposal.Subject.{Subject};
 ghost use Rattle.simplex_wire.specs.declared.attestation.Attestation.{Attestation};
 ghost use Rattle.model_faults.specs.Heard.{Heard};
 ghost use Rattle.model_faults.specs.Outdated.{if_view, outdated_sends};
+ghost use Rattle.simplex_mocks.specs.Hearing.{bytes_heard};
 ghost use Rattle.simplex_mocks.specs.Remembering.{StandsFor, stored_in};
 
 use crate::hearing::heard_subject;
@@ -49,8 +50,11 @@ impl<S: Scheme> Outdated<S> {
 
     /// Keeps the proposal, and gives that of so many views before.
     fn exchange(&mut self, proposal: Proposal) -> Result<Option<Proposal>, AllocError>
-        ensures old { IfOk result (λ old. old ≡ stored_in self.new.stored (proposal.round.view - self.old.view_delta)) }
-        ensures stored { OnOk result ((view : ℕ) → stored_in self.new.stored view ≡ if_view view (Some proposal) (stored_in self.old.stored view)) }
+        ensures old { IfOk result (λ old. old
+            ≡ stored_in self.new.stored (proposal.round.view - self.old.view_delta)) }
+        ensures stored { OnOk result ((view : ℕ)
+            → stored_in self.new.stored view
+            ≡ if_view view (Some proposal) (stored_in self.old.stored view)) }
         ensures scheme { self.new.scheme ≡ self.old.scheme }
         ensures view_delta { self.new.view_delta ≡ self.old.view_delta }
     {
@@ -67,11 +71,15 @@ impl<S: Scheme> Outdated<S> {
         bytes: &[u8],
     ) -> Result<Sequence<Sent>, AllocError>
         // The votes of the definition.
-        ensures sends { (attests : Subject → Option Attestation) (delta : ℕ) (before : List Heard) → StandsFor S.attests self.old attests delta before
-            → IfOk result (λ sent. sent ≡ outdated_sends attests delta before (record { channel = channel; bytes = bytes.now })) }
+        ensures sends { (attests : Subject → Option Attestation) (delta : ℕ) (before : List Heard)
+            → StandsFor S.attests self.old attests delta before
+            → IfOk result (λ sent. sent
+            ≡ outdated_sends attests delta before (bytes_heard channel bytes.now)) }
         // It has heard this too.
-        ensures stands { (attests : Subject → Option Attestation) (delta : ℕ) (before : List Heard) → StandsFor S.attests self.old attests delta before
-            → OnOk result (StandsFor S.attests self.new attests delta (record { channel = channel; bytes = bytes.now } ∷ before)) }
+        ensures stands { (attests : Subject → Option Attestation) (delta : ℕ) (before : List Heard)
+            → StandsFor S.attests self.old attests delta before
+            → OnOk result (StandsFor S.attests self.new attests delta
+            (bytes_heard channel bytes.now ∷ before)) }
     {
         let old = match heard_subject(channel, bytes) {
             Some(Subject::Notarize(proposal)) => self.exchange(proposal)?.map(Subject::Notarize),

@@ -37,7 +37,9 @@ pub(crate) fn next_leader<S: Scheme, L: Elector>(
     ensures room { OnSome result (view < 2 ^ 64 - 1) }
     ensures others { OnSome result (1 < S.members scheme.now) }
     ensures below { IfSome result (λ me. me < S.members scheme.now) }
-    ensures who { (words : Words) → result ≡ (if leads_next (made_of S.attests S.member S.members L.elects scheme.now elector.now epoch words) view then S.member scheme.now else None) }
+    ensures who { (words : Words) → result
+        ≡ (if leads_next (made_of S.attests S.member S.members L.elects scheme.now elector.now epoch words) view
+        then S.member scheme.now else None) }
 {
     let me = scheme.me()?;
     if view.0 == u64::MAX || scheme.participants() < 2 {
@@ -52,7 +54,12 @@ pub(crate) fn next_leader<S: Scheme, L: Elector>(
 
 /// The subject of a notarize: a proposal for the round on the certified one, whose payload has this word.
 fn notarize_with(round: &Round, parent: &Proposal, word: u64) -> Subject
-    ensures { result ≡ subjects.Notarize (record { round = round.now; parent = parent.now.round.view; payload = payload_digest round.now parent.now.payload word }) }
+    ensures { result ≡ subjects.Notarize
+        (record {
+          round = round.now;
+          parent = parent.now.round.view;
+          payload = payload_digest round.now parent.now.payload word;
+        }) }
 {
     Subject::Notarize(Proposal {
         round: *round,
@@ -74,7 +81,8 @@ pub(crate) fn equivocate<S: Scheme>(
 ) -> Result<Sequence<Sent>, AllocError>
     requires members { 1 < S.members scheme.now }
     requires me { me < S.members scheme.now }
-    ensures { (made : Made) → made.attests ≡ S.attests scheme.now → made.members ≡ S.members scheme.now → round.now ≡ next_round made parent.now.round.view
+    ensures { (made : Made) → made.attests ≡ S.attests scheme.now → made.members ≡ S.members scheme.now
+        → round.now ≡ next_round made parent.now.round.view
         → IfOk result (λ sent. sent ≡ equivocates made me parent.now words.0 words.1 words.2) }
 {
     let n = scheme.participants();

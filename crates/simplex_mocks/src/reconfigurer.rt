@@ -4,6 +4,7 @@
 ghost use Rattle.std.specs.Prelude.{◌≡◌, ◌^◌, ◌-◌, [], nat_lt, IfOk, Some, None, if◌then◌else◌};
 ghost use Rattle.std.specs.Option.{option_to_list};
 ghost use Rattle.model_faults.specs.Reconfigurer.{in_next_epoch, reconfigurer_subjects, reconfigurer_sends};
+ghost use Rattle.simplex_mocks.specs.Hearing.{bytes_heard};
 
 use crate::hearing::heard_subject;
 use crate::sending::votes_to_all;
@@ -37,7 +38,8 @@ impl<S> Model for Reconfigurer<S> {
 
 /// The same view of the next epoch, if there is one.
 fn in_next_epoch(round: Round) -> Option<Round>
-    ensures { result ≡ (if nat_lt round.epoch (2 ^ 64 - 1) then Some (in_next_epoch round) else None) }
+    ensures { result ≡ (if nat_lt round.epoch (2 ^ 64 - 1) then Some
+        (in_next_epoch round) else None) }
 {
     Some(Round {
         epoch: Epoch(round.epoch.0.checked_add(1)?),
@@ -47,7 +49,8 @@ fn in_next_epoch(round: Round) -> Option<Round>
 
 /// The proposal for that round, if there is one.
 fn proposal_in_next_epoch(proposal: Proposal) -> Option<Proposal>
-    ensures { result ≡ (if nat_lt proposal.round.epoch (2 ^ 64 - 1) then Some (record proposal { round = in_next_epoch proposal.round }) else None) }
+    ensures { result ≡ (if nat_lt proposal.round.epoch (2 ^ 64 - 1)
+        then Some (record proposal { round = in_next_epoch proposal.round }) else None) }
 {
     let round = in_next_epoch(proposal.round)?;
     Some(Proposal { round, ..proposal })
@@ -81,7 +84,8 @@ impl<S: Scheme> Reconfigurer<S> {
         channel: Channel,
         bytes: &[u8],
     ) -> Result<Sequence<Sent>, AllocError>
-        ensures sends { IfOk result (λ sent. sent ≡ reconfigurer_sends (S.attests self.old) (record { channel = channel; bytes = bytes.now })) }
+        ensures sends { IfOk result (λ sent. sent
+            ≡ reconfigurer_sends (S.attests self.old) (bytes_heard channel bytes.now)) }
         ensures same { self.new ≡ self.old }
     {
         match reconfigured(heard_subject(channel, bytes)) {

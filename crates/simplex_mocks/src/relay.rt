@@ -53,7 +53,8 @@ fn clear_each(slots: &mut [Slot])
 /// Takes back from each of the first ones its newest, as many as the times that it is named.
 fn take_back_each(slots: &mut [Slot], given: usize, sender: Participant, recipients: &Recipients)
     requires { given ≤ length slots.old }
-    ensures { slots.new ≡ map (taken_back sender recipients.now) (take given slots.old) ++ drop given slots.old }
+    ensures { slots.new ≡ map (taken_back sender recipients.now) (take given slots.old)
+        ++ drop given slots.old }
 {
     for place in 0..given {
         slots[place].take_back(sender, recipients);
@@ -71,7 +72,9 @@ fn give_each(
     payload: Digest,
     contents: &[u8],
 ) -> Result<(), AllocError>
-    ensures ok { OnOk result (slots.new ≡ broadcast slots.old sender recipients.now (record { payload = payload; contents = contents.now })) }
+    ensures ok { OnOk result (slots.new
+        ≡ broadcast slots.old sender recipients.now
+        (record { payload = payload; contents = contents.now })) }
     ensures err { OnErr result (slots.new ≡ slots.old) }
 {
     for place in 0..slots.len() {
@@ -123,7 +126,8 @@ impl Relay {
         payload: Digest,
         contents: &[u8],
     ) -> Result<(), AllocError>
-        ensures ok { OnOk result (self.new ≡ broadcast self.old sender recipients.now (record { payload = payload; contents = contents.now })) }
+        ensures ok { OnOk result (self.new ≡ broadcast self.old sender recipients.now
+            (record { payload = payload; contents = contents.now })) }
         ensures err { OnErr result (self.new ≡ self.old) }
     {
         let slots = self.slots.as_mut_slice();
@@ -141,7 +145,8 @@ impl Relay {
     /// Takes the oldest payload of the inbox, with its contents.
     #[tactic(auto, unfolding(crate::specs::Relay::front, crate::specs::Relay::after_take))]
     pub fn take(&mut self, inbox: Inbox) -> Option<(Digest, Bytes)>
-        ensures first { result ≡ option_map (λ relayed. (relayed.payload, relayed.contents)) (front self.old inbox) }
+        ensures first { result
+            ≡ option_map (λ relayed. (relayed.payload, relayed.contents)) (front self.old inbox) }
         ensures rest { self.new ≡ after_take self.old inbox }
     {
         let relayed = self.slots.get_mut(inbox.0)?.take()?;

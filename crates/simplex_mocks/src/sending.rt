@@ -43,7 +43,8 @@ pub(crate) fn send(
     recipients: Recipients,
     sent: &mut Sequence<Sent>,
 ) -> Result<(), AllocError>
-    ensures { OnOk result (sent.new ≡ sent.old ++ option_to_list (option_map (to_members recipients) vote)) }
+    ensures { OnOk result (sent.new
+        ≡ sent.old ++ option_to_list (option_map (to_members recipients) vote)) }
 {
     if let Some(vote) = vote {
         sent.push(Sent {

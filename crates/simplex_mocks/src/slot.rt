@@ -49,7 +49,8 @@ fn copies(
     payload: Digest,
     contents: &[u8],
 ) -> Result<VecDeque<Relayed>, AllocError>
-    ensures { IfOk result (λ made. made.items ≡ replicate times (record { payload = payload; contents = contents.now })) }
+    ensures { IfOk result (λ made. made.items
+        ≡ replicate times (record { payload = payload; contents = contents.now })) }
 {
     let mut made = VecDeque::new(alloc);
     for _ in 0..times {
@@ -106,7 +107,8 @@ impl Slot {
         payload: Digest,
         contents: &[u8],
     ) -> Result<(), AllocError>
-        ensures ok { OnOk result (self.new ≡ with_relayed sender recipients.now (record { payload = payload; contents = contents.now }) self.old) }
+        ensures ok { OnOk result (self.new ≡ with_relayed sender recipients.now
+            (record { payload = payload; contents = contents.now }) self.old) }
         ensures err { OnErr result (self.new ≡ self.old) }
     {
         let times = self.times_for(sender, recipients);

@@ -27,7 +27,8 @@ impl Stored {
 
     /// Keeps the proposal in place of what its view had.
     pub(crate) fn insert(&mut self, proposal: Proposal) -> Result<(), AllocError>
-        ensures { OnOk result ((view : ℕ) → stored_in self.new view ≡ if_view view (Some proposal) (stored_in self.old view)) }
+        ensures { OnOk result ((view : ℕ) → stored_in self.new view
+            ≡ if_view view (Some proposal) (stored_in self.old view)) }
     {
         let view = proposal.round.view.0;
         self.proposals.insert(view, proposal)?;

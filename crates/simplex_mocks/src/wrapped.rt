@@ -95,7 +95,8 @@ impl<S: Inner> Inner for Scheme<S> {
 
     ghost me_is_below = { λ s. S.me_is_below s.inner };
 
-    ghost signs_as_me = { λ s subject. wrapped_signs s.behavior (S.member s.inner) (S.attests s.inner) (S.verifies s.inner) subject (S.signs_as_me s.inner subject) };
+    ghost signs_as_me = { λ s subject. wrapped_signs s.behavior (S.member s.inner) (S.attests s.inner)
+        (S.verifies s.inner) subject (S.signs_as_me s.inner subject) };
 
     ghost signer_is_below = { λ s. S.signer_is_below s.inner };
 

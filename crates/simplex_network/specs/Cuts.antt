@@ -25,10 +25,12 @@ IsLendable setup event = (node : Node) × IsLendableAt setup event node
 abbrev pub AreSeats : BTreeSet ℕ → List Node → Type 0
 AreSeats seats nodes = (at : ℕ) → has seats at ≡ is_named nodes (node_at at)
 
--- the first of the events, as many as this, are stepped at once, and those behind them join as far as they may beside the
--- nodes at these seats
-pub record IsCutAt (setup : Setup) (records : Records) (seats : BTreeSet ℕ) (events : List Event) (size : ℕ) : Type 0 where
+-- the first of the events, as many as this, are stepped at once, and those behind them join as far as they may beside
+-- the nodes at these seats
+pub record IsCutAt (setup : Setup) (records : Records) (seats : BTreeSet ℕ) (events : List Event)
+    (size : ℕ) : Type 0 where
   pub nodes : List Node
   pub named : AreSeats seats nodes
   pub each : All (IsLendable setup) (take size events)
-  pub rest : (before : List Noted) → RecordsStand records setup before → joined setup before [] events ≡ take size events ++ joined setup before nodes (drop size events)
+  pub rest : (before : List Noted) → RecordsStand records setup before
+      → joined setup before [] events ≡ take size events ++ joined setup before nodes (drop size events)

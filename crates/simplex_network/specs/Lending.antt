@@ -63,43 +63,51 @@ pub record StandsBut (lent : List Node) (network : Network) (setting : Setting) 
 abbrev pub Prepares : Network → Node → ℕ → Event → Given → Type 0
 Prepares network node view event given =
     (setting : Setting) (before : List Noted) (life : Life) → Remembers network setting before
-    → Ok (statuses.Running view) ≡ found_in setting.setup node (part_in setting before node) → LivesAs setting before node life
+    → Ok (statuses.Running view) ≡ found_in setting.setup node (part_in setting before node)
+    → LivesAs setting before node life
     → tested_of setting before event ≡ on_poll setting.setup before event node given.input given.stop given.outside life
 
 -- or this is why it is refused
 abbrev pub Bars : Network → Node → ℕ → Event → RunError → Type 0
 Bars network node view event error =
     (setting : Setting) (before : List Noted) → Remembers network setting before
-    → Ok (statuses.Running view) ≡ found_in setting.setup node (part_in setting before node) → tested_of setting before event ≡ Err error
+    → Ok (statuses.Running view) ≡ found_in setting.setup node (part_in setting before node)
+    → tested_of setting before event ≡ Err error
 
 -- the same of a node of an honest member: the network may have lent others
 abbrev pub Readies : Network → Node → Event → Given → Type 0
 Readies network node event given =
-    (setting : Setting) (before : List Noted) (lent : List Node) → is_named lent node ≡ false → KeepsBut lent network setting before → is_honest setting.setup node.member ≡ true
+    (setting : Setting) (before : List Noted) (lent : List Node) → is_named lent node ≡ false
+    → KeepsBut lent network setting before → is_honest setting.setup node.member ≡ true
     → (life : Life) × LivesAs setting before node life
-    × (entry_of setting before event ≡ on_poll setting.setup before event node given.input given.stop given.outside life)
+    × (entry_of setting before event
+    ≡ on_poll setting.setup before event node given.input given.stop given.outside life)
 
 abbrev pub Refrains : Network → Node → Event → RunError → Type 0
 Refrains network node event error =
-    (setting : Setting) (before : List Noted) (lent : List Node) → is_named lent node ≡ false → KeepsBut lent network setting before → is_honest setting.setup node.member ≡ true
+    (setting : Setting) (before : List Noted) (lent : List Node) → is_named lent node ≡ false
+    → KeepsBut lent network setting before → is_honest setting.setup node.member ≡ true
     → entry_of setting before event ≡ Err error
 
 -- what a node that is not lent is at, or that it does not exist
 abbrev pub FindsAmong : Network → Node → Result Status RunError → Type 0
 FindsAmong network node result =
-    (setting : Setting) (before : List Noted) (lent : List Node) → is_named lent node ≡ false → KeepsBut lent network setting before
+    (setting : Setting) (before : List Noted) (lent : List Node) → is_named lent node ≡ false
+    → KeepsBut lent network setting before
     → result ≡ found_in setting.setup node (part_in setting before node)
 
 -- ---- what comes of a step
 
 -- the host of a member took what it was given in this life
-pub record Took (setup : Setup) (member : ℕ) (life : Life) (given : Given) (now : ℕ) (host : Host) (made : Made) : Type 0 where
+pub record Took (setup : Setup) (member : ℕ) (life : Life) (given : Given) (now : ℕ) (host : Host)
+    (made : Made) : Type 0 where
   pub gave : IsPolled life given.input now given.stop made.polled.outcome made.polled.taken made.out
   pub outside : made.outside ≡ given.outside
   pub stands : HostStands setup member host (Lives (after_poll given.input now given.stop life))
 
 -- or it refused it, and lives on as before
-pub record Declined (setup : Setup) (member : ℕ) (life : Life) (given : Given) (host : Host) (error : RunError) : Type 0 where
+pub record Declined (setup : Setup) (member : ℕ) (life : Life) (given : Given) (host : Host)
+    (error : RunError) : Type 0 where
   pub reason : PollError
   pub is : error ≡ as_run_error reason
   pub why : refusal_in life given.input ≡ Some reason
@@ -108,41 +116,49 @@ pub record Declined (setup : Setup) (member : ℕ) (life : Life) (given : Given)
 unfoldable pub CameTo : Setup → ℕ → Life → Given → ℕ → Host → Stage → Type 0
 CameTo setup member life given now host (stages.Given other) = ⊥
 CameTo setup member life given now host (stages.Made made) = Took setup member life given now host made
-CameTo setup member life given now host (stages.Refused error) = is_memory error ≡ false → Declined setup member life given host error
+CameTo setup member life given now host (stages.Refused error) =
+    is_memory error ≡ false → Declined setup member life given host error
 
 abbrev pub IsDone : Task → Type 0
 IsDone task = is_done task.stage ≡ true
 
 -- the host of the node, which lives this life behind these entries, waits with what it is given
-pub record Waits (setting : Setting) (before : List Noted) (node : Node) (life : Life) (given : Given) (task : Task) : Type 0 where
+pub record Waits (setting : Setting) (before : List Noted) (node : Node) (life : Life) (given : Given)
+    (task : Task) : Type 0 where
   pub stage : task.stage ≡ stages.Given given
   pub lives : LivesAs setting before node life
   pub now : task.now ≡ clock_of before
   pub stands : HostStands setting.setup node.member task.host (Lives life)
 
 -- this came of it
-pub record Comes (setting : Setting) (before : List Noted) (node : Node) (life : Life) (given : Given) (task : Task) : Type 0 where
+pub record Comes (setting : Setting) (before : List Noted) (node : Node) (life : Life) (given : Given)
+    (task : Task) : Type 0 where
   pub lives : LivesAs setting before node life
   pub now : task.now ≡ clock_of before
   pub came : CameTo setting.setup node.member life given task.now task.host task.stage
 
 abbrev pub Makes : Task → Task → Type 0
 Makes old new =
-    (setting : Setting) (before : List Noted) (node : Node) (life : Life) (given : Given) → Waits setting before node life given old → Comes setting before node life given new
+    (setting : Setting) (before : List Noted) (node : Node) (life : Life) (given : Given)
+    → Waits setting before node life given old → Comes setting before node life given new
 
 -- ---- the step of an event
 
 -- behind these entries the event is this input of its node's engine, in this life
-pub record IsStepOf (setting : Setting) (before : List Noted) (event : Event) (node : Node) (life : Life) (given : Given) : Type 0 where
+pub record IsStepOf (setting : Setting) (before : List Noted) (event : Event) (node : Node) (life : Life)
+    (given : Given) : Type 0 where
   pub steps : node_stepped event ≡ Some node
   pub input : IsInput event node
-  pub is : entry_of setting before event ≡ on_poll setting.setup before event node given.input given.stop given.outside life
+  pub is : entry_of setting before event
+      ≡ on_poll setting.setup before event node given.input given.stop given.outside life
 
 abbrev pub ReadyAt : Setting → List Noted → Event → Task → Stage → Type 0
 ReadyAt setting before event task (stages.Given given) =
-    (node : Node) × (life : Life) × IsStepOf setting before event node life given × Waits setting before node life given task
+    (node : Node) × (life : Life) × IsStepOf setting before event node life given
+    × Waits setting before node life given task
 ReadyAt setting before event task (stages.Made made) = ⊥
-ReadyAt setting before event task (stages.Refused error) = is_memory error ≡ false → entry_of setting before event ≡ Err error
+ReadyAt setting before event task (stages.Refused error) =
+    is_memory error ≡ false → entry_of setting before event ≡ Err error
 
 -- the task waits for the step of the event behind these entries, or the event is refused
 unfoldable pub IsReady : Setting → List Noted → Event → Task → Type 0
@@ -151,8 +167,10 @@ IsReady setting before event task = ReadyAt setting before event task task.stage
 abbrev pub SteppedAt : Setting → List Noted → Event → Task → Stage → Type 0
 SteppedAt setting before event task (stages.Given given) = ⊥
 SteppedAt setting before event task (stages.Made made) =
-    (node : Node) × (life : Life) × (given : Given) × IsStepOf setting before event node life given × Comes setting before node life given task
-SteppedAt setting before event task (stages.Refused error) = is_memory error ≡ false → entry_of setting before event ≡ Err error
+    (node : Node) × (life : Life) × (given : Given) × IsStepOf setting before event node life given
+    × Comes setting before node life given task
+SteppedAt setting before event task (stages.Refused error) =
+    is_memory error ≡ false → entry_of setting before event ≡ Err error
 
 -- it made that step, or the event is refused
 unfoldable pub IsStepped : Setting → List Noted → Event → Task → Type 0
@@ -160,7 +178,9 @@ IsStepped setting before event task = SteppedAt setting before event task task.s
 
 -- whatever event the old task waits to step, behind whatever entries, the new one has stepped it
 abbrev pub Steps : Task → Task → Type 0
-Steps old new = (setting : Setting) (before : List Noted) (event : Event) → IsReady setting before event old → IsStepped setting before event new
+Steps old new =
+    (setting : Setting) (before : List Noted) (event : Event) → IsReady setting before event old
+    → IsStepped setting before event new
 
 -- ---- a host is lent, and taken back
 
@@ -173,42 +193,53 @@ pub record MayLend (network : Network) (event : Event) : Type 0 where
 
 -- as many of the first events as are stepped at once
 abbrev pub Groups : Network → List Event → ℕ → Type 0
-Groups network events size = (setting : Setting) (before : List Noted) → StandsFor network setting before → take size events ≡ joined setting.setup before [] events
+Groups network events size =
+    (setting : Setting) (before : List Noted) → StandsFor network setting before
+    → take size events ≡ joined setting.setup before [] events
 
--- whatever entries the old network made, and whatever it has lent: an event that joins waits for its step, and its node is
--- lent too
+-- whatever entries the old network made, and whatever it has lent: an event that joins waits for its step, and its node
+-- is lent too
 abbrev pub Lends : Network → Network → Event → Task → Type 0
 Lends old new event task =
-    (setting : Setting) (before : List Noted) (lent : List Node) → StandsBut lent old setting before → joins setting.setup before lent event ≡ true
+    (setting : Setting) (before : List Noted) (lent : List Node) → StandsBut lent old setting before
+    → joins setting.setup before lent event ≡ true
     → StandsBut (with_named lent (node_stepped event)) new setting before × IsReady setting before event task
 
 -- whatever entries the old network made: the new one made the event's too, whose entry is this, and has its node back
 abbrev pub Returns : Network → Network → Event → Task → Entry → Type 0
 Returns old new event task entry =
-    (setting : Setting) (before : List Noted) (node : Node) (lent : List Node) → node_stepped event ≡ Some node → is_named lent node ≡ false
+    (setting : Setting) (before : List Noted) (node : Node) (lent : List Node) → node_stepped event ≡ Some node
+    → is_named lent node ≡ false
     → StandsBut (node ∷ lent) old setting before → IsStepped setting before event task
-    → (noted : Noted) × (entry_of setting before event ≡ Ok noted) × (noted.entry ≡ entry) × StandsBut lent new setting (noted ∷ before)
+    → (noted : Noted) × (entry_of setting before event ≡ Ok noted) × (noted.entry ≡ entry)
+    × StandsBut lent new setting (noted ∷ before)
 
 -- whatever entries the network made: this is why the event is refused
 abbrev pub Declines : Network → Event → Task → RunError → Type 0
 Declines network event task error =
     (setting : Setting) (before : List Noted) (node : Node) (lent : List Node) → node_stepped event ≡ Some node
-    → StandsBut (node ∷ lent) network setting before → IsStepped setting before event task → entry_of setting before event ≡ Err error
+    → StandsBut (node ∷ lent) network setting before → IsStepped setting before event task
+    → entry_of setting before event ≡ Err error
 
 -- ---- the same words of any node that has an engine
 
 abbrev pub BackAdds : Network → Network → Node → Task → Type 0
 BackAdds old new node task =
-    (setting : Setting) (before : List Noted) (lent : List Node) (event : Event) (noted : Noted) (life : Life) (given : Given) → is_named lent node ≡ false
+    (setting : Setting) (before : List Noted) (lent : List Node) (event : Event) (noted : Noted) (life : Life)
+    (given : Given) → is_named lent node ≡ false
     → KeepsBut (node ∷ lent) old setting before → IsInput event node → Comes setting before node life given task
-    → on_poll setting.setup before event node given.input given.stop given.outside life ≡ Ok noted → KeepsBut lent new setting (noted ∷ before)
+    → on_poll setting.setup before event node given.input given.stop given.outside life ≡ Ok noted
+    → KeepsBut lent new setting (noted ∷ before)
 
 abbrev pub BackGives : Network → Node → Task → Entry → Type 0
 BackGives old node task entry =
-    (setting : Setting) (before : List Noted) (event : Event) (life : Life) (given : Given) → Remembers old setting before → Comes setting before node life given task
+    (setting : Setting) (before : List Noted) (event : Event) (life : Life) (given : Given)
+    → Remembers old setting before → Comes setting before node life given task
     → entered (on_poll setting.setup before event node given.input given.stop given.outside life) ≡ Ok entry
 
 abbrev pub BackRests : Network → Network → Node → Task → Type 0
 BackRests old new node task =
-    (setting : Setting) (before : List Noted) (lent : List Node) (life : Life) (given : Given) → is_named lent node ≡ false
-    → KeepsBut (node ∷ lent) old setting before → Comes setting before node life given task → KeepsBut lent new setting before
+    (setting : Setting) (before : List Noted) (lent : List Node) (life : Life) (given : Given)
+    → is_named lent node ≡ false
+    → KeepsBut (node ∷ lent) old setting before → Comes setting before node life given task
+    → KeepsBut lent new setting before

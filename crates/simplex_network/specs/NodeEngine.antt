@@ -1,4 +1,5 @@
--- The engine of a node: its member's scheme, the leaders of the setup, and a journal in segment files on a disk in memory.
+-- The engine of a node: its member's scheme, the leaders of the setup, and a journal in segment files on a disk in
+-- memory.
 use Rattle.std.specs.Prelude.{◌≡◌, List, Option, Some}
 use Rattle.simplex_types.specs.contracts.keyed.Keyed as keyed
 use Rattle.simplex_types.specs.contracts.keyed.KeyedScheme.TheImpl as keys
@@ -39,7 +40,8 @@ pub record JournalStands (journal : NodeJournal) (sections : List Section) : Typ
 
 abbrev pub NodeEngine : Type 0
 NodeEngine = Engine NodeScheme NodeElector NodeJournal (wrapped.ghosts keyed.the_row keys.ghosts wrapped.no_dict)
-    (scripted.ghosts robin.the_row turns.ghosts scripted.no_dict) (segments.ghosts memory.the_row stops.ghosts segments.no_dict reads.ghosts segments.no_dict)
+    (scripted.ghosts robin.the_row turns.ghosts scripted.no_dict)
+    (segments.ghosts memory.the_row stops.ghosts segments.no_dict reads.ghosts segments.no_dict)
 
 -- the engine, so made, has this history
 abbrev pub EngineStands : NodeEngine → EngineMade → List Did → Type 0

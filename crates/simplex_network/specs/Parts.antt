@@ -30,7 +30,8 @@ pub data Part : Type 0 where
 
 -- the part of a node, read from the entries so far
 unfoldable pub part_in : Setting → List Noted → Node → Part
-part_in setting before node = if runs_engine setting.setup node.member then Lives (life_in setting before node) else Hears (heard_in before node)
+part_in setting before node =
+    if runs_engine setting.setup node.member then Lives (life_in setting before node) else Hears (heard_in before node)
 
 -- what it is at before any event
 abbrev pub first_part : Setup → Node → Part
@@ -50,7 +51,9 @@ goes_on _ = true
 -- stopped, or running at the current view
 unfoldable pub status_of : Life → Status
 status_of (Stopped sections) = statuses.Stopped
-status_of (Running made past) = statuses.Running (current_of (voter_in made past).rules (place_of (voter_in made past) (voter_past past)).standing.desk.known)
+status_of (Running made past) =
+    statuses.Running (current_of (voter_in made past).rules
+    (place_of (voter_in made past) (voter_past past)).standing.desk.known)
 
 unfoldable pub status_in : Part → Status
 status_in (Lives life) = status_of life

@@ -34,7 +34,8 @@ use Rattle.simplex_network.specs.declared.task.Made.{Made}
 
 -- what an event makes, where that is tested for forgeries alone in which there may be one
 unfoldable pub tested_of : Setting → List Noted → Event → Result Noted RunError
-tested_of setting before event = if may_forge setting.setup event then entry_of setting before event else made_of setting before event
+tested_of setting before event =
+    if may_forge setting.setup event then entry_of setting before event else made_of setting before event
 
 -- ---- inputs
 
@@ -46,7 +47,8 @@ as_run_error errors.NotPending = refusals.NotPending
 as_run_error errors.Memory = refusals.Memory
 
 -- what an engine made of an input. What came from outside is told by the event
-unfoldable pub noted_poll : Setup → List Noted → Event → Node → Input → Stop → Option Took → EngineMade → List Did → Noted
+unfoldable pub noted_poll : Setup → List Noted → Event → Node → Input → Stop → Option Took → EngineMade → List Did
+    → Noted
 noted_poll setup before event node input stop outside made past =
     let did = polled made past input (clock_of before) stop in
     noted_with setup before event node (option_or outside (took_of before node made past did)) did
@@ -74,14 +76,17 @@ pub record IsInput (event : Event) (node : Node) : Type 0 where
 -- what was taken from inside an engine, its request named by its place
 abbrev pub named : List Noted → Node → TakenInside → Option Took
 named before node (insides.Message message) = Some (tooks.Message message)
-named before node (insides.Answer request answer) = option_map (λ at. tooks.Request at answer) (request_place before node request)
+named before node (insides.Answer request answer) =
+    option_map (λ at. tooks.Request at answer) (request_place before node request)
 named before node insides.Deadline = Some tooks.Timer
 
 -- whatever entries the records stand for, this is the entry of what a step of the node's engine made
 abbrev pub EntersMade : Records → Setup → Node → Made → Entry → Type 0
 EntersMade records setup node made entry =
-    (before : List Noted) (did : Did) → RecordsStand records setup before → did.out ≡ made.out → did.outcome ≡ made.polled.outcome
-    → entry ≡ entry_with setup (length before + 1) node (option_or made.outside (option_and_then (named before node) made.polled.taken)) did
+    (before : List Noted) (did : Did) → RecordsStand records setup before → did.out ≡ made.out
+    → did.outcome ≡ made.polled.outcome
+    → entry ≡ entry_with setup (length before + 1) node
+    (option_or made.outside (option_and_then (named before node) made.polled.taken)) did
 
 -- what a start of this node makes
 abbrev pub noted_start : Setting → List Noted → Node → Option Finalization → Stop → Life → Noted

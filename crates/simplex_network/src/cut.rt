@@ -27,7 +27,8 @@ pub(crate) fn group_size(
     requires good { IsNone (first_bad setup.now) }
     ensures within { IfOk result (λ size. size ≤ length events.now) }
     ensures each { IfOk result (λ size. All (IsLendable setup.now) (take size events.now)) }
-    ensures group { IfOk result (λ size. (before : List Noted) → RecordsStand records.now setup.now before → take size events.now ≡ joined setup.now before [] events.now) }
+    ensures group { IfOk result (λ size. (before : List Noted) → RecordsStand records.now setup.now before
+        → take size events.now ≡ joined setup.now before [] events.now) }
 {
     let mut named = empty_set(alloc);
     let mut size = 0;
@@ -45,7 +46,8 @@ pub(crate) fn group_size(
 fn joining(setup: &Setup, records: &Records, named: &BTreeSet<u64>, event: &Event) -> Option<Node>
     requires { IsNone (first_bad setup.now) }
     ensures lendable { IfSome result (IsLendableAt setup.now event.now) }
-    ensures joins { (before : List Noted) (nodes : List transcript.Node) → RecordsStand records.now setup.now before → AreSeats named.now nodes → is_some result ≡ joins setup.now before nodes event.now }
+    ensures joins { (before : List Noted) (nodes : List transcript.Node) → RecordsStand records.now setup.now before
+        → AreSeats named.now nodes → is_some result ≡ joins setup.now before nodes event.now }
 {
     let node = node_stepped(event)?;
     if !is_node(setup, node) {
@@ -77,7 +79,8 @@ pub(crate) fn node_stepped(event: &Event) -> Option<Node>
 
 // Whether what a delivery delivers was sent.
 fn has_packet(records: &Records, event: &Event) -> bool
-    ensures { (setup : setups.Setup) (before : List Noted) → RecordsStand records.now setup before → result ≡ groups.has_packet before event.now }
+    ensures { (setup : setups.Setup) (before : List Noted) → RecordsStand records.now setup before
+        → result ≡ groups.has_packet before event.now }
 {
     match event {
         Event::Deliver { packet, .. } => records.has_packet(*packet),

@@ -7,7 +7,7 @@ ghost use Rattle.simplex_messages.specs.Step.{no_out};
 ghost use Rattle.simplex_journal.specs.Journal.{crashed};
 ghost use Rattle.simplex_transcript.specs.declared.setup.Setup.{Setup};
 ghost use Rattle.model_steps.specs.Engine.{EngineMade, Did, runs, is_whole, sections_of};
-ghost use Rattle.model_run.specs.Life.{Life, Stopped, Running, sections_in, going_on};
+ghost use Rattle.model_run.specs.Life.{Stopped, sections_in, going_on};
 ghost use Rattle.model_run.specs.Members.{kind_of};
 ghost use Rattle.model_run.specs.Mocks.{Heard, heard_by};
 ghost use Rattle.simplex_engine.specs.Config.{first_bad};
@@ -17,7 +17,8 @@ ghost use Rattle.simplex_network.specs.NodeEngine.{EngineStands, JournalStands};
 ghost use Rattle.simplex_network.specs.Parts.{Part, Lives, Hears, goes_on, status_of, status_in, refusal_in, after_poll, IsPolled, IsStarted, after_start};
 ghost use Rattle.model_run.specs.Kinds.{is_of_kind};
 ghost use Rattle.law_run.specs.EventForging.{is_impersonator};
-ghost use Rattle.simplex_network.specs.Stands.{HostStands, EngineOf};
+ghost use Rattle.simplex_network.specs.Stands.{HostStands, OfItsPart, OfItsLife, LivesOn, Settles, EngineOf};
+ghost use Rattle.simplex_mocks.specs.Hearing.{bytes_heard};
 
 use crate::journal::{NodeJournal, new_journal};
 use crate::status::Status;
@@ -33,8 +34,8 @@ use std::mem;
 /// The engine of a node.
 pub type NodeEngine = Engine<NodeScheme, NodeElector, NodeJournal>;
 
-/// A stopped node's journal, a running node's engine, or a faulty member that only answers what it hears. A host that is lent
-/// is away.
+/// A stopped node's journal, a running node's engine, or a faulty member that only answers what it hears. A host that
+/// is lent is away.
 #[derive(Drop)]
 pub(crate) enum Host {
     Stopped(NodeJournal),
@@ -46,7 +47,8 @@ pub(crate) enum Host {
 impl Host {
     /// The engine, where one runs.
     pub(crate) fn engine(&self) -> Option<&NodeEngine>
-        ensures { (setup : Setup) (member : ℕ) (part : Part) → HostStands setup member self.now part → EngineOf part (option_map (λ engine. engine.now) result) }
+        ensures { OfItsPart self.now
+            (λ part. EngineOf part (option_map (λ engine. engine.now) result)) }
     {
         match self {
             Host::Stopped(_) | Host::Faulty(_) | Host::Away => None,
@@ -56,7 +58,7 @@ impl Host {
 
     /// What the node is at.
     pub(crate) fn status(&self) -> Status
-        ensures { (setup : Setup) (member : ℕ) (part : Part) → HostStands setup member self.now part → goes_on part ≡ true → result ≡ status_in part }
+        ensures { OfItsPart self.now (λ part. goes_on part ≡ true → result ≡ status_in part) }
     {
         match self {
             Host::Stopped(_) => Status::Stopped,
@@ -77,10 +79,14 @@ impl Host {
     ) -> Result<Polled, PollError>
         requires clock { now < 2 ^ 63 }
         requires empty { out.old ≡ no_out }
-        ensures gives { IfOk result (λ polled. (setup : Setup) (member : ℕ) (life : Life) → HostStands setup member self.old (Lives life) → IsPolled life input now stop.now polled.outcome polled.taken out.new) }
-        ensures stands { IfOk result (λ _. (setup : Setup) (member : ℕ) (life : Life) → HostStands setup member self.old (Lives life) → HostStands setup member self.new (Lives (after_poll input now stop.now life))) }
-        ensures refused { IfErr result (λ error. is_memory error ≡ false → (setup : Setup) (member : ℕ) (life : Life) → HostStands setup member self.old (Lives life) → refusal_in life input ≡ Some error) }
-        ensures stays { IfErr result (λ error. is_memory error ≡ false → (setup : Setup) (member : ℕ) (part : Part) → HostStands setup member self.old part → HostStands setup member self.new part) }
+        ensures gives { IfOk result (λ polled. OfItsLife self.old
+            (λ life. IsPolled life input now stop.now polled.outcome polled.taken out.new)) }
+        ensures stands { IfOk result
+            (λ _. LivesOn self.old self.new (after_poll input now stop.now)) }
+        ensures refused { IfErr result (λ error. is_memory error ≡ false
+            → OfItsLife self.old (λ life. refusal_in life input ≡ Some error)) }
+        ensures stays { IfErr result (λ error. is_memory error ≡ false → (setup : Setup) (member : ℕ) (part : Part)
+            → HostStands setup member self.old part → HostStands setup member self.new part) }
     {
         let Host::Running(engine) = self else {
             return Err(PollError::Stopped);
@@ -100,9 +106,17 @@ impl Host {
         channel: Channel,
         bytes: &[u8],
     ) -> Result<Sequence<Sent>, AllocError>
-        ensures sends { IfOk result (λ sent. (setup : Setup) (member : ℕ) (past : List Heard) → HostStands setup member self.old (Hears past) → sent ≡ heard_by setup member (kind_of setup member) past (record { channel = channel; bytes = bytes.now })) }
-        ensures stands { OnOk result ((setup : Setup) (member : ℕ) (past : List Heard) → HostStands setup member self.old (Hears past) → HostStands setup member self.new (Hears (record { channel = channel; bytes = bytes.now } ∷ past))) }
-        ensures unmoved { OnOk result ((setup : Setup) (member : ℕ) (past : List Heard) → is_of_kind is_impersonator setup member ≡ true → HostStands setup member self.old (Hears past) → HostStands setup member self.new (Hears past)) }
+        ensures sends { IfOk result (λ sent. (setup : Setup) (member : ℕ) (past : List Heard)
+            → HostStands setup member self.old (Hears past)
+            → sent ≡ heard_by setup member (kind_of setup member) past
+            (bytes_heard channel bytes.now)) }
+        ensures stands { OnOk result ((setup : Setup) (member : ℕ) (past : List Heard)
+            → HostStands setup member self.old (Hears past)
+            → HostStands setup member self.new (Hears (bytes_heard channel bytes.now ∷ past))) }
+        ensures unmoved { OnOk result ((setup : Setup) (member : ℕ) (past : List Heard)
+            → is_of_kind is_impersonator setup member ≡ true
+            → HostStands setup member self.old (Hears past)
+            → HostStands setup member self.new (Hears past)) }
     {
         let Host::Faulty(faulty) = self else {
             return Ok(Sequence::new(alloc));
@@ -122,12 +136,16 @@ impl Host {
     ) -> Result<Outcome, PollError>
         requires built { config.elector.fallback.members ≡ config.scheme.inner.participants }
         requires lookahead { config.elector.fallback.terms.lookahead ≤ 2 ^ 32 }
-        requires stall { IfSome config.elector.fallback.terms.stall_timeout (λ stall. (config.certification_timeout < stall) × (stall ≤ 2 ^ 62)) }
+        requires stall { IfSome config.elector.fallback.terms.stall_timeout
+            (λ stall. (config.certification_timeout < stall) × (stall ≤ 2 ^ 62)) }
         requires allowed { first_bad config ≡ None }
         requires clock { now < 2 ^ 63 }
         requires empty { out.old ≡ no_out }
-        ensures gives { IfOk result (λ outcome. (setup : Setup) (member : ℕ) (life : Life) → HostStands setup member self.old (Lives life) → IsStarted (made_with config (sections_in life)) now stop.now outcome out.new) }
-        ensures stands { IfOk result (λ _. (setup : Setup) (member : ℕ) (life : Life) → HostStands setup member self.old (Lives life) → HostStands setup member self.new (Lives (after_start (made_with config (sections_in life)) now stop.now))) }
+        ensures gives { IfOk result (λ outcome. OfItsLife self.old
+            (λ life. IsStarted
+            (made_with config (sections_in life)) now stop.now outcome out.new)) }
+        ensures stands { IfOk result (λ _. LivesOn self.old self.new
+            (λ life. after_start (made_with config (sections_in life)) now stop.now)) }
         ensures memory { IfErr result (λ error. is_memory error ≡ true) }
     {
         let journal = self.take_journal(alloc)?;
@@ -143,7 +161,8 @@ impl Host {
 
     /// Stops the node, which loses what its journal had not synced.
     pub(crate) fn crash(&mut self, alloc: Global) -> Result<(), PollError>
-        ensures stands { OnOk result ((setup : Setup) (member : ℕ) (life : Life) → HostStands setup member self.old (Lives life) → HostStands setup member self.new (Lives (Stopped (crashed 0 (sections_in life))))) }
+        ensures stands { OnOk result (LivesOn self.old self.new
+            (λ life. Stopped (crashed 0 (sections_in life)))) }
         ensures memory { IfErr result (λ error. is_memory error ≡ true) }
     {
         let mut journal = self.take_journal(alloc)?;
@@ -154,7 +173,7 @@ impl Host {
 
     // Stops an engine whose step was broken.
     fn settle(&mut self, alloc: Global, outcome: Outcome) -> Result<(), PollError>
-        ensures stands { OnOk result ((setup : Setup) (member : ℕ) (made : EngineMade) (past : List Did) → runs past ≡ is_whole outcome → HostStands setup member self.old (Lives (Running made past)) → HostStands setup member self.new (Lives (going_on made past))) }
+        ensures stands { OnOk result (Settles self.old self.new (is_whole outcome)) }
         ensures memory { IfErr result (λ error. is_memory error ≡ true) }
     {
         match outcome {
@@ -167,7 +186,7 @@ impl Host {
     #[cold]
     #[inline(never)]
     fn halt(&mut self, alloc: Global) -> Result<(), PollError>
-        ensures stands { OnOk result ((setup : Setup) (member : ℕ) (made : EngineMade) (past : List Did) → runs past ≡ false → HostStands setup member self.old (Lives (Running made past)) → HostStands setup member self.new (Lives (going_on made past))) }
+        ensures stands { OnOk result (Settles self.old self.new false) }
         ensures memory { IfErr result (λ error. is_memory error ≡ true) }
     {
         let journal = self.take_journal(alloc)?;
@@ -177,7 +196,8 @@ impl Host {
 
     // The journal. Nothing is left, and behind want of memory there may be none.
     fn take_journal(&mut self, alloc: Global) -> Result<NodeJournal, PollError>
-        ensures stands { IfOk result (λ journal. (setup : Setup) (member : ℕ) (life : Life) → HostStands setup member self.old (Lives life) → JournalStands journal (sections_in life)) }
+        ensures stands { IfOk result (λ journal. OfItsLife self.old
+            (λ life. JournalStands journal (sections_in life))) }
         ensures memory { IfErr result (λ error. is_memory error ≡ true) }
     {
         let host = mem::replace(self, Host::Away);
@@ -187,7 +207,8 @@ impl Host {
 
 // What a stop leaves. Where there is no engine and none was stopped, the journal is a new one.
 fn journal_of(alloc: Global, host: Host) -> Result<NodeJournal, PollError>
-    ensures stands { IfOk result (λ journal. (setup : Setup) (member : ℕ) (life : Life) → HostStands setup member host (Lives life) → JournalStands journal (sections_in life)) }
+    ensures stands { IfOk result (λ journal. OfItsLife host
+        (λ life. JournalStands journal (sections_in life))) }
     ensures memory { IfErr result (λ error. is_memory error ≡ true) }
 {
     match host {
@@ -202,7 +223,8 @@ fn journal_of(alloc: Global, host: Host) -> Result<NodeJournal, PollError>
 
 // What an engine leaves. Behind want of memory it is nothing.
 fn left_by(engine: NodeEngine) -> Result<NodeJournal, PollError>
-    ensures stands { IfOk result (λ journal. (made : EngineMade) (past : List Did) → EngineStands engine made past → JournalStands journal (sections_of made past)) }
+    ensures stands { IfOk result (λ journal. (made : EngineMade) (past : List Did) → EngineStands engine made past
+        → JournalStands journal (sections_of made past)) }
     ensures memory { IfErr result (λ error. is_memory error ≡ true) }
 {
     if engine.has_failed() {
@@ -213,7 +235,9 @@ fn left_by(engine: NodeEngine) -> Result<NodeJournal, PollError>
 
 // The engine runs, unless its step was broken.
 fn settled(engine: NodeEngine, outcome: Outcome) -> Result<Host, PollError>
-    ensures stands { IfOk result (λ host. (setup : Setup) (member : ℕ) (made : EngineMade) (past : List Did) → runs past ≡ is_whole outcome → EngineStands engine made past → HostStands setup member host (Lives (going_on made past))) }
+    ensures stands { IfOk result (λ host. (setup : Setup) (member : ℕ) (made : EngineMade) (past : List Did)
+        → runs past ≡ is_whole outcome → EngineStands engine made past
+        → HostStands setup member host (Lives (going_on made past))) }
     ensures memory { IfErr result (λ error. is_memory error ≡ true) }
 {
     match outcome {

@@ -5,7 +5,7 @@ ghost use Rattle.simplex_transcript.specs.declared.node.Node as nodes;
 ghost use Rattle.simplex_transcript.specs.declared.setup.Setup as setups;
 ghost use Rattle.simplex_messages.specs.Step.{no_out};
 ghost use Rattle.simplex_journal.specs.Journal.{crashed};
-ghost use Rattle.model_run.specs.Life.{Life, Stopped, sections_in};
+ghost use Rattle.model_run.specs.Life.{Stopped, sections_in};
 ghost use Rattle.model_run.specs.Members.{kind_of};
 ghost use Rattle.model_run.specs.Mocks.{Heard, heard_by};
 ghost use Rattle.model_run.specs.Setups as rules;
@@ -16,7 +16,8 @@ ghost use Rattle.simplex_records.specs.Seats.{seat_of, node_at};
 ghost use Rattle.simplex_network.specs.Parts.{Part, Lives, Hears, goes_on, status_in, refusal_in, after_poll, IsPolled, IsStarted, after_start, changed, first_part};
 ghost use Rattle.model_run.specs.Kinds.{is_of_kind};
 ghost use Rattle.law_run.specs.EventForging.{is_impersonator};
-ghost use Rattle.simplex_network.specs.Stands.{HostsStand, HostStands, HasSeat, EngineOf};
+ghost use Rattle.simplex_network.specs.Stands.{HostsStand, HostStands, OfPartAt, OfLifeAt, LivesOnAt, HasSeat, EngineOf};
+ghost use Rattle.simplex_mocks.specs.Hearing.{bytes_heard};
 
 use crate::host::{Host, NodeEngine};
 use crate::journal::new_journal;
@@ -41,8 +42,10 @@ impl Hosts {
     /// All engines are stopped with an empty journal, and nothing was heard.
     pub(crate) fn new(alloc: Global, setup: &Setup) -> Result<Hosts, AllocError>
         requires good { IsNone (rules.first_bad setup.now) }
-        ensures count { IfOk result (λ hosts. length hosts.list.items ≡ 2 * length setup.now.members) }
-        ensures stands { IfOk result (λ hosts. HostsStand setup.now hosts.list.items (first_part setup.now)) }
+        ensures count { IfOk result (λ hosts. length hosts.list.items
+            ≡ 2 * length setup.now.members) }
+        ensures stands { IfOk result
+            (λ hosts. HostsStand setup.now hosts.list.items (first_part setup.now)) }
     {
         let mut list = Vec::new(alloc);
         for seat in 0..count_of(setup) {
@@ -54,7 +57,8 @@ impl Hosts {
     /// The engine of a node, where one runs.
     pub(crate) fn engine(&self, node: Node) -> Option<&NodeEngine>
         requires { HasSeat self.now.list.items node }
-        ensures { (setup : setups.Setup) (parts : nodes.Node → Part) → HostsStand setup self.now.list.items parts → EngineOf (parts node) (option_map (λ engine. engine.now) result) }
+        ensures { OfPartAt self.now.list.items node
+            (λ part. EngineOf part (option_map (λ engine. engine.now) result)) }
     {
         self.list[seat_of(node)].engine()
     }
@@ -62,7 +66,8 @@ impl Hosts {
     /// What a node is at.
     pub(crate) fn status(&self, node: Node) -> Status
         requires { HasSeat self.now.list.items node }
-        ensures { (setup : setups.Setup) (parts : nodes.Node → Part) → HostsStand setup self.now.list.items parts → goes_on (parts node) ≡ true → result ≡ status_in (parts node) }
+        ensures { OfPartAt self.now.list.items node (λ part. goes_on part ≡ true
+            → result ≡ status_in part) }
     {
         self.list[seat_of(node)].status()
     }
@@ -81,10 +86,16 @@ impl Hosts {
         requires clock { now < 2 ^ 63 }
         requires empty { out.old ≡ no_out }
         ensures count { length self.new.list.items ≡ length self.old.list.items }
-        ensures gives { IfOk result (λ polled. (setup : setups.Setup) (parts : nodes.Node → Part) (life : Life) → HostsStand setup self.old.list.items parts → parts node ≡ Lives life → IsPolled life input now stop.now polled.outcome polled.taken out.new) }
-        ensures stands { IfOk result (λ _. (setup : setups.Setup) (parts : nodes.Node → Part) (life : Life) → HostsStand setup self.old.list.items parts → parts node ≡ Lives life → HostsStand setup self.new.list.items (changed node (Lives (after_poll input now stop.now life)) parts)) }
-        ensures refused { IfErr result (λ error. is_memory error ≡ false → (setup : setups.Setup) (parts : nodes.Node → Part) (life : Life) → HostsStand setup self.old.list.items parts → parts node ≡ Lives life → refusal_in life input ≡ Some error) }
-        ensures stays { IfErr result (λ error. is_memory error ≡ false → (setup : setups.Setup) (parts : nodes.Node → Part) → HostsStand setup self.old.list.items parts → HostsStand setup self.new.list.items parts) }
+        ensures gives { IfOk result (λ polled. OfLifeAt self.old.list.items node
+            (λ life. IsPolled life input now stop.now polled.outcome polled.taken out.new)) }
+        ensures stands { IfOk result (λ _. LivesOnAt self.old.list.items self.new.list.items node
+            (after_poll input now stop.now)) }
+        ensures refused { IfErr result (λ error. is_memory error ≡ false
+            → OfLifeAt self.old.list.items node (λ life. refusal_in life input ≡ Some error)) }
+        ensures stays { IfErr result (λ error. is_memory error ≡ false
+            → (setup : setups.Setup) (parts : nodes.Node → Part)
+            → HostsStand setup self.old.list.items parts
+            → HostsStand setup self.new.list.items parts) }
     {
         let at = seat_of(node);
         match self.list[at].poll(alloc, input, now, stop, out) {
@@ -97,8 +108,10 @@ impl Hosts {
     pub(crate) fn lend(&mut self, node: Node) -> Host
         requires { HasSeat self.old.list.items node }
         ensures count { length self.new.list.items ≡ length self.old.list.items }
-        ensures host { (setup : setups.Setup) (parts : nodes.Node → Part) → HostsStand setup self.old.list.items parts → HostStands setup node.member result (parts node) }
-        ensures stands { (setup : setups.Setup) (parts : nodes.Node → Part) → HostsStand setup self.old.list.items parts → HostsStand setup self.new.list.items (changed node (Lives (Stopped [])) parts) }
+        ensures host { (setup : setups.Setup) (parts : nodes.Node → Part) → HostsStand setup self.old.list.items parts
+            → HostStands setup node.member result (parts node) }
+        ensures stands { (setup : setups.Setup) (parts : nodes.Node → Part) → HostsStand setup self.old.list.items parts
+            → HostsStand setup self.new.list.items (changed node (Lives (Stopped [])) parts) }
     {
         let at = seat_of(node);
         mem::replace(&mut self.list[at], Host::Away)
@@ -108,7 +121,9 @@ impl Hosts {
     pub(crate) fn put(&mut self, node: Node, host: Host)
         requires { HasSeat self.old.list.items node }
         ensures count { length self.new.list.items ≡ length self.old.list.items }
-        ensures stands { (setup : setups.Setup) (parts : nodes.Node → Part) (part : Part) → HostsStand setup self.old.list.items parts → HostStands setup node.member host part → HostsStand setup self.new.list.items (changed node part parts) }
+        ensures stands { (setup : setups.Setup) (parts : nodes.Node → Part) (part : Part)
+            → HostsStand setup self.old.list.items parts → HostStands setup node.member host part
+            → HostsStand setup self.new.list.items (changed node part parts) }
     {
         let at = seat_of(node);
         self.list[at] = host;
@@ -124,9 +139,18 @@ impl Hosts {
     ) -> Result<Sequence<Sent>, AllocError>
         requires { HasSeat self.old.list.items node }
         ensures count { length self.new.list.items ≡ length self.old.list.items }
-        ensures sends { IfOk result (λ sent. (setup : setups.Setup) (parts : nodes.Node → Part) (past : List Heard) → HostsStand setup self.old.list.items parts → parts node ≡ Hears past → sent ≡ heard_by setup node.member (kind_of setup node.member) past (record { channel = channel; bytes = bytes.now })) }
-        ensures stands { OnOk result ((setup : setups.Setup) (parts : nodes.Node → Part) (past : List Heard) → HostsStand setup self.old.list.items parts → parts node ≡ Hears past → HostsStand setup self.new.list.items (changed node (Hears (record { channel = channel; bytes = bytes.now } ∷ past)) parts)) }
-        ensures unmoved { OnOk result ((setup : setups.Setup) (parts : nodes.Node → Part) (past : List Heard) → is_of_kind is_impersonator setup node.member ≡ true → HostsStand setup self.old.list.items parts → parts node ≡ Hears past → HostsStand setup self.new.list.items parts) }
+        ensures sends { IfOk result (λ sent. (setup : setups.Setup) (parts : nodes.Node → Part) (past : List Heard)
+            → HostsStand setup self.old.list.items parts → parts node ≡ Hears past
+            → sent ≡ heard_by setup node.member (kind_of setup node.member) past
+            (bytes_heard channel bytes.now)) }
+        ensures stands { OnOk result ((setup : setups.Setup) (parts : nodes.Node → Part) (past : List Heard)
+            → HostsStand setup self.old.list.items parts → parts node ≡ Hears past
+            → HostsStand setup self.new.list.items
+            (changed node (Hears (bytes_heard channel bytes.now ∷ past)) parts)) }
+        ensures unmoved { OnOk result ((setup : setups.Setup) (parts : nodes.Node → Part) (past : List Heard)
+            → is_of_kind is_impersonator setup node.member ≡ true
+            → HostsStand setup self.old.list.items parts
+            → parts node ≡ Hears past → HostsStand setup self.new.list.items parts) }
     {
         let at = seat_of(node);
         let sent = self.list[at].hear(alloc, channel, bytes)?;
@@ -146,13 +170,17 @@ impl Hosts {
         requires seat { HasSeat self.old.list.items node }
         requires built { config.elector.fallback.members ≡ config.scheme.inner.participants }
         requires lookahead { config.elector.fallback.terms.lookahead ≤ 2 ^ 32 }
-        requires stall { IfSome config.elector.fallback.terms.stall_timeout (λ stall. (config.certification_timeout < stall) × (stall ≤ 2 ^ 62)) }
+        requires stall { IfSome config.elector.fallback.terms.stall_timeout
+            (λ stall. (config.certification_timeout < stall) × (stall ≤ 2 ^ 62)) }
         requires allowed { first_bad config ≡ None }
         requires clock { now < 2 ^ 63 }
         requires empty { out.old ≡ no_out }
         ensures count { length self.new.list.items ≡ length self.old.list.items }
-        ensures gives { IfOk result (λ outcome. (setup : setups.Setup) (parts : nodes.Node → Part) (life : Life) → HostsStand setup self.old.list.items parts → parts node ≡ Lives life → IsStarted (made_with config (sections_in life)) now stop.now outcome out.new) }
-        ensures stands { IfOk result (λ _. (setup : setups.Setup) (parts : nodes.Node → Part) (life : Life) → HostsStand setup self.old.list.items parts → parts node ≡ Lives life → HostsStand setup self.new.list.items (changed node (Lives (after_start (made_with config (sections_in life)) now stop.now)) parts)) }
+        ensures gives { IfOk result (λ outcome. OfLifeAt self.old.list.items node
+            (λ life. IsStarted
+            (made_with config (sections_in life)) now stop.now outcome out.new)) }
+        ensures stands { IfOk result (λ _. LivesOnAt self.old.list.items self.new.list.items node
+            (λ life. after_start (made_with config (sections_in life)) now stop.now)) }
         ensures memory { IfErr result (λ error. is_memory error ≡ true) }
     {
         let at = seat_of(node);
@@ -164,7 +192,8 @@ impl Hosts {
     pub(crate) fn crash(&mut self, alloc: Global, node: Node) -> Result<(), PollError>
         requires { HasSeat self.old.list.items node }
         ensures count { length self.new.list.items ≡ length self.old.list.items }
-        ensures stands { OnOk result ((setup : setups.Setup) (parts : nodes.Node → Part) (life : Life) → HostsStand setup self.old.list.items parts → parts node ≡ Lives life → HostsStand setup self.new.list.items (changed node (Lives (Stopped (crashed 0 (sections_in life)))) parts)) }
+        ensures stands { OnOk result (LivesOnAt self.old.list.items self.new.list.items node
+            (λ life. Stopped (crashed 0 (sections_in life)))) }
     {
         let at = seat_of(node);
         self.list[at].crash(alloc)?;
@@ -189,7 +218,8 @@ fn member_at(setup: &Setup, seat: usize) -> Participant
     ensures member { result ≡ seat / 2 }
     ensures below { result < length setup.now.members }
 {
-    // The number of members is asked for its clause: of what lies behind a reference the proof knows what the body reads.
+    // The number of members is asked for its clause: of what lies behind a reference the proof knows what the body
+    // reads.
     let _members = setup.members.len();
     Participant((seat / 2) as u32)
 }
@@ -198,7 +228,8 @@ fn member_at(setup: &Setup, seat: usize) -> Participant
 fn blank_host(alloc: Global, setup: &Setup, seat: usize) -> Result<Host, AllocError>
     requires good { IsNone (rules.first_bad setup.now) }
     requires below { seat < 2 * length setup.now.members }
-    ensures { IfOk result (λ host. HostStands setup.now (node_at seat).member host (first_part setup.now (node_at seat))) }
+    ensures { IfOk result (λ host. HostStands setup.now (node_at seat).member host
+        (first_part setup.now (node_at seat))) }
 {
     let member = member_at(setup, seat);
     if has_engine(setup, member) {

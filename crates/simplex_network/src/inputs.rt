@@ -16,7 +16,8 @@ use std::alloc::{AllocError, Global};
 
 /// The packet, as an engine is given it. Its sender is one of the members, who are few.
 pub(crate) fn heard(alloc: Global, packet: &Packet) -> Result<Input, AllocError>
-    ensures { IfOk result (λ input. packet.now.from.member < 2 ^ 32 → input ≡ Input.Deliver packet.now.from.member packet.now.channel packet.now.bytes) }
+    ensures { IfOk result (λ input. packet.now.from.member < 2 ^ 32
+        → input ≡ Input.Deliver packet.now.from.member packet.now.channel packet.now.bytes) }
 {
     let sender = u32::try_from(packet.from.member).unwrap_or(u32::MAX);
     Ok(Input::Deliver {
@@ -30,7 +31,8 @@ pub(crate) fn heard(alloc: Global, packet: &Packet) -> Result<Input, AllocError>
 pub(crate) fn took(records: &Records, node: Node, taken: Option<TakenInside>) -> Option<Took>
     requires half { node.half < 2 }
     requires seat { seat_of node < seats_in records.now }
-    ensures { (setup : setups.Setup) (before : List Noted) → RecordsStand records.now setup before → result ≡ option_and_then (named before node) taken }
+    ensures { (setup : setups.Setup) (before : List Noted) → RecordsStand records.now setup before
+        → result ≡ option_and_then (named before node) taken }
 {
     match taken? {
         TakenInside::Message(message) => Some(Took::Message(message)),
@@ -54,7 +56,8 @@ pub(crate) fn enter(
     requires seat { seat_of node < seats_in records.old }
     ensures count { seats_in records.new ≡ seats_in records.old }
     ensures entry { IfOk result (EntersMade records.old setup.now node made) }
-    ensures stands { IfOk result (λ entry. TakesIn records.old records.new setup.now node false entry) }
+    ensures stands { IfOk result
+        (λ entry. TakesIn records.old records.new setup.now node false entry) }
 {
     let Made {
         polled,

@@ -60,7 +60,8 @@ impl Network {
 
     /// A network of stopped nodes, whose clock is 0. The payload of view 0 is the epoch's genesis digest.
     pub fn new(alloc: Global, setup: &Setup) -> Result<Network, RunError>
-        ensures stands { IfOk result (λ network. StandsFor network (at_epoch_genesis setup.now) []) }
+        ensures stands { IfOk result
+            (λ network. StandsFor network (at_epoch_genesis setup.now) []) }
         ensures allowed { IfOk result (λ _. setup_refusal setup.now ≡ None) }
         ensures refused { IfErr result (IsRefused (setup_refusal setup.now)) }
     {
@@ -70,7 +71,8 @@ impl Network {
     /// The same, where the payload of view 0 is this digest.
     #[tactic(auto, using(crate::proofs::Standing::standing))]
     pub fn with_genesis(alloc: Global, setup: &Setup, genesis: Digest) -> Result<Network, RunError>
-        ensures stands { IfOk result (λ network. StandsFor network (setting_of setup.now genesis) []) }
+        ensures stands { IfOk result
+            (λ network. StandsFor network (setting_of setup.now genesis) []) }
         ensures allowed { IfOk result (λ _. setup_refusal setup.now ≡ None) }
         ensures refused { IfErr result (IsRefused (setup_refusal setup.now)) }
     {
@@ -86,7 +88,8 @@ impl Network {
     pub fn apply(&mut self, event: &Event) -> Result<Entry, RunError>
         ensures stands { IfOk result (λ entry. Grows self.old self.new event.now entry) }
         ensures entry { IfOk result (λ entry. Enters self.old event.now entry) }
-        ensures reason { IfErr result (λ error. is_memory error ≡ false → Refuses self.old event.now error) }
+        ensures reason { IfErr result (λ error. is_memory error ≡ false
+            → Refuses self.old event.now error) }
         ensures stays { IfErr result (λ error. is_memory error ≡ false → Stays self.old self.new) }
         ensures failed { IsErrOf result RunError.Failed ↔ IsTrue (has_failed self.old) }
         ensures later { has_failed self.new ≡ (has_failed self.old || wants_memory result) }
@@ -108,8 +111,8 @@ impl Network {
         }
     }
 
-    /// How many of the first events may be stepped at once: each steps a node of an honest member, which none of them in
-    /// front of it steps, and what it delivers was sent before all of them.
+    /// How many of the first events may be stepped at once: each steps a node of an honest member, which none of them
+    /// in front of it steps, and what it delivers was sent before all of them.
     pub fn group_size(&self, events: &[Event]) -> Result<usize, AllocError>
         ensures within { IfOk result (λ size. size ≤ length events.now) }
         ensures each { IfOk result (λ size. All (MayLend self.now) (take size events.now)) }
@@ -118,8 +121,8 @@ impl Network {
         group_size(self.alloc, &self.setup, &self.records, events)
     }
 
-    /// Lends the host of the node that the event steps, with what the event gives it. Until it is entered, the node is not
-    /// there.
+    /// Lends the host of the node that the event steps, with what the event gives it. Until it is entered, the node is
+    /// not there.
     pub fn lend(&mut self, event: &Event) -> Task
         requires { MayLend self.old event.now }
         ensures lends { Lends self.old self.new event.now result }
@@ -135,13 +138,14 @@ impl Network {
         self.lend_host(node, stage)
     }
 
-    /// Takes back what was lent for the event, and makes the event, or tells why it is refused. Behind want of memory the
-    /// network refuses all.
+    /// Takes back what was lent for the event, and makes the event, or tells why it is refused. Behind want of memory
+    /// the network refuses all.
     pub fn enter(&mut self, event: &Event, task: Task) -> Result<Entry, RunError>
         requires lent { MayLend self.old event.now }
         requires done { IsDone task }
         ensures stands { IfOk result (Returns self.old self.new event.now task) }
-        ensures reason { IfErr result (λ error. is_memory error ≡ false → Declines self.old event.now task error) }
+        ensures reason { IfErr result (λ error. is_memory error ≡ false
+            → Declines self.old event.now task error) }
         ensures same { (other : Event) → MayLend self.old other → MayLend self.new other }
         ensures later { has_failed self.new ≡ (has_failed self.old || wants_memory result) }
     {
@@ -197,7 +201,8 @@ impl Network {
     fn make(&mut self, event: &Event) -> Result<Entry, RunError>
         ensures stands { IfOk result (λ _. Adds self.old self.new event.now) }
         ensures entry { IfOk result (λ entry. Gives self.old event.now entry) }
-        ensures reason { IfErr result (λ error. is_memory error ≡ false → Denies self.old event.now error) }
+        ensures reason { IfErr result (λ error. is_memory error ≡ false
+            → Denies self.old event.now error) }
         ensures stays { IfErr result (λ error. is_memory error ≡ false → Rests self.old self.new) }
         ensures alive { self.new.failed ≡ self.old.failed }
         ensures unfailed { IfErr result (λ error. is_failed error ≡ false) }
@@ -225,9 +230,12 @@ impl Network {
         floor: &Option<Finalization>,
         stop: &Stop,
     ) -> Result<Entry, RunError>
-        ensures stands { IfOk result (λ _. Adds self.old self.new (events.Start node floor.now stop.now)) }
-        ensures entry { IfOk result (λ entry. Gives self.old (events.Start node floor.now stop.now) entry) }
-        ensures reason { IfErr result (λ error. is_memory error ≡ false → Denies self.old (events.Start node floor.now stop.now) error) }
+        ensures stands { IfOk result
+            (λ _. Adds self.old self.new (events.Start node floor.now stop.now)) }
+        ensures entry { IfOk result
+            (λ entry. Gives self.old (events.Start node floor.now stop.now) entry) }
+        ensures reason { IfErr result (λ error. is_memory error ≡ false
+            → Denies self.old (events.Start node floor.now stop.now) error) }
         ensures stays { IfErr result (λ error. is_memory error ≡ false → Rests self.old self.new) }
         ensures alive { self.new.failed ≡ self.old.failed }
         ensures unfailed { IfErr result (λ error. is_failed error ≡ false) }
@@ -281,7 +289,8 @@ impl Network {
     fn tick(&mut self, ms: u64) -> Result<Entry, RunError>
         ensures stands { IfOk result (λ _. Adds self.old self.new (events.Tick ms)) }
         ensures entry { IfOk result (λ entry. Gives self.old (events.Tick ms) entry) }
-        ensures reason { IfErr result (λ error. is_memory error ≡ false → Denies self.old (events.Tick ms) error) }
+        ensures reason { IfErr result (λ error. is_memory error ≡ false
+            → Denies self.old (events.Tick ms) error) }
         ensures stays { IfErr result (λ error. is_memory error ≡ false → Rests self.old self.new) }
         ensures alive { self.new.failed ≡ self.old.failed }
         ensures unfailed { IfErr result (λ error. is_failed error ≡ false) }
@@ -299,7 +308,8 @@ impl Network {
         requires { node_stepped event.now ≡ Some node }
         ensures stands { IfOk result (λ _. Adds self.old self.new event.now) }
         ensures entry { IfOk result (λ entry. Gives self.old event.now entry) }
-        ensures reason { IfErr result (λ error. is_memory error ≡ false → Denies self.old event.now error) }
+        ensures reason { IfErr result (λ error. is_memory error ≡ false
+            → Denies self.old event.now error) }
         ensures stays { IfErr result (λ error. is_memory error ≡ false → Rests self.old self.new) }
         ensures alive { self.new.failed ≡ self.old.failed }
         ensures unfailed { IfErr result (λ error. is_failed error ≡ false) }
@@ -327,8 +337,10 @@ impl Network {
         requires exists { Exists self.old node }
         ensures stands { IfOk result (λ _. FaultyAdds self.old self.new node event.now) }
         ensures entry { IfOk result (λ entry. FaultyGives self.old node event.now entry) }
-        ensures reason { IfErr result (λ error. is_memory error ≡ false → FaultyDenies self.old node event.now error) }
-        ensures stays { IfErr result (λ error. is_memory error ≡ false → FaultyRests self.old self.new node) }
+        ensures reason { IfErr result (λ error. is_memory error ≡ false
+            → FaultyDenies self.old node event.now error) }
+        ensures stays { IfErr result (λ error. is_memory error ≡ false
+            → FaultyRests self.old self.new node) }
         ensures alive { self.new.failed ≡ self.old.failed }
         ensures unfailed { IfErr result (λ error. is_failed error ≡ false) }
     {
@@ -346,10 +358,14 @@ impl Network {
     // A node of a faulty member without an engine takes a packet. What an impersonator says may be forged.
     fn hear(&mut self, node: Node, at: Ref) -> Result<Entry, RunError>
         requires { Exists self.old node }
-        ensures stands { IfOk result (λ _. FaultyAdds self.old self.new node (events.Deliver node at)) }
-        ensures entry { IfOk result (λ entry. FaultyGives self.old node (events.Deliver node at) entry) }
-        ensures reason { IfErr result (λ error. is_memory error ≡ false → FaultyDenies self.old node (events.Deliver node at) error) }
-        ensures stays { IfErr result (λ error. is_memory error ≡ false → FaultyRests self.old self.new node) }
+        ensures stands { IfOk result
+            (λ _. FaultyAdds self.old self.new node (events.Deliver node at)) }
+        ensures entry { IfOk result
+            (λ entry. FaultyGives self.old node (events.Deliver node at) entry) }
+        ensures reason { IfErr result (λ error. is_memory error ≡ false
+            → FaultyDenies self.old node (events.Deliver node at) error) }
+        ensures stays { IfErr result (λ error. is_memory error ≡ false
+            → FaultyRests self.old self.new node) }
         ensures alive { self.new.failed ≡ self.old.failed }
         ensures unfailed { IfErr result (λ error. is_failed error ≡ false) }
     {
@@ -381,7 +397,8 @@ impl Network {
         requires steps { node_stepped event.now ≡ Some node }
         requires exists { Exists self.now node }
         ensures is { IfOk result (λ given. Readies self.now node event.now given) }
-        ensures reason { IfErr result (λ error. is_memory error ≡ false → Refrains self.now node event.now error) }
+        ensures reason { IfErr result (λ error. is_memory error ≡ false
+            → Refrains self.now node event.now error) }
         ensures unfailed { IfErr result (λ error. is_failed error ≡ false) }
     {
         let status = match self.find(node) {
@@ -400,7 +417,8 @@ impl Network {
         requires steps { node_stepped event.now ≡ Some node }
         requires exists { Exists self.now node }
         ensures is { IfOk result (λ given. Prepares self.now node view event.now given) }
-        ensures reason { IfErr result (λ error. is_memory error ≡ false → Bars self.now node view event.now error) }
+        ensures reason { IfErr result (λ error. is_memory error ≡ false
+            → Bars self.now node view event.now error) }
         ensures unfailed { IfErr result (λ error. is_failed error ≡ false) }
     {
         match event {
@@ -456,7 +474,8 @@ impl Network {
     fn crash(&mut self, node: Node) -> Result<Entry, RunError>
         ensures stands { IfOk result (λ _. Adds self.old self.new (events.Crash node)) }
         ensures entry { IfOk result (λ entry. Gives self.old (events.Crash node) entry) }
-        ensures reason { IfErr result (λ error. is_memory error ≡ false → Denies self.old (events.Crash node) error) }
+        ensures reason { IfErr result (λ error. is_memory error ≡ false
+            → Denies self.old (events.Crash node) error) }
         ensures stays { IfErr result (λ error. is_memory error ≡ false → Rests self.old self.new) }
         ensures alive { self.new.failed ≡ self.old.failed }
         ensures unfailed { IfErr result (λ error. is_failed error ≡ false) }
@@ -506,9 +525,12 @@ impl Network {
         to: &Sequence<Node>,
         bytes: &Bytes,
     ) -> Result<Entry, RunError>
-        ensures stands { IfOk result (λ _. Adds self.old self.new (events.Inject member channel to.now bytes.now)) }
-        ensures entry { IfOk result (λ entry. Gives self.old (events.Inject member channel to.now bytes.now) entry) }
-        ensures reason { IfErr result (λ error. is_memory error ≡ false → Denies self.old (events.Inject member channel to.now bytes.now) error) }
+        ensures stands { IfOk result
+            (λ _. Adds self.old self.new (events.Inject member channel to.now bytes.now)) }
+        ensures entry { IfOk result
+            (λ entry. Gives self.old (events.Inject member channel to.now bytes.now) entry) }
+        ensures reason { IfErr result (λ error. is_memory error ≡ false
+            → Denies self.old (events.Inject member channel to.now bytes.now) error) }
         ensures stays { IfErr result (λ error. is_memory error ≡ false → Rests self.old self.new) }
         ensures alive { self.new.failed ≡ self.old.failed }
         ensures unfailed { IfErr result (λ error. is_failed error ≡ false) }
@@ -549,7 +571,8 @@ impl Network {
         requires { Exists self.old node }
         ensures stands { IfOk result (λ _. PollAdds self.old self.new node given) }
         ensures entry { IfOk result (λ entry. PollGives self.old node given entry) }
-        ensures reason { IfErr result (λ error. is_memory error ≡ false → PollDenies self.old node given error) }
+        ensures reason { IfErr result (λ error. is_memory error ≡ false
+            → PollDenies self.old node given error) }
         ensures stays { IfErr result (λ error. is_memory error ≡ false → Rests self.old self.new) }
         ensures alive { self.new.failed ≡ self.old.failed }
         ensures unfailed { IfErr result (λ error. is_failed error ≡ false) }
@@ -580,8 +603,12 @@ impl Network {
     fn lend_host(&mut self, node: Node, stage: Stage) -> Task
         requires exists { Exists self.old node }
         requires whole { is_failed_at stage ≡ false }
-        ensures lends { (setting : Setting) (before : List Noted) (lent : List nodes.Node) → KeepsBut lent self.old setting before → KeepsBut (node ∷ lent) self.new setting before }
-        ensures does { (setting : Setting) (before : List Noted) (lent : List nodes.Node) → is_named lent node ≡ false → KeepsBut lent self.old setting before → HostStands setting.setup node.member result.host (part_in setting before node) }
+        ensures lends { (setting : Setting) (before : List Noted) (lent : List nodes.Node)
+            → KeepsBut lent self.old setting before
+            → KeepsBut (node ∷ lent) self.new setting before }
+        ensures does { (setting : Setting) (before : List Noted) (lent : List nodes.Node) → is_named lent node ≡ false
+            → KeepsBut lent self.old setting before
+            → HostStands setting.setup node.member result.host (part_in setting before node) }
         ensures stage { result.stage ≡ stage }
         ensures now { result.now ≡ self.old.clock }
         ensures setup { self.new.setup ≡ self.old.setup }
@@ -602,8 +629,10 @@ impl Network {
         ensures stands { IfOk result (λ _. BackAdds self.old self.new node task) }
         ensures entry { IfOk result (λ entry. BackGives self.old node task entry) }
         ensures made { OnOk result (is_made task.stage ≡ true) }
-        ensures reason { IfErr result (λ error. is_memory error ≡ false → task.stage ≡ Stage.Refused error) }
-        ensures stays { IfErr result (λ error. is_memory error ≡ false → BackRests self.old self.new node task) }
+        ensures reason { IfErr result (λ error. is_memory error ≡ false
+            → task.stage ≡ Stage.Refused error) }
+        ensures stays { IfErr result (λ error. is_memory error ≡ false
+            → BackRests self.old self.new node task) }
         ensures setup { self.new.setup ≡ self.old.setup }
         ensures alive { self.new.failed ≡ self.old.failed }
         ensures unfailed { IfErr result (λ error. is_failed error ≡ false) }

@@ -36,7 +36,8 @@ pub(crate) fn member_of(setup: &Setup, node: Node) -> Participant
 
 /// Whether the member and all nodes exist.
 pub(crate) fn exist(setup: &Setup, member: u64, nodes: &[Node]) -> bool
-    ensures { result ≡ (nat_lt member (length setup.now.members) && list_all (kinds.is_node setup.now) nodes.now) }
+    ensures { result ≡ (nat_lt member (length setup.now.members)
+        && list_all (kinds.is_node setup.now) nodes.now) }
 {
     member < setup.members.len() as u64 && are_nodes(setup, nodes)
 }

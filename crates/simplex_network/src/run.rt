@@ -31,26 +31,33 @@ pub struct Transcript {
     pub network: Network,
 }
 
-/// Runs the events, or tells the first refusal. Want of memory is a refusal of its own. The payload of view 0 is the epoch's
-/// genesis digest.
+/// Runs the events, or tells the first refusal. Want of memory is a refusal of its own. The payload of view 0 is the
+/// epoch's genesis digest.
 pub fn run_network(alloc: Global, setup: &Setup, events: &[Event]) -> Result<Transcript, Refusal>
-    ensures done { IfOk result (λ transcript. runs.Run setup.now events.now ≡ Ok transcript.entries) }
-    ensures network { IfOk result (λ transcript. MadeBy transcript.network (at_epoch_genesis setup.now) (runs.run (at_epoch_genesis setup.now) [] events.now)) }
-    ensures refused { IfErr result (λ refusal. is_memory refusal.error ≡ false → runs.Run setup.now events.now ≡ Err refusal) }
+    ensures done { IfOk result (λ transcript. runs.Run setup.now events.now
+        ≡ Ok transcript.entries) }
+    ensures network { IfOk result (λ transcript. MadeBy transcript.network (at_epoch_genesis setup.now)
+        (runs.run (at_epoch_genesis setup.now) [] events.now)) }
+    ensures refused { IfErr result (λ refusal. is_memory refusal.error ≡ false
+        → runs.Run setup.now events.now ≡ Err refusal) }
     // Each certificate that stands in the transcript and verifies is backed and of the setup's epoch, no two of them
-    // conflict, and what an engine says for a certificate verifies; of each honest member each vote was stored first, the
-    // votes of each event that no stop broke are those that the rules give, and over all its lives they keep their order, by
-    // what had come to it; and no honest member is blamed.
+    // conflict, and what an engine says for a certificate verifies; of each honest member each vote was stored first,
+    // the votes of each event that no stop broke are those that the rules give, and over all its lives they keep their
+    // order, by what had come to it; and no honest member is blamed.
     ensures safe { IfOk result (λ transcript. RunsSafely (at_epoch_genesis setup.now) events.now) }
-    // What any two engines report as final is of one chain: of one view it is one proposal, and no later one skips an earlier.
+    // What any two engines report as final is of one chain: of one view it is one proposal, and no later one skips an
+    // earlier.
     ensures one_chain { IfOk result (λ transcript. ReportOneChain transcript.entries) }
     // No packet of an honest member is longer than `max_payload_size` says for so many members.
     ensures limit { IfOk result (λ transcript. Each (KeepsTheLimit setup.now) transcript.entries) }
     // One entry for each event: as many, numbered from 1, each of the node that its event names.
     ensures entries { IfOk result (λ transcript. IsOneEach transcript.entries events.now) }
-    // A valid setup and events that each meet their conditions make a transcript, or want memory; and nothing else does.
-    ensures complete { IfErr result (λ refusal. IsPossible (at_epoch_genesis setup.now) events.now → is_memory refusal.error ≡ true) }
-    ensures possible { IfOk result (λ transcript. IsPossible (at_epoch_genesis setup.now) events.now) }
+    // A valid setup and events that each meet their conditions make a transcript, or want memory; and nothing else
+    // does.
+    ensures complete { IfErr result (λ refusal. IsPossible (at_epoch_genesis setup.now) events.now
+        → is_memory refusal.error ≡ true) }
+    ensures possible { IfOk result
+        (λ transcript. IsPossible (at_epoch_genesis setup.now) events.now) }
 {
     run_network_from(alloc, setup, genesis_at(setup.epoch), events)
 }
@@ -62,16 +69,22 @@ pub fn run_network_from(
     genesis: Digest,
     events: &[Event],
 ) -> Result<Transcript, Refusal>
-    ensures done { IfOk result (λ transcript. runs.RunFrom (setting_of setup.now genesis) events.now ≡ Ok transcript.entries) }
-    ensures network { IfOk result (λ transcript. MadeBy transcript.network (setting_of setup.now genesis) (runs.run (setting_of setup.now genesis) [] events.now)) }
-    ensures refused { IfErr result (λ refusal. is_memory refusal.error ≡ false → runs.RunFrom (setting_of setup.now genesis) events.now ≡ Err refusal) }
+    ensures done { IfOk result (λ transcript. runs.RunFrom (setting_of setup.now genesis) events.now
+        ≡ Ok transcript.entries) }
+    ensures network { IfOk result (λ transcript. MadeBy transcript.network (setting_of setup.now genesis)
+        (runs.run (setting_of setup.now genesis) [] events.now)) }
+    ensures refused { IfErr result (λ refusal. is_memory refusal.error ≡ false
+        → runs.RunFrom (setting_of setup.now genesis) events.now ≡ Err refusal) }
     // What holds of the run at the epoch's genesis digest.
-    ensures safe { IfOk result (λ transcript. RunsSafely (setting_of setup.now genesis) events.now) }
+    ensures safe { IfOk result
+        (λ transcript. RunsSafely (setting_of setup.now genesis) events.now) }
     ensures one_chain { IfOk result (λ transcript. ReportOneChain transcript.entries) }
     ensures limit { IfOk result (λ transcript. Each (KeepsTheLimit setup.now) transcript.entries) }
     ensures entries { IfOk result (λ transcript. IsOneEach transcript.entries events.now) }
-    ensures complete { IfErr result (λ refusal. IsPossible (setting_of setup.now genesis) events.now → is_memory refusal.error ≡ true) }
-    ensures possible { IfOk result (λ transcript. IsPossible (setting_of setup.now genesis) events.now) }
+    ensures complete { IfErr result (λ refusal. IsPossible (setting_of setup.now genesis) events.now
+        → is_memory refusal.error ≡ true) }
+    ensures possible { IfOk result
+        (λ transcript. IsPossible (setting_of setup.now genesis) events.now) }
 {
     runs_are_safe();
     transcripts_report_one_chain();
@@ -89,9 +102,12 @@ fn run_typed(
     genesis: Digest,
     events: &[Event],
 ) -> Result<Transcript, Refusal>
-    ensures done { IfOk result (λ transcript. runs.RunFrom (setting_of setup.now genesis) events.now ≡ Ok transcript.entries) }
-    ensures network { IfOk result (λ transcript. MadeBy transcript.network (setting_of setup.now genesis) (runs.run (setting_of setup.now genesis) [] events.now)) }
-    ensures refused { IfErr result (λ refusal. is_memory refusal.error ≡ false → runs.RunFrom (setting_of setup.now genesis) events.now ≡ Err refusal) }
+    ensures done { IfOk result (λ transcript. runs.RunFrom (setting_of setup.now genesis) events.now
+        ≡ Ok transcript.entries) }
+    ensures network { IfOk result (λ transcript. MadeBy transcript.network (setting_of setup.now genesis)
+        (runs.run (setting_of setup.now genesis) [] events.now)) }
+    ensures refused { IfErr result (λ refusal. is_memory refusal.error ≡ false
+        → runs.RunFrom (setting_of setup.now genesis) events.now ≡ Err refusal) }
     ensures typed { IfOk result (λ transcript. Each IsTyped transcript.entries) }
 {
     let transcript = run_few(alloc, setup, genesis, events)?;
@@ -107,9 +123,12 @@ fn run_few(
     genesis: Digest,
     events: &[Event],
 ) -> Result<Transcript, Refusal>
-    ensures done { IfOk result (λ transcript. runs.RunFrom (setting_of setup.now genesis) events.now ≡ Ok transcript.entries) }
-    ensures network { IfOk result (λ transcript. MadeBy transcript.network (setting_of setup.now genesis) (runs.run (setting_of setup.now genesis) [] events.now)) }
-    ensures refused { IfErr result (λ refusal. is_memory refusal.error ≡ false → runs.RunFrom (setting_of setup.now genesis) events.now ≡ Err refusal) }
+    ensures done { IfOk result (λ transcript. runs.RunFrom (setting_of setup.now genesis) events.now
+        ≡ Ok transcript.entries) }
+    ensures network { IfOk result (λ transcript. MadeBy transcript.network (setting_of setup.now genesis)
+        (runs.run (setting_of setup.now genesis) [] events.now)) }
+    ensures refused { IfErr result (λ refusal. is_memory refusal.error ≡ false
+        → runs.RunFrom (setting_of setup.now genesis) events.now ≡ Err refusal) }
 {
     if !are_few(setup, events) {
         return Err(refused(RunError::BadSetup(Field::Events), 0));
@@ -124,9 +143,15 @@ fn run_all(
     genesis: Digest,
     events: &[Event],
 ) -> Result<Transcript, Refusal>
-    ensures done { IfOk result (λ transcript. runs.unless_bad (setups.first_bad setup.now) (runs.transcript_of (runs.run (setting_of setup.now genesis) [] events.now)) ≡ Ok transcript.entries) }
-    ensures network { IfOk result (λ transcript. MadeBy transcript.network (setting_of setup.now genesis) (runs.run (setting_of setup.now genesis) [] events.now)) }
-    ensures refused { IfErr result (λ refusal. is_memory refusal.error ≡ false → runs.unless_bad (setups.first_bad setup.now) (runs.transcript_of (runs.run (setting_of setup.now genesis) [] events.now)) ≡ Err refusal) }
+    ensures done { IfOk result (λ transcript. runs.unless_bad (setups.first_bad setup.now)
+        (runs.transcript_of (runs.run (setting_of setup.now genesis) [] events.now))
+        ≡ Ok transcript.entries) }
+    ensures network { IfOk result (λ transcript. MadeBy transcript.network (setting_of setup.now genesis)
+        (runs.run (setting_of setup.now genesis) [] events.now)) }
+    ensures refused { IfErr result (λ refusal. is_memory refusal.error ≡ false
+        → runs.unless_bad (setups.first_bad setup.now)
+        (runs.transcript_of
+        (runs.run (setting_of setup.now genesis) [] events.now)) ≡ Err refusal) }
 {
     let mut network = match Network::with_genesis(alloc, setup, genesis) {
         Ok(network) => network,

@@ -37,7 +37,13 @@ pub(crate) fn one_packet(
     to: &Sequence<Node>,
     bytes: &Bytes,
 ) -> Result<Sequence<Packet>, AllocError>
-    ensures { IfOk result (λ packets. packets ≡ record { from = node_of member; channel = channel; to = to.now; bytes = bytes.now } ∷ []) }
+    ensures { IfOk result (λ packets. packets
+        ≡ record {
+          from = node_of member;
+          channel = channel;
+          to = to.now;
+          bytes = bytes.now;
+        } ∷ []) }
 {
     let mut packets = Sequence::new(alloc);
     packets.push(Packet {

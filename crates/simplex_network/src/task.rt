@@ -74,7 +74,8 @@ impl Task {
     // What comes of what the step is given.
     fn make(&mut self, given: Given) -> Stage
         ensures done { is_done result ≡ true }
-        ensures came { (setup : Setup) (member : ℕ) (life : Life) → HostStands setup member self.old.host (Lives life) → CameTo setup member life given self.old.now self.new.host result }
+        ensures came { (setup : Setup) (member : ℕ) (life : Life) → HostStands setup member self.old.host (Lives life)
+            → CameTo setup member life given self.old.now self.new.host result }
         ensures now { self.new.now ≡ self.old.now }
         ensures whole { is_failed_at result ≡ false }
     {

@@ -18,7 +18,8 @@ pub(crate) fn test(
     packets: &[Packet],
 ) -> Result<(), RunError>
     ensures none { OnOk result (IsUnforged setup.now records.now packets.now) }
-    ensures some { IfErr result (λ error. is_memory error ≡ false → IsForgedAs setup.now records.now packets.now error) }
+    ensures some { IfErr result (λ error. is_memory error ≡ false
+        → IsForgedAs setup.now records.now packets.now error) }
     ensures unfailed { IfErr result (λ error. is_failed error ≡ false) }
 {
     match records.first_forged(alloc, setup, packets)? {
@@ -36,7 +37,8 @@ pub(crate) fn test_heard(
     packets: &[Packet],
 ) -> Result<(), RunError>
     ensures none { OnOk result (IsPassed setup.now records.now node packets.now) }
-    ensures some { IfErr result (λ error. is_memory error ≡ false → IsStopped setup.now records.now node packets.now error) }
+    ensures some { IfErr result (λ error. is_memory error ≡ false
+        → IsStopped setup.now records.now node packets.now error) }
     ensures of { IfErr result (λ error. is_of_kind is_impersonator setup.now node.member ≡ true) }
     ensures unfailed { IfErr result (λ error. is_failed error ≡ false) }
 {

@@ -30,8 +30,10 @@ pub(crate) fn step_group<G: Gate, R: Threads + Sync>(
     requires some { 0 < length group.now }
     requires few { first + length group.now ≤ 2 ^ 21 }
     requires may { All (MayLend network.old) group.now }
-    ensures done { OnOk result (GroupMakes network.old network.new group.now entries.old entries.new) }
-    ensures refused { IfErr result (λ refusal. is_memory refusal.error ≡ false → GroupRefuses network.old group.now first refusal) }
+    ensures done { OnOk result
+        (GroupMakes network.old network.new group.now entries.old entries.new) }
+    ensures refused { IfErr result (λ refusal. is_memory refusal.error ≡ false
+        → GroupRefuses network.old group.now first refusal) }
 {
     // No more lanes than events: a place below their number leaves the same rest.
     let lanes = workers.min(group.len());
@@ -54,7 +56,8 @@ fn lend_all(
     requires may { All (MayLend network.old) group.now }
     ensures may { All (MayLend network.new) group.now }
     ensures shape { IfOk result (λ lanes. LanesHold Any workers 0 group.now lanes.items) }
-    ensures lends { IfOk result (λ lanes. LendsAll network.old network.new group.now workers lanes.items) }
+    ensures lends { IfOk result
+        (λ lanes. LendsAll network.old network.new group.now workers lanes.items) }
 {
     let mut lanes = empty_lanes(alloc, workers)?;
     let mut place = 0;
@@ -78,8 +81,10 @@ fn enter_all(
     requires few { first + length group.now ≤ 2 ^ 21 }
     requires may { All (MayLend network.old) group.now }
     requires shape { LanesHold Done (length lanes.items) 0 group.now lanes.items }
-    ensures done { OnOk result (EntersAll network.old network.new group.now lanes.items entries.old entries.new) }
-    ensures refused { IfErr result (λ refusal. is_memory refusal.error ≡ false → RefusesOne network.old group.now lanes.items first refusal) }
+    ensures done { OnOk result
+        (EntersAll network.old network.new group.now lanes.items entries.old entries.new) }
+    ensures refused { IfErr result (λ refusal. is_memory refusal.error ≡ false
+        → RefusesOne network.old group.now lanes.items first refusal) }
 {
     let mut lanes = lanes;
     let mut place = 0;

@@ -1,8 +1,7 @@
 //! A whole run, by several workers.
-ghost use Rattle.std.specs.Prelude.{◌≡◌, ◌<◌, ◌≤◌, ◌^◌, [], length, true, false, Ok, Err, IfOk, IfErr};
+ghost use Rattle.std.specs.Prelude.{◌≡◌, ◌<◌, ◌≤◌, ◌^◌, length, true, false, Ok, Err, IfOk, IfErr};
 ghost use Rattle.model_run.specs.Run as runs;
 ghost use Rattle.model_run.specs.Setting.{at_epoch_genesis};
-ghost use Rattle.model_run.specs.Setups as setups;
 ghost use Rattle.law_run.specs.Complete.{IsOneEach, IsPossible};
 ghost use Rattle.law_run.specs.Sayings.{Each};
 ghost use Rattle.law_run.specs.Fitting.{IsTyped};
@@ -10,7 +9,7 @@ ghost use Rattle.law_run.specs.Limits.{KeepsTheLimit};
 ghost use Rattle.law_run.specs.OneChain.{ReportOneChain};
 ghost use Rattle.law_run.specs.Safe.{RunsSafely};
 ghost use Rattle.simplex_network.specs.Answer.{is_memory};
-ghost use Rattle.simplex_network.specs.Stands.{MadeBy};
+ghost use Rattle.simplex_par.specs.Steps.{MadeOf, run_of_few};
 
 use crate::group::{push, refused, step_group};
 use law_run::{
@@ -38,9 +37,11 @@ pub fn run_network_par<G: Gate, R: Threads + Sync>(
     gate: &G,
 ) -> Result<Transcript, Refusal>
     requires { 0 < workers }
-    ensures done { IfOk result (λ transcript. runs.Run setup.now events.now ≡ Ok transcript.entries) }
-    ensures network { IfOk result (λ transcript. MadeBy transcript.network (at_epoch_genesis setup.now) (runs.run (at_epoch_genesis setup.now) [] events.now)) }
-    ensures refused { IfErr result (λ refusal. is_memory refusal.error ≡ false → runs.Run setup.now events.now ≡ Err refusal) }
+    ensures done { IfOk result (λ transcript. runs.Run setup.now events.now
+        ≡ Ok transcript.entries) }
+    ensures network { IfOk result (λ transcript. MadeOf transcript.network setup.now events.now) }
+    ensures refused { IfErr result (λ refusal. is_memory refusal.error ≡ false
+        → runs.Run setup.now events.now ≡ Err refusal) }
     // Each certificate that stands in the transcript and verifies is backed and of the setup's epoch, no two of them
     // conflict, and what an engine says for a certificate verifies; of each honest member each vote was stored first, the
     // votes of each event that no stop broke are those that the rules give, and over all its lives they keep their order, by
@@ -53,8 +54,10 @@ pub fn run_network_par<G: Gate, R: Threads + Sync>(
     // One entry for each event: as many, numbered from 1, each of the node that its event names.
     ensures entries { IfOk result (λ transcript. IsOneEach transcript.entries events.now) }
     // A valid setup and events that each meet their conditions make a transcript, or want memory; and nothing else does.
-    ensures complete { IfErr result (λ refusal. IsPossible (at_epoch_genesis setup.now) events.now → is_memory refusal.error ≡ true) }
-    ensures possible { IfOk result (λ transcript. IsPossible (at_epoch_genesis setup.now) events.now) }
+    ensures complete { IfErr result (λ refusal. IsPossible (at_epoch_genesis setup.now) events.now
+        → is_memory refusal.error ≡ true) }
+    ensures possible { IfOk result
+        (λ transcript. IsPossible (at_epoch_genesis setup.now) events.now) }
 {
     runs_are_safe();
     transcripts_report_one_chain();
@@ -75,9 +78,11 @@ fn run_typed<G: Gate, R: Threads + Sync>(
     gate: &G,
 ) -> Result<Transcript, Refusal>
     requires { 0 < workers }
-    ensures done { IfOk result (λ transcript. runs.Run setup.now events.now ≡ Ok transcript.entries) }
-    ensures network { IfOk result (λ transcript. MadeBy transcript.network (at_epoch_genesis setup.now) (runs.run (at_epoch_genesis setup.now) [] events.now)) }
-    ensures refused { IfErr result (λ refusal. is_memory refusal.error ≡ false → runs.Run setup.now events.now ≡ Err refusal) }
+    ensures done { IfOk result (λ transcript. runs.Run setup.now events.now
+        ≡ Ok transcript.entries) }
+    ensures network { IfOk result (λ transcript. MadeOf transcript.network setup.now events.now) }
+    ensures refused { IfErr result (λ refusal. is_memory refusal.error ≡ false
+        → runs.Run setup.now events.now ≡ Err refusal) }
     ensures typed { IfOk result (λ transcript. Each IsTyped transcript.entries) }
 {
     let transcript = run_few(rt, alloc, setup, events, workers, gate)?;
@@ -96,9 +101,11 @@ fn run_few<G: Gate, R: Threads + Sync>(
     gate: &G,
 ) -> Result<Transcript, Refusal>
     requires { 0 < workers }
-    ensures done { IfOk result (λ transcript. runs.Run setup.now events.now ≡ Ok transcript.entries) }
-    ensures network { IfOk result (λ transcript. MadeBy transcript.network (at_epoch_genesis setup.now) (runs.run (at_epoch_genesis setup.now) [] events.now)) }
-    ensures refused { IfErr result (λ refusal. is_memory refusal.error ≡ false → runs.Run setup.now events.now ≡ Err refusal) }
+    ensures done { IfOk result (λ transcript. runs.Run setup.now events.now
+        ≡ Ok transcript.entries) }
+    ensures network { IfOk result (λ transcript. MadeOf transcript.network setup.now events.now) }
+    ensures refused { IfErr result (λ refusal. is_memory refusal.error ≡ false
+        → runs.Run setup.now events.now ≡ Err refusal) }
 {
     if !are_few(setup, events) {
         return Err(refused(RunError::BadSetup(Field::Events), 0));
@@ -117,9 +124,11 @@ fn run_all<G: Gate, R: Threads + Sync>(
 ) -> Result<Transcript, Refusal>
     requires workers { 0 < workers }
     requires few { length events.now ≤ 2 ^ 20 }
-    ensures done { IfOk result (λ transcript. runs.unless_bad (setups.first_bad setup.now) (runs.transcript_of (runs.run (at_epoch_genesis setup.now) [] events.now)) ≡ Ok transcript.entries) }
-    ensures network { IfOk result (λ transcript. MadeBy transcript.network (at_epoch_genesis setup.now) (runs.run (at_epoch_genesis setup.now) [] events.now)) }
-    ensures refused { IfErr result (λ refusal. is_memory refusal.error ≡ false → runs.unless_bad (setups.first_bad setup.now) (runs.transcript_of (runs.run (at_epoch_genesis setup.now) [] events.now)) ≡ Err refusal) }
+    ensures done { IfOk result (λ transcript. run_of_few setup.now events.now
+        ≡ Ok transcript.entries) }
+    ensures network { IfOk result (λ transcript. MadeOf transcript.network setup.now events.now) }
+    ensures refused { IfErr result (λ refusal. is_memory refusal.error ≡ false
+        → run_of_few setup.now events.now ≡ Err refusal) }
 {
     let mut network = match Network::new(alloc, setup) {
         Ok(network) => network,

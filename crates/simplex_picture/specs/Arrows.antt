@@ -75,7 +75,8 @@ fate_of false false = Some fates.Lost
 abbrev pub stub_to : Cut → (Taking → Bool) → (Taking → Bool) → Ref → Packet → Node → Option Arrow
 stub_to cut drawn any at packet node =
     let taking : Taking = record { packet = at; node = node } in
-    if shows_node cut node then option_map (λ fate. arrow_of taking fate packet) (fate_of (drawn taking) (any taking)) else None
+    if shows_node cut node then option_map (λ fate. arrow_of taking fate packet) (fate_of (drawn taking) (any taking))
+    else None
 
 -- the stubs of packets that an event sent, the first of them at this place
 abbrev pub stubs_from : Cut → (Taking → Bool) → (Taking → Bool) → ℕ → ℕ → List Packet → List Arrow

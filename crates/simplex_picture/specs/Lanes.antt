@@ -39,7 +39,8 @@ lane_of cut events entries kind node =
 
 -- the lane of a twin's second half; no other member has one
 abbrev pub second_lane : Cut → List Event → List Entry → ℕ → MemberKind → List Lane
-second_lane cut events entries member kinds.Twin = lane_of cut events entries kinds.Twin (record { member = member; half = 1 })
+second_lane cut events entries member kinds.Twin =
+    lane_of cut events entries kinds.Twin (record { member = member; half = 1 })
 second_lane cut events entries member _ = []
 
 -- the lanes of a member

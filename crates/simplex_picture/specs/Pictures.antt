@@ -12,4 +12,8 @@ use Rattle.simplex_picture.specs.Arrows.{arrows_of}
 -- the picture of this part of a run of a setup, with its events and an entry for each
 abbrev pub picture_of : Cut → Setup → List Event → List Entry → Picture
 picture_of cut setup events entries =
-    record { lanes = lanes_of cut setup events entries; marks = marks_of cut events entries; arrows = arrows_of cut entries }
+    record {
+      lanes = lanes_of cut setup events entries;
+      marks = marks_of cut events entries;
+      arrows = arrows_of cut entries;
+    }

@@ -30,8 +30,10 @@ sign_of_report (activities.Nullify v) = None
 sign_of_report (activities.Nullification c) = None
 sign_of_report (activities.Finalize v) = None
 sign_of_report (activities.Finalization c) = Some (signs.Final c.proposal.round.view)
-sign_of_report (activities.ConflictingNotarize e) = Some (signs.Evidence e.first.attestation.signer e.first.proposal.round.view)
-sign_of_report (activities.ConflictingFinalize e) = Some (signs.Evidence e.first.attestation.signer e.first.proposal.round.view)
+sign_of_report (activities.ConflictingNotarize e) =
+    Some (signs.Evidence e.first.attestation.signer e.first.proposal.round.view)
+sign_of_report (activities.ConflictingFinalize e) =
+    Some (signs.Evidence e.first.attestation.signer e.first.proposal.round.view)
 sign_of_report (activities.NullifyFinalize e) = Some (signs.Evidence e.nullify.attestation.signer e.nullify.round.view)
 
 -- what a call shows, if anything

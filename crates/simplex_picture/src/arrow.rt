@@ -55,7 +55,9 @@ fn push_taken(
     entries: &[Entry],
     entry: &Entry,
 ) -> Result<(), AllocError>
-    ensures { OnOk result (arrows.new ≡ arrows.old ++ option_to_list (ways.arrow_to entries.now entry.now.event (ways.taking_of entry.now))) }
+    ensures { OnOk result (arrows.new
+        ≡ arrows.old ++ option_to_list
+        (ways.arrow_to entries.now entry.now.event (ways.taking_of entry.now))) }
 {
     let Some(taking) = taking_of(entry) else {
         return Ok(());
@@ -75,7 +77,8 @@ fn push_taken(
 
 // What becomes of a packet that no drawn event took.
 fn fate_of(takings: &Takings, taking: &Taking) -> Option<Fate>
-    ensures { result ≡ ways.fate_of (has takings.now.drawn taking.now) (has takings.now.all taking.now) }
+    ensures { result ≡ ways.fate_of (has takings.now.drawn taking.now)
+        (has takings.now.all taking.now) }
 {
     if takings.drawn.contains(taking) {
         None
@@ -98,7 +101,8 @@ fn push_stub(
 ) -> Result<(), AllocError>
     requires { message.now ≡ message_of packet.now }
     ensures { OnOk result (arrows.new ≡ arrows.old
-        ++ option_to_list (ways.stub_to cut.now (has takings.now.drawn) (has takings.now.all) at packet.now to)) }
+        ++ option_to_list
+        (ways.stub_to cut.now (has takings.now.drawn) (has takings.now.all) at packet.now to)) }
 {
     if !cut.shows_node(to) {
         return Ok(());
@@ -129,7 +133,9 @@ fn push_stubs(
     packet: &Packet,
 ) -> Result<(), AllocError>
     ensures { OnOk result (arrows.new ≡ arrows.old
-        ++ filter_map (ways.stub_to cut.now (has takings.now.drawn) (has takings.now.all) at packet.now) packet.now.to) }
+        ++ filter_map (ways.stub_to cut.now (has takings.now.drawn)
+        (has takings.now.all) at packet.now)
+        packet.now.to) }
 {
     let message = packet_message(alloc, packet)?;
     let mut rest = packet.to.as_slice();
@@ -150,7 +156,8 @@ fn push_sent(
     packets: &[Packet],
 ) -> Result<(), AllocError>
     ensures { OnOk result (arrows.new ≡ arrows.old
-        ++ ways.stubs_from cut.now (has takings.now.drawn) (has takings.now.all) event 0 packets.now) }
+        ++ ways.stubs_from cut.now (has takings.now.drawn)
+        (has takings.now.all) event 0 packets.now) }
 {
     for (place, packet) in packets.iter().enumerate() {
         let at = Ref {
@@ -172,7 +179,8 @@ fn push_entry(
     entry: &Entry,
 ) -> Result<(), AllocError>
     ensures { OnOk result (arrows.new ≡ arrows.old
-        ++ ways.arrows_at cut.now (has takings.now.drawn) (has takings.now.all) entries.now entry.now) }
+        ++ ways.arrows_at cut.now (has takings.now.drawn)
+        (has takings.now.all) entries.now entry.now) }
 {
     push_taken(alloc, arrows, entries, entry)?;
     push_sent(
@@ -193,7 +201,8 @@ fn arrows_with(
     entries: &[Entry],
 ) -> Result<Sequence<Arrow>, AllocError>
     ensures { IfOk result (λ arrows. arrows
-        ≡ ways.arrows_among cut.now (has takings.now.drawn) (has takings.now.all) entries.now entries.now) }
+        ≡ ways.arrows_among cut.now (has takings.now.drawn)
+        (has takings.now.all) entries.now entries.now) }
 {
     let mut arrows = Sequence::new(alloc);
     let mut rest = entries;

@@ -71,7 +71,8 @@ fn push_lane(
     kind: MemberKind,
     node: Node,
 ) -> Result<(), AllocError>
-    ensures { OnOk result (lanes.new ≡ lanes.old ++ rows.lane_of cut.now events.now entries.now kind node) }
+    ensures { OnOk result (lanes.new
+        ≡ lanes.old ++ rows.lane_of cut.now events.now entries.now kind node) }
 {
     if cut.shows_node(node) {
         lanes.push(Lane {
@@ -92,7 +93,8 @@ fn push_member(
     member: u64,
     kind: MemberKind,
 ) -> Result<(), AllocError>
-    ensures { OnOk result (lanes.new ≡ lanes.old ++ rows.lanes_of_member cut.now events.now entries.now member kind) }
+    ensures { OnOk result (lanes.new
+        ≡ lanes.old ++ rows.lanes_of_member cut.now events.now entries.now member kind) }
 {
     push_lane(lanes, cut, events, entries, kind, Node { member, half: 0 })?;
     match kind {
@@ -109,7 +111,8 @@ pub(crate) fn lanes_of(
     events: &[Event],
     entries: &[Entry],
 ) -> Result<Sequence<Lane>, AllocError>
-    ensures { IfOk result (λ lanes. lanes ≡ rows.lanes_of cut.now setup.now events.now entries.now) }
+    ensures { IfOk result (λ lanes. lanes
+        ≡ rows.lanes_of cut.now setup.now events.now entries.now) }
 {
     let mut lanes = Sequence::new(alloc);
     for (member, kind) in setup.members.as_slice().iter().enumerate() {

@@ -38,7 +38,8 @@ fn read_vote(bytes: &[u8]) -> Message
 }
 
 fn read_certificate(alloc: Global, bytes: &[u8]) -> Result<Message, AllocError>
-    ensures { IfOk result (λ message. message ≡ carried.certificate_message (whole certificate bytes.now)) }
+    ensures { IfOk result (λ message. message
+        ≡ carried.certificate_message (whole certificate bytes.now)) }
 {
     match Certificate::decode(alloc, bytes) {
         Ok(certificate) => Ok(Message::Certificate(certificate.kind(), certificate.view())),
@@ -58,7 +59,8 @@ fn message_in(body: &ResolverBody) -> Message
 }
 
 fn read_resolver(alloc: Global, bytes: &[u8]) -> Result<Message, AllocError>
-    ensures { IfOk result (λ message. message ≡ carried.resolver_message_of (whole resolver_message bytes.now)) }
+    ensures { IfOk result (λ message. message
+        ≡ carried.resolver_message_of (whole resolver_message bytes.now)) }
 {
     match ResolverMessage::decode(alloc, bytes) {
         Ok(message) => Ok(message_in(&message.body)),

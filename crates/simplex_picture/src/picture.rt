@@ -29,7 +29,8 @@ pub fn draw(
     events: &[Event],
     entries: &[Entry],
 ) -> Result<Picture, AllocError>
-    ensures { IfOk result (λ picture. picture ≡ picture_of cut.now setup.now events.now entries.now) }
+    ensures { IfOk result (λ picture. picture
+        ≡ picture_of cut.now setup.now events.now entries.now) }
 {
     Ok(Picture {
         lanes: lanes_of(alloc, cut, setup, events, entries)?,

@@ -40,7 +40,8 @@ pub(crate) struct Takings {
 }
 
 fn add(takings: &mut HashSet<Taking>, taking: Taking) -> Result<(), AllocError>
-    ensures { OnOk result ((q : Taking) → has takings.new q ≡ (arrows.is_same_taking taking q || has takings.old q)) }
+    ensures { OnOk result ((q : Taking)
+        → has takings.new q ≡ (arrows.is_same_taking taking q || has takings.old q)) }
 {
     takings.insert(taking)?;
     Ok(())
@@ -48,7 +49,8 @@ fn add(takings: &mut HashSet<Taking>, taking: Taking) -> Result<(), AllocError>
 
 // Adds what the entry took, if it took a packet.
 fn add_taken(takings: &mut HashSet<Taking>, entry: &Entry) -> Result<(), AllocError>
-    ensures { OnOk result ((q : Taking) → has takings.new q ≡ (arrows.takes entry.now q || has takings.old q)) }
+    ensures { OnOk result ((q : Taking)
+        → has takings.new q ≡ (arrows.takes entry.now q || has takings.old q)) }
 {
     match taking_of(entry) {
         Some(taking) => add(takings, taking),
@@ -58,7 +60,8 @@ fn add_taken(takings: &mut HashSet<Taking>, entry: &Entry) -> Result<(), AllocEr
 
 // Adds what the entry took, if it is drawn.
 fn add_drawn(takings: &mut HashSet<Taking>, cut: &Cut, entry: &Entry) -> Result<(), AllocError>
-    ensures { OnOk result ((q : Taking) → has takings.new q ≡ (arrows.takes_drawn cut.now entry.now q || has takings.old q)) }
+    ensures { OnOk result ((q : Taking)
+        → has takings.new q ≡ (arrows.takes_drawn cut.now entry.now q || has takings.old q)) }
 {
     if cut.shows(entry) {
         add_taken(takings, entry)
@@ -69,7 +72,8 @@ fn add_drawn(takings: &mut HashSet<Taking>, cut: &Cut, entry: &Entry) -> Result<
 
 // The packets that the entries took.
 fn all_taken(alloc: Global, entries: &[Entry]) -> Result<HashSet<Taking>, AllocError>
-    ensures { IfOk result (λ takings. (q : Taking) → has takings q ≡ arrows.is_taken entries.now q) }
+    ensures { IfOk result (λ takings. (q : Taking)
+        → has takings q ≡ arrows.is_taken entries.now q) }
 {
     let mut takings = HashSet::new(alloc);
     let mut rest = entries;
@@ -82,7 +86,8 @@ fn all_taken(alloc: Global, entries: &[Entry]) -> Result<HashSet<Taking>, AllocE
 
 // The packets that those entries took that are drawn.
 fn drawn_taken(alloc: Global, cut: &Cut, entries: &[Entry]) -> Result<HashSet<Taking>, AllocError>
-    ensures { IfOk result (λ takings. (q : Taking) → has takings q ≡ arrows.is_taken_drawn cut.now entries.now q) }
+    ensures { IfOk result (λ takings. (q : Taking)
+        → has takings q ≡ arrows.is_taken_drawn cut.now entries.now q) }
 {
     let mut takings = HashSet::new(alloc);
     let mut rest = entries;
@@ -95,8 +100,10 @@ fn drawn_taken(alloc: Global, cut: &Cut, entries: &[Entry]) -> Result<HashSet<Ta
 
 /// The packets that the entries took, and those among them that are drawn.
 pub(crate) fn takings_of(alloc: Global, cut: &Cut, entries: &[Entry]) -> Result<Takings, AllocError>
-    ensures all { IfOk result (λ takings. (q : Taking) → has takings.all q ≡ arrows.is_taken entries.now q) }
-    ensures drawn { IfOk result (λ takings. (q : Taking) → has takings.drawn q ≡ arrows.is_taken_drawn cut.now entries.now q) }
+    ensures all { IfOk result (λ takings. (q : Taking)
+        → has takings.all q ≡ arrows.is_taken entries.now q) }
+    ensures drawn { IfOk result (λ takings. (q : Taking)
+        → has takings.drawn q ≡ arrows.is_taken_drawn cut.now entries.now q) }
 {
     let all = all_taken(alloc, entries)?;
     let drawn = drawn_taken(alloc, cut, entries)?;

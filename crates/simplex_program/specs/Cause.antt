@@ -47,7 +47,8 @@ events_of bytes = events_in (input_of bytes)
 -- the whole source was read: it says these events, and leads to this ending
 abbrev pub LeadsTo : Option (List ℕ) → Option (List ℕ) → List Event → Ending → Type 0
 LeadsTo old new events ending =
-    (bytes : List ℕ) × TakesAll old bytes new × (length bytes ≤ LIMIT) × (events_of bytes ≡ events) × (ending_of bytes ≡ ending)
+    (bytes : List ℕ) × TakesAll old bytes new × (length bytes ≤ LIMIT) × (events_of bytes ≡ events)
+    × (ending_of bytes ≡ ending)
 
 -- the words ask for events that a number makes, nothing was read, and the run of these leads to this ending
 abbrev pub IsGenerated : List (String Global) → Option (List ℕ) → Option (List ℕ) → List Event → Ending → Type 0
@@ -62,10 +63,13 @@ IsRunOf words old new tellings.Summary events ending = IsGenerated words old new
 
 -- Why an ending is chosen, before its text is written: by the words, by what is left of the source before and after,
 -- and by its count of faults before and after.
-abbrev pub Cause : List (String Global) → Option (List ℕ) → Option (List ℕ) → ℕ → ℕ → Telling → List Event → Ending → Type 0
+abbrev pub Cause : List (String Global) → Option (List ℕ) → Option (List ℕ) → ℕ → ℕ → Telling
+    → List Event → Ending → Type 0
 Cause words old new before now telling events (Ran entries) = IsRunOf words old new telling events (Ran entries)
-Cause words old new before now telling events (Refused error event) = IsRunOf words old new telling events (Refused error event)
-Cause words old new before now telling events (BadInput place) = AsksForRun words × LeadsTo old new events (BadInput place)
+Cause words old new before now telling events (Refused error event) =
+    IsRunOf words old new telling events (Refused error event)
+Cause words old new before now telling events (BadInput place) =
+    AsksForRun words × LeadsTo old new events (BadInput place)
 Cause words old new before now telling events BadWords = (¬ AreTaken words) × (new ≡ old)
 Cause words old new before now telling events TooLong = AsksForRun words × TakesOver LIMIT old new
 Cause words old new before now telling events ReadFault = AsksForRun words × Rose before now × TakesWithin LIMIT old new

@@ -8,9 +8,11 @@ use Rattle.simplex_program.specs.declared.command.TheConstants.{MOST_STEPS, MOST
 -- `run`; `par` and how many workers; or `gen`, a number below 2^64 and how many events, each number as it is printed
 abbrev pub Says : List (String Global) → Command → Type 0
 Says words commands.Run = map string_bytes words ≡ codes "run" ∷ []
-Says words (commands.Par workers) = (map string_bytes words ≡ codes "par" ∷ decimal workers ∷ []) × (1 ≤ workers) × (workers ≤ MOST_WORKERS)
+Says words (commands.Par workers) =
+    (map string_bytes words ≡ codes "par" ∷ decimal workers ∷ []) × (1 ≤ workers) × (workers ≤ MOST_WORKERS)
 Says words (commands.Gen number steps) =
-    (map string_bytes words ≡ codes "gen" ∷ decimal number ∷ decimal steps ∷ []) × (number < 2 ^ 64) × (steps ≤ MOST_STEPS)
+    (map string_bytes words ≡ codes "gen" ∷ decimal number ∷ decimal steps ∷ []) × (number < 2 ^ 64)
+    × (steps ≤ MOST_STEPS)
 
 -- the words ask for something
 abbrev pub AreTaken : List (String Global) → Type 0

@@ -73,7 +73,8 @@ fn generation_of(
     steps: &String,
 ) -> Result<Option<Command>, AllocError>
     ensures some { IfOk result (λ it. IfSome it (Says (word.now ∷ number.now ∷ steps.now ∷ []))) }
-    ensures none { IfOk result (λ it. IfNone it (¬ AreTaken (word.now ∷ number.now ∷ steps.now ∷ []))) }
+    ensures none { IfOk result
+        (λ it. IfNone it (¬ AreTaken (word.now ∷ number.now ∷ steps.now ∷ []))) }
 {
     if word.as_str() != "gen" {
         return Ok(None);
@@ -92,8 +93,10 @@ fn generation_of(
 
 // The number that a word is. It is written as it would be printed.
 fn number_in(alloc: Global, word: &String) -> Result<Option<u64>, AllocError>
-    ensures some { IfOk result (λ it. IfSome it (λ number. string_bytes word.now ≡ decimal number)) }
-    ensures none { IfOk result (λ it. IfNone it ((number : ℕ) → number < 2 ^ 64 → string_bytes word.now ≡ decimal number → ⊥)) }
+    ensures some { IfOk result (λ it. IfSome it
+        (λ number. string_bytes word.now ≡ decimal number)) }
+    ensures none { IfOk result (λ it. IfNone it ((number : ℕ) → number < 2 ^ 64
+        → string_bytes word.now ≡ decimal number → ⊥)) }
 {
     let Ok(number) = word.as_str().parse::<u64>() else {
         return Ok(None);

@@ -16,7 +16,7 @@ ghost use Rattle.simplex_program.specs.declared.command.Command.TheVariants as c
 ghost use Rattle.simplex_program.specs.declared.text.Telling.{Telling};
 ghost use Rattle.simplex_program.specs.declared.text.Telling.TheVariants as tellings;
 ghost use Rattle.simplex_program.specs.Words.{Says, AreTaken, AsksForRun};
-ghost use Rattle.simplex_program.specs.Whole.{WholeRun, SaysWhole};
+ghost use Rattle.simplex_program.specs.Whole.{WholeRun, SaysWhole, OnDone};
 ghost use Rattle.simplex_program.specs.Cause.{ending_of_run, ending_of, ending_for, events_of, Cause, IsCut, IsFault};
 ghost use Rattle.simplex_generator.specs.Setup.{setup_of};
 ghost use Rattle.simplex_generator.specs.Summary.{summary};
@@ -65,10 +65,11 @@ fn run_events<R: Threads + Sync>(
     events: Sequence<Event>,
     telling: Telling,
 ) -> Result<Decision, AllocError>
-    ensures exit { IfOk result (λ decision. ending_of_run (Run setup.now events) ≡ told decision.exit) }
+    ensures exit { IfOk result (λ decision. ending_of_run (Run setup.now events)
+        ≡ told decision.exit) }
     ensures events { IfOk result (λ decision. decision.events ≡ events) }
     ensures telling { IfOk result (λ decision. decision.telling ≡ telling) }
-    ensures whole { IfOk result (λ decision. (transcript : Transcript) → decision.exit ≡ Exit.Done transcript → WholeRun setup.now events transcript) }
+    ensures whole { IfOk result (λ decision. OnDone decision.exit (WholeRun setup.now events)) }
 {
     match making.run(rt, alloc, setup, events.as_slice()) {
         Ok(transcript) => Ok(Decision {
@@ -103,7 +104,7 @@ fn answer<R: Threads + Sync>(
     ensures exit { IfOk result (λ decision. ending_of bytes.items ≡ told decision.exit) }
     ensures events { IfOk result (λ decision. events_of bytes.items ≡ decision.events) }
     ensures telling { IfOk result (λ decision. decision.telling ≡ tellings.Lines) }
-    ensures whole { IfOk result (λ decision. (transcript : Transcript) → decision.exit ≡ Exit.Done transcript → SaysWhole bytes.items transcript) }
+    ensures whole { IfOk result (λ decision. OnDone decision.exit (SaysWhole bytes.items)) }
 {
     let read = read_input(alloc, &bytes)?;
     drop(bytes);
@@ -124,8 +125,10 @@ fn answer_source<S: Source, R: Threads + Sync>(
     making: Making,
     source: &mut S,
 ) -> Decision
-    ensures cause { (words : List (String Global)) → AsksForRun words → Cause words (S.left source.old) (S.left source.new)
-        (S.fault_count source.old) (S.fault_count source.new) result.telling result.events (told result.exit) }
+    ensures cause { (words : List (String Global)) → AsksForRun words
+        → Cause words (S.left source.old) (S.left source.new)
+        (S.fault_count source.old)
+        (S.fault_count source.new) result.telling result.events (told result.exit) }
     ensures telling { result.telling ≡ tellings.Lines }
     ensures whole { (transcript : Transcript) → result.exit ≡ Exit.Done transcript
         → (bytes : List ℕ) × TakesAll (S.left source.old) bytes (S.left source.new)
@@ -149,10 +152,12 @@ fn answer_number<R: Threads + Sync>(
     number: u64,
     steps: u64,
 ) -> Result<Decision, AllocError>
-    ensures exit { IfOk result (λ decision. ending_of_run (Run (setup_of number) (generated number steps)) ≡ told decision.exit) }
+    ensures exit { IfOk result (λ decision. ending_of_run (Run (setup_of number) (generated number steps))
+        ≡ told decision.exit) }
     ensures events { IfOk result (λ decision. decision.events ≡ generated number steps) }
     ensures telling { IfOk result (λ decision. decision.telling ≡ tellings.Summary) }
-    ensures whole { IfOk result (λ decision. (transcript : Transcript) → decision.exit ≡ Exit.Done transcript → WholeRun (setup_of number) (generated number steps) transcript) }
+    ensures whole { IfOk result (λ decision.
+        OnDone decision.exit (WholeRun (setup_of number) (generated number steps))) }
 {
     let (setup, events) = gen_run(alloc, number, steps)?;
     let events = Sequence::from_vec(events);
@@ -170,7 +175,8 @@ fn answer_number<R: Threads + Sync>(
 // The exit of a number, where there is memory for it.
 #[tactic(auto, using(crate::proofs::Causes::generates, crate::proofs::Causes::wants_memory))]
 fn generate<R: Threads + Sync>(rt: &R, alloc: Global, number: u64, steps: u64) -> Decision
-    ensures cause { (words : List (String Global)) (left : Option (List ℕ)) (faults : ℕ) → Says words (commands.Gen number steps)
+    ensures cause { (words : List (String Global)) (left : Option (List ℕ)) (faults : ℕ)
+        → Says words (commands.Gen number steps)
         → Cause words left left faults faults result.telling result.events (told result.exit) }
     ensures whole { (transcript : Transcript) → result.exit ≡ Exit.Done transcript
         → (result.telling ≡ tellings.Summary) × (result.events ≡ generated number steps)
@@ -191,12 +197,14 @@ fn decide<S: Source, R: Threads + Sync>(
     source: &mut S,
 ) -> Decision
     ensures cause { Cause words.now (S.left source.old) (S.left source.new)
-        (S.fault_count source.old) (S.fault_count source.new) result.telling result.events (told result.exit) }
+        (S.fault_count source.old)
+        (S.fault_count source.new) result.telling result.events (told result.exit) }
     ensures whole { (transcript : Transcript) → AsksForRun words.now → result.exit ≡ Exit.Done transcript
         → (result.telling ≡ tellings.Lines)
         × ((bytes : List ℕ) × TakesAll (S.left source.old) bytes (S.left source.new)
         × (SaysWhole bytes transcript × (events_of bytes ≡ result.events))) }
-    ensures generated { (number steps : ℕ) (transcript : Transcript) → Says words.now (commands.Gen number steps) → result.exit ≡ Exit.Done transcript
+    ensures generated { (number steps : ℕ) (transcript : Transcript) → Says words.now (commands.Gen number steps)
+        → result.exit ≡ Exit.Done transcript
         → (result.telling ≡ tellings.Summary) × (result.events ≡ generated number steps)
         × WholeRun (setup_of number) (generated number steps) transcript }
 {
@@ -216,10 +224,13 @@ fn decide<S: Source, R: Threads + Sync>(
 fn tell<K: Sink>(alloc: Global, decision: Decision, sink: &mut K) -> Exit
     requires { told decision.exit ≡ endings.WriteFault → ⊥ }
     ensures whole { ((result ≡ decision.exit)
-        × Adds (K.written sink.old) (text_of decision.telling decision.events (told decision.exit)) (K.written sink.new))
+        × Adds (K.written sink.old) (text_of decision.telling decision.events (told decision.exit))
+        (K.written sink.new))
         ⊎ IsCut (told result) }
-    ensures part { AddsPart (K.written sink.old) (text_of decision.telling decision.events (told decision.exit)) (K.written sink.new) }
-    ensures fault { told result ≡ endings.WriteFault → Rose (K.fault_count sink.old) (K.fault_count sink.new) }
+    ensures part { AddsPart (K.written sink.old) (text_of decision.telling decision.events (told decision.exit))
+        (K.written sink.new) }
+    ensures fault { told result ≡ endings.WriteFault
+        → Rose (K.fault_count sink.old) (K.fault_count sink.new) }
 {
     let Ok(text) = text(
         alloc,
@@ -253,7 +264,8 @@ pub fn program<S: Source, K: Sink, R: Threads + Sync>(
         × ((told result ≡ endings.BadWords) ⊎ IsCut (told result)) }
 
     // More bytes than the limit were taken exactly where the input is too long, unless its text could not be written.
-    ensures too_long { told result ≡ endings.TooLong → TakesOver LIMIT (S.left source.old) (S.left source.new) }
+    ensures too_long { told result ≡ endings.TooLong
+        → TakesOver LIMIT (S.left source.old) (S.left source.new) }
     ensures within { TakesWithin LIMIT (S.left source.old) (S.left source.new)
         ⊎ (told result ≡ endings.TooLong) ⊎ IsCut (told result) }
 
@@ -274,17 +286,21 @@ pub fn program<S: Source, K: Sink, R: Threads + Sync>(
     ensures done { (transcript : Transcript) → AsksForRun words.now → result ≡ Exit.Done transcript
         → (bytes : List ℕ) × TakesAll (S.left source.old) bytes (S.left source.new)
         × ((says : SaysWhole bytes transcript)
-        × Adds (K.written sink.old) (PrintedRun says.input.events transcript.entries) (K.written sink.new)) }
+        × Adds (K.written sink.old) (PrintedRun says.input.events transcript.entries)
+        (K.written sink.new)) }
 
     // For events that a number makes nothing is read. The exit is that of their run, unless writing or memory failed.
     ensures generates { (number steps : ℕ) → Says words.now (commands.Gen number steps)
         → (S.left source.new ≡ S.left source.old)
-        × ((told result ≡ ending_of_run (Run (setup_of number) (generated number steps))) ⊎ IsCut (told result)) }
+        × ((told result ≡ ending_of_run
+        (Run (setup_of number) (generated number steps))) ⊎ IsCut (told result)) }
 
     // Their run is whole and safe in the same way, and the line that sums it up was written.
-    ensures summed { (number steps : ℕ) (transcript : Transcript) → Says words.now (commands.Gen number steps) → result ≡ Exit.Done transcript
+    ensures summed { (number steps : ℕ) (transcript : Transcript) → Says words.now (commands.Gen number steps)
+        → result ≡ Exit.Done transcript
         → WholeRun (setup_of number) (generated number steps) transcript
-        × Adds (K.written sink.old) (summary (generated number steps) transcript.entries) (K.written sink.new) }
+        × Adds (K.written sink.old) (summary (generated number steps) transcript.entries)
+        (K.written sink.new) }
 
     // A fault comes only where a count of faults rose.
     ensures read_fault { told result ≡ endings.ReadFault
@@ -294,7 +310,8 @@ pub fn program<S: Source, K: Sink, R: Threads + Sync>(
 
     // A source that tells its bytes is answered by the exit that they lead to, unless reading, writing or memory failed.
     ensures answer { AsksForRun words.now
-        → IfSome (S.left source.old) (λ bytes. (told result ≡ ending_for bytes) ⊎ IsFault (told result)) }
+        → IfSome (S.left source.old)
+        (λ bytes. (told result ≡ ending_for bytes) ⊎ IsFault (told result)) }
 
     // What is written is the text of the exit, or where writing or memory failed the first part of the text of an
     // ending that had its cause.
@@ -302,7 +319,8 @@ pub fn program<S: Source, K: Sink, R: Threads + Sync>(
         × Cause words.now (S.left source.old) (S.left source.new)
         (S.fault_count source.old) (S.fault_count source.new) telling events ending
         × AddsPart (K.written sink.old) (text_of telling events ending) (K.written sink.new)
-        × (((told result ≡ ending) × Adds (K.written sink.old) (text_of telling events ending) (K.written sink.new))
+        × (((told result ≡ ending)
+        × Adds (K.written sink.old) (text_of telling events ending) (K.written sink.new))
         ⊎ IsCut (told result)))) }
 {
     let decision = decide(rt, alloc, words, source);

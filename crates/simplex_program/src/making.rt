@@ -41,12 +41,17 @@ impl Making {
         setup: &Setup,
         events: &[Event],
     ) -> Result<Transcript, Refusal>
-        ensures done { IfOk result (λ transcript. Run setup.now events.now ≡ Ok transcript.entries) }
-        ensures network { IfOk result (λ transcript. MadeBy transcript.network (at_epoch_genesis setup.now) (run (at_epoch_genesis setup.now) [] events.now)) }
-        ensures refused { IfErr result (λ refusal. is_memory refusal.error ≡ false → Run setup.now events.now ≡ Err refusal) }
-        ensures safe { IfOk result (λ transcript. RunsSafely (at_epoch_genesis setup.now) events.now) }
+        ensures done { IfOk result (λ transcript. Run setup.now events.now
+            ≡ Ok transcript.entries) }
+        ensures network { IfOk result (λ transcript. MadeBy transcript.network (at_epoch_genesis setup.now)
+            (run (at_epoch_genesis setup.now) [] events.now)) }
+        ensures refused { IfErr result (λ refusal. is_memory refusal.error ≡ false
+            → Run setup.now events.now ≡ Err refusal) }
+        ensures safe { IfOk result
+            (λ transcript. RunsSafely (at_epoch_genesis setup.now) events.now) }
         ensures one_chain { IfOk result (λ transcript. ReportOneChain transcript.entries) }
-        ensures limit { IfOk result (λ transcript. Each (KeepsTheLimit setup.now) transcript.entries) }
+        ensures limit { IfOk result
+            (λ transcript. Each (KeepsTheLimit setup.now) transcript.entries) }
         ensures entries { IfOk result (λ transcript. IsOneEach transcript.entries events.now) }
     {
         match self {

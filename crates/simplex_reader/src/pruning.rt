@@ -37,7 +37,8 @@ pub(crate) fn ruled_prune<S: Scheme>(
     asked: Option<&Asked>,
 ) -> Result<Option<RuledPrune>, AllocError>
     ensures { IfOk result (λ prune. (made : Made) (facts : List Fact) (now : ℕ) → Knows known.old made facts → S.attests scheme.now ≡ made.signs
-        → ArePrunedBy (ruled_if made now facts (taking_by source took.now (option_map (λ asked. asked.now) asked.entry))) prune) }
+        → ArePrunedBy (ruled_if made now facts
+        (taking_by source took.now (option_map (λ asked. asked.now) asked.entry))) prune) }
 {
     let before = known.least_active();
     let records = count_records(known, scheme, source, took, asked)?;
@@ -99,7 +100,8 @@ fn count_at_deadline<S: Scheme>(
     scheme: &S,
     source: StepSource,
 ) -> Result<u64, AllocError>
-    ensures { IfOk result (λ records. Counts known.old known.new (S.attests scheme.now) (taking_if (taking.is_timer source) Deadline) records) }
+    ensures { IfOk result (λ records. Counts known.old known.new (S.attests scheme.now)
+        (taking_if (taking.is_timer source) Deadline) records) }
 {
     if !is_timer(source) {
         return Ok(0);
@@ -175,7 +177,9 @@ fn count_added<S: Scheme>(
     scheme: &S,
     certificate: &Certificate,
 ) -> Result<u64, AllocError>
-    ensures { IfOk result (λ records. CountsIf true known.old known.new (S.attests scheme.now) certificate.now records) }
+    ensures { IfOk result
+        (λ records. CountsIf true known.old known.new
+        (S.attests scheme.now) certificate.now records) }
 {
     match on_certificate(known, scheme, from_ref(certificate), certificate) {
         Ok(due) => Ok(count(&due) + 1),
@@ -189,7 +193,9 @@ fn count_left<S: Scheme>(
     scheme: &S,
     certificate: &Certificate,
 ) -> Result<u64, AllocError>
-    ensures { IfOk result (λ records. CountsIf false known.old known.new (S.attests scheme.now) certificate.now records) }
+    ensures { IfOk result
+        (λ records. CountsIf false known.old known.new
+        (S.attests scheme.now) certificate.now records) }
 {
     match on_certificate(known, scheme, &[], certificate) {
         Ok(due) => Ok(count(&due)),
@@ -220,7 +226,8 @@ fn count_on_reply<S: Scheme>(
     asked: &Asked,
     answer: &Answer,
 ) -> Result<u64, AllocError>
-    ensures { IfOk result (λ records. Counts known.old known.new (S.attests scheme.now) (Some (Reply asked.now answer.now)) records) }
+    ensures { IfOk result (λ records. Counts known.old known.new (S.attests scheme.now)
+        (Some (Reply asked.now answer.now)) records) }
 {
     let taken = verdicts_taken(known, asked, answer);
     match on_answer(known, scheme, &[], asked, answer) {
@@ -231,7 +238,8 @@ fn count_on_reply<S: Scheme>(
 
 // How many verdicts are taken with the answer.
 fn verdicts_taken(known: &Known, asked: &Asked, answer: &Answer) -> u64
-    ensures taken { Answers known.now (λ made facts. length (records_taken made facts (Reply asked.now answer.now))) result }
+    ensures taken { Answers known.now
+        (λ made facts. length (records_taken made facts (Reply asked.now answer.now))) result }
     ensures few { result ≤ 1 }
 {
     match asked {
@@ -242,7 +250,8 @@ fn verdicts_taken(known: &Known, asked: &Asked, answer: &Answer) -> u64
 
 // And of a verdict on a notarization.
 fn count_verdict(known: &Known, round: &Round, payload: &Digest, answer: &Answer) -> u64
-    ensures taken { Answers known.now (λ made facts. length (records_taken made facts (Reply (asks.Certify round.now payload.now) answer.now))) result }
+    ensures taken { Answers known.now (λ made facts. length
+        (records_taken made facts (Reply (asks.Certify round.now payload.now) answer.now))) result }
     ensures few { result ≤ 1 }
 {
     match answer {
@@ -259,7 +268,8 @@ fn count_verdict(known: &Known, round: &Round, payload: &Digest, answer: &Answer
 
 // How many nullifies of the current view are due that were appended before.
 fn repeats<S: Scheme>(known: &Known, scheme: &S) -> u64
-    ensures { (made : Made) (facts : List Fact) → Knows known.now made facts → S.attests scheme.now ≡ made.signs → result ≡ repeats made facts }
+    ensures { (made : Made) (facts : List Fact) → Knows known.now made facts
+        → S.attests scheme.now ≡ made.signs → result ≡ repeats made facts }
 {
     let view = known.current();
     if !known.has_nullified(view) {

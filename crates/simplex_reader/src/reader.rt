@@ -32,7 +32,8 @@ impl Reader {
     /// Before any entry.
     pub fn new(alloc: Global, setup: &Setup) -> Reader
         requires good { IsNone (setups.first_bad setup.now) }
-        ensures { (setting : Setting) (node : Node) → setting.setup ≡ setup.now → Follows result setting [] node }
+        ensures { (setting : Setting) (node : Node) → setting.setup ≡ setup.now
+            → Follows result setting [] node }
     {
         let rules = rules_of(setup);
         Reader {

@@ -31,7 +31,8 @@ pub(crate) fn take_calls(
     prune: Option<RuledPrune>,
 ) -> Result<(), AllocError>
     ensures { OnOk result ((ruled : List Call) → ArePrunedBy ruled prune
-        → stored.new ≡ journal.sections_behind entry.now.outcome stop ruled (filter_map call_for entry.now.calls) stored.old) }
+        → stored.new ≡ journal.sections_behind entry.now.outcome stop ruled
+        (filter_map call_for entry.now.calls) stored.old) }
 {
     stored.take_calls(alloc, entry.calls.as_slice())?;
     match entry.outcome {
@@ -52,7 +53,8 @@ pub(crate) fn take_calls(
 // What the call that failed leaves, and then the stop.
 fn stop_at_failure(stored: &mut Stored, stop: Stop, prune: Option<RuledPrune>)
     ensures { (ruled : List Call) → ArePrunedBy ruled prune
-        → stored.new ≡ crashed (performed.kept_by stop) (journal.after_failure stop ruled stored.old) }
+        → stored.new ≡ crashed (performed.kept_by stop)
+        (journal.after_failure stop ruled stored.old) }
 {
     fail(stored, stop, prune);
     stored.crash(kept_by(stop));
@@ -60,7 +62,8 @@ fn stop_at_failure(stored: &mut Stored, stop: Stop, prune: Option<RuledPrune>)
 
 // What the call that failed leaves.
 fn fail(stored: &mut Stored, stop: Stop, prune: Option<RuledPrune>)
-    ensures { (ruled : List Call) → ArePrunedBy ruled prune → stored.new ≡ journal.after_failure stop ruled stored.old }
+    ensures { (ruled : List Call) → ArePrunedBy ruled prune
+        → stored.new ≡ journal.after_failure stop ruled stored.old }
 {
     match stop {
         Stop::None => {}

@@ -34,7 +34,8 @@ impl Reader {
         entry: &AuditEntry,
     ) -> Result<(), AllocError>
         ensures { OnOk result ((setting : Setting) (before : List Noted) (node : Node) → Follows self.old setting before node
-            → Follows self.new setting (rebuilt (events.Start node floor.now stop) entry.now ∷ before) node) }
+            → Follows self.new setting
+            (rebuilt (events.Start node floor.now stop) entry.now ∷ before) node) }
     {
         let records = self.stored.replay(alloc)?;
         let known = known_at_start(alloc, &self.rules, floor, records.as_slice())?;

@@ -50,7 +50,8 @@ impl Reader {
         asked: Option<&Asked>,
     ) -> Result<Due, AllocError>
         ensures { IfOk result (λ due. is_failed entry.now.outcome ≡ false
-            → TakesStep self.old self.new (S.attests scheme.now) source stop entry.now (option_map (λ asked. asked.now) asked.entry) due) }
+            → TakesStep self.old self.new (S.attests scheme.now) source stop entry.now
+            (option_map (λ asked. asked.now) asked.entry) due) }
     {
         let added = entry.added.as_slice();
         let due = take_in(&mut self.known, scheme, added, source, &entry.took, asked)?;
@@ -70,7 +71,8 @@ impl Reader {
         asked: Option<&Asked>,
     ) -> Result<Due, AllocError>
         ensures { IfOk result (λ due. is_failed entry.now.outcome ≡ true
-            → TakesStep self.old self.new (S.attests scheme.now) source stop entry.now (option_map (λ asked. asked.now) asked.entry) due) }
+            → TakesStep self.old self.new (S.attests scheme.now) source stop entry.now
+            (option_map (λ asked. asked.now) asked.entry) due) }
     {
         let prune = ruled_prune(&mut self.known, scheme, source, &entry.took, asked)?;
         take_calls(&mut self.stored, alloc, entry, stop, prune)?;

@@ -52,7 +52,8 @@ fn take_deadline<S: Scheme>(
     added: &[Certificate],
     source: StepSource,
 ) -> Result<Due, AllocError>
-    ensures { IfOk result (λ due. Acts known.old known.new (S.attests scheme.now) added.now (taking_if (taking.is_timer source) Deadline) due) }
+    ensures { IfOk result (λ due. Acts known.old known.new (S.attests scheme.now) added.now
+        (taking_if (taking.is_timer source) Deadline) due) }
 {
     if !is_timer(source) {
         return Ok(nothing_due());

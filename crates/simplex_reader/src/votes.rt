@@ -40,7 +40,8 @@ fn take_call(known: &mut Known, call: &AuditCall) -> Result<(), AllocError>
 
 // A vote that is appended is known.
 fn take_record(known: &mut Known, artifact: &Artifact) -> Result<(), AllocError>
-    ensures { OnOk result ((made : Made) (facts : List Fact) → Knows known.old made facts → Knows known.new made (vote_facts artifact.now ++ facts)) }
+    ensures { OnOk result ((made : Made) (facts : List Fact) → Knows known.old made facts
+        → Knows known.new made (vote_facts artifact.now ++ facts)) }
 {
     match artifact {
         Artifact::Notarize(vote) => known.vote(&Vote::Notarize(*vote)),

@@ -31,7 +31,14 @@ has_pair pairs view signer = list_any (is_at (pair_cmp (view, signer))) pairs.ke
 
 -- no certificates
 abbrev pub nothing : AtView
-nothing = record { is_certified = false; notarization = None; certification = None; nullification = None; finalization = None }
+nothing =
+    record {
+      is_certified = false;
+      notarization = None;
+      certification = None;
+      nullification = None;
+      finalization = None;
+    }
 
 -- the certificates that are kept of the view
 unfoldable pub kept_at : BTreeMap ℕ AtView → ℕ → AtView

@@ -1,5 +1,5 @@
 -- What a reporter answers that records what it was told, the newest first.
-use Rattle.std.specs.Prelude.{ℕ, ◌+◌, ◌-◌, ◌^◌, ◌==◌, ◌&&◌, min, Bool, false, not, List, [], ◌∷◌, ◌++◌, filter, Option, Some, None, is_some, unwrap_or, if◌then◌else◌}
+use Rattle.std.specs.Prelude.{◌≡◌, ℕ, ◌+◌, ◌-◌, ◌^◌, ◌==◌, ◌&&◌, min, Bool, false, not, List, [], ◌∷◌, ◌++◌, filter, Option, Some, None, is_some, unwrap_or, if◌then◌else◌}
 use Rattle.std.specs.List.{list_any, range_with_len}
 use Rattle.std.specs.Option.{option_or, option_map_or, option_to_list}
 use Rattle.std.specs.Str.{bytes_eq}
@@ -32,7 +32,8 @@ is_valid made activity = activity_verifies made.verifies made.members activity
 
 unfoldable pub recorded : Made → List Activity → List Activity
 recorded made [] = []
-recorded made (activity ∷ before) = if is_valid made activity then activity ∷ recorded made before else recorded made before
+recorded made (activity ∷ before) =
+    if is_valid made activity then activity ∷ recorded made before else recorded made before
 
 -- one more, where the test passes, as far as a count goes
 abbrev pub counted : Bool → ℕ → ℕ
@@ -40,16 +41,19 @@ counted more count = if more then min (count + 1) (2 ^ 64 - 1) else count
 
 unfoldable pub invalid_votes_of : Made → List Activity → ℕ
 invalid_votes_of made [] = 0
-invalid_votes_of made (activity ∷ before) = counted (not (is_valid made activity) && not (was_verified activity)) (invalid_votes_of made before)
+invalid_votes_of made (activity ∷ before) =
+    counted (not (is_valid made activity) && not (was_verified activity)) (invalid_votes_of made before)
 
 unfoldable pub invalid_certificates_of : Made → List Activity → ℕ
 invalid_certificates_of made [] = 0
-invalid_certificates_of made (activity ∷ before) = counted (not (is_valid made activity) && was_verified activity) (invalid_certificates_of made before)
+invalid_certificates_of made (activity ∷ before) =
+    counted (not (is_valid made activity) && was_verified activity) (invalid_certificates_of made before)
 
 -- ---- votes: who signed, in rising order. These, and what follows, are read from what is recorded
 
 abbrev pub is_for : Proposal → ℕ → ℕ → List ℕ → ℕ → Bool
-is_for proposal by view payload signer = proposal.round.view == view && bytes_eq proposal.payload payload && by == signer
+is_for proposal by view payload signer =
+    proposal.round.view == view && bytes_eq proposal.payload payload && by == signer
 
 abbrev pub is_notarize_at : ℕ → List ℕ → ℕ → Activity → Bool
 is_notarize_at view payload signer (activities.Notarize v) = is_for v.proposal v.attestation.signer view payload signer
@@ -115,7 +119,12 @@ finalization_at (activity ∷ before) view = option_or (finalization_at before v
 -- how many there were
 unfoldable pub finalizations_at : List Activity → ℕ → ℕ
 finalizations_at [] view = 0
-finalizations_at (activity ∷ before) view = counted (is_some (finalization_in view activity)) (finalizations_at before view)
+finalizations_at (activity ∷ before) view =
+    counted (is_some (finalization_in view activity)) (finalizations_at before view)
+
+-- this is the view's first finalization, and there were so many
+abbrev pub FinalizedBy : List Activity → (view : ℕ) → Finalization → ℕ → Type 0
+FinalizedBy all view first count = (finalization_at all view ≡ Some first) × (count ≡ finalizations_at all view)
 
 -- ---- views
 
@@ -171,9 +180,12 @@ abbrev pub is_same_finalize : Finalize → Finalize → Bool
 is_same_finalize a b = is_same_proposal a.proposal b.proposal && is_same_attestation a.attestation b.attestation
 
 abbrev pub is_same_evidence : Activity → Activity → Bool
-is_same_evidence (activities.ConflictingNotarize a) (activities.ConflictingNotarize b) = is_same_notarize a.first b.first && is_same_notarize a.second b.second
-is_same_evidence (activities.ConflictingFinalize a) (activities.ConflictingFinalize b) = is_same_finalize a.first b.first && is_same_finalize a.second b.second
-is_same_evidence (activities.NullifyFinalize a) (activities.NullifyFinalize b) = is_same_nullify a.nullify b.nullify && is_same_finalize a.finalize b.finalize
+is_same_evidence (activities.ConflictingNotarize a) (activities.ConflictingNotarize b) =
+    is_same_notarize a.first b.first && is_same_notarize a.second b.second
+is_same_evidence (activities.ConflictingFinalize a) (activities.ConflictingFinalize b) =
+    is_same_finalize a.first b.first && is_same_finalize a.second b.second
+is_same_evidence (activities.NullifyFinalize a) (activities.NullifyFinalize b) =
+    is_same_nullify a.nullify b.nullify && is_same_finalize a.finalize b.finalize
 is_same_evidence _ _ = false
 
 -- whom evidence is against
@@ -184,7 +196,8 @@ against (activities.NullifyFinalize e) = Some e.nullify.attestation.signer
 against _ = None
 
 abbrev pub is_fault_of : ℕ → ℕ → Activity → Bool
-is_fault_of member view activity = option_map_or (λ signer. signer == member) (against activity) false && (activity_round activity).view == view
+is_fault_of member view activity =
+    option_map_or (λ signer. signer == member) (against activity) false && (activity_round activity).view == view
 
 -- last, unless it is there
 abbrev pub with_evidence : Activity → List Activity → List Activity
@@ -194,7 +207,8 @@ with_evidence activity known = if list_any (is_same_evidence activity) known the
 unfoldable pub faults_of : List Activity → ℕ → ℕ → List Activity
 faults_of [] member view = []
 faults_of (activity ∷ before) member view =
-    if is_fault_of member view activity then with_evidence activity (faults_of before member view) else faults_of before member view
+    if is_fault_of member view activity then with_evidence activity (faults_of before member view)
+    else faults_of before member view
 
 unfoldable pub has_faults : List Activity → Bool
 has_faults all = list_any (λ activity. is_some (against activity)) all

@@ -1,13 +1,13 @@
 //! The certificates of one view.
 #![tactic(auto, unfolding(crate::specs::Opened::views))]
 
-ghost use Rattle.std.specs.Prelude.{◌≡◌, ◌∷◌, ℕ, List, Some, None, true, MatchOption};
+ghost use Rattle.std.specs.Prelude.{◌≡◌, ℕ, List, None, MatchOption};
 ghost use Rattle.std.specs.Option.{option_copied};
 ghost use Rattle.simplex_types.specs.declared.activity.Activity.{Activity};
 ghost use Rattle.simplex_types.specs.declared.activity.Activity.TheVariants as activities;
 ghost use Rattle.simplex_recording.specs.Kept.{nothing};
-ghost use Rattle.simplex_recording.specs.Recording.{certifies_view, has_certificate, notarization_at, certification_at, nullification_at, finalization_at, finalizations_at};
-ghost use Rattle.simplex_recording.specs.Stands.{AtViewOf};
+ghost use Rattle.simplex_recording.specs.Recording.{has_certificate, notarization_at, certification_at, nullification_at, finalization_at, FinalizedBy};
+ghost use Rattle.simplex_recording.specs.Stands.{AtViewOf, AnswersAt, Enters};
 
 use crate::finalized::Finalized;
 use simplex_types::{Activity, Finalization, Notarization, Nullification};
@@ -40,7 +40,7 @@ impl AtView {
 
     /// A finalization of the view was recorded.
     fn finalize(&mut self, it: Finalization)
-        ensures { (all : List Activity) (view : ℕ) → certifies_view view (activities.Finalization it) ≡ true → AtViewOf self.old all view → AtViewOf self.new (activities.Finalization it ∷ all) view }
+        ensures { Enters self.old self.new (activities.Finalization it) }
     {
         self.is_certified = true;
         match &mut self.finalization {
@@ -58,7 +58,7 @@ impl AtView {
 
     /// A certificate of the view was recorded.
     pub(crate) fn enter(&mut self, activity: Activity)
-        ensures { (all : List Activity) (view : ℕ) → certifies_view view activity ≡ true → AtViewOf self.old all view → AtViewOf self.new (activity ∷ all) view }
+        ensures { Enters self.old self.new activity }
     {
         match activity {
             Activity::Notarization(it) => {
@@ -81,14 +81,14 @@ impl AtView {
 
     /// Whether the view has a certificate.
     pub(crate) fn is_certified(&self) -> bool
-        ensures { (all : List Activity) (view : ℕ) → AtViewOf self.now all view → result ≡ has_certificate all view }
+        ensures { AnswersAt self.now has_certificate result }
     {
         self.is_certified
     }
 
     /// The last notarization. A certification is one too.
     pub(crate) fn notarization(&self) -> Option<&Notarization>
-        ensures { (all : List Activity) (view : ℕ) → AtViewOf self.now all view → option_copied result ≡ notarization_at all view }
+        ensures { AnswersAt self.now notarization_at (option_copied result) }
     {
         match &self.notarization {
             Some(it) => Some(it),
@@ -98,21 +98,23 @@ impl AtView {
 
     /// The last certification.
     pub(crate) fn certification(&self) -> Option<&Notarization>
-        ensures { (all : List Activity) (view : ℕ) → AtViewOf self.now all view → option_copied result ≡ certification_at all view }
+        ensures { AnswersAt self.now certification_at (option_copied result) }
     {
         self.certification.as_ref()
     }
 
     /// The last nullification.
     pub(crate) fn nullification(&self) -> Option<&Nullification>
-        ensures { (all : List Activity) (view : ℕ) → AtViewOf self.now all view → option_copied result ≡ nullification_at all view }
+        ensures { AnswersAt self.now nullification_at (option_copied result) }
     {
         self.nullification.as_ref()
     }
 
     /// The first finalization, and how many there were.
     pub(crate) fn finalization(&self) -> Option<(&Finalization, u64)>
-        ensures { (all : List Activity) (view : ℕ) → AtViewOf self.now all view → MatchOption result (finalization_at all view ≡ None) (λ kept. (finalization_at all view ≡ Some kept.0.now) × (kept.1 ≡ finalizations_at all view)) }
+        ensures { (all : List Activity) (view : ℕ) → AtViewOf self.now all view
+            → MatchOption result (finalization_at all view ≡ None)
+            (λ kept. FinalizedBy all view kept.0.now kept.1) }
     {
         let kept = self.finalization.as_ref()?;
         Some((&kept.first, kept.count))

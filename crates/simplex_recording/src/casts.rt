@@ -18,7 +18,8 @@ pub(crate) type Pairs = BTreeSet<(u64, u32)>;
 
 /// No votes.
 pub(crate) fn no_casts(alloc: Global) -> Casts
-    ensures { (view : ℕ) (payload : List ℕ) (signer : ℕ) → has_cast result view payload signer ≡ false }
+    ensures { (view : ℕ) (payload : List ℕ) (signer : ℕ)
+        → has_cast result view payload signer ≡ false }
 {
     BTreeSet::new(alloc)
 }
@@ -36,8 +37,10 @@ pub(crate) fn add_cast(
     proposal: &Proposal,
     by: Participant,
 ) -> Result<(), AllocError>
-    ensures ok { OnOk result ((view : ℕ) (payload : List ℕ) (signer : ℕ) → has_cast casts.new view payload signer ≡ (is_for proposal.now by view payload signer || has_cast casts.old view payload signer)) }
-    ensures err { OnErr result ((view : ℕ) (payload : List ℕ) (signer : ℕ) → has_cast casts.new view payload signer ≡ has_cast casts.old view payload signer) }
+    ensures ok { OnOk result ((view : ℕ) (payload : List ℕ) (signer : ℕ) → has_cast casts.new view payload signer
+        ≡ (is_for proposal.now by view payload signer || has_cast casts.old view payload signer)) }
+    ensures err { OnErr result ((view : ℕ) (payload : List ℕ) (signer : ℕ)
+        → has_cast casts.new view payload signer ≡ has_cast casts.old view payload signer) }
 {
     casts.insert((proposal.round.view.0, proposal.payload.0, by.0))?;
     Ok(())
@@ -45,8 +48,11 @@ pub(crate) fn add_cast(
 
 /// The member gave the view up.
 pub(crate) fn add_pair(pairs: &mut Pairs, of: View, by: Participant) -> Result<(), AllocError>
-    ensures ok { OnOk result ((view signer : ℕ) → has_pair pairs.new view signer ≡ ((of == view && by == signer) || has_pair pairs.old view signer)) }
-    ensures err { OnErr result ((view signer : ℕ) → has_pair pairs.new view signer ≡ has_pair pairs.old view signer) }
+    ensures ok { OnOk result ((view signer : ℕ)
+        → has_pair pairs.new view signer
+        ≡ ((of == view && by == signer) || has_pair pairs.old view signer)) }
+    ensures err { OnErr result ((view signer : ℕ)
+        → has_pair pairs.new view signer ≡ has_pair pairs.old view signer) }
 {
     pairs.insert((of.0, by.0))?;
     Ok(())
@@ -60,7 +66,8 @@ pub(crate) fn signers_of(
     view: View,
     payload: &Digest,
 ) -> Result<Vec<Participant>, AllocError>
-    ensures { IfOk result (λ signers. signers.items ≡ filter (λ signer. has_cast casts.now view payload.now signer) (range_with_len 0 n)) }
+    ensures { IfOk result (λ signers. signers.items
+        ≡ filter (λ signer. has_cast casts.now view payload.now signer) (range_with_len 0 n)) }
 {
     (0..n)
         .filter(|signer| casts.contains(&(view.0, payload.0, *signer)))
@@ -75,7 +82,8 @@ pub(crate) fn signers_at(
     n: u32,
     view: View,
 ) -> Result<Vec<Participant>, AllocError>
-    ensures { IfOk result (λ signers. signers.items ≡ filter (λ signer. has_pair pairs.now view signer) (range_with_len 0 n)) }
+    ensures { IfOk result (λ signers. signers.items
+        ≡ filter (λ signer. has_pair pairs.now view signer) (range_with_len 0 n)) }
 {
     (0..n)
         .filter(|signer| pairs.contains(&(view.0, *signer)))

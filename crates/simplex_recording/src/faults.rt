@@ -63,7 +63,8 @@ fn put_first(
     member: Participant,
     evidence: Activity,
 ) -> Result<(), AllocError>
-    ensures ok { OnOk result ((v m : ℕ) → evidence_in lists.new v m ≡ (if view == v && member == m then evidence ∷ [] else evidence_in lists.old v m)) }
+    ensures ok { OnOk result ((v m : ℕ) → evidence_in lists.new v m
+        ≡ (if view == v && member == m then evidence ∷ [] else evidence_in lists.old v m)) }
     ensures err { OnErr result ((v m : ℕ) → evidence_in lists.new v m ≡ evidence_in lists.old v m) }
 {
     let mut known = Vec::new(alloc);
@@ -81,7 +82,9 @@ fn add_evidence(
     member: Participant,
     evidence: Activity,
 ) -> Result<(), AllocError>
-    ensures ok { OnOk result ((v m : ℕ) → evidence_in lists.new v m ≡ (if view == v && member == m then with_evidence evidence (evidence_in lists.old v m) else evidence_in lists.old v m)) }
+    ensures ok { OnOk result ((v m : ℕ) → evidence_in lists.new v m
+        ≡ (if view == v && member == m then with_evidence evidence (evidence_in lists.old v m)
+        else evidence_in lists.old v m)) }
     ensures err { OnErr result ((v m : ℕ) → evidence_in lists.new v m ≡ evidence_in lists.old v m) }
 {
     match lists.get_mut(&(view.0, member.0)) {
@@ -120,8 +123,10 @@ impl Faults {
         evidence: Activity,
     ) -> Result<(), AllocError>
         requires { against evidence ≡ Some member }
-        ensures ok { OnOk result ((all : List Activity) → FaultsOf self.old all → FaultsOf self.new (evidence ∷ all)) }
-        ensures err { OnErr result ((all : List Activity) → FaultsOf self.old all → FaultsOf self.new all) }
+        ensures ok { OnOk result ((all : List Activity) → FaultsOf self.old all
+            → FaultsOf self.new (evidence ∷ all)) }
+        ensures err { OnErr result ((all : List Activity) → FaultsOf self.old all
+            → FaultsOf self.new all) }
     {
         let view = evidence.view();
         add_evidence(alloc, &mut self.lists, view, member, evidence)?;
@@ -131,7 +136,8 @@ impl Faults {
 
     /// The evidence against the member in the view.
     pub(crate) fn of(&self, member: Participant, view: View) -> &[Activity]
-        ensures { (all : List Activity) → FaultsOf self.now all → result.now ≡ faults_of all member view }
+        ensures { (all : List Activity) → FaultsOf self.now all
+            → result.now ≡ faults_of all member view }
     {
         known_in(&self.lists, view, member)
     }

@@ -1,9 +1,8 @@
 //! What was recorded.
-ghost use Rattle.std.specs.Prelude.{◌≡◌, ◌∷◌, [], List, true, OnOk, OnErr};
+ghost use Rattle.std.specs.Prelude.{◌≡◌, [], true, OnOk, OnErr};
 ghost use Rattle.simplex_types.specs.Evidence.{was_verified};
-ghost use Rattle.simplex_types.specs.declared.activity.Activity.{Activity};
 ghost use Rattle.simplex_recording.specs.Recording.{Made};
-ghost use Rattle.simplex_recording.specs.Stands.{RecordOf};
+ghost use Rattle.simplex_recording.specs.Stands.{RecordOf, Records, Keeps};
 
 use crate::certificates::Certificates;
 use crate::faults::{Faults, against};
@@ -41,9 +40,8 @@ impl Record {
     /// Records the certificate: all that may want memory comes first.
     fn certify<L: Elector>(&mut self, elector: &L, activity: Activity) -> Result<(), AllocError>
         requires { was_verified activity ≡ true }
-        ensures ok { OnOk result ((made : Made) (all : List Activity) → made.leader ≡ L.elects elector.now → made.term ≡ (L.cuts elector.now).length
-            → RecordOf self.old made all → RecordOf self.new made (activity ∷ all)) }
-        ensures err { OnErr result ((made : Made) (all : List Activity) → RecordOf self.old made all → RecordOf self.new made all) }
+        ensures ok { OnOk result (Records L.elects L.cuts elector.now self.old self.new activity) }
+        ensures err { OnErr result (Keeps self.old self.new) }
     {
         self.certificates.make_room(activity.view())?;
         self.seen.make_room()?;
@@ -60,9 +58,8 @@ impl Record {
         elector: &L,
         activity: Activity,
     ) -> Result<(), AllocError>
-        ensures ok { OnOk result ((made : Made) (all : List Activity) → made.leader ≡ L.elects elector.now → made.term ≡ (L.cuts elector.now).length
-            → RecordOf self.old made all → RecordOf self.new made (activity ∷ all)) }
-        ensures err { OnErr result ((made : Made) (all : List Activity) → RecordOf self.old made all → RecordOf self.new made all) }
+        ensures ok { OnOk result (Records L.elects L.cuts elector.now self.old self.new activity) }
+        ensures err { OnErr result (Keeps self.old self.new) }
     {
         if activity.verified() {
             return self.certify(elector, activity);

@@ -38,7 +38,8 @@ impl Seen {
     /// The activity was recorded.
     pub(crate) fn enter(&mut self, activity: &Activity)
         requires { vec_len self.old.views < vec_capacity self.old.views }
-        ensures { (all : List Activity) → SeenOf self.old all → SeenOf self.new (activity.now ∷ all) }
+        ensures { (all : List Activity) → SeenOf self.old all
+            → SeenOf self.new (activity.now ∷ all) }
     {
         if let Activity::Finalization(it) = activity {
             let view = it.proposal.round.view;
@@ -57,7 +58,8 @@ impl Seen {
 
     /// The views of the finalizations behind the first `cursor`.
     pub(crate) fn from(&self, cursor: u64) -> &[View]
-        ensures { (all : List Activity) → SeenOf self.now all → result.now ≡ drop cursor (views_seen all) }
+        ensures { (all : List Activity) → SeenOf self.now all
+            → result.now ≡ drop cursor (views_seen all) }
     {
         let views = self.views.as_slice();
         let start = usize::try_from(cursor).unwrap_or(usize::MAX);

@@ -37,7 +37,9 @@ fn put_new(
     view: u64,
     leader: Participant,
 ) -> Result<(), AllocError>
-    ensures ok { OnOk result ((q : ℕ) → found leaders.new q ≡ option_or (found leaders.old q) (if view == q then Some leader else None)) }
+    ensures ok { OnOk result ((q : ℕ)
+        → found leaders.new q
+        ≡ option_or (found leaders.old q) (if view == q then Some leader else None)) }
     ensures err { OnErr result ((q : ℕ) → found leaders.new q ≡ found leaders.old q) }
 {
     if leaders.contains_key(&view) {
@@ -63,9 +65,11 @@ impl Unlocked {
         activity: &Activity,
     ) -> Result<(), AllocError>
         requires { was_verified activity.now ≡ true }
-        ensures ok { OnOk result ((made : Made) (all : List Activity) → made.leader ≡ L.elects elector.now → made.term ≡ (L.cuts elector.now).length
+        ensures ok { OnOk result ((made : Made) (all : List Activity) → made.leader ≡ L.elects elector.now
+            → made.term ≡ (L.cuts elector.now).length
             → UnlockedOf self.old made all → UnlockedOf self.new made (activity.now ∷ all)) }
-        ensures err { OnErr result ((made : Made) (all : List Activity) → UnlockedOf self.old made all → UnlockedOf self.new made all) }
+        ensures err { OnErr result ((made : Made) (all : List Activity) → UnlockedOf self.old made all
+            → UnlockedOf self.new made all) }
     {
         let view = unlocked_by(elector.terms().length, activity);
         let leader = elector.elect(Round {
@@ -77,7 +81,8 @@ impl Unlocked {
 
     /// The leader of the view, where it was unlocked.
     pub(crate) fn leader(&self, view: View) -> Option<Participant>
-        ensures { (made : Made) (all : List Activity) → UnlockedOf self.now made all → result ≡ leader_at made all view }
+        ensures { (made : Made) (all : List Activity) → UnlockedOf self.now made all
+            → result ≡ leader_at made all view }
     {
         self.leaders.get(&view.0).copied()
     }

@@ -1,8 +1,8 @@
 //! The votes that were recorded.
-ghost use Rattle.std.specs.Prelude.{◌≡◌, ◌∷◌, [], List, IfOk, OnOk, OnErr};
+ghost use Rattle.std.specs.Prelude.{◌∷◌, [], List, IfOk, OnOk, OnErr};
 ghost use Rattle.simplex_types.specs.declared.activity.Activity.{Activity};
-ghost use Rattle.simplex_recording.specs.Recording.{signers_by, is_notarize_at, is_nullify_at, is_finalize_at};
-ghost use Rattle.simplex_recording.specs.Stands.{VotesOf};
+ghost use Rattle.simplex_recording.specs.Recording.{is_notarize_at, is_nullify_at, is_finalize_at};
+ghost use Rattle.simplex_recording.specs.Stands.{VotesOf, Signed};
 
 use crate::casts::{Casts, Pairs, add_cast, add_pair, no_casts, no_pairs, signers_at, signers_of};
 use simplex_types::{Activity, Digest, Participant, View};
@@ -30,8 +30,10 @@ impl Votes {
 
     /// The activity was recorded.
     pub(crate) fn enter(&mut self, activity: &Activity) -> Result<(), AllocError>
-        ensures ok { OnOk result ((all : List Activity) → VotesOf self.old all → VotesOf self.new (activity.now ∷ all)) }
-        ensures err { OnErr result ((all : List Activity) → VotesOf self.old all → VotesOf self.new all) }
+        ensures ok { OnOk result ((all : List Activity) → VotesOf self.old all
+            → VotesOf self.new (activity.now ∷ all)) }
+        ensures err { OnErr result ((all : List Activity) → VotesOf self.old all
+            → VotesOf self.new all) }
     {
         match activity {
             Activity::Notarize(it) => {
@@ -55,7 +57,8 @@ impl Votes {
         view: View,
         payload: &Digest,
     ) -> Result<Vec<Participant>, AllocError>
-        ensures { IfOk result (λ signers. (all : List Activity) → VotesOf self.now all → signers.items ≡ signers_by n (is_notarize_at view payload.now) all) }
+        ensures { IfOk result
+            (λ signers. Signed self.now n (is_notarize_at view payload.now) signers.items) }
     {
         signers_of(alloc, &self.notarizes, n, view, payload)
     }
@@ -67,7 +70,7 @@ impl Votes {
         n: u32,
         view: View,
     ) -> Result<Vec<Participant>, AllocError>
-        ensures { IfOk result (λ signers. (all : List Activity) → VotesOf self.now all → signers.items ≡ signers_by n (is_nullify_at view) all) }
+        ensures { IfOk result (λ signers. Signed self.now n (is_nullify_at view) signers.items) }
     {
         signers_at(alloc, &self.nullifies, n, view)
     }
@@ -80,7 +83,8 @@ impl Votes {
         view: View,
         payload: &Digest,
     ) -> Result<Vec<Participant>, AllocError>
-        ensures { IfOk result (λ signers. (all : List Activity) → VotesOf self.now all → signers.items ≡ signers_by n (is_finalize_at view payload.now) all) }
+        ensures { IfOk result
+            (λ signers. Signed self.now n (is_finalize_at view payload.now) signers.items) }
     {
         signers_of(alloc, &self.finalizes, n, view, payload)
     }

@@ -26,5 +26,10 @@ first_forgery setup before packets = first_of (is_forged setup before) (signed_b
 -- the same test by what is kept
 unfoldable pub is_unsent : SentVotes → Setup → Signed → Bool
 is_unsent votes setup s =
-    is_honest setup s.attestation.signer && keyed_verifies votes.scheme.key_base votes.scheme.participants s.subject s.attestation
+    is_honest setup s.attestation.signer
+    && keyed_verifies votes.scheme.key_base votes.scheme.participants s.subject s.attestation
     && not (has_vote votes.members.items s.attestation.signer s.subject)
+
+-- the first of these attestations that is forged by what is kept
+abbrev pub first_unsent : SentVotes → Setup → List Signed → Option Forgery
+first_unsent votes setup all = first_of (is_unsent votes setup) all

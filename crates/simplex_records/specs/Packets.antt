@@ -7,4 +7,6 @@ use Rattle.simplex_transcript.specs.declared.node.Ref.{Ref}
 
 -- the packet at this place, where there is such an event
 unfoldable pub packet_in : List (List Packet) → Ref → Option Packet
-packet_in kept at = if at.event == 0 then None else option_and_then (λ packets. slice_get packets at.place) (slice_get kept (at.event - 1))
+packet_in kept at =
+    if at.event == 0 then None
+    else option_and_then (λ packets. slice_get packets at.place) (slice_get kept (at.event - 1))

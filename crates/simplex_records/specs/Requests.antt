@@ -31,7 +31,8 @@ pub record RequestsStand (requests : Requests) (before : List Noted) (node : Nod
 pub record RequestsRest (requests : Requests) (starts : Bool) (before : List Noted) (node : Node) : Type 0 where
   pub count : length requests.places.items ≡ (if starts then 0 else asked_since before node)
   pub number : (at : Ref) → number_in requests at ≡ (if starts then None else request_number before node at)
-  pub place : (number : ℕ) → slice_get requests.places.items number ≡ (if starts then None else request_place before node number)
+  pub place : (number : ℕ) → slice_get requests.places.items number
+      ≡ (if starts then None else request_place before node number)
 
 -- the places of so many requests of an event
 abbrev pub places_of : ℕ → ℕ → List Ref

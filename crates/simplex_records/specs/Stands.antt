@@ -30,7 +30,8 @@ seats_in records = length records.desks.items
 
 -- the requests of the node at each seat are kept
 unfoldable pub DesksStand : List Requests → List Noted → Type 0
-DesksStand desks before = (at : ℕ) (desk : Requests) → slice_get desks at ≡ Some desk → RequestsStand desk before (node_at at)
+DesksStand desks before =
+    (at : ℕ) (desk : Requests) → slice_get desks at ≡ Some desk → RequestsStand desk before (node_at at)
 
 -- the records of a run that is so set up keep these entries, the newest first
 pub record RecordsStand (records : Records) (setup : Setup) (before : List Noted) : Type 0 where
@@ -42,7 +43,8 @@ pub record RecordsStand (records : Records) (setup : Setup) (before : List Noted
 
 -- whatever setup and entries the records stand for, this is the rule's answer at them
 abbrev pub Answers : {A : Type 0} → Records → (Setup → List Noted → A) → A → Type 0
-Answers records rule answer = (setup : Setup) (before : List Noted) → RecordsStand records setup before → answer ≡ rule setup before
+Answers records rule answer =
+    (setup : Setup) (before : List Noted) → RecordsStand records setup before → answer ≡ rule setup before
 
 -- the same in this setup
 abbrev pub AnswersIn : {A : Type 0} → Records → Setup → (List Noted → A) → A → Type 0
@@ -63,7 +65,8 @@ TakesIn old new setup node starts entry =
 -- the same of each entry that has these packets, and the requests and calls that a step of the node gave
 abbrev pub TakesInStep : Records → Records → Setup → Node → Bool → List Packet → StepOut → Type 0
 TakesInStep old new setup node starts packets out =
-    (entry : Entry) → entry.who ≡ Some node → entry.packets ≡ packets → entry.asked ≡ out.asked → entry.calls ≡ out.calls
+    (entry : Entry) → entry.who ≡ Some node → entry.packets ≡ packets → entry.asked ≡ out.asked
+    → entry.calls ≡ out.calls
     → TakesIn old new setup node starts entry
 
 -- the same of an entry in which nothing happens, of an event that is no start
@@ -72,10 +75,16 @@ PassesBy old new entry =
     (setup : Setup) (before : List Noted) (noted : Noted) → noted.entry ≡ entry → is_start noted.event ≡ false
     → RecordsStand old setup before → RecordsStand new setup (noted ∷ before)
 
--- the same of an entry of packets that no engine made, and that are a faulty member's. The event may be one of its node,
--- which is no start, or one of no node
+-- the same of an entry of packets that no engine made, and that are a faulty member's. The event may be one of its
+-- node, which is no start, or one of no node
 abbrev pub Speaks : Records → Records → Node → List Packet → Entry → Type 0
 Speaks old new node packets entry =
     (setup : Setup) (before : List Noted) (noted : Noted) → noted.entry ≡ entry → is_start noted.event ≡ false
     → is_honest setup node.member ≡ false → AreFrom node packets
     → RecordsStand old setup before → RecordsStand new setup (noted ∷ before)
+
+-- whatever entries these are kept of, they are kept of them and of one more whose packets are these, of the node
+abbrev pub TakesInPackets : Node → List Packet → (Old New : List Noted → Type 0) → Type 0
+TakesInPackets node packets Old New =
+    (before : List Noted) (noted : Noted) → noted.entry.packets ≡ packets → AreFrom node packets → Old before
+    → New (noted ∷ before)

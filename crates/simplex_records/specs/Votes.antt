@@ -35,11 +35,13 @@ unfoldable pub at_view : Subjects → ℕ → List Subject
 at_view subjects view = unwrap_or (tree.get nat_cmp subjects.by_view view) []
 
 unfoldable pub has_subject : Subjects → Subject → Bool
-has_subject subjects subject = list_any (λ other. is_same_subject other subject) (at_view subjects (subject_view subject))
+has_subject subjects subject =
+    list_any (λ other. is_same_subject other subject) (at_view subjects (subject_view subject))
 
 -- whether the member has the subject
 unfoldable pub has_vote : List Subjects → ℕ → Subject → Bool
-has_vote members member subject = option_map_or (λ subjects. has_subject subjects subject) (slice_get members member) false
+has_vote members member subject =
+    option_map_or (λ subjects. has_subject subjects subject) (slice_get members member) false
 
 -- of each honest member the subjects are kept on which it sent a vote
 pub record IndexStands (votes : SentVotes) (setup : Setup) (before : List Noted) : Type 0 where

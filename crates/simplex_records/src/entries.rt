@@ -8,8 +8,8 @@ use simplex_transcript::{Entry, Node, Packet, Took};
 use simplex_types::Sequence;
 use std::alloc::Global;
 
-/// The entry of what an engine of the node did, whose packets these are. Its lists keep no more room than they take, since
-/// entries are kept to the end of the run.
+/// The entry of what an engine of the node did, whose packets these are. Its lists keep no more room than they take,
+/// since entries are kept to the end of the run.
 pub(crate) fn entry_of(
     event: u64,
     node: Node,

@@ -1,5 +1,5 @@
-//! What is kept of a run's entries, so that later events can name them: packets, requests, the finalizations that honest
-//! members reported, and the votes that they sent. The members may be of any kind.
+//! What is kept of a run's entries, so that later events can name them: packets, requests, the finalizations that
+//! honest members reported, and the votes that they sent. The members may be of any kind.
 #![tactic(auto)]
 
 mod entries;

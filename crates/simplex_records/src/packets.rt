@@ -92,7 +92,8 @@ fn copy_of(alloc: Global, packet: &Packet) -> Result<Packet, AllocError>
 
 /// The packet at this place, where it may be delivered to the node.
 pub(crate) fn packet_for(events: &[Sequence<Packet>], node: Node, at: Ref) -> Option<&Packet>
-    ensures { option_map (λ packet. packet.now) result ≡ option_and_then (if_for node) (packet_in events.now at) }
+    ensures { option_map (λ packet. packet.now) result
+        ≡ option_and_then (if_for node) (packet_in events.now at) }
 {
     let packet = packet_at(events, at)?;
     if is_for(node, packet.to.as_slice()) {

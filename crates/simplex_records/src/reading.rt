@@ -17,7 +17,8 @@ pub(crate) fn vote_in(bytes: &[u8]) -> Option<Vote>
 
 /// The certificate that the bytes are.
 pub(crate) fn certificate_in(alloc: Global, bytes: &[u8]) -> Result<Option<Certificate>, AllocError>
-    ensures { IfOk result (λ certificate. certificate ≡ result_ok (whole format.certificate bytes.now)) }
+    ensures { IfOk result (λ certificate. certificate
+        ≡ result_ok (whole format.certificate bytes.now)) }
 {
     match Certificate::decode(alloc, bytes) {
         Ok(certificate) => Ok(Some(certificate)),

@@ -15,7 +15,7 @@ ghost use Rattle.std.specs.List.{list_any};
 ghost use Rattle.simplex_records.specs.Reported.{has_reported};
 ghost use Rattle.simplex_records.specs.Votes.{VotesStand, IndexStands};
 ghost use Rattle.simplex_records.specs.Forgeries.{first_forgery};
-ghost use Rattle.simplex_records.specs.Stands.{RecordsStand, DesksStand, Answers, AnswersIn, Enters, TakesIn, TakesInStep, PassesBy, Speaks, seats_in};
+ghost use Rattle.simplex_records.specs.Stands.{RecordsStand, DesksStand, Answers, AnswersIn, Enters, TakesIn, TakesInStep, TakesInPackets, PassesBy, Speaks, seats_in};
 
 use crate::entries::{entry_of, idle_entry, spoken_entry};
 use crate::forgery::Forgery;
@@ -30,8 +30,8 @@ use simplex_transcript::{Entry, Node, Packet, Ref, Setup, Took};
 use simplex_types::{Finalization, Sequence};
 use std::alloc::{AllocError, Global};
 
-/// The packets of each event, the requests of each node, the finalizations that honest members reported, and, where some
-/// member is faulty, the votes that honest members sent.
+/// The packets of each event, the requests of each node, the finalizations that honest members reported, and, where
+/// some member is faulty, the votes that honest members sent.
 ///
 /// Nothing is looked up by going over the entries. Where a call wants memory, nothing is told of what the records keep
 /// after it. [looked-up]
@@ -67,7 +67,8 @@ impl Records {
 
     /// The packet at this place, where it may be delivered to the node.
     pub fn packet_for(&self, node: Node, at: Ref) -> Option<&Packet>
-        ensures { Answers self.now (λ setup before. requests.packet_for before node at) (option_map (λ packet. packet.now) result) }
+        ensures { Answers self.now (λ setup before. requests.packet_for before node at)
+            (option_map (λ packet. packet.now) result) }
     {
         packet_for(&self.packets, node, at)
     }
@@ -93,7 +94,8 @@ impl Records {
     pub fn request_place(&self, node: Node, number: u64) -> Option<Ref>
         requires half { node.half < 2 }
         requires seat { seats.seat_of node < seats_in self.now }
-        ensures { Answers self.now (λ setup before. requests.request_place before node number) result }
+        ensures { Answers self.now
+            (λ setup before. requests.request_place before node number) result }
     {
         let seat = seat_of(node);
         self.desks[seat].place(number)
@@ -101,7 +103,8 @@ impl Records {
 
     /// Whether a node may start there: at genesis, or at a finalization that an honest member reported.
     pub fn is_own_floor(&self, floor: &Option<Finalization>) -> bool
-        ensures { Answers self.now (λ setup before. entries.is_own_floor setup before floor.now) result }
+        ensures { Answers self.now
+            (λ setup before. entries.is_own_floor setup before floor.now) result }
     {
         match floor {
             None => true,
@@ -116,7 +119,8 @@ impl Records {
         setup: &Setup,
         packets: &[Packet],
     ) -> Result<Option<Forgery>, AllocError>
-        ensures { IfOk result (λ found. AnswersIn self.now setup.now (λ before. first_forgery setup.now before packets.now) found) }
+        ensures { IfOk result (λ found. AnswersIn self.now setup.now
+            (λ before. first_forgery setup.now before packets.now) found) }
     {
         match &self.votes {
             None => Ok(None),
@@ -127,7 +131,8 @@ impl Records {
         }
     }
 
-    /// The entry of what an engine of the node did at an event of the node, which starts it or not. The entry is taken in.
+    /// The entry of what an engine of the node did at an event of the node, which starts it or not. The entry is taken
+    /// in.
     pub fn enter(
         &mut self,
         alloc: Global,
@@ -141,16 +146,18 @@ impl Records {
         requires half { node.half < 2 }
         requires seat { seats.seat_of node < seats_in self.old }
         ensures count { seats_in self.new ≡ seats_in self.old }
-        ensures entry { IfOk result (λ entry. Enters self.old setup.now node took out outcome entry) }
-        ensures stands { IfOk result (λ entry. TakesIn self.old self.new setup.now node starts entry) }
+        ensures entry { IfOk result
+            (λ entry. Enters self.old setup.now node took out outcome entry) }
+        ensures stands { IfOk result
+            (λ entry. TakesIn self.old self.new setup.now node starts entry) }
     {
         let event = self.next();
         let packets = self.take_in(alloc, setup, node, starts, &out)?;
         Ok(entry_of(event, node, took, out, packets, outcome))
     }
 
-    /// The entry of an event at which no engine did anything, nothing was sent, and that is no start. The entry is taken
-    /// in.
+    /// The entry of an event at which no engine did anything, nothing was sent, and that is no start. The entry is
+    /// taken in.
     pub fn pass(
         &mut self,
         alloc: Global,
@@ -158,7 +165,8 @@ impl Records {
         outcome: Outcome,
     ) -> Result<Entry, AllocError>
         ensures count { seats_in self.new ≡ seats_in self.old }
-        ensures entry { IfOk result (λ entry. Answers self.old (λ setup before. events.idle_entry (length before + 1) who outcome) entry) }
+        ensures entry { IfOk result (λ entry. Answers self.old
+            (λ setup before. events.idle_entry (length before + 1) who outcome) entry) }
         ensures stands { IfOk result (λ entry. PassesBy self.old self.new entry) }
     {
         let event = self.next();
@@ -176,7 +184,8 @@ impl Records {
         packets: Sequence<Packet>,
     ) -> Result<Entry, AllocError>
         ensures count { seats_in self.new ≡ seats_in self.old }
-        ensures entry { IfOk result (λ entry. Answers self.old (λ setup before. events.spoken_entry (length before + 1) node took packets) entry) }
+        ensures entry { IfOk result (λ entry. Answers self.old
+            (λ setup before. events.spoken_entry (length before + 1) node took packets) entry) }
         ensures stands { IfOk result (λ entry. Speaks self.old self.new node packets entry) }
     {
         let event = self.next();
@@ -196,8 +205,10 @@ impl Records {
         requires half { node.half < 2 }
         requires seat { seats.seat_of node < seats_in self.old }
         ensures count { seats_in self.new ≡ seats_in self.old }
-        ensures packets { IfOk result (λ packets. packets ≡ entries.packets_of setup.now node out.now.calls) }
-        ensures stands { IfOk result (λ packets. TakesInStep self.old self.new setup.now node starts packets out.now) }
+        ensures packets { IfOk result (λ packets. packets
+            ≡ entries.packets_of setup.now node out.now.calls) }
+        ensures stands { IfOk result
+            (λ packets. TakesInStep self.old self.new setup.now node starts packets out.now) }
     {
         let packets = packets_of(alloc, setup, node, out.calls.as_slice())?;
         self.add(alloc, setup, node, starts, packets.as_slice(), out)?;
@@ -282,7 +293,8 @@ fn add_reported(
     out: &StepOut,
 ) -> Result<(), AllocError>
     ensures { OnOk result ((f : Finalization) → has_reported reported.new f
-        ≡ (kinds.is_honest setup.now node.member && list_any (entries.reports f) out.now.calls || has_reported reported.old f)) }
+        ≡ (kinds.is_honest setup.now node.member && list_any (entries.reports f) out.now.calls
+        || has_reported reported.old f)) }
 {
     if is_honest(setup, node.member) {
         reported.add(alloc, out.calls.as_slice())?;
@@ -298,8 +310,8 @@ fn add_votes(
     node: Node,
     packets: &[Packet],
 ) -> Result<(), AllocError>
-    ensures { OnOk result ((before : List Noted) (noted : Noted) → noted.entry.packets ≡ packets.now → AreFrom node packets.now
-        → VotesStand votes.old setup.now before → VotesStand votes.new setup.now (noted ∷ before)) }
+    ensures { OnOk result (TakesInPackets node packets.now
+        (VotesStand votes.old setup.now) (VotesStand votes.new setup.now)) }
 {
     match votes {
         None => Ok(()),
@@ -317,8 +329,8 @@ fn add_sent(
     node: Node,
     packets: &[Packet],
 ) -> Result<(), AllocError>
-    ensures { OnOk result ((before : List Noted) (noted : Noted) → noted.entry.packets ≡ packets.now → AreFrom node packets.now
-        → IndexStands votes.old setup.now before → IndexStands votes.new setup.now (noted ∷ before)) }
+    ensures { OnOk result (TakesInPackets node packets.now
+        (IndexStands votes.old setup.now) (IndexStands votes.new setup.now)) }
 {
     if node.half == 0 && is_honest(setup, node.member) {
         votes.add(alloc, node.member, packets)?;

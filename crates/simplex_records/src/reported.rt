@@ -106,7 +106,8 @@ fn insert(
     finalization: Finalization,
 ) -> Result<(), AllocError>
     ensures { OnOk result ((q : ℕ) → unwrap_or (tree.get nat_cmp by_view.new q) []
-        ≡ (if finalization.proposal.round.view == q then unwrap_or (tree.get nat_cmp by_view.old q) [] ++ finalization ∷ []
+        ≡ (if finalization.proposal.round.view == q
+        then unwrap_or (tree.get nat_cmp by_view.old q) [] ++ finalization ∷ []
         else unwrap_or (tree.get nat_cmp by_view.old q) [])) }
 {
     let view = finalization.view().0;

@@ -69,7 +69,8 @@ impl Requests {
         count: u64,
     ) -> Result<(), AllocError>
         ensures { OnOk result ((before : List Noted) (noted : Noted) (node : Node) → is_of node noted.event ≡ true
-            → is_start noted.event ≡ starts → event ≡ length before + 1 → count ≡ length noted.entry.asked
+            → is_start noted.event ≡ starts → event ≡ length before + 1
+            → count ≡ length noted.entry.asked
             → RequestsStand self.old before node → RequestsStand self.new (noted ∷ before) node) }
     {
         self.restart(alloc, starts);
@@ -89,9 +90,11 @@ impl Requests {
 
     // An event asked so many requests.
     fn add(&mut self, event: u64, count: u64) -> Result<(), AllocError>
-        ensures places { OnOk result (self.new.places.items ≡ self.old.places.items ++ places_of event count) }
+        ensures places { OnOk result (self.new.places.items
+            ≡ self.old.places.items ++ places_of event count) }
         ensures numbers { OnOk result ((at : Ref) → number_in self.new at ≡ (if nat_lt 0 count && event == at.event
-            then number_from (length self.old.places.items) count at.place else number_in self.old at)) }
+            then number_from (length self.old.places.items) count at.place
+            else number_in self.old at)) }
     {
         if count == 0 {
             return Ok(());

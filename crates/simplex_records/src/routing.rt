@@ -27,7 +27,8 @@ pub fn packet_for_send(
     to: &Recipients,
     bytes: Bytes,
 ) -> Result<Packet, AllocError>
-    ensures { IfOk result (λ packet. packet ≡ routing.packet_for_send setup.now from channel to.now bytes) }
+    ensures { IfOk result (λ packet. packet
+        ≡ routing.packet_for_send setup.now from channel to.now bytes) }
 {
     let view = routing_view(alloc, setup, channel, bytes.as_slice())?;
     Ok(Packet {
@@ -45,7 +46,8 @@ fn routing_view(
     channel: Channel,
     bytes: &[u8],
 ) -> Result<u64, AllocError>
-    ensures { IfOk result (λ view. view ≡ (if has_routes setup.now then routing.packet_view channel bytes.now else 0)) }
+    ensures { IfOk result (λ view. view
+        ≡ (if has_routes setup.now then routing.packet_view channel bytes.now else 0)) }
 {
     if setup.scenario.is_empty() || !has_twin(setup) {
         return Ok(0);
@@ -74,7 +76,8 @@ fn vote_view(bytes: &[u8]) -> u64
 }
 
 fn certificate_view(alloc: Global, bytes: &[u8]) -> Result<u64, AllocError>
-    ensures { IfOk result (λ view. view ≡ routing.view_of_certificate (whole format.certificate bytes.now)) }
+    ensures { IfOk result (λ view. view
+        ≡ routing.view_of_certificate (whole format.certificate bytes.now)) }
 {
     match certificate_in(alloc, bytes)? {
         None => Ok(0),
@@ -83,7 +86,8 @@ fn certificate_view(alloc: Global, bytes: &[u8]) -> Result<u64, AllocError>
 }
 
 fn message_view(alloc: Global, bytes: &[u8]) -> Result<u64, AllocError>
-    ensures { IfOk result (λ view. view ≡ routing.view_of_message (whole resolver_message bytes.now)) }
+    ensures { IfOk result (λ view. view
+        ≡ routing.view_of_message (whole resolver_message bytes.now)) }
 {
     match message_in(alloc, bytes)? {
         None => Ok(0),
@@ -109,7 +113,8 @@ fn nodes_for(
     from: Node,
     to: &Recipients,
 ) -> Result<Sequence<Node>, AllocError>
-    ensures { IfOk result (λ nodes. nodes ≡ routed_nodes setup.now view from (routing.members_for setup.now from.member to.now)) }
+    ensures { IfOk result (λ nodes. nodes
+        ≡ routed_nodes setup.now view from (routing.members_for setup.now from.member to.now)) }
 {
     match to {
         Recipients::All => nodes_of_others(alloc, setup, view, from),
@@ -126,7 +131,8 @@ fn nodes_of_others(
     from: Node,
 ) -> Result<Sequence<Node>, AllocError>
     ensures { IfOk result (λ nodes. nodes
-        ≡ routed_nodes setup.now view from (filter (λ m. not (m == from.member)) (range_with_len 0 (length setup.now.members)))) }
+        ≡ routed_nodes setup.now view from
+        (filter (λ m. not (m == from.member)) (range_with_len 0 (length setup.now.members)))) }
 {
     let mut nodes = Sequence::new(alloc);
     for member in 0..setup.members.len() as u64 {
@@ -162,7 +168,8 @@ fn add_nodes(
     from: Node,
     member: u64,
 ) -> Result<(), AllocError>
-    ensures { OnOk result (nodes.new ≡ nodes.old ++ filter (routing.is_routed setup.now view from) (nodes_at setup.now member)) }
+    ensures { OnOk result (nodes.new ≡ nodes.old ++ filter (routing.is_routed setup.now view from)
+        (nodes_at setup.now member)) }
 {
     add_routed(nodes, setup, view, from, Node { member, half: 0 })?;
     if is_twin(setup, member) {
@@ -179,7 +186,8 @@ fn add_routed(
     from: Node,
     to: Node,
 ) -> Result<(), AllocError>
-    ensures { OnOk result (nodes.new ≡ nodes.old ++ filter (routing.is_routed setup.now view from) (to ∷ [])) }
+    ensures { OnOk result (nodes.new
+        ≡ nodes.old ++ filter (routing.is_routed setup.now view from) (to ∷ [])) }
 {
     if is_routed(setup, view, from, to) {
         nodes.push(to)?;

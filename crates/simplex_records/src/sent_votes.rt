@@ -11,7 +11,7 @@ ghost use Rattle.model_run.specs.Kinds.{are_honest};
 ghost use Rattle.model_run.specs.Forged as forged;
 ghost use Rattle.model_run.specs.Forged.{signed};
 ghost use Rattle.simplex_records.specs.Votes.{vote_in, is_on, has_vote, IndexStands};
-ghost use Rattle.simplex_records.specs.Forgeries.{is_unsent, first_of};
+ghost use Rattle.simplex_records.specs.Forgeries.{is_unsent, first_unsent};
 
 use crate::forgery::Forgery;
 use crate::kinds::{is_faulty_member, is_honest};
@@ -47,8 +47,10 @@ impl SentVotes {
     pub fn add(&mut self, alloc: Global, member: u64, packets: &[Packet]) -> Result<(), AllocError>
         ensures scheme { self.new.scheme ≡ self.old.scheme }
         ensures count { length self.new.members.items ≡ length self.old.members.items }
-        ensures votes { OnOk result (member < length self.old.members.items → (at : ℕ) (s : Subject) → has_vote self.new.members.items at s
-            ≡ (if member == at then list_any (is_on s) (filter_map vote_in packets.now) || has_vote self.old.members.items at s
+        ensures votes { OnOk result (member < length self.old.members.items → (at : ℕ) (s : Subject)
+            → has_vote self.new.members.items at s
+            ≡ (if member == at then list_any (is_on s) (filter_map vote_in packets.now)
+            || has_vote self.old.members.items at s
             else has_vote self.old.members.items at s)) }
     {
         let at = member as usize;
@@ -65,7 +67,8 @@ impl SentVotes {
         setup: &Setup,
         packets: &[Packet],
     ) -> Result<Option<Forgery>, AllocError>
-        ensures { IfOk result (λ found. found ≡ first_of (is_unsent self.now setup.now) (forged.signed_by_faulty setup.now packets.now)) }
+        ensures { IfOk result (λ found. found
+            ≡ first_unsent self.now setup.now (forged.signed_by_faulty setup.now packets.now)) }
     {
         for packet in packets {
             if let Some(found) = self.forged_in(alloc, setup, packet)? {
@@ -82,7 +85,9 @@ impl SentVotes {
         setup: &Setup,
         packet: &Packet,
     ) -> Result<Option<Forgery>, AllocError>
-        ensures { IfOk result (λ found. found ≡ first_of (is_unsent self.now setup.now) (forged.signed_by_faulty setup.now (packet.now ∷ []))) }
+        ensures { IfOk result (λ found. found
+            ≡ first_unsent self.now setup.now
+            (forged.signed_by_faulty setup.now (packet.now ∷ []))) }
     {
         if !is_faulty_member(setup, packet.from.member) {
             return Ok(None);
@@ -98,7 +103,8 @@ impl SentVotes {
         channel: Channel,
         bytes: &[u8],
     ) -> Result<Option<Forgery>, AllocError>
-        ensures { IfOk result (λ found. found ≡ first_of (is_unsent self.now setup.now) (forged.signed_in channel bytes.now)) }
+        ensures { IfOk result (λ found. found
+            ≡ first_unsent self.now setup.now (forged.signed_in channel bytes.now)) }
     {
         match channel {
             Channel::Vote => Ok(self.forged_vote(setup, bytes)),
@@ -108,7 +114,8 @@ impl SentVotes {
     }
 
     fn forged_vote(&self, setup: &Setup, bytes: &[u8]) -> Option<Forgery>
-        ensures { result ≡ first_of (is_unsent self.now setup.now) (forged.signed_in_vote (whole format.vote bytes.now)) }
+        ensures { result ≡ first_unsent self.now setup.now (forged.signed_in_vote
+            (whole format.vote bytes.now)) }
     {
         let vote = vote_in(bytes)?;
         self.forged_by(setup, &vote.subject(), vote.attestation())
@@ -120,7 +127,9 @@ impl SentVotes {
         setup: &Setup,
         bytes: &[u8],
     ) -> Result<Option<Forgery>, AllocError>
-        ensures { IfOk result (λ found. found ≡ first_of (is_unsent self.now setup.now) (forged.signed_in_certificate (whole format.certificate bytes.now))) }
+        ensures { IfOk result (λ found. found
+            ≡ first_unsent self.now setup.now
+            (forged.signed_in_certificate (whole format.certificate bytes.now))) }
     {
         match certificate_in(alloc, bytes)? {
             None => Ok(None),
@@ -138,7 +147,9 @@ impl SentVotes {
         setup: &Setup,
         bytes: &[u8],
     ) -> Result<Option<Forgery>, AllocError>
-        ensures { IfOk result (λ found. found ≡ first_of (is_unsent self.now setup.now) (forged.signed_in_message (whole resolver_message bytes.now))) }
+        ensures { IfOk result (λ found. found
+            ≡ first_unsent self.now setup.now
+            (forged.signed_in_message (whole resolver_message bytes.now))) }
     {
         match message_in(alloc, bytes)? {
             None => Ok(None),
@@ -152,7 +163,8 @@ impl SentVotes {
         setup: &Setup,
         body: &ResolverBody,
     ) -> Result<Option<Forgery>, AllocError>
-        ensures { IfOk result (λ found. found ≡ first_of (is_unsent self.now setup.now) (forged.signed_in_body body.now)) }
+        ensures { IfOk result (λ found. found
+            ≡ first_unsent self.now setup.now (forged.signed_in_body body.now)) }
     {
         match body {
             ResolverBody::Response { bytes } => {
@@ -169,7 +181,8 @@ impl SentVotes {
         subject: &Subject,
         attestations: &[Attestation],
     ) -> Option<Forgery>
-        ensures { result ≡ first_of (is_unsent self.now setup.now) (map (signed subject.now) attestations.now) }
+        ensures { result ≡ first_unsent self.now setup.now (map
+            (signed subject.now) attestations.now) }
     {
         for attestation in attestations {
             if let Some(found) = self.forged_by(setup, subject, attestation) {
@@ -186,7 +199,8 @@ impl SentVotes {
         subject: &Subject,
         attestation: &Attestation,
     ) -> Option<Forgery>
-        ensures { result ≡ first_of (is_unsent self.now setup.now) (signed subject.now attestation.now ∷ []) }
+        ensures { result ≡ first_unsent self.now setup.now
+            (signed subject.now attestation.now ∷ []) }
     {
         let member = u64::from(attestation.signer.0);
         if self.is_unsent(setup, member, subject, attestation) {
@@ -199,7 +213,8 @@ impl SentVotes {
         }
     }
 
-    // Whether the honest member did not send it, and it verifies. What was sent is looked up first: a signature is dear.
+    // Whether the honest member did not send it, and it verifies. What was sent is looked up first: a signature is
+    // dear.
     fn is_unsent(
         &self,
         setup: &Setup,
@@ -229,7 +244,8 @@ impl SentVotes {
 // Of so many members, none of which voted.
 fn blank_members(alloc: Global, count: usize) -> Result<Vec<Subjects>, AllocError>
     ensures count { IfOk result (λ members. length members.items ≡ count) }
-    ensures blank { IfOk result (λ members. (at : ℕ) (s : Subject) → has_vote members.items at s ≡ false) }
+    ensures blank { IfOk result (λ members. (at : ℕ) (s : Subject)
+        → has_vote members.items at s ≡ false) }
 {
     let mut members = Vec::new(alloc);
     for _ in 0..count {

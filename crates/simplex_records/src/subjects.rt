@@ -112,7 +112,8 @@ fn insert(
     subject: Subject,
 ) -> Result<(), AllocError>
     ensures { OnOk result ((q : ℕ) → unwrap_or (tree.get nat_cmp by_view.new q) []
-        ≡ (if subject_view subject == q then unwrap_or (tree.get nat_cmp by_view.old q) [] ++ subject ∷ []
+        ≡ (if subject_view subject == q then unwrap_or
+        (tree.get nat_cmp by_view.old q) [] ++ subject ∷ []
         else unwrap_or (tree.get nat_cmp by_view.old q) [])) }
 {
     let view = view_of(&subject);

@@ -6,5 +6,6 @@ use Rattle.simplex_repair.specs.Stands.{StandsFor}
 
 -- what is held, and how far it is final
 unfoldable pub held : ⊤
-unfolding StandsFor first_of greatest_of notarization_held nullification_held finalization_held is_good is_failed final_view repair_floor is_final covering_nullification top_of
+unfolding StandsFor first_of greatest_of notarization_held nullification_held finalization_held is_good is_failed
+    final_view repair_floor is_final covering_nullification top_of
 held = tt

@@ -35,7 +35,8 @@ pub(crate) fn copy_covering(
     length: TermLength,
     view: View,
 ) -> Result<Option<Nullification>, AllocError>
-    ensures { IfOk result (λ copy. copy ≡ reaching (found terms.now (term_index length view)) view) }
+    ensures { IfOk result (λ copy. copy
+        ≡ reaching (found terms.now (term_index length view)) view) }
 {
     if !is_covered(terms, length, view) {
         return Ok(None);
@@ -51,7 +52,9 @@ pub(crate) fn cover(
     it: &Nullification,
 ) -> Result<(), AllocError>
     ensures { OnOk result ((q : ℕ) → reaching (found terms.new (term_index length q)) q
-        ≡ (if covers length it.now.round.view q && option_map_or (λ m. nat_lt it.now.round.view m.round.view) (reaching (found terms.old (term_index length q)) q) true
+        ≡ (if covers length it.now.round.view q
+        && option_map_or (λ m. nat_lt it.now.round.view m.round.view)
+        (reaching (found terms.old (term_index length q)) q) true
         then Some it.now else reaching (found terms.old (term_index length q)) q)) }
 {
     let term = it.view().term_index(length);

@@ -5,8 +5,8 @@ ghost use Rattle.std.specs.Prelude.{◌≡◌, min, nat_lt, ◌++◌, ◌∷◌,
 ghost use Rattle.simplex_wire.specs.declared.certificate.Certificate.TheVariants as certificates;
 ghost use Rattle.simplex_values.specs.declared.ask.Kind.TheVariants as kinds;
 ghost use Rattle.model_rules.specs.declared.effect.Effect.TheVariants.{Settled, Raised};
-ghost use Rattle.model_rules.specs.Repair.{Updated, Certified, Replayed, effects_of};
-ghost use Rattle.simplex_repair.specs.Stands.{Takes, Answers};
+ghost use Rattle.model_rules.specs.Repair.{Updated, Certified, Replayed};
+ghost use Rattle.simplex_repair.specs.Stands.{Takes, Causes};
 
 use crate::notes::later;
 use crate::repair::RepairState;
@@ -20,7 +20,8 @@ impl RepairState {
     /// floor that rose, and the views that are gaps from now on, in rising order.
     pub fn updated(&mut self, certificate: &Certificate) -> Result<Vec<Effect>, AllocError>
         ensures stands { OnOk result (Takes self.old self.new (Updated certificate.now)) }
-        ensures effects { IfOk result (λ effects. Answers self.old (λ length calls. effects_of length calls (Updated certificate.now)) effects.items) }
+        ensures effects { IfOk result
+            (λ effects. Causes self.old (Updated certificate.now) effects.items) }
     {
         match certificate {
             Certificate::Notarization(it) => self.take_notarization(it),
@@ -36,7 +37,8 @@ impl RepairState {
         good: bool,
     ) -> Result<Vec<Effect>, AllocError>
         ensures stands { OnOk result (Takes self.old self.new (Certified notarization good)) }
-        ensures effects { IfOk result (λ effects. Answers self.old (λ length calls. effects_of length calls (Certified notarization good)) effects.items) }
+        ensures effects { IfOk result
+            (λ effects. Causes self.old (Certified notarization good) effects.items) }
     {
         if good {
             self.take_good(notarization)
@@ -48,7 +50,7 @@ impl RepairState {
     /// What was stored before the start is known: from now on gaps are asked for.
     pub fn replayed(&mut self) -> Result<Vec<Effect>, AllocError>
         ensures stands { OnOk result (Takes self.old self.new Replayed) }
-        ensures effects { IfOk result (λ effects. Answers self.old (λ length calls. effects_of length calls Replayed) effects.items) }
+        ensures effects { IfOk result (λ effects. Causes self.old Replayed effects.items) }
     {
         let mut effects = Vec::new(self.alloc);
         let was_replayed = self.is_replayed;
@@ -62,8 +64,10 @@ impl RepairState {
 
     /// Takes a notarization, whose view may be one that nothing led to yet.
     fn take_notarization(&mut self, it: &Notarization) -> Result<Vec<Effect>, AllocError>
-        ensures stands { OnOk result (Takes self.old self.new (Updated (certificates.Notarization it.now))) }
-        ensures effects { IfOk result (λ effects. Answers self.old (λ length calls. effects_of length calls (Updated (certificates.Notarization it.now))) effects.items) }
+        ensures stands { OnOk result (Takes self.old self.new
+            (Updated (certificates.Notarization it.now))) }
+        ensures effects { IfOk result (λ effects. Causes self.old
+            (Updated (certificates.Notarization it.now)) effects.items) }
     {
         let view = it.view();
         let behind = self.asked_to(earlier(self.top, view));
@@ -77,8 +81,10 @@ impl RepairState {
 
     /// Takes a nullification, which opens the next term.
     fn take_nullification(&mut self, it: &Nullification) -> Result<Vec<Effect>, AllocError>
-        ensures stands { OnOk result (Takes self.old self.new (Updated (certificates.Nullification it.now))) }
-        ensures effects { IfOk result (λ effects. Answers self.old (λ length calls. effects_of length calls (Updated (certificates.Nullification it.now))) effects.items) }
+        ensures stands { OnOk result (Takes self.old self.new
+            (Updated (certificates.Nullification it.now))) }
+        ensures effects { IfOk result (λ effects. Causes self.old
+            (Updated (certificates.Nullification it.now)) effects.items) }
     {
         let view = it.view();
         let last = view.next_term_start(self.length);
@@ -98,8 +104,10 @@ impl RepairState {
 
     /// Takes a finalization, behind which a term may go on.
     fn take_finalization(&mut self, it: &Finalization) -> Result<Vec<Effect>, AllocError>
-        ensures stands { OnOk result (Takes self.old self.new (Updated (certificates.Finalization it.now))) }
-        ensures effects { IfOk result (λ effects. Answers self.old (λ length calls. effects_of length calls (Updated (certificates.Finalization it.now))) effects.items) }
+        ensures stands { OnOk result (Takes self.old self.new
+            (Updated (certificates.Finalization it.now))) }
+        ensures effects { IfOk result (λ effects. Causes self.old
+            (Updated (certificates.Finalization it.now)) effects.items) }
     {
         let view = it.view();
         let floor = self.floor;
@@ -117,7 +125,8 @@ impl RepairState {
     /// Takes a true verdict, behind which a term may go on.
     fn take_good(&mut self, it: Notarization) -> Result<Vec<Effect>, AllocError>
         ensures stands { OnOk result (Takes self.old self.new (Certified it true)) }
-        ensures effects { IfOk result (λ effects. Answers self.old (λ length calls. effects_of length calls (Certified it true)) effects.items) }
+        ensures effects { IfOk result
+            (λ effects. Causes self.old (Certified it true) effects.items) }
     {
         let view = it.view();
         let floor = self.floor;
@@ -135,7 +144,8 @@ impl RepairState {
     /// Takes a false verdict, after which the view itself can be a gap.
     fn take_failed(&mut self, it: Notarization) -> Result<Vec<Effect>, AllocError>
         ensures stands { OnOk result (Takes self.old self.new (Certified it false)) }
-        ensures effects { IfOk result (λ effects. Answers self.old (λ length calls. effects_of length calls (Certified it false)) effects.items) }
+        ensures effects { IfOk result
+            (λ effects. Causes self.old (Certified it false) effects.items) }
     {
         let view = it.view();
         let behind = self.asked_to(earlier(self.top, view));
@@ -149,7 +159,8 @@ impl RepairState {
 
     /// Tells of the floor, where it rose from this view.
     fn push_raised(&self, before: View, effects: &mut Vec<Effect>) -> Result<(), AllocError>
-        ensures { OnOk result (effects.new.items ≡ effects.old.items ++ (if nat_lt before self.now.floor then Raised self.now.floor ∷ [] else [])) }
+        ensures { OnOk result (effects.new.items ≡ effects.old.items
+            ++ (if nat_lt before self.now.floor then Raised self.now.floor ∷ [] else [])) }
     {
         push_if(effects, before < self.floor, Effect::Raised(self.floor))
     }
@@ -175,7 +186,8 @@ fn notarization_settled(view: View) -> Effect
 
 /// Adds the effect, where the condition holds.
 fn push_if(effects: &mut Vec<Effect>, holds: bool, effect: Effect) -> Result<(), AllocError>
-    ensures { OnOk result (effects.new.items ≡ effects.old.items ++ (if holds then effect ∷ [] else [])) }
+    ensures { OnOk result (effects.new.items
+        ≡ effects.old.items ++ (if holds then effect ∷ [] else [])) }
 {
     if holds {
         effects.push(effect)?;

@@ -1,12 +1,12 @@
 //! The gaps: the views whose nullification is to be asked for.
 #![tactic(auto, unfolding(crate::specs::Stands::StandsFor))]
 
-ghost use Rattle.std.specs.Prelude.{◌≡◌, ℕ, ◌+◌, ◌<◌, ◌≤◌, ◌++◌, map, false, List, OnOk, IfSome, IfNone};
+ghost use Rattle.std.specs.Prelude.{◌≡◌, ℕ, ◌+◌, ◌<◌, ◌≤◌, ◌++◌, map, false, OnOk, IfSome, IfNone};
 ghost use Rattle.simplex_values.specs.Terms.{next_term_start};
 ghost use Rattle.model_rules.specs.declared.effect.Effect.TheVariants.{Fetch};
-ghost use Rattle.model_rules.specs.Repair.{RepairCall, is_gap, is_first_above, repair_floor};
+ghost use Rattle.model_rules.specs.Repair.{is_gap, is_first_above, repair_floor};
 ghost use Rattle.simplex_repair.specs.Gaps.{gaps_between, asked_to};
-ghost use Rattle.simplex_repair.specs.Stands.{StandsFor, Answers};
+ghost use Rattle.simplex_repair.specs.Stands.{Answers, WhenStands};
 
 use crate::notes::later;
 use crate::repair::RepairState;
@@ -23,7 +23,8 @@ impl RepairState {
         last: View,
         effects: &mut Vec<Effect>,
     ) -> Result<(), AllocError>
-        ensures { OnOk result (Answers self.now (λ length calls. effects.old.items ++ map Fetch (gaps_between length calls behind last)) effects.new.items) }
+        ensures { OnOk result (Answers self.now (λ length calls. effects.old.items
+            ++ map Fetch (gaps_between length calls behind last)) effects.new.items) }
     {
         if !self.is_replayed {
             return Ok(());
@@ -73,10 +74,10 @@ impl RepairState {
     fn next_candidate(&self, at: View, last: View) -> Option<View>
         ensures above { IfSome result (λ view. at < view) }
         ensures bound { IfSome result (λ view. view ≤ last) }
-        ensures least { IfSome result (λ view. (length : ℕ) (calls : List RepairCall) → StandsFor self.now length calls
-            → (q : ℕ) → at < q → q < view → is_gap length calls q ≡ false) }
-        ensures none { IfNone result ((length : ℕ) (calls : List RepairCall) → StandsFor self.now length calls
-            → (q : ℕ) → at < q → q ≤ last → is_gap length calls q ≡ false) }
+        ensures least { IfSome result (λ view. WhenStands self.now (λ length calls. (q : ℕ)
+            → at < q → q < view → is_gap length calls q ≡ false)) }
+        ensures none { IfNone result (WhenStands self.now (λ length calls. (q : ℕ)
+            → at < q → q ≤ last → is_gap length calls q ≡ false)) }
     {
         if last <= at {
             return None;
@@ -92,8 +93,8 @@ impl RepairState {
     #[tactic(auto, unfolding(crate::specs::Stands::StandsFor), using(crate::proofs::Candidates::no_gap))]
     fn candidate_from(&self, view: View) -> View
         ensures bound { view ≤ result }
-        ensures least { (length : ℕ) (calls : List RepairCall) → StandsFor self.now length calls
-            → (q : ℕ) → view ≤ q → q < result → is_gap length calls q ≡ false }
+        ensures least { WhenStands self.now (λ length calls. (q : ℕ)
+            → view ≤ q → q < result → is_gap length calls q ≡ false) }
     {
         let first = self.first_above_from(view);
         match first_from(&self.failed, view.0) {
@@ -106,8 +107,8 @@ impl RepairState {
     #[tactic(auto, unfolding(crate::specs::Stands::StandsFor), using(crate::proofs::Candidates::rest_of_term))]
     fn first_above_from(&self, view: View) -> View
         ensures bound { view ≤ result }
-        ensures least { (length : ℕ) (calls : List RepairCall) → StandsFor self.now length calls
-            → (q : ℕ) → view ≤ q → q < result → is_first_above length (repair_floor calls) q ≡ false }
+        ensures least { WhenStands self.now (λ length calls. (q : ℕ)
+            → view ≤ q → q < result → is_first_above length (repair_floor calls) q ≡ false) }
     {
         if view.0 <= self.floor.0 {
             return view;

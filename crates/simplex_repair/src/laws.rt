@@ -8,5 +8,6 @@ ghost use Rattle.simplex_repair.specs.Laws.{IsLacking};
 pub fn gaps_are_what_is_lacking()
     ensures each { (length : ℕ) (calls : List RepairCall) (view : ℕ) → 0 < length → list_any is_replayed_in calls ≡ true
         → ((is_gap length calls view ≡ true) ↔ IsLacking length calls view) }
-    ensures listed { (length : ℕ) (calls : List RepairCall) (view : ℕ) → list_any (λ v. v == view) (gaps_of length calls) ≡ is_gap length calls view }
+    ensures listed { (length : ℕ) (calls : List RepairCall) (view : ℕ)
+        → list_any (λ v. v == view) (gaps_of length calls) ≡ is_gap length calls view }
 {}

@@ -19,7 +19,8 @@ use std::alloc::AllocError;
 impl RepairState {
     /// A notarization is held, where it is its view's first.
     pub(crate) fn note_notarization(&mut self, it: &Notarization) -> Result<(), AllocError>
-        ensures { OnOk result (Takes self.old self.new (Updated (certificates.Notarization it.now))) }
+        ensures { OnOk result (Takes self.old self.new
+            (Updated (certificates.Notarization it.now))) }
     {
         let view = it.view();
         let copy = it.keep(self.alloc)?;
@@ -30,7 +31,8 @@ impl RepairState {
 
     /// A nullification is held, where it is its view's first.
     pub(crate) fn note_nullification(&mut self, it: &Nullification) -> Result<(), AllocError>
-        ensures { OnOk result (Takes self.old self.new (Updated (certificates.Nullification it.now))) }
+        ensures { OnOk result (Takes self.old self.new
+            (Updated (certificates.Nullification it.now))) }
     {
         self.nullified.add(it.view().0)?;
         cover(self.alloc, &mut self.nullifications, self.length, it)?;
@@ -40,7 +42,8 @@ impl RepairState {
 
     /// A finalization is held, where it is the greatest. What cannot be asked for any more is let go.
     pub(crate) fn note_finalization(&mut self, it: &Finalization) -> Result<(), AllocError>
-        ensures { OnOk result (Takes self.old self.new (Updated (certificates.Finalization it.now))) }
+        ensures { OnOk result (Takes self.old self.new
+            (Updated (certificates.Finalization it.now))) }
     {
         let view = it.view();
         self.top = later(self.top, view.next());
@@ -95,7 +98,8 @@ pub(crate) fn later(one: View, other: View) -> View
 
 /// Whether the finalization is of a later view than the held one.
 fn is_greater(it: &Finalization, held: &Option<Finalization>) -> bool
-    ensures { result ≡ option_map_or (λ h. nat_lt (view_of h.proposal) (view_of it.now.proposal)) held.now true }
+    ensures { result ≡ option_map_or
+        (λ h. nat_lt (view_of h.proposal) (view_of it.now.proposal)) held.now true }
 {
     match held {
         None => true,

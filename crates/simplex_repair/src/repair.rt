@@ -1,13 +1,13 @@
 //! What a member holds for others.
 #![tactic(auto, unfolding(crate::specs::Stands::StandsFor))]
 
-ghost use Rattle.std.specs.Prelude.{◌≡◌, ℕ, ◌&&◌, false, List, [], IfOk, Some, None};
+ghost use Rattle.std.specs.Prelude.{◌≡◌, ℕ, ◌&&◌, false, [], IfOk, Some, None};
 ghost use Rattle.std.specs.Option.{option_map};
 ghost use Rattle.simplex_wire.specs.Message as messages;
 ghost use Rattle.simplex_wire.specs.declared.certificate.Certificate.TheVariants as certificates;
-ghost use Rattle.model_rules.specs.Repair.{RepairCall, is_final, is_nullified, is_settled, is_key_settled, is_uncertifiable, is_failed, final_view, produced};
+ghost use Rattle.model_rules.specs.Repair.{is_final, is_nullified, is_settled, is_key_settled, is_uncertifiable, is_failed, final_view, produced};
 ghost use Rattle.simplex_values.specs.Maps.{found};
-ghost use Rattle.simplex_repair.specs.Stands.{StandsFor, Answers};
+ghost use Rattle.simplex_repair.specs.Stands.{StandsFor, Answers, WhenStands};
 
 use crate::covers::{copy_covering, is_covered};
 use crate::taken::Taken;
@@ -107,7 +107,8 @@ impl RepairState {
     /// The bytes of the certificate for one who asks for the view: the finalization at or above it, its own
     /// notarization with a true verdict, a nullification that covers it, or the floor's notarization.
     pub fn produce(&self, view: View) -> Result<Option<Vec<u8>>, AllocError>
-        ensures { IfOk result (λ bytes. Answers self.now (λ length calls. option_map messages.certificate.spelling (produced length calls view)) (option_map (λ it. it.items) bytes)) }
+        ensures { IfOk result (λ bytes. Answers self.now (λ length calls. option_map messages.certificate.spelling
+            (produced length calls view)) (option_map (λ it. it.items) bytes)) }
     {
         match self.certificate_for(view)? {
             None => Ok(None),
@@ -118,7 +119,8 @@ impl RepairState {
     /// The certificate for one who asks for the view. [smallest-nullification]
     #[tactic(auto, unfolding(crate::specs::Stands::StandsFor, model_rules::specs::Repair::produced), using(crate::proofs::Held::above_open))]
     fn certificate_for(&self, view: View) -> Result<Option<Certificate>, AllocError>
-        ensures { IfOk result (λ it. Answers self.now (λ length calls. produced length calls view) it) }
+        ensures { IfOk result (λ it. Answers self.now
+            (λ length calls. produced length calls view) it) }
     {
         if self.is_final(view) {
             return self.final_certificate();
@@ -137,7 +139,8 @@ impl RepairState {
 
     /// The greatest finalization, as a certificate.
     fn final_certificate(&self) -> Result<Option<Certificate>, AllocError>
-        ensures { IfOk result (λ it. it ≡ option_map certificates.Finalization self.now.finalization) }
+        ensures { IfOk result (λ it. it
+            ≡ option_map certificates.Finalization self.now.finalization) }
     {
         match &self.finalization {
             None => Ok(None),
@@ -147,7 +150,8 @@ impl RepairState {
 
     /// The notarization of the view, as a certificate.
     fn notarization_of(&self, view: View) -> Result<Option<Certificate>, AllocError>
-        ensures { IfOk result (λ it. it ≡ option_map certificates.Notarization (found self.now.notarizations view)) }
+        ensures { IfOk result (λ it. it
+            ≡ option_map certificates.Notarization (found self.now.notarizations view)) }
     {
         match copy_at(self.alloc, &self.notarizations, view.0)? {
             None => Ok(None),
@@ -187,7 +191,8 @@ impl RepairState {
     /// Whether a nullification that covers the view is held. What is final need not be known.
     #[tactic(auto, unfolding(crate::specs::Stands::StandsFor), using(crate::proofs::Held::nullified_is))]
     pub(crate) fn is_nullified(&self, view: View) -> bool
-        ensures { (length : ℕ) (calls : List RepairCall) → StandsFor self.now length calls → is_final calls view ≡ false → result ≡ is_nullified length calls view }
+        ensures { WhenStands self.now (λ length calls. is_final calls view ≡ false
+            → result ≡ is_nullified length calls view) }
     {
         is_covered(&self.nullifications, self.length, view)
     }

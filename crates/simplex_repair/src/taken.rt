@@ -58,7 +58,8 @@ impl Taken {
 fn range_up_to(lasts: &BTreeMap<u64, u64>, view: u64) -> Option<(u64, u64)>
     ensures bound { IfSome result (λ range. range.0 ≤ view) }
     ensures value { IfSome result (λ range. found lasts.now range.0 ≡ Some range.1) }
-    ensures greatest { IfSome result (λ range. (q : ℕ) → range.0 < q → q ≤ view → found lasts.now q ≡ None) }
+    ensures greatest { IfSome result (λ range. (q : ℕ) → range.0 < q → q ≤ view
+        → found lasts.now q ≡ None) }
     ensures none { IfNone result ((q : ℕ) → q ≤ view → found lasts.now q ≡ None) }
 {
     match lasts.range(..=view).next_back() {
@@ -73,7 +74,8 @@ fn first_to(lasts: &BTreeMap<u64, u64>, view: u64) -> u64
     requires { reaches (last_at (found lasts.now) view) view ≡ false }
     ensures bound { result ≤ view }
     ensures free { (q : ℕ) → result < q → q ≤ view → found lasts.now q ≡ None }
-    ensures before { (q : ℕ) → result ≤ q → q < view → reaches (last_at (found lasts.now) q) q ≡ true }
+    ensures before { (q : ℕ) → result ≤ q → q < view
+        → reaches (last_at (found lasts.now) q) q ≡ true }
 {
     match range_up_to(lasts, view) {
         Some((first, last)) if last.saturating_add(1) == view => first,
@@ -84,7 +86,9 @@ fn first_to(lasts: &BTreeMap<u64, u64>, view: u64) -> u64
 /// Cuts off the range that begins behind the view, if there is one, and answers where it ends.
 fn cut_behind(lasts: &mut BTreeMap<u64, u64>, view: u64) -> Option<u64>
     ensures last { IfSome result (λ last. found lasts.old (view + 1) ≡ Some last) }
-    ensures cut { (q : ℕ) → found lasts.new q ≡ (if is_some result && view + 1 == q then None else found lasts.old q) }
+    ensures cut { (q : ℕ)
+        → found lasts.new q
+        ≡ (if is_some result && view + 1 == q then None else found lasts.old q) }
 {
     lasts.remove(&view.checked_add(1)?)
 }
@@ -106,8 +110,10 @@ pub(crate) fn hold<V: Drop>(
     view: u64,
     value: V,
 ) -> Result<(), AllocError>
-    ensures taken { OnOk result ((q : ℕ) → is_taken taken.new q ≡ (view == q || is_taken taken.old q)) }
-    ensures held { OnOk result ((q : ℕ) → found values.new q ≡ (if view == q && not (is_taken taken.old view) then Some value else found values.old q)) }
+    ensures taken { OnOk result ((q : ℕ)
+        → is_taken taken.new q ≡ (view == q || is_taken taken.old q)) }
+    ensures held { OnOk result ((q : ℕ) → found values.new q
+        ≡ (if view == q && not (is_taken taken.old view) then Some value else found values.old q)) }
 {
     if taken.contains(view) {
         return Ok(());

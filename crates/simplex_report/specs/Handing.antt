@@ -18,15 +18,17 @@ report_of _ = None
 abbrev pub reported_in : Entry → List Activity
 reported_in entry = filter_map report_of entry.calls
 
--- how it goes on behind this answer of the reporter: not at all where that was want of memory, and else with the worse of
--- its answers
-abbrev pub goes_on : {R : Type 0} → Feedback → Result Feedback AllocError → R → Result Feedback AllocError → R → (Feedback → Type 0) → Type 0
+-- how it goes on behind this answer of the reporter: not at all where that was want of memory, and else with the worse
+-- of its answers
+abbrev pub goes_on : {R : Type 0} → Feedback → Result Feedback AllocError → R → Result Feedback AllocError → R
+    → (Feedback → Type 0) → Type 0
 goes_on told (Err e) left answer after behind = (answer ≡ Err e) × (after ≡ left)
 goes_on told (Ok next) left answer after behind = behind (worse told next)
 
--- how a reporter that gave this answer so far is told of activities, in order. Where memory is wanting for a copy, it is
--- not told of that one, nor of those behind it
-unfoldable pub tells_all : {R : Type 0} → (R → Activity → Result Feedback AllocError → R → Type 0) → R → Feedback → List Activity → Result Feedback AllocError → R → Type 0
+-- how a reporter that gave this answer so far is told of activities, in order. Where memory is wanting for a copy, it
+-- is not told of that one, nor of those behind it
+unfoldable pub tells_all : {R : Type 0} → (R → Activity → Result Feedback AllocError → R → Type 0) → R → Feedback
+    → List Activity → Result Feedback AllocError → R → Type 0
 tells_all reports before told [] answer after = (answer ≡ Ok told) × (after ≡ before)
 tells_all {R} reports before told (activity ∷ activities) answer after =
     ((answer ≡ Err alloc_error) × (after ≡ before))

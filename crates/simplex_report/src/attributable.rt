@@ -39,7 +39,9 @@ impl<S: Scheme, R> AttributableReporter<S, R> {
     /// Whether the reporter inside is told of the activity.
     #[tactic(auto, unfolding(crate::specs::Attributable::passes))]
     fn passes(&self, activity: &Activity) -> bool
-        ensures { result ≡ passes S.attributable self.now.verify (activity_verifies (S.verifies self.now.scheme) (S.members self.now.scheme)) activity.now }
+        ensures { result ≡ passes S.attributable self.now.verify
+            (activity_verifies (S.verifies self.now.scheme)
+            (S.members self.now.scheme)) activity.now }
     {
         activity.verified()
             || S::is_attributable() && (!self.verify || activity.verify(&self.scheme))
@@ -49,7 +51,10 @@ impl<S: Scheme, R> AttributableReporter<S, R> {
 impl<S: Scheme, R: Reporter<Activity = Activity>> Reporter for AttributableReporter<S, R> {
     type Activity = Activity;
 
-    ghost reports = { λ before activity answer after. (after.scheme ≡ before.scheme) × (after.verify ≡ before.verify) × tells_if R.reports (passes S.attributable before.verify (activity_verifies (S.verifies before.scheme) (S.members before.scheme)) activity) before.reporter activity answer after.reporter };
+    ghost reports = { λ before activity answer after. (after.scheme ≡ before.scheme) × (after.verify ≡ before.verify)
+        × tells_if R.reports (passes S.attributable before.verify
+        (activity_verifies (S.verifies before.scheme) (S.members before.scheme)) activity)
+        before.reporter activity answer after.reporter };
 
     fn report(&mut self, activity: Activity) -> Result<Feedback, AllocError> {
         if !self.passes(&activity) {

@@ -9,7 +9,8 @@ use simplex_types::{Activity, Keep, Reporter};
 use simplex_values::Feedback;
 use std::alloc::{AllocError, Global};
 
-/// Hands the reporter what the entry reports, in order, and answers the worst of its answers; `Ok` where it reports nothing.
+/// Hands the reporter what the entry reports, in order, and answers the worst of its answers; `Ok` where it reports
+/// nothing.
 ///
 /// The reporter is told of copies. Where memory is wanting it may have been told of the first of them.
 #[tactic(auto, unfolding(crate::specs::Handing::tells_all))]
@@ -18,7 +19,8 @@ pub fn hand_reports<R: Reporter<Activity = Activity>>(
     entry: &Entry,
     reporter: &mut R,
 ) -> Result<Feedback, AllocError>
-    ensures { tells_all R.reports reporter.old feedback.Ok (reported_in entry.now) result reporter.new }
+    ensures { tells_all R.reports reporter.old feedback.Ok
+        (reported_in entry.now) result reporter.new }
 {
     let mut told = Feedback::Ok;
     let mut rest = entry.calls.as_slice();

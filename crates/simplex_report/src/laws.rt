@@ -27,9 +27,19 @@ pub fn order_of_answers_does_not_matter()
 /// most n attestations, no request and no error, and no response that carries such a certificate.
 #[tactic(auto, using(crate::proofs::Lengths::vote_within))]
 pub fn no_payload_is_longer()
-    ensures votes { (n : ℕ) (v : Vote) → 0 < n → FitsVote v → length (vote.spelling v) ≤ longest_payload n }
-    ensures certificates { (n : ℕ) (c : Certificate) → n ≤ 1024 → length (certificate_signatures c) ≤ n → FitsCertificate c → length (certificate.spelling c) ≤ longest_payload n }
-    ensures requests { (n id view : ℕ) → length (resolver_message.spelling (record { id = id; body = Request view })) ≤ longest_payload n }
-    ensures errors { (n id : ℕ) → length (resolver_message.spelling (record { id = id; body = Error })) ≤ longest_payload n }
-    ensures responses { (n id : ℕ) (c : Certificate) → n ≤ 1024 → length (certificate_signatures c) ≤ n → FitsCertificate c → length (resolver_message.spelling (record { id = id; body = Response (certificate.spelling c) })) ≤ longest_payload n }
+    ensures votes { (n : ℕ) (v : Vote) → 0 < n → FitsVote v
+        → length (vote.spelling v) ≤ longest_payload n }
+    ensures certificates { (n : ℕ) (c : Certificate) → n ≤ 1024 → length (certificate_signatures c) ≤ n
+        → FitsCertificate c → length (certificate.spelling c) ≤ longest_payload n }
+    ensures requests { (n id view : ℕ)
+        → length (resolver_message.spelling
+        (record { id = id; body = Request view })) ≤ longest_payload n }
+    ensures errors { (n id : ℕ)
+        → length (resolver_message.spelling
+        (record { id = id; body = Error })) ≤ longest_payload n }
+    ensures responses { (n id : ℕ) (c : Certificate) → n ≤ 1024 → length (certificate_signatures c) ≤ n
+        → FitsCertificate c
+        → length (resolver_message.spelling
+        (record { id = id; body = Response (certificate.spelling c) }))
+        ≤ longest_payload n }
 {}

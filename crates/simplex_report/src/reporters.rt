@@ -86,7 +86,8 @@ impl<A: Keep + Drop, R1: Reporter<Activity = A>, R2: Reporter<Activity = A>> Rep
     for Reporters<R1, R2> {
     type Activity = A;
 
-    ghost reports = { λ before activity answer after. tells_both R1.reports R2.reports before.pair.first before.pair.second activity answer after.pair.first after.pair.second };
+    ghost reports = { λ before activity answer after. tells_both R1.reports R2.reports
+        before.pair.first before.pair.second activity answer after.pair.first after.pair.second };
 
     fn report(&mut self, activity: A) -> Result<Feedback, AllocError> {
         let Some(first) = &mut self.pair.first else {

@@ -1,9 +1,8 @@
 -- How a change of one part of a resolver moves it.
 use Rattle.std.proofs.Common.{◌≡◌, ◌∙◌, ℕ, Bool, List, [], ◌∷◌, length, Option, ap, refl, subst}
-use Rattle.simplex_values.specs.declared.proposal.Subject.{Subject}
 use Rattle.simplex_values.specs.declared.ask.Ask.{Ask}
 use Rattle.simplex_values.specs.declared.ask.Outcome.{Outcome}
-use Rattle.simplex_wire.specs.declared.attestation.Attestation.{Attestation}
+use Rattle.simplex_wire.specs.declared.scheme.Scheme as scheme
 use Rattle.simplex_wire.specs.declared.certificate.Certificate.{Certificate}
 use Rattle.model_rules.specs.declared.effect.Effect.{Effect}
 use Rattle.model_rules.specs.Repair as repair
@@ -40,32 +39,32 @@ pub accepted-as : (P : Doing → Type 0) (made : Made) (now id view : ℕ) (asks
 unfolding accepted
 accepted-as P made now id view asks certificate doing verdict follows v f p = rw f at (rw v at p)
 
-module _ {S : Type 0} (verifies : S → Subject → Attestation → Bool) (members : S → ℕ) (member : S → Option ℕ) where
+module _ {S : Type 0} {g : scheme.Ghosts S} where
   -- a call of the fetcher
-  pub fetcher-moves : (old new : Actor S) (work next : Work) (fetcher : Machine) (wants : List Out) (after : Machine → After) (made : Made) (doing : Doing)
-      → Stands verifies members member old work made doing
+  pub fetcher-moves : (old new : Actor S g) (work next : Work) (fetcher : Machine) (wants : List Out) (after : Machine → After) (made : Made) (doing : Doing)
+      → Stands old work made doing
       → fetcher ≡ (after old.fetcher).fetcher → wants ≡ (after old.fetcher).outs
-      → ((doing : Doing) → Stands verifies members member (record old { fetcher = fetcher }) work made doing → Stands verifies members member new next made (minded_all wants doing))
-      → Stands verifies members member new next made (minded_all (after doing.standing.fetcher).outs (with_fetcher (after doing.standing.fetcher).fetcher doing))
+      → ((doing : Doing) → Stands (record old { fetcher = fetcher }) work made doing → Stands new next made (minded_all wants doing))
+      → Stands new next made (minded_all (after doing.standing.fetcher).outs (with_fetcher (after doing.standing.fetcher).fetcher doing))
   fetcher-moves old new work next fetcher wants after made doing s f o minds =
-      let stood : Stands verifies members member (record old { fetcher = fetcher }) work made (with_fetcher (after doing.standing.fetcher).fetcher doing) = record {
+      let stood : Stands (record old { fetcher = fetcher }) work made (with_fetcher (after doing.standing.fetcher).fetcher doing) = record {
         stands = record { made_is = s.stands.made_is; held_is = s.stands.held_is; fetcher_is = f ∙ ap (λ m. (after m).fetcher) s.stands.fetcher_is; handler_is = s.stands.handler_is };
         does = s.does;
       } in
-      subst (λ ws. Stands verifies members member new next made (minded_all ws (with_fetcher (after doing.standing.fetcher).fetcher doing)))
+      subst (λ ws. Stands new next made (minded_all ws (with_fetcher (after doing.standing.fetcher).fetcher doing)))
       (o ∙ ap (λ m. (after m).outs) s.stands.fetcher_is) (minds _ stood)
 
   -- an answer to a peer
-  pub serving-moves : (old : Actor S) (work next : Work) (fetcher : Machine) (wants : List Out) (id : ℕ) (bytes : Option (List ℕ)) (made : Made) (doing : Doing)
-      → Stands verifies members member old work made doing
+  pub serving-moves : (old : Actor S g) (work next : Work) (fetcher : Machine) (wants : List Out) (id : ℕ) (bytes : Option (List ℕ)) (made : Made) (doing : Doing)
+      → Stands old work made doing
       → fetcher ≡ (served id bytes old.fetcher).fetcher → wants ≡ (served id bytes old.fetcher).outs
       → ((doing : Doing) → work ≡ work_of doing → next ≡ work_of (called_all wants doing))
-      → Stands verifies members member (record old { fetcher = fetcher }) next made (serving id bytes doing)
+      → Stands (record old { fetcher = fetcher }) next made (serving id bytes doing)
   unfolding serving
   serving-moves old work next fetcher wants id bytes made doing s f o calls =
       let all = (served id bytes doing.standing.fetcher).outs in
       let begun = with_fetcher (served id bytes doing.standing.fetcher).fetcher doing in
-      let at : IsAt verifies members member (record old { fetcher = fetcher }) made begun.standing =
+      let at : IsAt (record old { fetcher = fetcher }) made begun.standing =
       record { made_is = s.stands.made_is; held_is = s.stands.held_is; fetcher_is = f ∙ ap (λ m. (served id bytes m).fetcher) s.stands.fetcher_is; handler_is = s.stands.handler_is } in
       record {
         stands = rw (called-all-stays all begun) at;
@@ -73,10 +72,10 @@ module _ {S : Type 0} (verifies : S → Subject → Attestation → Bool) (membe
       }
 
   -- a call of the repair state
-  pub recorded-moves : (old : Actor S) (work : Work) (state : RepairState) (call : repair.RepairCall) (made : Made) (doing : Doing)
-      → Stands verifies members member old work made doing
+  pub recorded-moves : (old : Actor S g) (work : Work) (state : RepairState) (call : repair.RepairCall) (made : Made) (doing : Doing)
+      → Stands old work made doing
       → repairs.StandsFor state made.term (call ∷ doing.standing.held)
-      → Stands verifies members member (record old { repair = state }) work made (recorded call doing)
+      → Stands (record old { repair = state }) work made (recorded call doing)
   recorded-moves old work state call made doing s held = record {
     stands = record { made_is = s.stands.made_is; held_is = held; fetcher_is = s.stands.fetcher_is; handler_is = s.stands.handler_is };
     does = s.does;

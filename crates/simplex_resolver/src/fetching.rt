@@ -13,7 +13,8 @@ use std::alloc::AllocError;
 impl<S: Scheme + Drop> Actor<S> {
     /// Nothing is done where the fetcher has no numbers left. [resolver-runs-out]
     fn want_room(&self) -> Result<(), AllocError>
-        ensures { OnOk result ((self.now.fetcher.next_id < 2 ^ 62) × (self.now.fetcher.next_serve < 2 ^ 62)) }
+        ensures { OnOk result ((self.now.fetcher.next_id < 2 ^ 62)
+            × (self.now.fetcher.next_serve < 2 ^ 62)) }
     {
         if self.fetcher.has_room() {
             Ok(())
@@ -32,7 +33,8 @@ impl<S: Scheme + Drop> Actor<S> {
         work: &mut Work,
     ) -> Result<(), AllocError>
         requires clock { now < 2 ^ 63 }
-        ensures { OnOk result (Does S.verifies S.members S.member self.old work.old self.new work.new (λ made. judging now id verdict)) }
+        ensures { OnOk result (Does self.old work.old self.new work.new
+            (λ made. judging now id verdict)) }
     {
         self.want_room()?;
         let outs = self.fetcher.verdict(self.alloc, id, verdict, now)?;
@@ -50,7 +52,8 @@ impl<S: Scheme + Drop> Actor<S> {
         work: &mut Work,
     ) -> Result<(), AllocError>
         requires clock { now < 2 ^ 63 }
-        ensures { OnOk result (Does S.verifies S.members S.member self.old work.old self.new work.new (λ made. hearing sender bytes.now now)) }
+        ensures { OnOk result (Does self.old work.old self.new work.new
+            (λ made. hearing sender bytes.now now)) }
     {
         self.want_room()?;
         let outs = self.fetcher.hear(self.alloc, sender, bytes, now)?;
@@ -62,7 +65,7 @@ impl<S: Scheme + Drop> Actor<S> {
     #[tactic(auto, unfolding(model_resolver::specs::Resolver::expiring))]
     pub(crate) fn expire(&mut self, now: u64, work: &mut Work) -> Result<(), AllocError>
         requires clock { now < 2 ^ 63 }
-        ensures { OnOk result (Does S.verifies S.members S.member self.old work.old self.new work.new (λ made. expiring now)) }
+        ensures { OnOk result (Does self.old work.old self.new work.new (λ made. expiring now)) }
     {
         self.want_room()?;
         let outs = self.fetcher.expire(self.alloc, now)?;
@@ -73,7 +76,8 @@ impl<S: Scheme + Drop> Actor<S> {
     /// These asks are done with.
     #[tactic(auto, unfolding(model_resolver::specs::Resolver::retiring))]
     pub(crate) fn retire(&mut self, retire: &Retire, work: &mut Work) -> Result<(), AllocError>
-        ensures { OnOk result (Does S.verifies S.members S.member self.old work.old self.new work.new (λ made. retiring retire.now)) }
+        ensures { OnOk result (Does self.old work.old self.new work.new
+            (λ made. retiring retire.now)) }
     {
         let outs = self.fetcher.retain(self.alloc, retire)?;
         self.mind_each(outs, work)?;
@@ -89,7 +93,8 @@ impl<S: Scheme + Drop> Actor<S> {
         work: &mut Work,
     ) -> Result<(), AllocError>
         requires clock { now < 2 ^ 63 }
-        ensures { OnOk result (Does S.verifies S.members S.member self.old work.old self.new work.new (λ made. fetching (map of_all fetches.items) now)) }
+        ensures { OnOk result (Does self.old work.old self.new work.new
+            (λ made. fetching (map of_all fetches.items) now)) }
     {
         self.want_room()?;
         let outs = self.fetcher.fetch_all(self.alloc, fetches, now)?;
@@ -107,7 +112,8 @@ impl<S: Scheme + Drop> Actor<S> {
         work: &mut Work,
     ) -> Result<(), AllocError>
         requires clock { now < 2 ^ 63 }
-        ensures { OnOk result (Does S.verifies S.members S.member self.old work.old self.new work.new (λ made. fetching (ancestry view kind target ∷ []) now)) }
+        ensures { OnOk result (Does self.old work.old self.new work.new
+            (λ made. fetching (ancestry view kind target ∷ []) now)) }
     {
         let fetch = Fetch {
             view,
@@ -123,7 +129,8 @@ impl<S: Scheme + Drop> Actor<S> {
     #[tactic(auto, unfolding(model_resolver::specs::Resolver::fetching))]
     fn fetch_any(&mut self, fetch: Fetch, now: u64, work: &mut Work) -> Result<(), AllocError>
         requires clock { now < 2 ^ 63 }
-        ensures { OnOk result (Does S.verifies S.members S.member self.old work.old self.new work.new (λ made. fetching (of_all fetch ∷ []) now)) }
+        ensures { OnOk result (Does self.old work.old self.new work.new
+            (λ made. fetching (of_all fetch ∷ []) now)) }
     {
         self.want_room()?;
         let outs = self.fetcher.fetch(self.alloc, fetch, now)?;
@@ -141,7 +148,8 @@ impl<S: Scheme + Drop> Actor<S> {
         work: &mut Work,
     ) -> Result<(), AllocError>
         requires clock { now < 2 ^ 63 }
-        ensures { OnOk result (Does S.verifies S.members S.member self.old work.old self.new work.new (λ made. fetching (of_target fetch target ∷ []) now)) }
+        ensures { OnOk result (Does self.old work.old self.new work.new
+            (λ made. fetching (of_target fetch target ∷ []) now)) }
     {
         self.want_room()?;
         let outs = self.fetcher.fetch_targeted(self.alloc, fetch, target, now)?;

@@ -33,7 +33,8 @@ impl<S: Scheme + Drop> Actor<S> {
     /// Whether the certificate can be an answer for the view.
     #[tactic(auto, unfolding(crate::specs::Stands::resolver_made))]
     fn may_answer(&self, view: View, certificate: &Certificate) -> bool
-        ensures { Reads S.verifies S.members S.member self.now (λ made standing. may_answer made.term view certificate.now) result }
+        ensures { Reads self.now
+            (λ made standing. may_answer made.term view certificate.now) result }
     {
         match certificate {
             Certificate::Nullification(it) => it.view().covers(view, self.config.term_length),
@@ -45,7 +46,10 @@ impl<S: Scheme + Drop> Actor<S> {
     /// Whether a quorum signed the certificate.
     #[tactic(auto, unfolding(crate::specs::Stands::resolver_made))]
     fn is_certified(&self, certificate: &Certificate) -> bool
-        ensures { Reads S.verifies S.members S.member self.now (λ made standing. is_certified (made.verifies (certificate_subject certificate.now)) made.members (certificate_signatures certificate.now)) result }
+        ensures { Reads self.now
+            (λ made standing. is_certified
+            (made.verifies (certificate_subject certificate.now)) made.members
+            (certificate_signatures certificate.now)) result }
     {
         let subject = certificate.subject();
         self.config
@@ -56,7 +60,7 @@ impl<S: Scheme + Drop> Actor<S> {
     /// Whether the certificate is an answer for the view.
     #[tactic(auto, unfolding(crate::specs::Stands::resolver_made, model_resolver::specs::Resolver::is_valid))]
     fn is_valid(&self, view: View, certificate: &Certificate) -> bool
-        ensures { Reads S.verifies S.members S.member self.now (λ made standing. is_valid made view certificate.now) result }
+        ensures { Reads self.now (λ made standing. is_valid made view certificate.now) result }
     {
         self.may_answer(view, certificate)
             && certificate.epoch() == self.config.epoch
@@ -70,7 +74,8 @@ impl<S: Scheme + Drop> Actor<S> {
         view: View,
         bytes: &[u8],
     ) -> Result<Option<Certificate>, AllocError>
-        ensures { IfOk result (λ it. Reads S.verifies S.members S.member self.now (λ made standing. validated made view bytes.now) it) }
+        ensures { IfOk result (λ it. Reads self.now
+            (λ made standing. validated made view bytes.now) it) }
     {
         match Certificate::decode(self.alloc, bytes) {
             Err(DecodeError::Memory) => Err(AllocError),
@@ -88,7 +93,8 @@ impl<S: Scheme + Drop> Actor<S> {
     /// How many of the asks for the view are settled.
     #[tactic(auto, unfolding(model_resolver::specs::Resolver::settled_count))]
     fn count_settled(&self, view: View, asks: &[Ask]) -> usize
-        ensures { Reads S.verifies S.members S.member self.now (λ made standing. settled_count made.term standing.held view asks.now) result }
+        ensures { Reads self.now
+            (λ made standing. settled_count made.term standing.held view asks.now) result }
     {
         let mut count = 0;
         for ask in asks {
@@ -102,7 +108,8 @@ impl<S: Scheme + Drop> Actor<S> {
     /// Whether it is a notarization of a view that failed.
     #[tactic(auto, unfolding(model_resolver::specs::Resolver::is_excepted))]
     fn is_excepted(&self, certificate: &Certificate) -> bool
-        ensures { Reads S.verifies S.members S.member self.now (λ made standing. is_excepted standing.held certificate.now) result }
+        ensures { Reads self.now
+            (λ made standing. is_excepted standing.held certificate.now) result }
     {
         match certificate {
             Certificate::Notarization(it) => self.repair.uncertifiable(it.view()),
@@ -121,7 +128,8 @@ impl<S: Scheme + Drop> Actor<S> {
         work: &mut Work,
     ) -> Result<(), AllocError>
         requires clock { now < 2 ^ 63 }
-        ensures { OnOk result (Does S.verifies S.members S.member self.old work.old self.new work.new (λ made. passed_over made now id view asks.now)) }
+        ensures { OnOk result (Does self.old work.old self.new work.new
+            (λ made. passed_over made now id view asks.now)) }
     {
         let count = self.count_settled(view, asks);
         let verdict = verdict_of(asks.len(), count, count);
@@ -142,7 +150,8 @@ impl<S: Scheme + Drop> Actor<S> {
         work: &mut Work,
     ) -> Result<(), AllocError>
         requires clock { now < 2 ^ 63 }
-        ensures { OnOk result (Does S.verifies S.members S.member self.old work.old self.new work.new (λ made. accepted made now id view asks.now certificate)) }
+        ensures { OnOk result (Does self.old work.old self.new work.new
+            (λ made. accepted made now id view asks.now certificate)) }
     {
         let before = self.count_settled(view, asks);
         let effects = self.repair.updated(&certificate)?;
@@ -166,7 +175,8 @@ impl<S: Scheme + Drop> Actor<S> {
         work: &mut Work,
     ) -> Result<(), AllocError>
         requires clock { now < 2 ^ 63 }
-        ensures { OnOk result (Does S.verifies S.members S.member self.old work.old self.new work.new (λ made. answered made now id view asks.now certificate)) }
+        ensures { OnOk result (Does self.old work.old self.new work.new
+            (λ made. answered made now id view asks.now certificate)) }
     {
         let Some(certificate) = certificate else {
             return self.judge(id, Some(Outcome::Invalid), now, work);
@@ -189,7 +199,8 @@ impl<S: Scheme + Drop> Actor<S> {
         work: &mut Work,
     ) -> Result<(), AllocError>
         requires clock { now < 2 ^ 63 }
-        ensures { OnOk result (Does S.verifies S.members S.member self.old work.old self.new work.new (λ made. delivered made now id view bytes.now asks.now)) }
+        ensures { OnOk result (Does self.old work.old self.new work.new
+            (λ made. delivered made now id view bytes.now asks.now)) }
     {
         if self.repair.key_settled(view) {
             return self.judge(id, Some(Outcome::Ignored), now, work);

@@ -12,6 +12,7 @@ mod judging;
 mod laws;
 mod minding;
 mod repairing;
+mod resolver;
 mod sends;
 mod steps;
 mod work;

@@ -16,7 +16,8 @@ use std::alloc::{AllocError, Global};
 /// What goes outside: a block, or a send.
 #[tactic(auto, unfolding(model_resolver::specs::Resolver::called))]
 fn call(alloc: Global, out: Out, work: &mut Work) -> Result<(), AllocError>
-    ensures { OnOk result ((doing : Doing) → work.old ≡ work_of doing → work.new ≡ work_of (called out doing)) }
+    ensures { OnOk result ((doing : Doing) → work.old ≡ work_of doing
+        → work.new ≡ work_of (called out doing)) }
 {
     match out {
         Out::Send { to, bytes } => work.send(alloc, to, bytes),
@@ -28,7 +29,8 @@ fn call(alloc: Global, out: Out, work: &mut Work) -> Result<(), AllocError>
 /// All that goes outside.
 #[tactic(auto, unfolding(model_resolver::specs::Resolver::called_all))]
 fn call_each(alloc: Global, outs: Vec<Out>, work: &mut Work) -> Result<(), AllocError>
-    ensures { OnOk result ((doing : Doing) → work.old ≡ work_of doing → work.new ≡ work_of (called_all outs.items doing)) }
+    ensures { OnOk result ((doing : Doing) → work.old ≡ work_of doing
+        → work.new ≡ work_of (called_all outs.items doing)) }
 {
     for out in outs {
         call(alloc, out, work)?;
@@ -40,8 +42,10 @@ impl<S: Scheme + Drop> Actor<S> {
     /// The message is put into the handler's mailbox.
     #[tactic(auto, unfolding(model_resolver::specs::Resolver::putting))]
     fn put(&mut self, message: HandlerMessage, work: &mut Work) -> Result<Feedback, AllocError>
-        ensures work { OnOk result (Does S.verifies S.members S.member self.old work.old self.new work.new (λ made. putting message)) }
-        ensures feedback { IfOk result (λ answer. Reads S.verifies S.members S.member self.old (λ made standing. feedback_of standing.handler) answer) }
+        ensures work { OnOk result (Does self.old work.old self.new work.new
+            (λ made. putting message)) }
+        ensures feedback { IfOk result (λ answer. Reads self.old
+            (λ made standing. feedback_of standing.handler) answer) }
     {
         let copy = message.keep(self.alloc)?;
         work.hand(Handed::Handler(copy))?;
@@ -56,7 +60,8 @@ impl<S: Scheme + Drop> Actor<S> {
         bytes: Option<Vec<u8>>,
         work: &mut Work,
     ) -> Result<(), AllocError>
-        ensures { OnOk result (Does S.verifies S.members S.member self.old work.old self.new work.new (λ made. serving id (option_map (λ vector. vector.items) bytes))) }
+        ensures { OnOk result (Does self.old work.old self.new work.new
+            (λ made. serving id (option_map (λ vector. vector.items) bytes))) }
     {
         let outs = self.fetcher.serve(self.alloc, id, bytes)?;
         call_each(self.alloc, outs, work)?;
@@ -66,7 +71,8 @@ impl<S: Scheme + Drop> Actor<S> {
     /// A peer's request goes to the handler, where no room means that it is answered with an error.
     #[tactic(auto, unfolding(model_resolver::specs::Resolver::requested))]
     fn request(&mut self, id: u64, view: View, work: &mut Work) -> Result<(), AllocError>
-        ensures { OnOk result (Does S.verifies S.members S.member self.old work.old self.new work.new (λ made. requested id view)) }
+        ensures { OnOk result (Does self.old work.old self.new work.new
+            (λ made. requested id view)) }
     {
         let answer = self.put(HandlerMessage::Produce { id, view }, work)?;
         if answer == Feedback::Backoff {
@@ -78,7 +84,7 @@ impl<S: Scheme + Drop> Actor<S> {
     /// The requester of this number left.
     #[tactic(auto, unfolding(model_resolver::specs::Resolver::leaving))]
     fn leave(&mut self, id: u64)
-        ensures { (work : Work) → Does S.verifies S.members S.member self.old work self.new work (λ made. leaving id) }
+        ensures { (work : Work) → Does self.old work self.new work (λ made. leaving id) }
     {
         self.handler.leave(id);
     }
@@ -86,7 +92,7 @@ impl<S: Scheme + Drop> Actor<S> {
     /// Deliveries and requests go to the handler, and the others outside.
     #[tactic(auto, unfolding(model_resolver::specs::Resolver::minded, model_resolver::specs::Resolver::called))]
     fn mind(&mut self, out: Out, work: &mut Work) -> Result<(), AllocError>
-        ensures { OnOk result (Does S.verifies S.members S.member self.old work.old self.new work.new (λ made. minded out)) }
+        ensures { OnOk result (Does self.old work.old self.new work.new (λ made. minded out)) }
     {
         match out {
             Out::Deliver {
@@ -124,7 +130,8 @@ impl<S: Scheme + Drop> Actor<S> {
     /// All that the fetcher wants.
     #[tactic(auto, unfolding(model_resolver::specs::Resolver::minded_all))]
     pub(crate) fn mind_each(&mut self, outs: Vec<Out>, work: &mut Work) -> Result<(), AllocError>
-        ensures { OnOk result (Does S.verifies S.members S.member self.old work.old self.new work.new (λ made. minded_all outs.items)) }
+        ensures { OnOk result (Does self.old work.old self.new work.new
+            (λ made. minded_all outs.items)) }
     {
         for out in outs {
             self.mind(out, work)?;

@@ -71,7 +71,8 @@ impl<S: Scheme + Drop> Actor<S> {
     /// All these asks are done with.
     #[tactic(auto, unfolding(model_resolver::specs::Resolver::retiring_all))]
     fn retire_each(&mut self, retires: &[Retire], work: &mut Work) -> Result<(), AllocError>
-        ensures { OnOk result (Does S.verifies S.members S.member self.old work.old self.new work.new (λ made. retiring_all retires.now)) }
+        ensures { OnOk result (Does self.old work.old self.new work.new
+            (λ made. retiring_all retires.now)) }
     {
         for retire in retires {
             self.retire(retire, work)?;
@@ -88,7 +89,8 @@ impl<S: Scheme + Drop> Actor<S> {
         work: &mut Work,
     ) -> Result<(), AllocError>
         requires clock { now < 2 ^ 63 }
-        ensures { OnOk result (Does S.verifies S.members S.member self.old work.old self.new work.new (λ made. with_effects now effects.items)) }
+        ensures { OnOk result (Does self.old work.old self.new work.new
+            (λ made. with_effects now effects.items)) }
     {
         let retires = retires_of(self.alloc, effects.as_slice())?;
         let fetches = fetches_of(self.alloc, effects.as_slice())?;
@@ -106,7 +108,8 @@ impl<S: Scheme + Drop> Actor<S> {
         work: &mut Work,
     ) -> Result<(), AllocError>
         requires clock { now < 2 ^ 63 }
-        ensures { OnOk result (Does S.verifies S.members S.member self.old work.old self.new work.new (λ made. repairing made now (calls.Updated certificate.now))) }
+        ensures { OnOk result (Does self.old work.old self.new work.new
+            (λ made. repairing made now (calls.Updated certificate.now))) }
     {
         let effects = self.repair.updated(certificate)?;
         self.follow(effects, now, work)?;
@@ -123,7 +126,8 @@ impl<S: Scheme + Drop> Actor<S> {
         work: &mut Work,
     ) -> Result<(), AllocError>
         requires clock { now < 2 ^ 63 }
-        ensures { OnOk result (Does S.verifies S.members S.member self.old work.old self.new work.new (λ made. repairing made now (calls.Certified notarization success))) }
+        ensures { OnOk result (Does self.old work.old self.new work.new
+            (λ made. repairing made now (calls.Certified notarization success))) }
     {
         let effects = self.repair.certified(notarization, success)?;
         self.follow(effects, now, work)?;
@@ -134,7 +138,8 @@ impl<S: Scheme + Drop> Actor<S> {
     #[tactic(auto, unfolding(model_resolver::specs::Resolver::repairing))]
     pub(crate) fn take_replayed(&mut self, now: u64, work: &mut Work) -> Result<(), AllocError>
         requires clock { now < 2 ^ 63 }
-        ensures { OnOk result (Does S.verifies S.members S.member self.old work.old self.new work.new (λ made. repairing made now calls.Replayed)) }
+        ensures { OnOk result (Does self.old work.old self.new work.new
+            (λ made. repairing made now calls.Replayed)) }
     {
         let effects = self.repair.replayed()?;
         self.follow(effects, now, work)?;

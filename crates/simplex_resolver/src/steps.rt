@@ -15,7 +15,8 @@ impl<S: Scheme + Drop> Actor<S> {
     /// A peer asks for the view.
     #[tactic(auto, unfolding(model_resolver::specs::Resolver::produced))]
     fn produce(&mut self, id: u64, view: View, work: &mut Work) -> Result<(), AllocError>
-        ensures { OnOk result (Does S.verifies S.members S.member self.old work.old self.new work.new (λ made. produced made id view)) }
+        ensures { OnOk result (Does self.old work.old self.new work.new
+            (λ made. produced made id view)) }
     {
         let bytes = self.repair.produce(view)?;
         self.serve(id, bytes, work)?;
@@ -34,7 +35,8 @@ impl<S: Scheme + Drop> Actor<S> {
         work: &mut Work,
     ) -> Result<(), AllocError>
         requires clock { now < 2 ^ 63 }
-        ensures { OnOk result (Does S.verifies S.members S.member self.old work.old self.new work.new (λ made. resolving made now proposal view kind target)) }
+        ensures { OnOk result (Does self.old work.old self.new work.new
+            (λ made. resolving made now proposal view kind target)) }
     {
         if view >= proposal || self.repair.settled(view, kind) {
             return Ok(());
@@ -51,7 +53,8 @@ impl<S: Scheme + Drop> Actor<S> {
         work: &mut Work,
     ) -> Result<(), AllocError>
         requires clock { now < 2 ^ 63 }
-        ensures { OnOk result (Does S.verifies S.members S.member self.old work.old self.new work.new (λ made. took_mail made message now)) }
+        ensures { OnOk result (Does self.old work.old self.new work.new
+            (λ made. took_mail made message now)) }
     {
         match message {
             MailboxMessage::Updated { certificate } => {
@@ -80,7 +83,8 @@ impl<S: Scheme + Drop> Actor<S> {
         work: &mut Work,
     ) -> Result<(), AllocError>
         requires clock { now < 2 ^ 63 }
-        ensures { OnOk result (Does S.verifies S.members S.member self.old work.old self.new work.new (λ made. took_handled made message now)) }
+        ensures { OnOk result (Does self.old work.old self.new work.new
+            (λ made. took_handled made message now)) }
     {
         match message {
             HandlerMessage::Deliver {
@@ -103,7 +107,8 @@ impl<S: Scheme + Drop> Actor<S> {
     #[tactic(auto, unfolding(model_resolver::specs::Resolver::acted))]
     fn act(&mut self, input: ResolverInput, now: u64, work: &mut Work) -> Result<(), AllocError>
         requires clock { now < 2 ^ 63 }
-        ensures { OnOk result (Does S.verifies S.members S.member self.old work.old self.new work.new (λ made. acted made input now)) }
+        ensures { OnOk result (Does self.old work.old self.new work.new
+            (λ made. acted made input now)) }
     {
         match input {
             ResolverInput::Mail(message) => self.take_mail(message, now, work),
@@ -119,7 +124,8 @@ impl<S: Scheme + Drop> Actor<S> {
     #[tactic(auto, unfolding(model_resolver::specs::Resolver::step))]
     pub(crate) fn take(&mut self, input: ResolverInput, now: u64) -> Result<Work, AllocError>
         requires clock { now < 2 ^ 63 }
-        ensures { IfOk result (λ work. WorksAs S.verifies S.members S.member self.old self.new work (λ made standing. step made standing input now)) }
+        ensures { IfOk result (λ work. WorksAs self.old self.new work
+            (λ made standing. step made standing input now)) }
     {
         let mut work = Work::new(self.alloc);
         self.act(input, now, &mut work)?;

@@ -31,7 +31,8 @@ impl Work {
 
     /// A message is handed on.
     pub(crate) fn hand(&mut self, message: Handed) -> Result<(), AllocError>
-        ensures { OnOk result (self.new ≡ record self.old { handed = self.old.handed ++ message ∷ [] }) }
+        ensures { OnOk result (self.new
+            ≡ record self.old { handed = self.old.handed ++ message ∷ [] }) }
     {
         self.handed.push(message)?;
         Ok(())
@@ -39,7 +40,8 @@ impl Work {
 
     /// The member is blocked, for this cause.
     pub(crate) fn block(&mut self, member: Participant, cause: BlockCause) -> Result<(), AllocError>
-        ensures { OnOk result (self.new ≡ record self.old { blocks = self.old.blocks ++ Block member cause ∷ [] }) }
+        ensures { OnOk result (self.new
+            ≡ record self.old { blocks = self.old.blocks ++ Block member cause ∷ [] }) }
     {
         self.blocks.push(Call::Block(member, cause))?;
         Ok(())
@@ -52,7 +54,8 @@ impl Work {
         to: Participant,
         bytes: Bytes,
     ) -> Result<(), AllocError>
-        ensures { OnOk result (self.new ≡ record self.old { sends = placed (sending to bytes) self.old.sends }) }
+        ensures { OnOk result (self.new
+            ≡ record self.old { sends = placed (sending to bytes) self.old.sends }) }
     {
         let sent = Sending::new(alloc, to, bytes)?;
         self.sends.place(sent)?;

@@ -20,7 +20,8 @@ use Rattle.simplex_round.specs.Known.{Known, Given, side_of, with_side, ballot_o
 -- the ballot put in its place by signer
 unfoldable pub placed : Ballot → List Ballot → List Ballot
 placed ballot [] = ballot ∷ []
-placed ballot (other ∷ others) = if nat_lt (vote_signer ballot.vote) (vote_signer other.vote) then ballot ∷ other ∷ others else other ∷ placed ballot others
+placed ballot (other ∷ others) = if nat_lt (vote_signer ballot.vote) (vote_signer other.vote)
+    then ballot ∷ other ∷ others else other ∷ placed ballot others
 
 -- the vote accepted: it was not checked
 unfoldable pub with_accepted : Known → Vote → Known
@@ -37,8 +38,10 @@ evidence_of (votes.Notarize old) (votes.Notarize new) =
 evidence_of (votes.Finalize old) (votes.Finalize new) =
     if is_same_proposal old.proposal new.proposal then None
     else Some (proofs.Finalizes (record { first = old; second = new }))
-evidence_of (votes.Nullify old) (votes.Finalize new) = Some (proofs.NullifyFinalize (record { nullify = old; finalize = new }))
-evidence_of (votes.Finalize old) (votes.Nullify new) = Some (proofs.NullifyFinalize (record { nullify = new; finalize = old }))
+evidence_of (votes.Nullify old) (votes.Finalize new) =
+    Some (proofs.NullifyFinalize (record { nullify = old; finalize = new }))
+evidence_of (votes.Finalize old) (votes.Nullify new) =
+    Some (proofs.NullifyFinalize (record { nullify = new; finalize = old }))
 evidence_of _ _ = None
 
 -- whether evidence of this kind against this signer was given
@@ -49,9 +52,12 @@ was_given (proofs.NullifyFinalize e) given = list_any (is_at (nat_cmp e.nullify.
 
 -- the evidence is given: its signer is put in its place
 abbrev pub with_given : Evidence → Given → Given
-with_given (proofs.Notarizes e) given = record given { by_notarizes = insert_key nat_cmp given.by_notarizes e.first.attestation.signer }
-with_given (proofs.Finalizes e) given = record given { by_finalizes = insert_key nat_cmp given.by_finalizes e.first.attestation.signer }
-with_given (proofs.NullifyFinalize e) given = record given { by_both = insert_key nat_cmp given.by_both e.nullify.attestation.signer }
+with_given (proofs.Notarizes e) given =
+    record given { by_notarizes = insert_key nat_cmp given.by_notarizes e.first.attestation.signer }
+with_given (proofs.Finalizes e) given =
+    record given { by_finalizes = insert_key nat_cmp given.by_finalizes e.first.attestation.signer }
+with_given (proofs.NullifyFinalize e) given =
+    record given { by_both = insert_key nat_cmp given.by_both e.nullify.attestation.signer }
 
 -- evidence as it is reported
 abbrev pub evidence_activity : Evidence → Activity
@@ -88,11 +94,17 @@ unfoldable pub accused : Known → ℕ → Option Evidence → Heard
 accused known signer None = unheard known
 accused known signer (Some proof) =
     if was_given proof known.given then unheard known
-    else record { accepted = false; reports = evidence_activity proof ∷ []; blocks = (signer, evidence_cause proof) ∷ []; known = record known { given = with_given proof known.given } }
+    else record {
+      accepted = false;
+      reports = evidence_activity proof ∷ [];
+      blocks = (signer, evidence_cause proof) ∷ [];
+      known = record known { given = with_given proof known.given };
+    }
 
 -- a vote is accepted and reported where its signer has none there
 unfoldable pub heard_beside : Known → Vote → Option Ballot → Heard
-heard_beside known vote None = record { accepted = true; reports = vote_activity vote ∷ []; blocks = []; known = with_accepted known vote }
+heard_beside known vote None =
+    record { accepted = true; reports = vote_activity vote ∷ []; blocks = []; known = with_accepted known vote }
 heard_beside known vote (Some old) = accused known (vote_signer vote) (evidence_of old.vote vote)
 
 -- an own vote, or one whose sender is its signer

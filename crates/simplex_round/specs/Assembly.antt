@@ -26,6 +26,10 @@ pub record Scheme : Type 0 where
 abbrev pub as_scheme : (Subject → Attestation → Bool) → Bool → ℕ → Scheme
 as_scheme verifies recovers members = record { verifies = verifies; recovers = recovers; members = members }
 
+-- what these say of a value, as a scheme
+abbrev pub scheme_by : {S : Type 0} → (S → Subject → Attestation → Bool) → (S → Bool) → (S → ℕ) → S → Scheme
+scheme_by verifies recovers members value = as_scheme (verifies value) (recovers value) (members value)
+
 -- what a certificate of a kind would be on
 unfoldable pub subject_of : Made → Known → CertificateKind → Option Subject
 subject_of made known kinds.Notarization = option_map subjects.Notarize (proposal_of known)
@@ -56,11 +60,13 @@ verifies_by scheme subject b = scheme.verifies subject (vote_attestation b.vote)
 
 -- the ballot with what checking it finds, where it is a candidate that was not checked
 unfoldable pub checked : Scheme → Subject → Ballot → Ballot
-checked scheme subject b = if is_unchecked subject b then record b { found = Some (verifies_by scheme subject b) } else b
+checked scheme subject b =
+    if is_unchecked subject b then record b { found = Some (verifies_by scheme subject b) } else b
 
 -- the attestations of the candidates that are valid when all are checked
 unfoldable pub valid_on : Scheme → Subject → List Ballot → List Attestation
-valid_on scheme subject ballots = map (λ b. vote_attestation b.vote) (filter (is_valid subject) (map (checked scheme subject) ballots))
+valid_on scheme subject ballots =
+    map (λ b. vote_attestation b.vote) (filter (is_valid subject) (map (checked scheme subject) ballots))
 
 -- what is done for a kind: how many votes are checked, whose are invalid, and the certificate
 pub record Work : Type 0 where
@@ -84,7 +90,8 @@ work_on made scheme kind subject ballots =
       kind = kind;
       ballots = map (checked scheme subject) ballots;
       processed = length (filter (is_unchecked subject) ballots);
-      invalid = map (λ b. vote_signer b.vote) (filter (λ b. not (verifies_by scheme subject b)) (filter (is_unchecked subject) ballots));
+      invalid = map (λ b. vote_signer b.vote)
+          (filter (λ b. not (verifies_by scheme subject b)) (filter (is_unchecked subject) ballots));
       certificate = assembled_on made scheme subject (valid_on scheme subject ballots);
     }
 
@@ -95,7 +102,8 @@ some_work work = if nat_lt 0 work.processed || is_some work.certificate then Som
 -- nor for fewer candidates than a quorum
 unfoldable pub work_if_any : Made → Scheme → CertificateKind → List Ballot → Subject → Option Work
 work_if_any made scheme kind ballots subject =
-    if nat_le made.quorum (length (filter (is_candidate subject) ballots)) then some_work (work_on made scheme kind subject ballots) else None
+    if nat_le made.quorum (length (filter (is_candidate subject) ballots))
+    then some_work (work_on made scheme kind subject ballots) else None
 
 -- nor for a kind of which a certificate is held
 unfoldable pub work_of : Made → Scheme → Known → CertificateKind → Option Work

@@ -15,4 +15,5 @@ AtSigners (e ∷ es) = (e.0 ≡ vote_signer e.1.vote) × AtSigners es
 unfoldable pub marked : Subject → List Ballot → List Bool → List Ballot
 marked subject [] found = []
 marked subject (b ∷ bs) found =
-    if is_unchecked subject b then record b { found = slice_get found 0 } ∷ marked subject bs (drop 1 found) else b ∷ marked subject bs found
+    if is_unchecked subject b then record b { found = slice_get found 0 } ∷ marked subject bs (drop 1 found)
+    else b ∷ marked subject bs found

@@ -24,7 +24,8 @@ after_call made known (AcceptVote vote) = (heard known vote).known
 after_call made known (SetLeader leader) = record known { leader = Some leader }
 after_call made known (RecordCertificate certificate) = after_certificate known certificate
 after_call made known (TryConstruct scheme) = after_work known (first_work made scheme known)
-after_call made known (TryForward me) = record known { forwarded = known.forwarded || is_some (forwarded_to_voter known me) }
+after_call made known (TryForward me) =
+    record known { forwarded = known.forwarded || is_some (forwarded_to_voter known me) }
 
 -- what is known behind these calls since the round was made
 unfoldable pub known_after : Made → List Call → Known

@@ -8,5 +8,7 @@ use Rattle.simplex_round.specs.Known.{ballot_of}
 
 -- what comes of the calls of a round
 unfoldable pub rounds : ⊤
-unfolding ballot_of placed with_accepted accused heard_beside heard heard_from has_nullify leader_proposal proposal_of gives_proposal forwarded_to_voter is_missing_voter missing_voters subject_of is_candidate is_unchecked is_valid checked valid_on assembled_on work_on work_if_any work_of first_work constructed after_work after_call known_after
+unfolding ballot_of placed with_accepted accused heard_beside heard heard_from has_nullify leader_proposal proposal_of
+    gives_proposal forwarded_to_voter is_missing_voter missing_voters subject_of is_candidate is_unchecked is_valid
+    checked valid_on assembled_on work_on work_if_any work_of first_work constructed after_work after_call known_after
 rounds = tt

@@ -22,14 +22,18 @@ is_held known kinds.Finalization = is_some known.finalization
 
 -- the certificate is held, unless one of its kind was: another changes nothing
 abbrev pub after_certificate : Known → Certificate → Known
-after_certificate known (certificates.Notarization c) = record known { notarization = option_or known.notarization (Some c) }
-after_certificate known (certificates.Nullification c) = record known { nullification = option_or known.nullification (Some c) }
-after_certificate known (certificates.Finalization c) = record known { finalization = option_or known.finalization (Some c) }
+after_certificate known (certificates.Notarization c) =
+    record known { notarization = option_or known.notarization (Some c) }
+after_certificate known (certificates.Nullification c) =
+    record known { nullification = option_or known.nullification (Some c) }
+after_certificate known (certificates.Finalization c) =
+    record known { finalization = option_or known.finalization (Some c) }
 
 -- the proposal of the leader's accepted notarize
 unfoldable pub leader_proposal : Known → Option Proposal
 leader_proposal known =
-    option_and_then (λ leader. option_and_then (λ b. vote_proposal b.vote) (ballot_of known.notarizes leader)) known.leader
+    option_and_then
+    (λ leader. option_and_then (λ b. vote_proposal b.vote) (ballot_of known.notarizes leader)) known.leader
 
 -- the round's proposal: of the notarization that is held, else of the finalization, else of the leader's notarize
 unfoldable pub proposal_of : Known → Option Proposal

@@ -7,4 +7,5 @@ use Rattle.simplex_round.specs.declared.evidence.Evidence.TheVariants as proofs
 abbrev pub SignedBoth : Evidence → ℕ → Type 0
 SignedBoth (proofs.Notarizes e) signer = (e.first.attestation.signer ≡ signer) × (e.second.attestation.signer ≡ signer)
 SignedBoth (proofs.Finalizes e) signer = (e.first.attestation.signer ≡ signer) × (e.second.attestation.signer ≡ signer)
-SignedBoth (proofs.NullifyFinalize e) signer = (e.nullify.attestation.signer ≡ signer) × (e.finalize.attestation.signer ≡ signer)
+SignedBoth (proofs.NullifyFinalize e) signer =
+    (e.nullify.attestation.signer ≡ signer) × (e.finalize.attestation.signer ≡ signer)

@@ -19,16 +19,19 @@ Stays old new = (made : Made) (calls : List Call) → StandsFor old made calls �
 
 -- whatever history the round stands for, the answer is the rule's
 abbrev pub Answers : {R : Type 0} → Standing → (Made → Known → R) → R → Type 0
-Answers round rule answer = (made : Made) (calls : List Call) → StandsFor round made calls → answer ≡ rule made (known_after made calls)
+Answers round rule answer = (made : Made) (calls : List Call)
+    → StandsFor round made calls → answer ≡ rule made (known_after made calls)
 
 -- whatever history the round stands for, the rule's reports and blocks are added to what goes out
 abbrev pub AddsReports : Standing → RoundOut → RoundOut → (Known → Heard) → Type 0
 AddsReports round old new heard =
-    (made : Made) (calls : List Call) → StandsFor round made calls → new.reports ≡ old.reports ++ (heard (known_after made calls)).reports
+    (made : Made) (calls : List Call) → StandsFor round made calls
+    → new.reports ≡ old.reports ++ (heard (known_after made calls)).reports
 
 abbrev pub AddsBlocks : Standing → RoundOut → RoundOut → (Known → Heard) → Type 0
 AddsBlocks round old new heard =
-    (made : Made) (calls : List Call) → StandsFor round made calls → new.blocks ≡ old.blocks ++ (heard (known_after made calls)).blocks
+    (made : Made) (calls : List Call) → StandsFor round made calls
+    → new.blocks ≡ old.blocks ++ (heard (known_after made calls)).blocks
 
 -- all of the list was added, or nothing
 abbrev pub AddsAllOrNothing : {A : Type 0} → List A → List A → List A → Type 0

@@ -20,7 +20,11 @@ impl Model for Accused {
 
     ghost Value = { Given };
 
-    ghost view = { λ a. record { by_notarizes = a.by_notarizes.keys; by_finalizes = a.by_finalizes.keys; by_both = a.by_both.keys } };
+    ghost view = { λ a. record {
+      by_notarizes = a.by_notarizes.keys;
+      by_finalizes = a.by_finalizes.keys;
+      by_both = a.by_both.keys;
+    } };
 }
 
 impl Accused {

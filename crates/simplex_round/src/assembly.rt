@@ -22,7 +22,9 @@ pub fn assemble<S: Scheme>(
 ) -> Result<Option<Certificate>, AllocError>
     requires { IsTrue (rises_from 0 valid.now) }
     ensures { IfOk result (λ certificate. certificate ≡ (if nat_le quorum (length valid.now)
-        then option_map (votes.certificate_on subject.now) (result_ok (assembled (S.recovers scheme.now) (S.members scheme.now) valid.now)) else None)) }
+        then option_map (votes.certificate_on subject.now)
+        (result_ok (assembled (S.recovers scheme.now)
+        (S.members scheme.now) valid.now)) else None)) }
 {
     if valid.len() < quorum {
         return Ok(None);

@@ -44,8 +44,10 @@ impl Ballot {
     /// Takes the first finding where the vote is a candidate that was not checked, and answers those that are left.
     #[tactic(auto, unfolding(crate::specs::Assembly::is_unchecked))]
     pub fn note<'a>(&mut self, subject: &Subject, found: &'a [bool]) -> &'a [bool]
-        ensures noted { self.new ≡ (if is_unchecked subject.now self.old then record self.old { found = slice_get found.now 0 } else self.old) }
-        ensures left { result.now ≡ (if is_unchecked subject.now self.old then drop 1 found.now else found.now) }
+        ensures noted { self.new ≡ (if is_unchecked subject.now self.old
+            then record self.old { found = slice_get found.now 0 } else self.old) }
+        ensures left { result.now
+            ≡ (if is_unchecked subject.now self.old then drop 1 found.now else found.now) }
     {
         if !self.is_unchecked(subject) {
             return found;

@@ -7,7 +7,7 @@ ghost use Rattle.simplex_round.specs.Known.{ballot_of};
 ghost use Rattle.simplex_round.specs.Acceptance.{placed};
 ghost use Rattle.simplex_round.specs.Ballots.{marked};
 ghost use Rattle.simplex_wire.specs.Signatures.{rises_from};
-ghost use Rattle.simplex_round.specs.Assembly.{is_candidate, is_unchecked, valid_on, as_scheme};
+ghost use Rattle.simplex_round.specs.Assembly.{is_candidate, is_unchecked, valid_on, scheme_by};
 
 use crate::ballot::Ballot;
 use crate::findings::Findings;
@@ -58,7 +58,8 @@ impl Ballots {
     #[tactic(auto, using(crate::proofs::Placed::placed_values, crate::proofs::Placed::placed_at_signers))]
     pub fn accept(&mut self, vote: Vote) -> Result<(), AllocError>
         requires { ballot_of self.old (vote_signer vote) ≡ None }
-        ensures ok { OnOk result (self.new ≡ placed (record { vote = vote; found = None }) self.old) }
+        ensures ok { OnOk result (self.new
+            ≡ placed (record { vote = vote; found = None }) self.old) }
         ensures err { OnErr result (self.new ≡ self.old) }
     {
         let signer = vote.signer();
@@ -92,9 +93,14 @@ impl Ballots {
         scheme: &S,
         subject: &Subject,
     ) -> Result<Findings, AllocError>
-        ensures found { IfOk result (λ f. f.found.items ≡ map (λ b. S.verifies scheme.now subject.now (vote_attestation b.vote)) (filter (is_unchecked subject.now) self.now)) }
-        ensures invalid { IfOk result (λ f. f.invalid ≡ map (λ b. vote_signer b.vote) (filter (λ b. not (S.verifies scheme.now subject.now (vote_attestation b.vote))) (filter (is_unchecked subject.now) self.now))) }
-        ensures valid { IfOk result (λ f. f.valid.items ≡ valid_on (as_scheme (S.verifies scheme.now) (S.recovers scheme.now) (S.members scheme.now)) subject.now self.now) }
+        ensures found { IfOk result (λ f. f.found.items
+            ≡ map (λ b. S.verifies scheme.now subject.now (vote_attestation b.vote))
+            (filter (is_unchecked subject.now) self.now)) }
+        ensures invalid { IfOk result (λ f. f.invalid ≡ map (λ b. vote_signer b.vote)
+            (filter (λ b. not (S.verifies scheme.now subject.now (vote_attestation b.vote)))
+            (filter (is_unchecked subject.now) self.now))) }
+        ensures valid { IfOk result (λ f. f.valid.items
+            ≡ valid_on (scheme_by S.verifies S.recovers S.members scheme.now) subject.now self.now) }
         ensures rises { IfOk result (λ f. IsTrue (rises_from 0 f.valid.items)) }
     {
         let mut findings = Findings::new(alloc);

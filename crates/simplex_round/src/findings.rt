@@ -2,7 +2,7 @@
 ghost use Rattle.std.specs.Prelude.{◌≡◌, ◌++◌, ◌∷◌, [], OnOk, not, ◌&&◌, if◌then◌else◌};
 ghost use Rattle.simplex_wire.specs.Fields.{vote_attestation};
 ghost use Rattle.simplex_round.specs.Votes.{vote_signer};
-ghost use Rattle.simplex_round.specs.Assembly.{is_unchecked, is_valid, checked, as_scheme};
+ghost use Rattle.simplex_round.specs.Assembly.{is_unchecked, is_valid, checked, scheme_by};
 
 use crate::ballot::Ballot;
 use simplex_values::{Participant, Sequence, Subject};
@@ -43,11 +43,17 @@ impl Findings {
         ballot: &Ballot,
     ) -> Result<(), AllocError>
         ensures found { OnOk result (self.new.found.items ≡ self.old.found.items
-            ++ (if is_unchecked subject.now ballot.now then S.verifies scheme.now subject.now (vote_attestation ballot.now.vote) ∷ [] else [])) }
+            ++ (if is_unchecked subject.now ballot.now
+            then S.verifies scheme.now subject.now
+            (vote_attestation ballot.now.vote) ∷ [] else [])) }
         ensures invalid { OnOk result (self.new.invalid ≡ self.old.invalid
-            ++ (if is_unchecked subject.now ballot.now && not (S.verifies scheme.now subject.now (vote_attestation ballot.now.vote)) then vote_signer ballot.now.vote ∷ [] else [])) }
+            ++ (if is_unchecked subject.now ballot.now
+            && not (S.verifies scheme.now subject.now (vote_attestation ballot.now.vote))
+            then vote_signer ballot.now.vote ∷ [] else [])) }
         ensures valid { OnOk result (self.new.valid.items ≡ self.old.valid.items
-            ++ (if is_valid subject.now (checked (as_scheme (S.verifies scheme.now) (S.recovers scheme.now) (S.members scheme.now)) subject.now ballot.now) then vote_attestation ballot.now.vote ∷ [] else [])) }
+            ++ (if is_valid subject.now
+            (checked (scheme_by S.verifies S.recovers S.members scheme.now) subject.now ballot.now)
+            then vote_attestation ballot.now.vote ∷ [] else [])) }
     {
         let attestation = ballot.vote.attestation();
         if !ballot.is_unchecked(subject) {

@@ -6,7 +6,7 @@ ghost use Rattle.simplex_round.specs.Votes.{vote_kind, vote_signer};
 ghost use Rattle.simplex_round.specs.Known.{ballot_of, side_of, with_side, nothing_known};
 ghost use Rattle.simplex_round.specs.Acceptance.{with_accepted, accused, heard, heard_from, has_nullify};
 ghost use Rattle.simplex_round.specs.Forwarding.{is_held, after_certificate, leader_proposal, proposal_of, gives_proposal, forwarded_to_voter, is_missing_voter, missing_voters};
-ghost use Rattle.simplex_round.specs.Assembly.{as_scheme, batch_of, work_of, work_if_any, after_work, after_assembly, constructed, subject_of};
+ghost use Rattle.simplex_round.specs.Assembly.{scheme_by, batch_of, work_of, work_if_any, after_work, after_assembly, constructed, subject_of};
 ghost use Rattle.simplex_round.specs.Ballots.{marked};
 ghost use Rattle.std.specs.Option.{option_map, is_some};
 ghost use Rattle.simplex_round.specs.Calls.{AddNetwork, AcceptVote, SetLeader, RecordCertificate, TryConstruct, TryForward};
@@ -72,20 +72,25 @@ impl Round {
         q: u32,
         _track: bool,
     ) -> Result<Round, AllocError>
-        ensures { IfOk result (λ made. StandsFor made (record { round = round; members = n; quorum = q; skipped = false }) []) }
+        ensures { IfOk result (λ made. StandsFor made
+            (record { round = round; members = n; quorum = q; skipped = false }) []) }
     {
         Ok(Round::empty(alloc, round, n, q, false))
     }
 
     /// A round of `n` members that never assembles a certificate. [skipped-rounds]
     pub fn skipped(alloc: Global, round: ViewRound, n: u32) -> Result<Round, AllocError>
-        ensures { IfOk result (λ made. StandsFor made (record { round = round; members = n; quorum = 0; skipped = true }) []) }
+        ensures { IfOk result (λ made. StandsFor made
+            (record { round = round; members = n; quorum = 0; skipped = true }) []) }
     {
         Ok(Round::empty(alloc, round, n, 0, true))
     }
 
     fn empty(alloc: Global, round: ViewRound, n: u32, q: u32, is_skipped: bool) -> Round
-        ensures { result ≡ record { made = record { round = round; members = n; quorum = q; skipped = is_skipped }; known = nothing_known } }
+        ensures { result ≡ record {
+          made = record { round = round; members = n; quorum = q; skipped = is_skipped };
+          known = nothing_known;
+        } }
     {
         Round {
             round,
@@ -113,10 +118,14 @@ impl Round {
         out: &mut RoundOut,
     ) -> Result<bool, AllocError>
         ensures stands { OnOk result (Takes self.old self.new (AddNetwork sender vote)) }
-        ensures answer { IfOk result (Answers self.old (λ made known. (heard_from known sender vote).accepted)) }
-        ensures reports { OnOk result (AddsReports self.old out.old out.new (λ known. heard_from known sender vote)) }
-        ensures blocks { OnOk result (AddsBlocks self.old out.old out.new (λ known. heard_from known sender vote)) }
-        ensures in_part { OnErr result (AddsInPart self.old out.old out.new (λ known. heard_from known sender vote)) }
+        ensures answer { IfOk result (Answers self.old
+            (λ made known. (heard_from known sender vote).accepted)) }
+        ensures reports { OnOk result (AddsReports self.old out.old out.new
+            (λ known. heard_from known sender vote)) }
+        ensures blocks { OnOk result (AddsBlocks self.old out.old out.new
+            (λ known. heard_from known sender vote)) }
+        ensures in_part { OnErr result (AddsInPart self.old out.old out.new
+            (λ known. heard_from known sender vote)) }
         ensures err { OnErr result (Stays self.old self.new) }
     {
         if vote.signer() != sender {
@@ -130,9 +139,12 @@ impl Round {
     /// what was to be reported or blocked. [round-stays]
     pub fn accept_vote(&mut self, vote: Vote, out: &mut RoundOut) -> Result<(), AllocError>
         ensures stands { OnOk result (Takes self.old self.new (AcceptVote vote)) }
-        ensures reports { OnOk result (AddsReports self.old out.old out.new (λ known. heard known vote)) }
-        ensures blocks { OnOk result (AddsBlocks self.old out.old out.new (λ known. heard known vote)) }
-        ensures in_part { OnErr result (AddsInPart self.old out.old out.new (λ known. heard known vote)) }
+        ensures reports { OnOk result (AddsReports self.old out.old out.new
+            (λ known. heard known vote)) }
+        ensures blocks { OnOk result (AddsBlocks self.old out.old out.new
+            (λ known. heard known vote)) }
+        ensures in_part { OnErr result (AddsInPart self.old out.old out.new
+            (λ known. heard known vote)) }
         ensures err { OnErr result (Stays self.old self.new) }
     {
         let _accepted = self.hear(vote, out)?;
@@ -187,12 +199,17 @@ impl Round {
     /// Takes a vote whose sender is its signer, or that is an own one.
     #[tactic(auto, unfolding(crate::specs::Acceptance::heard, crate::specs::Acceptance::heard_beside, crate::specs::Acceptance::accused))]
     fn hear(&mut self, vote: Vote, out: &mut RoundOut) -> Result<bool, AllocError>
-        ensures known { OnOk result (self.new ≡ record self.old { known = (heard self.old.known vote).known }) }
+        ensures known { OnOk result (self.new
+            ≡ record self.old { known = (heard self.old.known vote).known }) }
         ensures answer { IfOk result (λ accepted. accepted ≡ (heard self.old.known vote).accepted) }
-        ensures reports { OnOk result (out.new.reports ≡ out.old.reports ++ (heard self.old.known vote).reports) }
-        ensures blocks { OnOk result (out.new.blocks ≡ out.old.blocks ++ (heard self.old.known vote).blocks) }
-        ensures some_reports { OnErr result (AddsAllOrNothing (heard self.old.known vote).reports out.old.reports out.new.reports) }
-        ensures some_blocks { OnErr result (AddsAllOrNothing (heard self.old.known vote).blocks out.old.blocks out.new.blocks) }
+        ensures reports { OnOk result (out.new.reports
+            ≡ out.old.reports ++ (heard self.old.known vote).reports) }
+        ensures blocks { OnOk result (out.new.blocks
+            ≡ out.old.blocks ++ (heard self.old.known vote).blocks) }
+        ensures some_reports { OnErr result
+            (AddsAllOrNothing (heard self.old.known vote).reports out.old.reports out.new.reports) }
+        ensures some_blocks { OnErr result
+            (AddsAllOrNothing (heard self.old.known vote).blocks out.old.blocks out.new.blocks) }
         ensures err { OnErr result (self.new ≡ self.old) }
     {
         let Some(accepted) = self.side(vote.kind()).get(vote.signer()) else {
@@ -210,7 +227,8 @@ impl Round {
     #[tactic(auto, unfolding(crate::specs::Acceptance::with_accepted))]
     fn accept(&mut self, vote: Vote) -> Result<(), AllocError>
         requires { ballot_of (side_of self.old.known (vote_kind vote)) (vote_signer vote) ≡ None }
-        ensures known { OnOk result (self.new ≡ record self.old { known = with_accepted self.old.known vote }) }
+        ensures known { OnOk result (self.new
+            ≡ record self.old { known = with_accepted self.old.known vote }) }
         ensures err { OnErr result (self.new ≡ self.old) }
     {
         match vote.kind() {
@@ -229,11 +247,19 @@ impl Round {
         evidence: Evidence,
         out: &mut RoundOut,
     ) -> Result<(), AllocError>
-        ensures known { OnOk result (self.new ≡ record self.old { known = (accused self.old.known signer (Some evidence)).known }) }
-        ensures reports { OnOk result (out.new.reports ≡ out.old.reports ++ (accused self.old.known signer (Some evidence)).reports) }
-        ensures blocks { OnOk result (out.new.blocks ≡ out.old.blocks ++ (accused self.old.known signer (Some evidence)).blocks) }
-        ensures some_reports { OnErr result (AddsAllOrNothing (accused self.old.known signer (Some evidence)).reports out.old.reports out.new.reports) }
-        ensures some_blocks { OnErr result (AddsAllOrNothing (accused self.old.known signer (Some evidence)).blocks out.old.blocks out.new.blocks) }
+        ensures known { OnOk result (self.new
+            ≡ record self.old { known = (accused self.old.known signer (Some evidence)).known }) }
+        ensures reports { OnOk result (out.new.reports
+            ≡ out.old.reports ++ (accused self.old.known signer (Some evidence)).reports) }
+        ensures blocks { OnOk result (out.new.blocks
+            ≡ out.old.blocks ++ (accused self.old.known signer (Some evidence)).blocks) }
+        ensures some_reports { OnErr result
+            (AddsAllOrNothing
+            (accused self.old.known signer
+            (Some evidence)).reports out.old.reports out.new.reports) }
+        ensures some_blocks { OnErr result
+            (AddsAllOrNothing
+            (accused self.old.known signer (Some evidence)).blocks out.old.blocks out.new.blocks) }
         ensures err { OnErr result (self.new ≡ self.old) }
     {
         if self.accused.has(&evidence) {
@@ -255,7 +281,8 @@ impl Round {
         certificate: &Certificate,
     ) -> Result<bool, AllocError>
         ensures stands { OnOk result (Takes self.old self.new (RecordCertificate certificate.now)) }
-        ensures answer { IfOk result (Answers self.old (λ made known. gives_proposal known certificate.now)) }
+        ensures answer { IfOk result (Answers self.old
+            (λ made known. gives_proposal known certificate.now)) }
         ensures err { OnErr result (Stays self.old self.new) }
     {
         let before = self.proposal();
@@ -319,8 +346,11 @@ impl Round {
         alloc: Global,
         scheme: &S,
     ) -> Result<Option<Batch>, AllocError>
-        ensures stands { OnOk result (Takes self.old self.new (TryConstruct (as_scheme (S.verifies scheme.now) (S.recovers scheme.now) (S.members scheme.now)))) }
-        ensures answer { IfOk result (Answers self.old (λ made known. constructed made (as_scheme (S.verifies scheme.now) (S.recovers scheme.now) (S.members scheme.now)) known)) }
+        ensures stands { OnOk result (Takes self.old self.new
+            (TryConstruct (scheme_by S.verifies S.recovers S.members scheme.now))) }
+        ensures answer { IfOk result (Answers self.old
+            (λ made known. constructed made
+            (scheme_by S.verifies S.recovers S.members scheme.now) known)) }
         ensures err { OnErr result (Stays self.old self.new) }
     {
         if let Some(batch) = self.construct(alloc, scheme, CertificateKind::Notarization)? {
@@ -342,10 +372,12 @@ impl Round {
     ) -> Result<Option<Batch>, AllocError>
         ensures known { OnOk result (self.new ≡ record self.old {
           known = after_work self.old.known
-              (work_of self.old.made (as_scheme (S.verifies scheme.now) (S.recovers scheme.now) (S.members scheme.now)) self.old.known kind);
+              (work_of self.old.made
+              (scheme_by S.verifies S.recovers S.members scheme.now) self.old.known kind);
         }) }
         ensures answer { IfOk result (λ batch. batch ≡ option_map batch_of
-            (work_of self.old.made (as_scheme (S.verifies scheme.now) (S.recovers scheme.now) (S.members scheme.now)) self.old.known kind)) }
+            (work_of self.old.made
+            (scheme_by S.verifies S.recovers S.members scheme.now) self.old.known kind)) }
         ensures err { OnErr result (self.new ≡ self.old) }
     {
         if self.is_skipped || self.holds(kind) {
@@ -368,10 +400,12 @@ impl Round {
     ) -> Result<Option<Batch>, AllocError>
         ensures known { OnOk result (self.new ≡ record self.old {
           known = after_work self.old.known
-              (work_if_any self.old.made (as_scheme (S.verifies scheme.now) (S.recovers scheme.now) (S.members scheme.now)) kind (side_of self.old.known kind) subject.now);
+              (work_if_any self.old.made (scheme_by S.verifies S.recovers S.members scheme.now)
+              kind (side_of self.old.known kind) subject.now);
         }) }
         ensures answer { IfOk result (λ batch. batch ≡ option_map batch_of
-            (work_if_any self.old.made (as_scheme (S.verifies scheme.now) (S.recovers scheme.now) (S.members scheme.now)) kind (side_of self.old.known kind) subject.now)) }
+            (work_if_any self.old.made (scheme_by S.verifies S.recovers S.members scheme.now)
+            kind (side_of self.old.known kind) subject.now)) }
         ensures err { OnErr result (self.new ≡ self.old) }
     {
         let quorum = self.quorum as usize;
@@ -404,7 +438,8 @@ impl Round {
     )
         ensures { self.new ≡ record self.old {
           known = after_assembly
-              (with_side self.old.known kind (marked subject.now (side_of self.old.known kind) found.now)) certificate;
+              (with_side self.old.known kind
+              (marked subject.now (side_of self.old.known kind) found.now)) certificate;
         } }
     {
         self.mark(kind, subject, found);
@@ -427,7 +462,10 @@ impl Round {
 
     /// Notes what was found of the votes of a kind that were not checked.
     fn mark(&mut self, kind: CertificateKind, subject: &Subject, found: &[bool])
-        ensures { self.new ≡ record self.old { known = with_side self.old.known kind (marked subject.now (side_of self.old.known kind) found.now) } }
+        ensures { self.new ≡ record self.old {
+          known = with_side self.old.known kind
+              (marked subject.now (side_of self.old.known kind) found.now);
+        } }
     {
         match kind {
             CertificateKind::Notarization => self.notarizes.mark(subject, found),
@@ -456,7 +494,8 @@ impl Round {
     /// Whether it is a member without an accepted notarize of the proposal.
     #[tactic(auto, unfolding(crate::specs::Stands::StandsFor, crate::specs::Forwarding::is_missing_voter))]
     pub fn is_missing_voter(&self, proposal: &Proposal, member: Participant) -> bool
-        ensures { Answers self.now (λ made known. is_missing_voter made known proposal.now member) result }
+        ensures { Answers self.now
+            (λ made known. is_missing_voter made known proposal.now member) result }
     {
         self.lacks_notarize(proposal, member)
     }
@@ -483,14 +522,16 @@ impl Round {
         alloc: Global,
         proposal: &Proposal,
     ) -> Result<Vec<Participant>, AllocError>
-        ensures { IfOk result (λ missing. Answers self.now (λ made known. missing_voters made known proposal.now) missing.items) }
+        ensures { IfOk result (λ missing. Answers self.now
+            (λ made known. missing_voters made known proposal.now) missing.items) }
     {
         self.lacking(alloc, proposal)
     }
 
     #[tactic(auto, unfolding(crate::specs::Forwarding::missing_voters), using(crate::proofs::Counts::filter_range_more))]
     fn lacking(&self, alloc: Global, proposal: &Proposal) -> Result<Vec<Participant>, AllocError>
-        ensures { IfOk result (λ missing. missing.items ≡ missing_voters self.now.made self.now.known proposal.now) }
+        ensures { IfOk result (λ missing. missing.items
+            ≡ missing_voters self.now.made self.now.known proposal.now) }
     {
         let mut missing = Vec::new(alloc);
         for member in 0..self.members {

@@ -1,6 +1,6 @@
 //! The candidates of one kind, checked together.
-ghost use Rattle.std.specs.Prelude.{◌≡◌, ◌++◌, ◌∷◌, [], OnOk, OnErr, IfOk, map, filter, not};
-ghost use Rattle.simplex_round.specs.Verifier.{is_ready};
+ghost use Rattle.std.specs.Prelude.{◌≡◌, ◌++◌, ◌∷◌, [], OnOk, OnErr, IfOk, filter};
+ghost use Rattle.simplex_round.specs.Verifier.{is_ready, invalid_signers};
 
 use simplex_values::{Participant, Subject};
 use simplex_wire::{Attestation, Scheme};
@@ -37,7 +37,8 @@ impl Verifier {
 
     /// Takes a candidate.
     pub fn add(&mut self, attestation: Attestation) -> Result<(), AllocError>
-        ensures ok { OnOk result (self.new ≡ record self.old { waiting = self.old.waiting ++ attestation ∷ [] }) }
+        ensures ok { OnOk result (self.new
+            ≡ record self.old { waiting = self.old.waiting ++ attestation ∷ [] }) }
         ensures err { OnErr result (self.new ≡ self.old) }
     {
         self.waiting.push(attestation)?;
@@ -58,8 +59,12 @@ impl Verifier {
         scheme: &S,
         subject: &Subject,
     ) -> Result<Vec<Participant>, AllocError>
-        ensures invalid { IfOk result (λ invalid. invalid.items ≡ map (λ a. a.signer) (filter (λ a. not (S.verifies scheme.now subject.now a)) self.old.waiting)) }
-        ensures known { OnOk result (self.new ≡ record self.old { valid = self.old.valid ++ filter (S.verifies scheme.now subject.now) self.old.waiting; waiting = [] }) }
+        ensures invalid { IfOk result (λ invalid. invalid.items
+            ≡ invalid_signers (S.verifies scheme.now subject.now) self.old.waiting) }
+        ensures known { OnOk result (self.new ≡ record self.old {
+          valid = self.old.valid ++ filter (S.verifies scheme.now subject.now) self.old.waiting;
+          waiting = [];
+        }) }
         ensures err { OnErr result (self.new ≡ self.old) }
     {
         let mut checked = Checked {
@@ -87,8 +92,11 @@ impl Checked {
         subject: &Subject,
         waiting: &[Attestation],
     ) -> Result<(), AllocError>
-        ensures valid { OnOk result (self.new.valid.items ≡ self.old.valid.items ++ filter (S.verifies scheme.now subject.now) waiting.now) }
-        ensures invalid { OnOk result (self.new.invalid.items ≡ self.old.invalid.items ++ map (λ a. a.signer) (filter (λ a. not (S.verifies scheme.now subject.now a)) waiting.now)) }
+        ensures valid { OnOk result (self.new.valid.items
+            ≡ self.old.valid.items ++ filter (S.verifies scheme.now subject.now) waiting.now) }
+        ensures invalid { OnOk result (self.new.invalid.items
+            ≡ self.old.invalid.items
+            ++ invalid_signers (S.verifies scheme.now subject.now) waiting.now) }
     {
         for attestation in waiting {
             if scheme.verify_attestation(subject, attestation) {

@@ -28,7 +28,8 @@ node_with _ _ = None
 -- a node: a member, and behind a dot its half, which is 0 where none is named
 abbrev pub node_of : List ℕ → Option Node
 node_of word =
-    if has 46 word then node_with (number_of (before 46 word)) (number_of (behind 46 word)) else node_with (number_of word) (Some 0)
+    if has 46 word then node_with (number_of (before 46 word)) (number_of (behind 46 word))
+    else node_with (number_of word) (Some 0)
 
 abbrev pub both : Option Node → Option Node → Option (Node × Node)
 both (Some from) (Some to) = Some (from, to)
@@ -47,7 +48,9 @@ question_word questions.Verify = codes "verify"
 question_word questions.Certify = codes "certify"
 
 abbrev pub verdict_of : List ℕ → Option Bool
-verdict_of word = if bytes_eq word (codes "yes") then Some true else if bytes_eq word (codes "no") then Some false else None
+verdict_of word =
+    if bytes_eq word (codes "yes") then Some true else if bytes_eq word (codes "no") then Some false else None
 
 abbrev pub whom_of : List ℕ → Option Whom
-whom_of word = if bytes_eq word (codes "all") then Some whoms.All else option_map (λ node. whoms.One node) (node_of word)
+whom_of word =
+    if bytes_eq word (codes "all") then Some whoms.All else option_map (λ node. whoms.One node) (node_of word)

@@ -27,7 +27,8 @@ stop_with how _ _ = None
 
 -- cut CALL keep RECORDS, or fail CALL keep RECORDS
 abbrev pub stop_from : (how call keeps records : List ℕ) → Option Stop
-stop_from how call keeps records = if bytes_eq keeps (codes "keep") then stop_with how (number_of call) (number_of records) else None
+stop_from how call keeps records =
+    if bytes_eq keeps (codes "keep") then stop_with how (number_of call) (number_of records) else None
 
 abbrev pub is_stop : List ℕ → Bool
 is_stop word = bytes_eq word (codes "cut") || bytes_eq word (codes "fail")
@@ -56,7 +57,8 @@ stop_of how (call ∷ after) = option_and_then (λ pair. stop_from how call pair
 -- the node starts and stops inside its start, if the word behind it says so; else the nodes start
 abbrev pub start_by : List (List ℕ) → List ℕ → List (List ℕ) → Option Command
 start_by words node [] = started (nodes_of words)
-start_by words node (how ∷ after) = if is_stop how then start_that_stops (node_of node) (stop_of how after) else started (nodes_of words)
+start_by words node (how ∷ after) =
+    if is_stop how then start_that_stops (node_of node) (stop_of how after) else started (nodes_of words)
 
 -- NODE .., or NODE cut CALL keep RECORDS
 abbrev pub start_of : List (List ℕ) → Option Command

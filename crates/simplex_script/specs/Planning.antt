@@ -46,7 +46,9 @@ proposal_for payload (asked_.Certify round other) = None
 -- the request is answered by a payload, if it is the node's and wants one
 abbrev pub proposed_to : Node → List ℕ → OpenRequest → Option Event
 proposed_to node payload it =
-    if is_same_node it.node node then option_map (λ answer. events.Answer node it.request answer) (proposal_for payload it.asked) else None
+    if is_same_node it.node node
+    then option_map (λ answer. events.Answer node it.request answer) (proposal_for payload it.asked)
+    else None
 
 abbrev pub or_else : Option Event → Option Event → Option Event
 or_else (Some event) other = Some event
@@ -81,7 +83,8 @@ is_judged question whom it = is_of whom it.node && asks question it.asked
 abbrev pub verdicts : Question → Whom → Bool → List OpenRequest → List Event
 verdicts question whom good [] = []
 verdicts question whom good (it ∷ others) =
-    if is_judged question whom it then judged good it ∷ verdicts question whom good others else verdicts question whom good others
+    if is_judged question whom it then judged good it ∷ verdicts question whom good others
+    else verdicts question whom good others
 
 -- the parcel is delivered
 abbrev pub delivery : Parcel → Event
@@ -102,9 +105,12 @@ some_of fault (event ∷ events_) = Ok (event ∷ events_)
 -- the events that a command stands for, where these packets wait, those were delivered, and these requests are open, or what it does not find
 abbrev pub planned : Command → (waiting delivered : List Parcel) → List OpenRequest → Result (List Event) Fault
 planned (commands.Start nodes stop) waiting delivered open_ = Ok (starts stop nodes)
-planned (commands.Propose node payload) waiting delivered open_ = only_if (faults.NoProposal node) (proposed node payload open_)
-planned (commands.Judge question whom good) waiting delivered open_ = some_of (faults.NoRequest question whom) (verdicts question whom good open_)
-planned (commands.Deliver from to channel) waiting delivered open_ = delivered_if (faults.NoPacket from to channel) (first_on from to channel waiting)
+planned (commands.Propose node payload) waiting delivered open_ =
+    only_if (faults.NoProposal node) (proposed node payload open_)
+planned (commands.Judge question whom good) waiting delivered open_ =
+    some_of (faults.NoRequest question whom) (verdicts question whom good open_)
+planned (commands.Deliver from to channel) waiting delivered open_ =
+    delivered_if (faults.NoPacket from to channel) (first_on from to channel waiting)
 planned (commands.Resend from to channel) waiting delivered open_ =
     delivered_if (faults.NotDelivered from to channel) (last_on from to channel None delivered)
 planned (commands.Step node source stop) waiting delivered open_ = Ok (events.Step node source stop ∷ [])

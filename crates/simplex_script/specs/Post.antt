@@ -39,7 +39,8 @@ is_taken_by _ parcel = false
 
 -- the parcel goes this way
 abbrev pub goes : Node → Node → Channel → Parcel → Bool
-goes from to channel parcel = (is_same_node parcel.from from && is_same_node parcel.to to) && is_same_channel parcel.channel channel
+goes from to channel parcel =
+    (is_same_node parcel.from from && is_same_node parcel.to to) && is_same_channel parcel.channel channel
 
 -- the first on this way
 abbrev pub first_on : Node → Node → Channel → List Parcel → Option Parcel
@@ -49,12 +50,14 @@ first_on from to channel (it ∷ parcels) = if goes from to channel it then Some
 -- the last on this way, or what was found before
 abbrev pub last_on : Node → Node → Channel → Option Parcel → List Parcel → Option Parcel
 last_on from to channel found [] = found
-last_on from to channel found (it ∷ parcels) = last_on from to channel (if goes from to channel it then Some it else found) parcels
+last_on from to channel found (it ∷ parcels) =
+    last_on from to channel (if goes from to channel it then Some it else found) parcels
 
 -- a packet, for each of the nodes
 abbrev pub parcels_to : Ref → Packet → List Node → List Parcel
 parcels_to at packet [] = []
-parcels_to at packet (node ∷ nodes) = record { packet = at; from = packet.from; channel = packet.channel; to = node } ∷ parcels_to at packet nodes
+parcels_to at packet (node ∷ nodes) =
+    record { packet = at; from = packet.from; channel = packet.channel; to = node } ∷ parcels_to at packet nodes
 
 -- those of packets, of which the first stands at this place of the event's entry
 abbrev pub parcels_from : (event place : ℕ) → List Packet → List Parcel
@@ -68,8 +71,10 @@ without_first test items = option_map_or (λ at. remove items at) (position test
 
 -- what waits behind an event: no more what it delivers, and what its entry sends
 abbrev pub waiting_behind : Event → Entry → List Parcel → List Parcel
-waiting_behind event entry waiting = without_first (is_taken_by event) waiting ++ parcels_from entry.event 0 entry.packets
+waiting_behind event entry waiting =
+    without_first (is_taken_by event) waiting ++ parcels_from entry.event 0 entry.packets
 
 -- what was delivered behind an event, where this waited
 abbrev pub delivered_behind : Event → List Parcel → List Parcel → List Parcel
-delivered_behind event waiting delivered = delivered ++ option_to_list (option_and_then (λ at. slice_get waiting at) (position (is_taken_by event) waiting))
+delivered_behind event waiting delivered =
+    delivered ++ option_to_list (option_and_then (λ at. slice_get waiting at) (position (is_taken_by event) waiting))

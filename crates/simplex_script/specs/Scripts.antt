@@ -27,13 +27,18 @@ with_network None members = Ok (Some (blank members))
 abbrev pub with_change : Option Script → Change → Result (Option Script) Fault
 with_change None change = Err faults.NoNetwork
 with_change (Some script) change =
-    if length script.commands == 0 then Ok (Some (record { setup = changed script.setup change; commands = script.commands })) else Err faults.Late
+    if length script.commands == 0
+    then Ok (Some (record { setup = changed script.setup change; commands = script.commands }))
+    else Err faults.Late
 
 -- a command more
 abbrev pub with_command : Option Script → ℕ → Command → Result (Option Script) Fault
 with_command None line command = Err faults.NoNetwork
 with_command (Some script) line command =
-    Ok (Some (record { setup = script.setup; commands = script.commands ++ record { line = line; command = command } ∷ [] }))
+    Ok (Some (record {
+      setup = script.setup;
+      commands = script.commands ++ record { line = line; command = command } ∷ [];
+    }))
 
 -- a statement more
 abbrev pub with_statement : Option Script → ℕ → Statement → Result (Option Script) Fault
@@ -63,7 +68,8 @@ on_draft number go (Err fault) = Err (record { line = number; fault = fault })
 -- the lines behind so many others, of which this was read
 abbrev pub read_from : Option Script → ℕ → List (List ℕ) → Result Script BadLine
 read_from draft number [] = finished number draft
-read_from draft number (line ∷ lines_) = on_draft (number + 1) (λ later. read_from later (number + 1) lines_) (with_line draft (number + 1) line)
+read_from draft number (line ∷ lines_) =
+    on_draft (number + 1) (λ later. read_from later (number + 1) lines_) (with_line draft (number + 1) line)
 
 -- what lines tell
 abbrev pub read_lines : List (List ℕ) → Result Script BadLine

@@ -108,7 +108,8 @@ fn said_with(
     word: &str,
     others: &[&str],
 ) -> Result<Result<Statement, Fault>, AllocError>
-    ensures { IfOk result (λ it. it ≡ said.said_in (word.now ∷ map (λ other. other.now) others.now)) }
+    ensures { IfOk result (λ it. it
+        ≡ said.said_in (word.now ∷ map (λ other. other.now) others.now)) }
 {
     if is_comment(word) {
         return Ok(Ok(Statement::Nothing));

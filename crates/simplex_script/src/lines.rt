@@ -14,7 +14,8 @@ fn parts_of<'a>(alloc: Global, line: &'a str) -> Result<Vec<&'a str>, AllocError
 
 // Those of the parts that are not empty.
 fn words_in<'a>(alloc: Global, parts: &[&'a str]) -> Result<Vec<&'a str>, AllocError>
-    ensures { IfOk result (λ words. map (λ word. word.now) words.items ≡ said.words_in (map (λ part. part.now) parts.now)) }
+    ensures { IfOk result (λ words. map (λ word. word.now) words.items
+        ≡ said.words_in (map (λ part. part.now) parts.now)) }
 {
     let mut words = Vec::new(alloc);
     let mut rest = parts;
@@ -47,7 +48,8 @@ pub(crate) fn only<'a>(words: &[&'a str]) -> Option<&'a str>
 
 /// Two words, if there are just two.
 pub(crate) fn pair_of<'a>(words: &[&'a str]) -> Option<(&'a str, &'a str)>
-    ensures { option_map (λ pair. (pair.0.now, pair.1.now)) result ≡ said.pair_of (map (λ word. word.now) words.now) }
+    ensures { option_map (λ pair. (pair.0.now, pair.1.now)) result
+        ≡ said.pair_of (map (λ word. word.now) words.now) }
 {
     match words {
         [] => None,

@@ -106,7 +106,9 @@ fn start_by(
     node: &str,
     after: &[&str],
 ) -> Result<Option<Command>, AllocError>
-    ensures { IfOk result (λ command. command ≡ said.start_by (map (λ word. word.now) words.now) node.now (map (λ word. word.now) after.now)) }
+    ensures { IfOk result (λ command. command
+        ≡ said.start_by (map (λ word. word.now) words.now) node.now
+        (map (λ word. word.now) after.now)) }
 {
     match after {
         [] => Ok(started(nodes_of(alloc, words)?)),

@@ -229,7 +229,8 @@ pub fn planned(
     post: &Post,
     open: &[OpenRequest],
 ) -> Result<Result<Vec<Event>, Fault>, AllocError>
-    ensures { IfOk result (λ it. plans.IsPlan it (plans.planned command.now post.now.waiting.items post.now.delivered.items open.now)) }
+    ensures { IfOk result (λ it.
+        plans.IsPlan it (plans.planned command.now post.now.waiting.items post.now.delivered.items open.now)) }
 {
     match command {
         Command::Start { nodes, stop } => Ok(Ok(starts(alloc, nodes.as_slice(), *stop)?)),

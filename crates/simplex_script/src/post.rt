@@ -48,8 +48,10 @@ impl Post {
 
     /// Takes in an event and its entry: what it delivers waits no more, and what it sends waits.
     pub fn take_in(&mut self, event: &Event, entry: &Entry) -> Result<(), AllocError>
-        ensures waiting { OnOk result (self.new.waiting.items ≡ posted.waiting_behind event.now entry.now self.old.waiting.items) }
-        ensures delivered { OnOk result (self.new.delivered.items ≡ posted.delivered_behind event.now self.old.waiting.items self.old.delivered.items) }
+        ensures waiting { OnOk result (self.new.waiting.items
+            ≡ posted.waiting_behind event.now entry.now self.old.waiting.items) }
+        ensures delivered { OnOk result (self.new.delivered.items
+            ≡ posted.delivered_behind event.now self.old.waiting.items self.old.delivered.items) }
     {
         self.deliver(event)?;
         send(&mut self.waiting, entry.event, entry.packets.as_slice())
@@ -57,8 +59,10 @@ impl Post {
 
     // What the event delivers waits no more.
     fn deliver(&mut self, event: &Event) -> Result<(), AllocError>
-        ensures waiting { OnOk result (self.new.waiting.items ≡ posted.without_first (posted.is_taken_by event.now) self.old.waiting.items) }
-        ensures delivered { OnOk result (self.new.delivered.items ≡ posted.delivered_behind event.now self.old.waiting.items self.old.delivered.items) }
+        ensures waiting { OnOk result (self.new.waiting.items
+            ≡ posted.without_first (posted.is_taken_by event.now) self.old.waiting.items) }
+        ensures delivered { OnOk result (self.new.delivered.items
+            ≡ posted.delivered_behind event.now self.old.waiting.items self.old.delivered.items) }
     {
         let Some(at) = place_of(self.waiting.as_slice(), event) else {
             return Ok(());
@@ -70,7 +74,8 @@ impl Post {
 
     /// The parcel is lost.
     pub fn lose(&mut self, parcel: &Parcel)
-        ensures waiting { self.new.waiting.items ≡ filter (λ it. not (posted.is_same_parcel it parcel.now)) self.old.waiting.items }
+        ensures waiting { self.new.waiting.items
+            ≡ filter (λ it. not (posted.is_same_parcel it parcel.now)) self.old.waiting.items }
         ensures delivered { self.new.delivered ≡ self.old.delivered }
     {
         self.waiting.retain(|it| !is_same_parcel(it, parcel));
@@ -78,7 +83,8 @@ impl Post {
 
     /// All that waits for one of the nodes is lost.
     pub fn miss(&mut self, nodes: &[Node])
-        ensures waiting { self.new.waiting.items ≡ filter (λ it. not (posted.is_for nodes.now it)) self.old.waiting.items }
+        ensures waiting { self.new.waiting.items
+            ≡ filter (λ it. not (posted.is_for nodes.now it)) self.old.waiting.items }
         ensures delivered { self.new.delivered ≡ self.old.delivered }
     {
         self.waiting.retain(|it| !is_for(nodes, it));
@@ -197,7 +203,8 @@ fn last_on(parcels: &[Parcel], from: Node, to: Node, channel: Channel) -> Option
 
 // An event sends packets.
 fn send(waiting: &mut Vec<Parcel>, event: u64, packets: &[Packet]) -> Result<(), AllocError>
-    ensures { OnOk result (waiting.new.items ≡ waiting.old.items ++ posted.parcels_from event 0 packets.now) }
+    ensures { OnOk result (waiting.new.items
+        ≡ waiting.old.items ++ posted.parcels_from event 0 packets.now) }
 {
     let mut place = 0u64;
     let mut rest = packets;
@@ -217,7 +224,8 @@ fn send_one(
     packet: &Packet,
     to: &[Node],
 ) -> Result<(), AllocError>
-    ensures { OnOk result (waiting.new.items ≡ waiting.old.items ++ posted.parcels_to at packet.now to.now) }
+    ensures { OnOk result (waiting.new.items
+        ≡ waiting.old.items ++ posted.parcels_to at packet.now to.now) }
 {
     let mut rest = to;
     while let [node, after @ ..] = rest {

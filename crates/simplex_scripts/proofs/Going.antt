@@ -213,3 +213,5 @@ pub settles_out : (first play : Play) (line : ℕ) (among : List Node) (most all
 settles_out first play line among most all event over comes lefts =
     left_over first play (of_settling line among most) (of_settling line among all) (cames.Bad (record { line = line; fault = faults.Restless MOST_EVENTS }))
     (λ setting scene plays. settled_out setting line among most scene event over (comes setting scene plays)) lefts
+
+pub ruleset settling = (left_first, settles_more, settles_stop, settles_over, settles_out)

@@ -32,11 +32,13 @@ is_among (one ∷ others) node = list_any (is_same_node node) (one ∷ others)
 
 -- what the engine of a node holds, where the node is among these
 abbrev pub held_among : Setting → List Noted → List Node → Node → List Held
-held_among setting before among node = if is_among among node then held_at (life_in setting before node) (clock_of before) node else []
+held_among setting before among node =
+    if is_among among node then held_at (life_in setting before node) (clock_of before) node else []
 
 -- the first source that holds something, by node, then in order
 unfoldable pub next_step : Setting → List Noted → List Node → Option Event
-next_step setting before among = option_map step (slice_get (flat_map (held_among setting before among) (nodes_of setting.setup)) 0)
+next_step setting before among =
+    option_map step (slice_get (flat_map (held_among setting before among) (nodes_of setting.setup)) 0)
 
 -- ---- a verdict
 
@@ -68,7 +70,8 @@ hears setting before node =
 
 -- the parcel goes between the nodes, to one that hears
 abbrev pub may_come : Setting → List Noted → List Node → Parcel → Bool
-may_come setting before among it = (is_among among it.from && is_among among it.to) && (is_node setting.setup it.to && hears setting before it.to)
+may_come setting before among it =
+    (is_among among it.from && is_among among it.to) && (is_node setting.setup it.to && hears setting before it.to)
 
 -- the oldest packet is delivered
 unfoldable pub next_delivery : Setting → List Noted → List Parcel → List Node → Option Event
@@ -79,4 +82,5 @@ next_delivery setting before waiting among = option_map delivery (find (may_come
 -- what comes up next: a step, else a verdict, else a delivery
 unfoldable pub next : Setting → List Noted → List Parcel → List Node → Option Event
 next setting before waiting among =
-    option_or (next_step setting before among) (option_or (next_verdict (open_in before) among) (next_delivery setting before waiting among))
+    option_or (next_step setting before among)
+    (option_or (next_verdict (open_in before) among) (next_delivery setting before waiting among))

@@ -91,7 +91,8 @@ unfoldable pub settled : Setting → ℕ → List Node → (most : ℕ) → Scen
 settled setting line among zero scene =
     or_next scene (next setting scene.before scene.waiting among) (λ event. bad_line line (faults.Restless MOST_EVENTS))
 settled setting line among (suc most) scene =
-    or_next scene (next setting scene.before scene.waiting among) (λ event. and_then (made setting line event scene) (settled setting line among most))
+    or_next scene (next setting scene.before scene.waiting among)
+    (λ event. and_then (made setting line event scene) (settled setting line among most))
 
 abbrev pub lost : ℕ → Fault → Scene → Option Parcel → Played
 lost line fault scene None = bad_line line fault
@@ -107,7 +108,8 @@ obeyed setting line (commands.Settle nodes) scene = settled setting line nodes M
 obeyed setting line (commands.Lose from to channel) scene =
     lost line (faults.NoPacket from to channel) scene (first_on from to channel scene.waiting)
 obeyed setting line (commands.Miss nodes) scene = On (without (is_for nodes) scene)
-obeyed setting line command scene = as_planned setting line scene (planned command scene.waiting scene.delivered (open_in scene.before))
+obeyed setting line command scene =
+    as_planned setting line scene (planned command scene.waiting scene.delivered (open_in scene.before))
 
 -- all of them, one after another
 unfoldable pub all_obeyed : Setting → List Placed → Scene → Played
@@ -119,7 +121,10 @@ all_obeyed setting (it ∷ others) scene = and_then (obeyed setting it.line it.c
 -- the events that were made, with their lines, and one that was refused last
 abbrev pub compiled_with : Scene → (refused : List Event) → (line : List ℕ) → Compiled
 compiled_with scene refused line =
-    record { events = reverse (map (λ noted. noted.event) scene.before) ++ refused; lines = reverse scene.lines ++ line }
+    record {
+      events = reverse (map (λ noted. noted.event) scene.before) ++ refused;
+      lines = reverse scene.lines ++ line;
+    }
 
 abbrev pub compiled_of : Played → Result Compiled BadLine
 compiled_of (On scene) = Ok (compiled_with scene [] [])
@@ -133,4 +138,6 @@ unless_bad (Some field) played = On opening
 
 -- what a script comes to: its events with their lines, or its first line that names what is not there
 unfoldable pub compiled : Script → Result Compiled BadLine
-compiled script = compiled_of (unless_bad (first_bad script.setup) (all_obeyed (at_epoch_genesis script.setup) script.commands opening))
+compiled script =
+    compiled_of (unless_bad (first_bad script.setup)
+    (all_obeyed (at_epoch_genesis script.setup) script.commands opening))

@@ -15,7 +15,8 @@ is_done _ = false
 -- nothing came of the event
 abbrev pub is_quiet : Entry → Bool
 is_quiet entry =
-    (((length entry.calls == 0 && length entry.handed == 0) && length entry.asked == 0) && length entry.packets == 0) && is_done entry.outcome
+    (((length entry.calls == 0 && length entry.handed == 0) && length entry.asked == 0) && length entry.packets == 0)
+    && is_done entry.outcome
 
 -- what came of an event, behind a bar
 abbrev pub told_of : Event → Entry → List ℕ

@@ -1,16 +1,16 @@
 //! What comes up between nodes by itself.
 ghost use Rattle.std.specs.Prelude.{◌≡◌, ◌&&◌, true, IfOk, List, map, not};
 ghost use Rattle.std.specs.List.{list_any, slice_get};
-ghost use Rattle.model_steps.specs.Engine.{Did, EngineMade, runs};
 ghost use Rattle.model_run.specs.Kinds as kinds;
 ghost use Rattle.model_run.specs.Life.{Noted, Running, clock_of};
 ghost use Rattle.model_run.specs.Setting.{Setting};
 ghost use Rattle.simplex_engine.specs.Holding as holding;
-ghost use Rattle.simplex_network.specs.NodeEngine.{EngineStands};
 ghost use Rattle.simplex_network.specs.Stands.{StandsFor};
 ghost use Rattle.simplex_generator.specs.Drawing as drawing;
 ghost use Rattle.simplex_generator.specs.Generated.{held_at};
+ghost use Rattle.simplex_generator.specs.Stands.{EngineAnswers};
 ghost use Rattle.simplex_scripts.specs.Coming as coming;
+ghost use Rattle.simplex_scripts.specs.Stands.{NetworkAnswers};
 
 use crate::nodes::{is_node, runs_engine, says_something};
 use simplex_generator::{Held, Requests, SOURCES};
@@ -39,14 +39,15 @@ fn is_among(node: Node, nodes: &[Node]) -> bool
 // ---- a step
 
 fn holds(engine: &NodeEngine, source: StepSource, now: u64) -> bool
-    ensures { (made : EngineMade) (past : List Did) → EngineStands engine.now made past → runs past ≡ true → result ≡ holding.holds made past source now }
+    ensures { EngineAnswers engine.now (λ made past. holding.holds made past source now) result }
 {
     engine.holds(source, now)
 }
 
 // The first source of an engine that holds something.
 fn first_held(engine: &NodeEngine, node: Node, now: u64) -> Option<Held>
-    ensures { (made : EngineMade) (past : List Did) → EngineStands engine.now made past → runs past ≡ true → result ≡ slice_get (held_at (Running made past) now node) 0 }
+    ensures { EngineAnswers engine.now
+        (λ made past. slice_get (held_at (Running made past) now node) 0) result }
 {
     let mut rest = SOURCES.as_slice();
     while let [source, after @ ..] = rest {
@@ -64,7 +65,9 @@ fn first_held(engine: &NodeEngine, node: Node, now: u64) -> Option<Held>
 // The first source of a node that holds something, where the node is among these.
 #[tactic(auto, using(crate::proofs::Holding::first_out, crate::proofs::Holding::first_none, crate::proofs::Holding::first_some))]
 fn held_among(network: &Network, node: Node, now: u64, among: &[Node]) -> Option<Held>
-    ensures { (setting : Setting) (before : List Noted) → StandsFor network.now setting before → clock_of before ≡ now → kinds.is_node setting.setup node ≡ true → result ≡ slice_get (coming.held_among setting before among.now node) 0 }
+    ensures { (setting : Setting) (before : List Noted) → StandsFor network.now setting before → clock_of before ≡ now
+        → kinds.is_node setting.setup node ≡ true
+        → result ≡ slice_get (coming.held_among setting before among.now node) 0 }
 {
     if !is_among(node, among) {
         return None;
@@ -93,7 +96,9 @@ pub(crate) fn next_step(
     now: u64,
     among: &[Node],
 ) -> Option<Event>
-    ensures { (setting : Setting) (before : List Noted) → StandsFor network.now setting before → clock_of before ≡ now → nodes.now ≡ coming.nodes_of setting.setup → result ≡ coming.next_step setting before among.now }
+    ensures { (setting : Setting) (before : List Noted) → StandsFor network.now setting before → clock_of before ≡ now
+        → nodes.now ≡ coming.nodes_of setting.setup
+        → result ≡ coming.next_step setting before among.now }
 {
     let mut rest = nodes;
     while let [node, after @ ..] = rest {
@@ -149,7 +154,9 @@ pub(crate) fn next_verdict(open: &[OpenRequest], among: &[Node]) -> Option<Event
 // Whether there is such a node, and what is delivered to it may come to something.
 #[tactic(auto, using(crate::proofs::Holding::other_hears))]
 fn hears(network: &Network, setup: &Setup, node: Node) -> bool
-    ensures { (setting : Setting) (before : List Noted) → StandsFor network.now setting before → setup.now ≡ setting.setup → result ≡ (kinds.is_node setting.setup node && coming.hears setting before node) }
+    ensures { NetworkAnswers network.now setup.now
+        (λ setting before. kinds.is_node setting.setup node
+        && coming.hears setting before node) result }
 {
     if runs_engine(setup, node.member) {
         network.engine(node).is_some()
@@ -160,14 +167,16 @@ fn hears(network: &Network, setup: &Setup, node: Node) -> bool
 
 // Whether there is such a node, and its member is not silent.
 fn only_hears(setup: &Setup, node: Node) -> bool
-    ensures { result ≡ (kinds.is_node setup.now node && kinds.is_of_kind (λ kind. not (coming.is_silent kind)) setup.now node.member) }
+    ensures { result ≡ (kinds.is_node setup.now node && kinds.is_of_kind
+        (λ kind. not (coming.is_silent kind)) setup.now node.member) }
 {
     is_node(setup, node) && says_something(setup, node.member)
 }
 
 // Whether the parcel goes between the nodes, to one that hears.
 fn may_come(network: &Network, setup: &Setup, among: &[Node], it: &Parcel) -> bool
-    ensures { (setting : Setting) (before : List Noted) → StandsFor network.now setting before → setup.now ≡ setting.setup → result ≡ coming.may_come setting before among.now it.now }
+    ensures { NetworkAnswers network.now setup.now
+        (λ setting before. coming.may_come setting before among.now it.now) result }
 {
     is_among(it.from, among) && is_among(it.to, among) && hears(network, setup, it.to)
 }
@@ -180,7 +189,8 @@ pub(crate) fn next_delivery(
     waiting: &[Parcel],
     among: &[Node],
 ) -> Option<Event>
-    ensures { (setting : Setting) (before : List Noted) → StandsFor network.now setting before → setup.now ≡ setting.setup → result ≡ coming.next_delivery setting before waiting.now among.now }
+    ensures { NetworkAnswers network.now setup.now
+        (λ setting before. coming.next_delivery setting before waiting.now among.now) result }
 {
     let mut rest = waiting;
     while let [it, after @ ..] = rest {

@@ -43,7 +43,8 @@ fn made(play: Play) -> Compiled
 // What was made, and behind it what was refused; or the line that is bad.
 #[tactic(auto, using(crate::proofs::Whole::whole_on, crate::proofs::Whole::whole_refused, crate::proofs::Whole::whole_bad))]
 fn compiled_of(play: Play, came: Came) -> Result<Result<Compiled, BadLine>, AllocError>
-    ensures { IfOk result (λ it. (setting : Setting) (played : playing.Played) → Comes play setting came played → it ≡ playing.compiled_of played) }
+    ensures { IfOk result (λ it. (setting : Setting) (played : playing.Played) → Comes play setting came played
+        → it ≡ playing.compiled_of played) }
 {
     let mut all = made(play);
     match came {
@@ -59,7 +60,8 @@ fn compiled_of(play: Play, came: Came) -> Result<Result<Compiled, BadLine>, Allo
 
 // What the commands come to.
 fn played(mut play: Play, commands: &[Placed]) -> Result<Result<Compiled, BadLine>, AllocError>
-    ensures { IfOk result (λ it. (setting : Setting) → Plays play setting playing.opening → it ≡ playing.compiled_of (playing.all_obeyed setting commands.now playing.opening)) }
+    ensures { IfOk result (λ it. (setting : Setting) → Plays play setting playing.opening
+        → it ≡ playing.compiled_of (playing.all_obeyed setting commands.now playing.opening)) }
 {
     let came = play.obey_all(commands)?;
     compiled_of(play, came)
@@ -68,7 +70,8 @@ fn played(mut play: Play, commands: &[Placed]) -> Result<Result<Compiled, BadLin
 // Of a setup that is refused there are no events.
 #[tactic(auto, using(crate::proofs::Whole::comes_refused))]
 fn unmade(alloc: Global, error: RunError) -> Result<Result<Compiled, BadLine>, AllocError>
-    ensures { IfOk result (λ it. (script : scripts.Script) → IsRefused (setup_refusal script.setup) error → it ≡ playing.compiled script) }
+    ensures { IfOk result (λ it. (script : scripts.Script) → IsRefused (setup_refusal script.setup) error
+        → it ≡ playing.compiled script) }
 {
     match error {
         RunError::Memory => Err(AllocError),

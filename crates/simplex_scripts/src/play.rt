@@ -42,7 +42,8 @@ impl Play {
     /// Nothing was made yet.
     #[tactic(auto, using(crate::proofs::Asking::asks_none, crate::proofs::Whole::opens))]
     pub(crate) fn new(alloc: Global, setup: &Setup) -> Result<Play, RunError>
-        ensures opens { IfOk result (λ play. Plays play (at_epoch_genesis setup.now) playing.opening) }
+        ensures opens { IfOk result
+            (λ play. Plays play (at_epoch_genesis setup.now) playing.opening) }
         ensures refused { IfErr result (IsRefused (setup_refusal setup.now)) }
     {
         let network = Network::new(alloc, setup)?;
@@ -95,7 +96,8 @@ impl Play {
     // Makes an event, unless the network refuses it.
     #[tactic(auto, using(crate::proofs::Making::makes, crate::proofs::Making::refuses))]
     fn make(&mut self, line: u64, event: Event) -> Result<Came, AllocError>
-        ensures { IfOk result (Leads self.old self.new (λ setting. playing.made setting line event)) }
+        ensures { IfOk result (Leads self.old self.new
+            (λ setting. playing.made setting line event)) }
     {
         match self.network.apply(&event) {
             Ok(entry) => {
@@ -109,7 +111,8 @@ impl Play {
     // Makes events one after another, up to one that is refused.
     #[tactic(auto, using(crate::proofs::Going::left_first, crate::proofs::Going::events_more, crate::proofs::Going::events_stop, crate::proofs::Going::events_over))]
     fn make_all(&mut self, line: u64, events: Vec<Event>) -> Result<Came, AllocError>
-        ensures { IfOk result (Leads self.old self.new (λ setting. playing.all_made setting line events.items)) }
+        ensures { IfOk result (Leads self.old self.new
+            (λ setting. playing.all_made setting line events.items)) }
     {
         for event in events {
             match self.make(line, event)? {
@@ -125,7 +128,8 @@ impl Play {
     /// Does what the commands say, up to an event that is refused, or a line that names what is not there.
     #[tactic(auto, using(crate::proofs::Going::left_first, crate::proofs::Going::commands_more, crate::proofs::Going::commands_stop, crate::proofs::Going::commands_over))]
     pub(crate) fn obey_all(&mut self, commands: &[Placed]) -> Result<Came, AllocError>
-        ensures { IfOk result (Leads self.old self.new (λ setting. playing.all_obeyed setting commands.now)) }
+        ensures { IfOk result (Leads self.old self.new
+            (λ setting. playing.all_obeyed setting commands.now)) }
     {
         let mut rest = commands;
         while let [it, after @ ..] = rest {
@@ -140,7 +144,8 @@ impl Play {
 
     #[tactic(auto, unfolding(crate::specs::Playing::obeyed), using(crate::proofs::Ordering::orders))]
     fn obey(&mut self, line: u64, command: &Command) -> Result<Came, AllocError>
-        ensures { IfOk result (Leads self.old self.new (λ setting. playing.obeyed setting line command.now)) }
+        ensures { IfOk result (Leads self.old self.new
+            (λ setting. playing.obeyed setting line command.now)) }
     {
         match command {
             Command::Settle { nodes } => self.settle(line, nodes.as_slice()),
@@ -153,7 +158,9 @@ impl Play {
     // Makes the events that a command stands for.
     #[tactic(auto, using(crate::proofs::Ordering::plans_bad, crate::proofs::Ordering::plans_made))]
     fn order(&mut self, line: u64, command: &Command) -> Result<Came, AllocError>
-        ensures { IfOk result (Leads self.old self.new (λ setting scene. playing.as_planned setting line scene (plans.planned command.now scene.waiting scene.delivered (coming.open_in scene.before)))) }
+        ensures { IfOk result (Leads self.old self.new (λ setting scene. playing.as_planned setting line scene
+            (plans.planned command.now scene.waiting scene.delivered
+            (coming.open_in scene.before)))) }
     {
         let open = open_in(self.alloc, &self.requests)?;
         match planned(self.alloc, command, &self.post, open.as_slice())? {
@@ -165,7 +172,8 @@ impl Play {
     // The oldest packet on a way is lost.
     #[tactic(auto, using(crate::proofs::Ordering::loses_none, crate::proofs::Ordering::loses_one))]
     fn lose(&mut self, line: u64, from: Node, to: Node, channel: Channel) -> Came
-        ensures { Leads self.old self.new (λ setting scene. playing.lost line (faults.NoPacket from to channel) scene (first_on from to channel scene.waiting)) result }
+        ensures { Leads self.old self.new (λ setting scene. playing.lost line (faults.NoPacket from to channel) scene
+            (first_on from to channel scene.waiting)) result }
     {
         match self.post.oldest(from, to, channel) {
             None => Came::Bad(BadLine {
@@ -182,16 +190,18 @@ impl Play {
     // All that waits for the nodes is lost.
     #[tactic(auto, using(crate::proofs::Ordering::misses))]
     fn miss(&mut self, nodes: &[Node]) -> Came
-        ensures { Leads self.old self.new (λ setting scene. playing.On (playing.without (is_for nodes.now) scene)) result }
+        ensures { Leads self.old self.new
+            (λ setting scene. playing.On (playing.without (is_for nodes.now) scene)) result }
     {
         self.post.miss(nodes);
         Came::On
     }
 
     // Makes what comes up between the nodes, until nothing is left.
-    #[tactic(auto, using(crate::proofs::Going::left_first, crate::proofs::Going::settles_more, crate::proofs::Going::settles_stop, crate::proofs::Going::settles_over, crate::proofs::Going::settles_out))]
+    #[tactic(auto, using(crate::proofs::Going::settling))]
     fn settle(&mut self, line: u64, nodes: &[Node]) -> Result<Came, AllocError>
-        ensures { IfOk result (Leads self.old self.new (λ setting. playing.settled setting line nodes.now MOST_EVENTS)) }
+        ensures { IfOk result (Leads self.old self.new
+            (λ setting. playing.settled setting line nodes.now MOST_EVENTS)) }
     {
         let mut left = MOST_EVENTS;
         'events: loop {
@@ -212,7 +222,8 @@ impl Play {
     // What comes up next between the nodes: a step, else a verdict, else a delivery.
     #[tactic(auto, using(crate::proofs::Upcoming::upcoming_step, crate::proofs::Upcoming::upcoming_verdict, crate::proofs::Upcoming::upcoming_delivery))]
     fn next(&self, nodes: &[Node]) -> Result<Option<Event>, AllocError>
-        ensures { IfOk result (Answers self.now (λ setting scene. coming.next setting scene.before scene.waiting nodes.now)) }
+        ensures { IfOk result (Answers self.now
+            (λ setting scene. coming.next setting scene.before scene.waiting nodes.now)) }
     {
         if let Some(event) = next_step(&self.network, self.nodes.as_slice(), self.clock, nodes) {
             return Ok(Some(event));

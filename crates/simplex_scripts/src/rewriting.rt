@@ -38,7 +38,8 @@ fn push_told(
     event: &Event,
     entry: &Entry,
 ) -> Result<(), AllocError>
-    ensures { OnOk result (string_bytes text.new ≡ string_bytes text.old ++ texts.told_of event.now entry.now) }
+    ensures { OnOk result (string_bytes text.new
+        ≡ string_bytes text.old ++ texts.told_of event.now entry.now) }
 {
     if is_quiet(entry) {
         return Ok(());
@@ -57,7 +58,8 @@ fn push_below(
     events: &[Event],
     entries: &[Entry],
 ) -> Result<(), AllocError>
-    ensures { OnOk result (string_bytes text.new ≡ string_bytes text.old ++ texts.told_below number lines.now events.now entries.now) }
+    ensures { OnOk result (string_bytes text.new ≡ string_bytes text.old
+        ++ texts.told_below number lines.now events.now entries.now) }
 {
     let mut numbers = lines;
     let mut deeds = events;
@@ -89,7 +91,8 @@ fn push_line(
     events: &[Event],
     entries: &[Entry],
 ) -> Result<(), AllocError>
-    ensures { OnOk result (string_bytes text.new ≡ string_bytes text.old ++ texts.told_at number line.now lines.now events.now entries.now) }
+    ensures { OnOk result (string_bytes text.new ≡ string_bytes text.old
+        ++ texts.told_at number line.now lines.now events.now entries.now) }
 {
     if is_told(line) {
         return Ok(());
@@ -107,7 +110,9 @@ fn rewritten_lines(
     events: &[Event],
     entries: &[Entry],
 ) -> Result<String, AllocError>
-    ensures { IfOk result (λ text. string_bytes text ≡ texts.rewritten_from 0 (map (λ line. line.now) script.now) lines.now events.now entries.now) }
+    ensures { IfOk result (λ text. string_bytes text
+        ≡ texts.rewritten_from 0
+        (map (λ line. line.now) script.now) lines.now events.now entries.now) }
 {
     let mut text = String::new(alloc);
     let mut number = 0u64;
@@ -131,7 +136,8 @@ pub fn rewritten(
     events: &[Event],
     entries: &[Entry],
 ) -> Result<String, AllocError>
-    ensures { IfOk result (λ text. string_bytes text ≡ texts.rewritten script.now lines.now events.now entries.now) }
+    ensures { IfOk result (λ text. string_bytes text
+        ≡ texts.rewritten script.now lines.now events.now entries.now) }
 {
     let them = lines_of(alloc, script)?;
     rewritten_lines(alloc, them.as_slice(), lines, events, entries)

@@ -12,7 +12,8 @@ module _ {E : Type 0} where
   abbrev pub places_by : (caller : E → ℕ) → ℕ → ℕ → List E → List ℕ
   places_by caller number at [] = []
   places_by caller number at (call ∷ calls) =
-      if caller call == number then at ∷ places_by caller number (suc at) calls else places_by caller number (suc at) calls
+      if caller call == number then at ∷ places_by caller number (suc at) calls
+      else places_by caller number (suc at) calls
 
   -- the history begins with these calls
   abbrev pub StartsWith : List E → List E → Type 0

@@ -24,7 +24,8 @@ module _ {M : Type 0} (handle : Waiting M → M → Waiting M) (skips : M → Bo
   -- the mailbox of one thread gives the call its answer where it holds the first, and holds the second then. A put into a
   -- closed mailbox is none of the calls
   abbrev pub Answers : Mail M → Op M → Mail M → Type 0
-  Answers mail (Put caller message feedback) next = (mail.closed ≡ false) × (feedback ≡ feedback_of mail) × (next ≡ enqueued handle mail message)
+  Answers mail (Put caller message feedback) next =
+      (mail.closed ≡ false) × (feedback ≡ feedback_of mail) × (next ≡ enqueued handle mail message)
   Answers mail (Took caller got) next = (got ≡ received mail) × (next ≡ after_recv skips mail)
   Answers mail (Shut caller) next = next ≡ after_close mail
 

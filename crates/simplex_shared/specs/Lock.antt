@@ -29,7 +29,17 @@ ticket_of Holding = 0
 module _ {E : Type 0} where
   -- the first seat, which makes the passes
   abbrev pub maker : Terms → View E
-  maker terms = record { makes = true; member = false; number = 0; terms = terms; parts = all_parts; stage = Idle; seen = []; told = [] }
+  maker terms =
+      record {
+        makes = true;
+        member = false;
+        number = 0;
+        terms = terms;
+        parts = all_parts;
+        stage = Idle;
+        seen = [];
+        told = [];
+      }
 
   -- the maker, once it made a pass
   abbrev pub after_making : View E → View E
@@ -41,11 +51,31 @@ module _ {E : Type 0} where
 
   -- a pass that was just made
   abbrev pub newcomer : Terms → ℕ → View E
-  newcomer terms number = record { makes = false; member = true; number = number; terms = terms; parts = 1; stage = Idle; seen = []; told = [] }
+  newcomer terms number =
+      record {
+        makes = false;
+        member = true;
+        number = number;
+        terms = terms;
+        parts = 1;
+        stage = Idle;
+        seen = [];
+        told = [];
+      }
 
   -- a seat that takes along what another has seen
   abbrev pub bearer : List E → View E
-  bearer seen = record { makes = false; member = false; number = 0; terms = record { capacity = 0; passes = 0 }; parts = 0; stage = Idle; seen = seen; told = [] }
+  bearer seen =
+      record {
+        makes = false;
+        member = false;
+        number = 0;
+        terms = record { capacity = 0; passes = 0 };
+        parts = 0;
+        stage = Idle;
+        seen = seen;
+        told = [];
+      }
 
   -- the seat was told what another has seen
   abbrev pub informed : View E → View E → View E
@@ -69,8 +99,10 @@ module _ {E : Type 0} where
   -- what a stage says of the tickets drawn and served; `turn` says whose ticket it is
   abbrev pub Stands : List E → ℕ → ℕ → (ℕ → ℕ) → ℕ → ℕ → List E → Stage → Type 0
   Stands log drawn served turn id parts seen Idle = Unit {0}
-  Stands log drawn served turn id parts seen (Waiting ticket) = (served ≤ ticket) × (ticket < drawn) × (turn ticket ≡ id) × (1 ≤ parts)
-  Stands log drawn served turn id parts seen Holding = (served < drawn) × (turn served ≡ id) × (seen ≡ log) × (1 ≤ parts)
+  Stands log drawn served turn id parts seen (Waiting ticket) =
+      (served ≤ ticket) × (ticket < drawn) × (turn ticket ≡ id) × (1 ≤ parts)
+  Stands log drawn served turn id parts seen Holding =
+      (served < drawn) × (turn served ≡ id) × (seen ≡ log) × (1 ≤ parts)
 
   abbrev pub total : (View E → ℕ) → List (View E) → ℕ
   total f [] = 0
@@ -136,7 +168,8 @@ module _ {D E : Type 0} (log_of : D → List E) (capacity_of : D → ℕ) (calle
   Fits log drawn served turn seat made terms id v =
       StartsWith log v.seen × StartsWith log v.told
       × (v.makes ≡ true → (v.number ≡ made) × (id ≡ 0) × (v.terms ≡ terms))
-      × (v.member ≡ true → (seat v.number ≡ id) × (v.number < made) × (calls_by caller v.number log ≡ calls_by caller v.number v.seen) × (v.terms ≡ terms))
+      × (v.member ≡ true → (seat v.number ≡ id) × (v.number < made)
+      × (calls_by caller v.number log ≡ calls_by caller v.number v.seen) × (v.terms ≡ terms))
       × Stands log drawn served turn id v.parts v.seen v.stage
 
   -- the value is at home, with the history so far, or out with the seat whose turn it is
@@ -187,7 +220,9 @@ module _ {D E : Type 0} (log_of : D → List E) (capacity_of : D → ℕ) (calle
 
   -- the seat saw the history so far, and found its length
   abbrev pub Sees : Step (Option D) → Sat D E → ℕ → Sat D E → Type 0
-  Sees step m n m' = (m'.1 ≡ m.1) × ((log : List E) × (m'.0 ≡ seeing m.0 log) × GoesOn m.0 log × (length log ≡ n) × (m.0.stage ≡ Holding → log ≡ m.0.seen))
+  Sees step m n m' =
+      (m'.1 ≡ m.1) × ((log : List E) × (m'.0 ≡ seeing m.0 log) × GoesOn m.0 log × (length log ≡ n)
+      × (m.0.stage ≡ Holding → log ≡ m.0.seen))
 
   -- the seat saw the history so far, which goes on from what it and another one have seen
   abbrev pub Hears : Sat D E → View E → ℕ → Sat D E → Type 0

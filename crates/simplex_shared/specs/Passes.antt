@@ -39,7 +39,8 @@ module _ {M : Type 0} where
 
   -- the history begins with all that the pass has seen, and goes on without a call of its own
   abbrev pub GoesOn : Viewer M → List (Op M) → Type 0
-  GoesOn pass history = (others : List (Op M)) × (history ≡ pass.seen ++ others) × (calls_by caller_of pass.number others ≡ [])
+  GoesOn pass history =
+      (others : List (Op M)) × (history ≡ pass.seen ++ others) × (calls_by caller_of pass.number others ≡ [])
 
   -- so it goes on, and ends with this call, which the pass made
   abbrev pub EndsWith : Viewer M → Op M → List (Op M) → Type 0

@@ -74,7 +74,8 @@ impl<M: Policy + Keep> Desk<M> {
     /// Puts the message, which comes back for want of memory.
     pub fn put(&mut self, caller: u32, message: M) -> Result<Feedback, M>
         requires { self.old.mail.closed ≡ false }
-        ensures ok { IfOk result (λ feedback. self.new.log ≡ self.old.log ++ Put caller message feedback ∷ []) }
+        ensures ok { IfOk result (λ feedback. self.new.log
+            ≡ self.old.log ++ Put caller message feedback ∷ []) }
         ensures open { IfOk result (λ answer. answer ≢ feedback.Closed) }
         ensures err { IfErr result (λ back. (back ≡ message) × (self.new ≡ self.old)) }
         ensures legal { IsLegal M.handle M.is_skipped self.new.mail.capacity self.new.log }

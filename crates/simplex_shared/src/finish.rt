@@ -46,10 +46,12 @@ fn check<M: Policy + Keep>(
     holder: &mut Seat<Option<Desk<M>>, View<Op<M>>>,
     pass: Pass<M>,
 )
-    requires own { (holder.old.table_id ≡ lock.now.table.shared.table_id) × (pass.mailbox.table ≡ lock.now.table.shared.table_id) }
+    requires own { (holder.old.table_id ≡ lock.now.table.shared.table_id)
+        × (pass.mailbox.table ≡ lock.now.table.shared.table_id) }
     requires holds { holder.old.me.0.stage ≡ Holding }
     ensures own { holder.new.table_id ≡ holder.old.table_id }
-    ensures same { (holder.new.me.0.stage ≡ Holding) × (holder.new.me.0.seen ≡ holder.old.me.0.seen) }
+    ensures same { (holder.new.me.0.stage ≡ Holding)
+        × (holder.new.me.0.seen ≡ holder.old.me.0.seen) }
     ensures checked { GoesOn pass holder.old.me.0.seen }
 {
     let Pass { mut seat, .. } = pass;
@@ -63,7 +65,8 @@ fn check_all<M: Policy + Keep>(
     mut passes: Vec<Pass<M>>,
 )
     requires own { holder.table_id ≡ lock.now.table.shared.table_id }
-    requires passes { All (λ pass. pass.mailbox.table ≡ lock.now.table.shared.table_id) passes.items }
+    requires passes { All (λ pass. pass.mailbox.table
+        ≡ lock.now.table.shared.table_id) passes.items }
     requires holds { holder.me.0.stage ≡ Holding }
     ensures checked { All (λ pass. GoesOn pass holder.me.0.seen) passes.items }
 {

@@ -35,7 +35,8 @@ impl<D: Logged<E>, E> Lock<D, E> {
         ensures own { seat.new.table_id ≡ seat.old.table_id }
         ensures held { seat.new.me ≡ (holding seat.old.me.0 (D.log result), (0, None) ∷ []) }
         ensures goes_on { GoesOn D.log D.capacity D.caller D.legal seat.old.me.0 (D.log result) }
-        ensures capacity { Belongs seat.old.me.0 → D.capacity result ≡ seat.old.me.0.terms.capacity }
+        ensures capacity { Belongs seat.old.me.0
+            → D.capacity result ≡ seat.old.me.0.terms.capacity }
     {
         let ticket = self.table.shared.fetch_add::<Draw>(seat, 1, 1);
         for _ in rt.forever() {
@@ -73,8 +74,10 @@ impl<D: Logged<E>, E> Lock<D, E> {
     where
         D: Drop,
         requires own { seat.old.table_id ≡ self.now.table.shared.table_id }
-        requires held { (seat.old.me.0.stage ≡ Holding) × (seat.old.me.0.member ≡ true) × (seat.old.me.1 ≡ (0, None) ∷ []) }
-        requires grown { (call : E) × (D.log value ≡ seat.old.me.0.seen ++ call ∷ []) × (D.caller call ≡ seat.old.me.0.number) }
+        requires held { (seat.old.me.0.stage ≡ Holding) × (seat.old.me.0.member ≡ true)
+            × (seat.old.me.1 ≡ (0, None) ∷ []) }
+        requires grown { (call : E) × (D.log value ≡ seat.old.me.0.seen ++ call ∷ [])
+            × (D.caller call ≡ seat.old.me.0.number) }
         requires legal { D.legal seat.old.me.0.terms.capacity (D.log value) }
         requires capacity { D.capacity value ≡ seat.old.me.0.terms.capacity }
         requires room { length (D.log value) < 18446744073709551616 }
@@ -92,7 +95,8 @@ impl<D: Logged<E>, E> Lock<D, E> {
     where
         D: Drop,
         requires own { seat.old.table_id ≡ self.now.table.shared.table_id }
-        requires held { (seat.old.me.0.stage ≡ Holding) × (seat.old.me.0.member ≡ true) × (seat.old.me.1 ≡ (0, None) ∷ []) }
+        requires held { (seat.old.me.0.stage ≡ Holding) × (seat.old.me.0.member ≡ true)
+            × (seat.old.me.1 ≡ (0, None) ∷ []) }
         requires same { D.log value ≡ seat.old.me.0.seen }
         requires capacity { D.capacity value ≡ seat.old.me.0.terms.capacity }
         ensures own { seat.new.table_id ≡ seat.old.table_id }
@@ -119,8 +123,10 @@ impl<D: Logged<E>, E> Lock<D, E> {
         mine: &mut Seat<Option<D>, View<E>>,
         theirs: &mut Seat<Option<D>, View<E>>,
     ) -> u64
-        requires { (mine.old.table_id ≡ self.now.table.shared.table_id) × (theirs.old.table_id ≡ self.now.table.shared.table_id) }
-        ensures own { (mine.new.table_id ≡ mine.old.table_id) × (theirs.new.table_id ≡ theirs.old.table_id) }
+        requires { (mine.old.table_id ≡ self.now.table.shared.table_id)
+            × (theirs.old.table_id ≡ self.now.table.shared.table_id) }
+        ensures own { (mine.new.table_id ≡ mine.old.table_id)
+            × (theirs.new.table_id ≡ theirs.old.table_id) }
         ensures hears { Hears D.log D.capacity D.caller D.legal mine.old.me theirs.old.me.0 result mine.new.me }
         ensures same { theirs.new.me ≡ theirs.old.me }
     {

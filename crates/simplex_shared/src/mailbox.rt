@@ -44,9 +44,11 @@ impl<M: Policy + Keep> RecordedMailbox<M> {
     ) -> Result<Feedback, MailError<M>>
         requires { pass.old.mailbox ≡ self.now }
         ensures own { IsSamePass pass.old pass.new }
-        ensures ok { IfOk result (λ feedback. EndsWith pass.old (Put pass.old.number message feedback) pass.new.seen) }
+        ensures ok { IfOk result
+            (λ feedback. EndsWith pass.old (Put pass.old.number message feedback) pass.new.seen) }
         ensures open { IfOk result (λ answer. answer ≢ feedback.Closed) }
-        ensures err { IfErr result (λ error. GoesOn pass.old pass.new.seen × Refuses message pass.new.seen error) }
+        ensures err { IfErr result (λ error. GoesOn pass.old pass.new.seen
+            × Refuses message pass.new.seen error) }
         ensures legal { IsLegal M.handle M.is_skipped self.now.terms.capacity pass.new.seen }
     {
         let Pass { number, seen, seat } = pass;
@@ -75,7 +77,8 @@ impl<M: Policy + Keep> RecordedMailbox<M> {
     pub fn recv<R: Wait>(&self, rt: &R, pass: &mut Pass<M>) -> Result<Option<M>, AllocError>
         requires { pass.old.mailbox ≡ self.now }
         ensures own { IsSamePass pass.old pass.new }
-        ensures ok { IfOk result (λ got. EndsWith pass.old (Took pass.old.number got) pass.new.seen) }
+        ensures ok { IfOk result
+            (λ got. EndsWith pass.old (Took pass.old.number got) pass.new.seen) }
         ensures err { OnErr result (GoesOn pass.old pass.new.seen) }
         ensures legal { IsLegal M.handle M.is_skipped self.now.terms.capacity pass.new.seen }
     {

@@ -27,7 +27,8 @@ impl<M: Policy + Keep> RecordedMailbox<M> {
         passes: u32,
     ) -> Result<(RecordedMailbox<M>, Vec<Pass<M>>), AllocError>
         requires { 0 < capacity }
-        ensures terms { IfOk result (λ made. made.0.terms ≡ record { capacity = capacity; passes = passes }) }
+        ensures terms { IfOk result (λ made. made.0.terms
+            ≡ record { capacity = capacity; passes = passes }) }
         ensures passes { IfOk result (λ made. made.1.items ≡ unused_passes made.0 passes) }
         ensures own { IfOk result (λ made. All (λ pass. pass.mailbox ≡ made.0) made.1.items) }
     {
@@ -67,10 +68,15 @@ fn another<M: Policy + Keep>(
     number: u32,
 ) -> Pass<M>
     requires own { maker.old.table_id ≡ lock.now.table.shared.table_id }
-    requires maker { (maker.old.me ≡ (maker_at terms.now number, [])) × (number < terms.now.passes) }
+    requires maker { (maker.old.me ≡ (maker_at terms.now number, []))
+        × (number < terms.now.passes) }
     ensures own { maker.new.table_id ≡ maker.old.table_id }
     ensures maker { maker.new.me ≡ (maker_at terms.now (number + 1), []) }
-    ensures pass { result ≡ unused (record { table = lock.entry.now.table.shared.table_id; terms = terms.now }) number }
+    ensures pass { result
+        ≡ unused (record {
+          table = lock.entry.now.table.shared.table_id;
+          terms = terms.now;
+        }) number }
 {
     let seat = lock.table.shared.split_seat::<Make>(maker);
     Pass {
@@ -91,7 +97,11 @@ fn deal<M: Policy + Keep>(
     requires maker { maker.old.me ≡ (maker_at terms.now 0, []) }
     ensures own { maker.new.table_id ≡ maker.old.table_id }
     ensures maker { IfOk result (λ _. maker.new.me ≡ (maker_at terms.now terms.now.passes, [])) }
-    ensures passes { IfOk result (λ passes. passes.items ≡ unused_passes (record { table = lock.entry.now.table.shared.table_id; terms = terms.now }) terms.now.passes) }
+    ensures passes { IfOk result (λ passes. passes.items
+        ≡ unused_passes (record {
+          table = lock.entry.now.table.shared.table_id;
+          terms = terms.now;
+        }) terms.now.passes) }
 {
     let mut passes = Vec::new(alloc);
     for number in 0..terms.passes {

@@ -23,7 +23,11 @@ impl<M: Policy> Model for Pass<M> {
 
     ghost Value = { Viewer M };
 
-    ghost view = { λ p. record { mailbox = record { table = p.seat.table_id; terms = p.seat.me.0.terms }; number = p.number; seen = p.seat.me.0.seen } };
+    ghost view = { λ p. record {
+      mailbox = record { table = p.seat.table_id; terms = p.seat.me.0.terms };
+      number = p.number;
+      seen = p.seat.me.0.seen;
+    } };
 
     ghost invariant = { λ p. IsReady p.number p.seat.me × (p.seen ≡ length p.seat.me.0.seen) };
 }

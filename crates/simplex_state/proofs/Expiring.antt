@@ -5,15 +5,14 @@ use Rattle.std.specs.BTreeMap.{BTreeMap}
 use Rattle.std.specs.Option.{option_or, option_map}
 use Rattle.simplex_values.specs.declared.timeout.TimeoutReason.{TimeoutReason}
 use Rattle.simplex_values.specs.declared.timeout.TimeoutReason.TheVariants.{Inactivity, FailedCertification}
-use Rattle.simplex_values.specs.declared.proposal.Subject.{Subject}
-use Rattle.simplex_values.specs.declared.round.Round.{Round}
-use Rattle.simplex_wire.specs.declared.attestation.Attestation.{Attestation}
 use Rattle.model_rules.specs.Lists.{first_of, greatest_of}
 use Rattle.model_rules.specs.Known.{Made, Fact, Expired, Failed, Judged, reached, verdict_of, notarization_of, finalization_of, own_notarize, proposal_of}
 use Rattle.model_rules.specs.Views.{last_finalized, current_of, entered_at}
 use Rattle.model_rules.specs.Slot.{slot_of}
 use Rattle.model_rules.specs.Deadline.{expired_in, failed_in, is_inactivity, expires, fails, triggered, may_skip, expiry_of, inactivity_count}
 use Rattle.model_rules.specs.Calls.{takes_verdict}
+use Rattle.simplex_wire.specs.declared.scheme.Scheme as scheme
+use Rattle.simplex_types.specs.declared.elector.Elector as elector
 use Rattle.simplex_state.specs.declared.rounds.RoundRecord.{RoundRecord}
 use Rattle.simplex_state.specs.declared.progress.Progress.{Progress}
 use Rattle.simplex_state.specs.declared.state.State.{State}
@@ -37,27 +36,27 @@ pub skips : (made : Made) (known : List Fact) (v : ℕ) (reason : TimeoutReason)
 unfolding expires may_skip progress_of
 skips made known v reason e i = grind (arith, common_steps, e, i)
 
-module _ {S L : Type 0} (attests : S → Subject → Option Attestation) (elects : L → Round → ℕ) where
-  pub keeps_expired : (state : State S L) (made : Made) (known : List Fact) (v : ℕ) (reason : TimeoutReason) (now : ℕ) (rounds : BTreeMap ℕ RoundRecord) (progress : Progress)
-      → Keeps attests elects state made known
+module _ {S L : Type 0} {g : scheme.Ghosts S} {h : elector.Ghosts L} where
+  pub keeps_expired : (state : State S L g h) (made : Made) (known : List Fact) (v : ℕ) (reason : TimeoutReason) (now : ℕ) (rounds : BTreeMap ℕ RoundRecord) (progress : Progress)
+      → Keeps state made known
       → progress ≡ (if is_inactivity reason then record state.progress { skipped = 1 + state.progress.skipped } else state.progress)
       → ((q : ℕ) → round_in rounds q ≡ (if v == q then record (round_in state.rounds v) { expired = option_or (round_in state.rounds v).expired (Some (now, reason)) } else round_in state.rounds q))
-      → Keeps attests elects (record state { rounds = rounds; progress = progress }) made (Expired v reason now ∷ known)
+      → Keeps (record state { rounds = rounds; progress = progress }) made (Expired v reason now ∷ known)
   unfolding learn_round
   keeps_expired state made known v reason now rounds progress k p e =
-      keeps_quiet attests elects state made (Expired v reason now) known rounds progress k refl
+      keeps_quiet state made (Expired v reason now) known rounds progress k refl
       (sound_other (Expired v reason now) known refl k.sound)
       (timely_step made (Expired v reason now) known (omega arith) k.timely)
       (grind (arith, p, inactivity_learns made v reason now state.progress))
       (λ q. grind (arith, common_steps, e q))
 
-  pub keeps_failed : (state : State S L) (made : Made) (known : List Fact) (v : ℕ) (reason : TimeoutReason) (rounds : BTreeMap ℕ RoundRecord)
-      → Keeps attests elects state made known
+  pub keeps_failed : (state : State S L g h) (made : Made) (known : List Fact) (v : ℕ) (reason : TimeoutReason) (rounds : BTreeMap ℕ RoundRecord)
+      → Keeps state made known
       → ((q : ℕ) → round_in rounds q ≡ (if v == q then record (round_in state.rounds v) { failed = option_or (round_in state.rounds v).failed (Some reason) } else round_in state.rounds q))
-      → Keeps attests elects (record state { rounds = rounds }) made (Failed v reason ∷ known)
+      → Keeps (record state { rounds = rounds }) made (Failed v reason ∷ known)
   unfolding learn_round learn_progress
   keeps_failed state made known v reason rounds k e =
-      keeps_quiet attests elects state made (Failed v reason) known rounds state.progress k refl
+      keeps_quiet state made (Failed v reason) known rounds state.progress k refl
       (sound_other (Failed v reason) known refl k.sound)
       (timely_step made (Failed v reason) known (omega arith) k.timely)
       refl

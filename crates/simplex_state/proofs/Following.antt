@@ -11,9 +11,8 @@ use Rattle.model_rules.specs.Known.{Made, Fact, Added, Judged, verdict_in, verdi
 use Rattle.model_rules.specs.Views.{last_finalized, current_of, finalized_view, opened_view}
 use Rattle.model_rules.specs.Ancestry.{is_covered, is_covered_in, has_true_verdict, is_certified, is_met}
 use Rattle.model_rules.specs.Requests.{may_propose, admitted_views}
-use Rattle.simplex_values.specs.declared.proposal.Subject.{Subject}
-use Rattle.simplex_values.specs.declared.round.Round.{Round}
-use Rattle.simplex_wire.specs.declared.attestation.Attestation.{Attestation}
+use Rattle.simplex_wire.specs.declared.scheme.Scheme as scheme
+use Rattle.simplex_types.specs.declared.elector.Elector as elector
 use Rattle.simplex_state.specs.Rounds.{round_in, round_of, blank}
 use Rattle.simplex_state.specs.Progress.{progress_of}
 use Rattle.simplex_state.specs.Stands.{Keeps}
@@ -151,22 +150,22 @@ at_same test a q l h e = let s : q ≡ a = omega (arith, l, h) in rw s e
 pub behind : (q view : ℕ) → (q ≤ view) ⊎ (view < q)
 behind q view = grind arith
 
-module _ {S L : Type 0} (attests : S → Subject → Option Attestation) (elects : L → Round → ℕ) (state : State S L) (made : Made) (known : List Fact) where
-  at_current : Keeps attests elects state made known → state.progress.current ≡ current_of made known
+module _ {S L : Type 0} {g : scheme.Ghosts S} {h : elector.Ghosts L} (state : State S L g h) (made : Made) (known : List Fact) where
+  at_current : Keeps state made known → state.progress.current ≡ current_of made known
   unfolding progress_of
   at_current k = grind (arith, k.progress)
 
   -- the member does not propose behind a view of which nothing is known
-  bare_view : (q view : ℕ) → Keeps attests elects state made known → view ≡ q + 1 → state.progress.current ≤ q → view ≤ greatest_view
+  bare_view : (q view : ℕ) → Keeps state made known → view ≡ q + 1 → state.progress.current ≤ q → view ≤ greatest_view
       → round_in state.rounds q ≡ blank → may_propose made known view ≡ false
   bare_view q view k e ahead low bare =
-      let low_kept = current_kept attests elects state made known k in
+      let low_kept = current_kept state made known k in
       let same = at_current k in
       let kept = k.rounds q (omega (arith, low_kept, ahead)) in
       unmet_view made known q view e k.settings.some_length (omega (arith, same, ahead)) low (blank_view made known q view (sym kept ∙ bare))
 
   -- nor in those up to such a view
-  pub none_to : (view upto : ℕ) → Keeps attests elects state made known → state.progress.current ≤ view → upto ≤ greatest_view
+  pub none_to : (view upto : ℕ) → Keeps state made known → state.progress.current ≤ view → upto ≤ greatest_view
       → ((p : ℕ) → view ≤ p → p < upto → round_in state.rounds p ≡ blank)
       → ((p : ℕ) → state.progress.current ≤ p → p ≤ view → may_propose made known p ≡ false)
       → (q : ℕ) → state.progress.current ≤ q → q ≤ upto → may_propose made known q ≡ false
@@ -176,12 +175,12 @@ module _ {S L : Type 0} (attests : S → Subject → Option Attestation) (elects
         | inr lt ↦ bare_view (q - 1) q k (omega (arith, lt)) (omega (arith, lt, ahead)) (omega (arith, h, low)) (bare (q - 1) (omega (arith, lt)) (omega (arith, lt, h)))
       ]
 
-  pub unmet_next : (parent view : ℕ) → Keeps attests elects state made known → view ≡ parent + 1 → state.progress.current ≤ parent → view ≤ greatest_view
+  pub unmet_next : (parent view : ℕ) → Keeps state made known → view ≡ parent + 1 → state.progress.current ≤ parent → view ≤ greatest_view
       → is_met known parent view ≡ false → may_propose made known view ≡ false
   unmet_next parent view k e ahead low unmet =
       let same = at_current k in unmet_view made known parent view e k.settings.some_length (omega (arith, same, ahead)) low unmet
 
-  pub propose_here : (limit : ℕ) → Keeps attests elects state made known
+  pub propose_here : (limit : ℕ) → Keeps state made known
       → limit ≡ admission_limit state.settings.terms.length state.settings.terms.lookahead state.progress.current
       → may_propose made known state.progress.current ≡ true
       → Some state.progress.current ≡ find (may_propose made known) (admitted_views made known)
@@ -190,9 +189,9 @@ module _ {S L : Type 0} (attests : S → Subject → Option Attestation) (elects
       let low = current_low made known in
       let some = window_some state.settings.terms.length state.settings.terms.lookahead state.progress.current (grind (arith, k.settings.some_length, k.settings.term_length)) (omega (arith, low, same)) in
       sym (find_here (may_propose made known) state.progress.current (limit + 1) here (omega (arith, e, some)))
-      ∙ admitted_find attests elects state made known limit (may_propose made known) k e
+      ∙ admitted_find state made known limit (may_propose made known) k e
 
-  pub propose_later : (limit view : ℕ) → Keeps attests elects state made known
+  pub propose_later : (limit view : ℕ) → Keeps state made known
       → limit ≡ admission_limit state.settings.terms.length state.settings.terms.lookahead state.progress.current
       → state.progress.current ≤ view → view ≤ limit
       → ((q : ℕ) → state.progress.current ≤ q → q < view → may_propose made known q ≡ false)
@@ -200,12 +199,12 @@ module _ {S L : Type 0} (attests : S → Subject → Option Attestation) (elects
       → Some view ≡ find (may_propose made known) (admitted_views made known)
   propose_later limit view k e ahead within none here =
       sym (walk_here (may_propose made known) state.progress.current view (limit + 1) ahead (omega (arith, within)) none here)
-      ∙ admitted_find attests elects state made known limit (may_propose made known) k e
+      ∙ admitted_find state made known limit (may_propose made known) k e
 
-  pub propose_never : (limit : ℕ) → Keeps attests elects state made known
+  pub propose_never : (limit : ℕ) → Keeps state made known
       → limit ≡ admission_limit state.settings.terms.length state.settings.terms.lookahead state.progress.current
       → ((q : ℕ) → state.progress.current ≤ q → q ≤ limit → may_propose made known q ≡ false)
       → None ≡ find (may_propose made known) (admitted_views made known)
   propose_never limit k e none =
       sym (walk_out (may_propose made known) state.progress.current (limit + 1) (λ q a b. none q a (omega (arith, b))))
-      ∙ admitted_find attests elects state made known limit (may_propose made known) k e
+      ∙ admitted_find state made known limit (may_propose made known) k e

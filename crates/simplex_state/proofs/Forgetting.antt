@@ -3,19 +3,18 @@ use Rattle.std.proofs.Common.{◌≡◌, ℕ, ◌<◌, ◌≤◌, List, ◌∷�
 use Rattle.std.proofs.lemmas.Grind.{common_steps}
 use Rattle.std.specs.BTreeMap.{BTreeMap}
 use Rattle.std.specs.BTreeSet.{BTreeSet}
-use Rattle.simplex_values.specs.declared.proposal.Subject.{Subject}
-use Rattle.simplex_values.specs.declared.round.Round.{Round}
 use Rattle.simplex_values.specs.declared.ask.Kind.{Kind}
 use Rattle.simplex_wire.specs.declared.certificate.Notarization.{Notarization}
 use Rattle.simplex_wire.specs.declared.certificate.Nullification.{Nullification}
 use Rattle.simplex_wire.specs.declared.certificate.Finalization.{Finalization}
-use Rattle.simplex_wire.specs.declared.attestation.Attestation.{Attestation}
 use Rattle.model_rules.specs.Lists.{first_of, greatest_of}
 use Rattle.model_rules.specs.Known.{Made, Fact, Pruned, notarization_of, nullification_of, finalization_of, was_broadcast, verdict_of, has_nullified}
 use Rattle.model_rules.specs.Views.{least_active, last_finalized}
 use Rattle.model_rules.specs.Ancestry.{is_covered, has_true_verdict, has_false_verdict}
 use Rattle.model_rules.specs.Requests.{is_unjudged}
 use Rattle.model_rules.specs.Calls.{unsent_notarization, unsent_nullification, unsent_finalization}
+use Rattle.simplex_wire.specs.declared.scheme.Scheme as scheme
+use Rattle.simplex_types.specs.declared.elector.Elector as elector
 use Rattle.simplex_state.specs.declared.rounds.RoundRecord.{RoundRecord}
 use Rattle.simplex_state.specs.declared.held.Held.{Held}
 use Rattle.simplex_state.specs.declared.missing.Missing.{Missing}
@@ -33,9 +32,9 @@ use Rattle.simplex_state.proofs.Publishing.{published_same, unpublished_later}
 use Rattle.simplex_state.proofs.Gates.{term_rises}
 use Rattle.simplex_state.proofs.Sound.{sound_other, timely_step}
 
-module _ {S L : Type 0} (attests : S → Subject → Option Attestation) (elects : L → Round → ℕ) where
-  pub keeps_pruned : (state : State S L) (made : Made) (known : List Fact) (v : ℕ) (progress' : Progress) (rounds' : BTreeMap ℕ RoundRecord) (certified' : BTreeSet ℕ) (covered' : BTreeMap ℕ ℕ) (waiting' : BTreeSet ℕ) (missing' : Missing) (notarizations' : BTreeMap ℕ (Held Notarization)) (nullifications' : BTreeMap ℕ (Held Nullification)) (finalizations' : BTreeMap ℕ (Held Finalization))
-      → Keeps attests elects state made known
+module _ {S L : Type 0} {g : scheme.Ghosts S} {h : elector.Ghosts L} where
+  pub keeps_pruned : (state : State S L g h) (made : Made) (known : List Fact) (v : ℕ) (progress' : Progress) (rounds' : BTreeMap ℕ RoundRecord) (certified' : BTreeSet ℕ) (covered' : BTreeMap ℕ ℕ) (waiting' : BTreeSet ℕ) (missing' : Missing) (notarizations' : BTreeMap ℕ (Held Notarization)) (nullifications' : BTreeMap ℕ (Held Nullification)) (finalizations' : BTreeMap ℕ (Held Finalization))
+      → Keeps state made known
       → v ≡ least_active made known
       → v ≤ (progress_of made known).current
       → (progress_of made known).pruned ≤ v
@@ -52,7 +51,7 @@ module _ {S L : Type 0} (attests : S → Subject → Option Attestation) (elects
       → ((q : ℕ) → unsent_in (found nullifications' q) ≡ unsent_in (found state.nullifications q))
       → ((q : ℕ) → v ≤ q → found finalizations' q ≡ found state.finalizations q)
       → ((q : ℕ) → unsent_in (found finalizations' q) ≡ unsent_in (found state.finalizations q))
-      → Keeps attests elects (record state { progress = progress'; rounds = rounds'; certified = certified'; covered = covered'; waiting = waiting'; missing = missing'; notarizations = notarizations'; nullifications = nullifications'; finalizations = finalizations' }) made (Pruned v ∷ known)
+      → Keeps (record state { progress = progress'; rounds = rounds'; certified = certified'; covered = covered'; waiting = waiting'; missing = missing'; notarizations = notarizations'; nullifications = nullifications'; finalizations = finalizations' }) made (Pruned v ∷ known)
   unfolding learn_progress learn_round opens ends least_active last_finalized has_nullified has_false_verdict has_true_verdict is_covered is_unjudged verdict_of notarization_of nullification_of finalization_of was_broadcast held_notarization held_nullification held_finalization unsent_notarization unsent_nullification unsent_finalization first_of greatest_of
   keeps_pruned state made known v progress' rounds' certified' covered' waiting' missing' notarizations' nullifications' finalizations' k active_is ahead_is rises progress_is rounds_are certified_are covered_are waiting_are missing_are notarized unsent_notarized nullified_are opening unsent_nullified finalized unsent_finalized =
       let f = Pruned v in

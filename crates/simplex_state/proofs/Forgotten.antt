@@ -4,14 +4,11 @@ use Rattle.std.proofs.lemmas.Grind.{common_steps}
 use Rattle.std.specs.Prelude.{unwrap_or}
 use Rattle.std.specs.BTreeMap.{BTreeMap}
 use Rattle.std.specs.Option.{option_map}
-use Rattle.simplex_values.specs.declared.proposal.Subject.{Subject}
-use Rattle.simplex_values.specs.declared.round.Round.{Round}
 use Rattle.simplex_wire.specs.declared.certificate.Notarization.{Notarization}
 use Rattle.simplex_wire.specs.declared.certificate.Nullification.{Nullification}
 use Rattle.simplex_wire.specs.declared.certificate.Finalization.{Finalization}
 use Rattle.simplex_wire.specs.declared.certificate.Certificate.TheVariants as certificates
 use Rattle.simplex_wire.specs.declared.certificate.CertificateKind.TheVariants as kinds
-use Rattle.simplex_wire.specs.declared.attestation.Attestation.{Attestation}
 use Rattle.simplex_values.specs.Terms.{next_of, term_index, next_term_start}
 use Rattle.simplex_values.specs.Covers.{covers}
 use Rattle.simplex_values.specs.Maps.{found}
@@ -21,6 +18,8 @@ use Rattle.model_rules.specs.Views.{least_active, last_finalized}
 use Rattle.model_rules.specs.Ancestry.{is_covered, has_true_verdict, has_false_verdict}
 use Rattle.model_rules.specs.Requests.{is_unjudged}
 use Rattle.model_rules.specs.Calls.{unsent_notarization, unsent_nullification, unsent_finalization}
+use Rattle.simplex_wire.specs.declared.scheme.Scheme as scheme
+use Rattle.simplex_types.specs.declared.elector.Elector as elector
 use Rattle.simplex_state.specs.declared.held.Held.{Held}
 use Rattle.simplex_state.specs.declared.progress.Progress.{Progress}
 use Rattle.simplex_state.specs.declared.ranges.Ranges.{Ranges}
@@ -47,13 +46,13 @@ still_ended : (made : Made) (known : List Fact) (view now : ℕ) → (progress_o
 unfolding ends opens next_of least_active progress_of
 still_ended made known view now active ahead past = grind (arith, common_steps, active, ahead, past)
 
-module _ {S L : Type 0} (attests : S → Subject → Option Attestation) (elects : L → Round → ℕ) where
-  pub keeps_past_notarization : (state : State S L) (made : Made) (known : List Fact) (n : Notarization) (now : ℕ) (notarizations' : BTreeMap ℕ (Held Notarization))
-      → Keeps attests elects state made known
+module _ {S L : Type 0} {g : scheme.Ghosts S} {h : elector.Ghosts L} where
+  pub keeps_past_notarization : (state : State S L g h) (made : Made) (known : List Fact) (n : Notarization) (now : ℕ) (notarizations' : BTreeMap ℕ (Held Notarization))
+      → Keeps state made known
       → now < 2 ^ 63
       → view_of n.proposal < (progress_of made known).pruned
       → ((q : ℕ) → found notarizations' q ≡ (if view_of n.proposal == q then option_map (λ h. held true h.certificate) (found state.notarizations q) else found state.notarizations q))
-      → Keeps attests elects (record state { notarizations = notarizations' }) made (Broadcast kinds.Notarization (view_of n.proposal) ∷ Added (certificates.Notarization n) now ∷ known)
+      → Keeps (record state { notarizations = notarizations' }) made (Broadcast kinds.Notarization (view_of n.proposal) ∷ Added (certificates.Notarization n) now ∷ known)
   unfolding learn_progress learn_round least_active last_finalized has_nullified has_false_verdict has_true_verdict is_covered is_unjudged verdict_of notarization_of nullification_of finalization_of was_broadcast held_notarization held_nullification held_finalization unsent_notarization unsent_nullification unsent_finalization first_of greatest_of
   keeps_past_notarization state made known n now notarizations' k stamp past held_are =
       let f = Added (certificates.Notarization n) now in
@@ -92,12 +91,12 @@ module _ {S L : Type 0} (attests : S → Subject → Option Attestation) (elects
         unsent_finalizations = λ view. grind (arith, common_steps, k.unsent_finalizations view, option_or-none);
       }
 
-  pub keeps_past_finalization : (state : State S L) (made : Made) (known : List Fact) (n : Finalization) (now : ℕ) (finalizations' : BTreeMap ℕ (Held Finalization))
-      → Keeps attests elects state made known
+  pub keeps_past_finalization : (state : State S L g h) (made : Made) (known : List Fact) (n : Finalization) (now : ℕ) (finalizations' : BTreeMap ℕ (Held Finalization))
+      → Keeps state made known
       → now < 2 ^ 63
       → view_of n.proposal < (progress_of made known).pruned
       → ((q : ℕ) → found finalizations' q ≡ (if view_of n.proposal == q then option_map (λ h. held true h.certificate) (found state.finalizations q) else found state.finalizations q))
-      → Keeps attests elects (record state { finalizations = finalizations' }) made (Broadcast kinds.Finalization (view_of n.proposal) ∷ Added (certificates.Finalization n) now ∷ known)
+      → Keeps (record state { finalizations = finalizations' }) made (Broadcast kinds.Finalization (view_of n.proposal) ∷ Added (certificates.Finalization n) now ∷ known)
   unfolding learn_progress learn_round least_active last_finalized has_nullified has_false_verdict has_true_verdict is_covered is_unjudged verdict_of notarization_of nullification_of finalization_of was_broadcast held_notarization held_nullification held_finalization unsent_notarization unsent_nullification unsent_finalization first_of greatest_of
   keeps_past_finalization state made known n now finalizations' k stamp past held_are =
       let f = Added (certificates.Finalization n) now in
@@ -136,8 +135,8 @@ module _ {S L : Type 0} (attests : S → Subject → Option Attestation) (elects
         unsent_finalizations = λ view. grind (arith, common_steps, k.unsent_finalizations view, option_or-none, held_are view);
       }
 
-  pub keeps_kept_nullification : (state : State S L) (made : Made) (known : List Fact) (n : Nullification) (now : ℕ) (progress' : Progress) (published' : Option ℕ) (covered' : BTreeMap ℕ ℕ) (whole' : Ranges) (nullifications' : BTreeMap ℕ (Held Nullification))
-      → Keeps attests elects state made known
+  pub keeps_kept_nullification : (state : State S L g h) (made : Made) (known : List Fact) (n : Nullification) (now : ℕ) (progress' : Progress) (published' : Option ℕ) (covered' : BTreeMap ℕ ℕ) (whole' : Ranges) (nullifications' : BTreeMap ℕ (Held Nullification))
+      → Keeps state made known
       → state.gave_up ≡ false
       → now < 2 ^ 63
       → progress' ≡ opens made.term_length (next_term_start made.term_length n.round.view) now state.progress
@@ -145,7 +144,7 @@ module _ {S L : Type 0} (attests : S → Subject → Option Attestation) (elects
       → ((q : ℕ) → covered_in made.term_length covered' q ≡ (covers made.term_length n.round.view q || covered_in made.term_length state.covered q))
       → ((q : ℕ) → holds whole' (term_index made.term_length q) ≡ true → (covers made.term_length n.round.view q || holds state.whole (term_index made.term_length q)) ≡ true)
       → ((q : ℕ) → found nullifications' q ≡ (if n.round.view == q then Some (held true (unwrap_or (certificate_in (found state.nullifications q)) n)) else found state.nullifications q))
-      → Keeps attests elects (record state { progress = progress'; published = published'; covered = covered'; whole = whole'; nullifications = nullifications' }) made (Broadcast kinds.Nullification n.round.view ∷ Added (certificates.Nullification n) now ∷ known)
+      → Keeps (record state { progress = progress'; published = published'; covered = covered'; whole = whole'; nullifications = nullifications' }) made (Broadcast kinds.Nullification n.round.view ∷ Added (certificates.Nullification n) now ∷ known)
   unfolding learn_progress learn_round opens ends least_active last_finalized has_nullified has_false_verdict has_true_verdict is_covered is_unjudged verdict_of notarization_of nullification_of finalization_of was_broadcast held_notarization held_nullification held_finalization unsent_notarization unsent_nullification unsent_finalization first_of greatest_of
   keeps_kept_nullification state made known n now progress' published' covered' whole' nullifications' k given_up stamp progress_is published_is covered_are whole_are held_are =
       let f = Added (certificates.Nullification n) now in

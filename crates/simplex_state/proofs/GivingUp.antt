@@ -1,11 +1,8 @@
 -- What a state keeps where the member gives the current view up.
 use Rattle.std.proofs.Common.{◌≡◌, ℕ, ◌<◌, ◌^◌, ◌==◌, ◌||◌, ◌∷◌, ◌++◌, Bool, true, false, List, Option, Some, refl, arith}
 use Rattle.std.proofs.lemmas.Grind.{common_steps}
-use Rattle.simplex_values.specs.declared.proposal.Subject.{Subject}
-use Rattle.simplex_values.specs.declared.round.Round.{Round}
 use Rattle.simplex_wire.specs.declared.vote.Nullify.{Nullify}
 use Rattle.simplex_wire.specs.declared.vote.Vote.TheVariants as votes
-use Rattle.simplex_wire.specs.declared.attestation.Attestation.{Attestation}
 use Rattle.model_rules.specs.Lists.{first_of, last_of, greatest_of}
 use Rattle.model_rules.specs.Known.{Made, Fact, Voted, Published, notarization_of, nullification_of, finalization_of, was_broadcast, verdict_of, has_nullified}
 use Rattle.model_rules.specs.Views.{least_active, last_finalized, current_of}
@@ -13,6 +10,8 @@ use Rattle.model_rules.specs.Ancestry.{is_covered, has_true_verdict, has_false_v
 use Rattle.model_rules.specs.Deadline.{published_at}
 use Rattle.model_rules.specs.Requests.{is_unjudged}
 use Rattle.model_rules.specs.Calls.{nullify_facts, unsent_notarization, unsent_nullification, unsent_finalization}
+use Rattle.simplex_wire.specs.declared.scheme.Scheme as scheme
+use Rattle.simplex_types.specs.declared.elector.Elector as elector
 use Rattle.simplex_state.specs.declared.ranges.Ranges.{Ranges}
 use Rattle.simplex_state.specs.declared.state.State.{State}
 use Rattle.simplex_state.specs.Ranges.{holds}
@@ -33,13 +32,13 @@ unpublished_now : (known : List Fact) (v now q : ℕ) → v < q → published_at
 unfolding published_at last_of
 unpublished_now known v now q later = grind (arith, common_steps, later)
 
-module _ {S L : Type 0} (attests : S → Subject → Option Attestation) (elects : L → Round → ℕ) where
+module _ {S L : Type 0} {g : scheme.Ghosts S} {h : elector.Ghosts L} where
   -- the view goes to those given up before
-  pub keeps_put_away : (state : State S L) (made : Made) (known : List Fact) (nullified' : Ranges)
-      → Keeps attests elects state made known
+  pub keeps_put_away : (state : State S L g h) (made : Made) (known : List Fact) (nullified' : Ranges)
+      → Keeps state made known
       → state.gave_up ≡ true
       → ((q : ℕ) → holds nullified' q ≡ (state.progress.current == q || holds state.nullified q))
-      → Keeps attests elects (record state { gave_up = false; nullified = nullified' }) made known
+      → Keeps (record state { gave_up = false; nullified = nullified' }) made known
   keeps_put_away state made known nullified' k given_up nullified_are =
       record {
         attest = k.attest;
@@ -70,11 +69,11 @@ module _ {S L : Type 0} (attests : S → Subject → Option Attestation) (elects
       }
 
   -- a view that was given up is given up again
-  keeps_again : (state : State S L) (made : Made) (known : List Fact) (v : ℕ)
-      → Keeps attests elects state made known
+  keeps_again : (state : State S L g h) (made : Made) (known : List Fact) (v : ℕ)
+      → Keeps state made known
       → v ≡ (progress_of made known).current
       → has_nullified known v ≡ true
-      → Keeps attests elects (record state { gave_up = true }) made known
+      → Keeps (record state { gave_up = true }) made known
   keeps_again state made known v k current again =
       record {
         attest = k.attest;
@@ -105,10 +104,10 @@ module _ {S L : Type 0} (attests : S → Subject → Option Attestation) (elects
       }
 
   -- the current view is given up
-  keeps_gave_up : (state : State S L) (made : Made) (known : List Fact) (n : Nullify)
-      → Keeps attests elects state made known
+  keeps_gave_up : (state : State S L g h) (made : Made) (known : List Fact) (n : Nullify)
+      → Keeps state made known
       → n.round.view ≡ (progress_of made known).current
-      → Keeps attests elects (record state { gave_up = true }) made (Voted (votes.Nullify n) ∷ known)
+      → Keeps (record state { gave_up = true }) made (Voted (votes.Nullify n) ∷ known)
   unfolding learn_progress learn_round opens ends least_active last_finalized has_nullified has_false_verdict has_true_verdict is_covered is_unjudged verdict_of notarization_of nullification_of finalization_of was_broadcast held_notarization held_nullification held_finalization unsent_notarization unsent_nullification unsent_finalization first_of greatest_of
   keeps_gave_up state made known n k current =
       let f = Voted (votes.Nullify n) in
@@ -146,11 +145,11 @@ module _ {S L : Type 0} (attests : S → Subject → Option Attestation) (elects
       }
 
   -- its nullify goes out
-  keeps_published : (state : State S L) (made : Made) (known : List Fact) (v now : ℕ)
-      → Keeps attests elects state made known
+  keeps_published : (state : State S L g h) (made : Made) (known : List Fact) (v now : ℕ)
+      → Keeps state made known
       → now < 2 ^ 63
       → v ≡ (progress_of made known).current
-      → Keeps attests elects (record state { published = Some now }) made (Published v now ∷ known)
+      → Keeps (record state { published = Some now }) made (Published v now ∷ known)
   unfolding learn_progress learn_round opens ends least_active last_finalized has_nullified has_false_verdict has_true_verdict is_covered is_unjudged verdict_of notarization_of nullification_of finalization_of was_broadcast held_notarization held_nullification held_finalization unsent_notarization unsent_nullification unsent_finalization first_of greatest_of
   keeps_published state made known v now k stamp current =
       let f = Published v now in
@@ -187,11 +186,11 @@ module _ {S L : Type 0} (attests : S → Subject → Option Attestation) (elects
         unsent_finalizations = λ view. grind (arith, common_steps, k.unsent_finalizations view, option_or-none);
       }
 
-  gives_up : (state : State S L) (made : Made) (known : List Fact) (n : Nullify) (now : ℕ) (again : Bool) → has_nullified known n.round.view ≡ again
-      → Keeps attests elects state made known
+  gives_up : (state : State S L g h) (made : Made) (known : List Fact) (n : Nullify) (now : ℕ) (again : Bool) → has_nullified known n.round.view ≡ again
+      → Keeps state made known
       → now < 2 ^ 63
       → n.round.view ≡ (progress_of made known).current
-      → Keeps attests elects (record state { gave_up = true; published = Some now }) made (nullify_facts known n.round.view now n ++ known)
+      → Keeps (record state { gave_up = true; published = Some now }) made (nullify_facts known n.round.view now n ++ known)
   unfolding learn_progress
   gives_up state made known n now true e k stamp current =
       rw e (keeps_published (record state { gave_up = true }) made known n.round.view now
@@ -205,10 +204,10 @@ module _ {S L : Type 0} (attests : S → Subject → Option Attestation) (elects
       (grind (arith, common_steps, current, progress_step made (Voted (votes.Nullify n)) known)))
 
   -- the current view is given up, and its nullify goes out
-  pub keeps_given_up : (state : State S L) (made : Made) (known : List Fact) (n : Nullify) (now : ℕ)
-      → Keeps attests elects state made known
+  pub keeps_given_up : (state : State S L g h) (made : Made) (known : List Fact) (n : Nullify) (now : ℕ)
+      → Keeps state made known
       → now < 2 ^ 63
       → n.round.view ≡ current_of made known
-      → Keeps attests elects (record state { gave_up = true; published = Some now }) made (nullify_facts known n.round.view now n ++ known)
+      → Keeps (record state { gave_up = true; published = Some now }) made (nullify_facts known n.round.view now n ++ known)
   unfolding progress_of
   keeps_given_up state made known n now k stamp current = gives_up state made known n now _ refl k stamp current

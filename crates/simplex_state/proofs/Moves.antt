@@ -5,8 +5,6 @@ use Rattle.std.specs.Prelude.{unwrap_or}
 use Rattle.std.specs.BTreeMap.{BTreeMap}
 use Rattle.std.specs.BTreeSet.{BTreeSet}
 use Rattle.std.specs.Option.{option_map, is_some}
-use Rattle.simplex_values.specs.declared.proposal.Subject.{Subject}
-use Rattle.simplex_values.specs.declared.round.Round.{Round}
 use Rattle.simplex_values.specs.declared.ask.Kind.{Kind}
 use Rattle.simplex_wire.specs.declared.vote.Nullify.{Nullify}
 use Rattle.simplex_wire.specs.declared.vote.Vote.TheVariants as votes
@@ -15,13 +13,14 @@ use Rattle.simplex_wire.specs.declared.certificate.Nullification.{Nullification}
 use Rattle.simplex_wire.specs.declared.certificate.Finalization.{Finalization}
 use Rattle.simplex_wire.specs.declared.certificate.Certificate.TheVariants as certificates
 use Rattle.simplex_wire.specs.declared.certificate.CertificateKind.TheVariants as kinds
-use Rattle.simplex_wire.specs.declared.attestation.Attestation.{Attestation}
 use Rattle.model_rules.specs.Lists.{first_of, greatest_of}
 use Rattle.model_rules.specs.Known.{Made, Fact, Added, Judged, Voted, Broadcast, MissingAsked, view_of, notarization_of, nullification_of, finalization_of, was_broadcast, verdict_of, has_nullified}
 use Rattle.model_rules.specs.Views.{least_active, last_finalized}
 use Rattle.model_rules.specs.Ancestry.{is_covered, has_true_verdict, has_false_verdict}
 use Rattle.model_rules.specs.Requests.{is_unjudged, is_kind}
 use Rattle.model_rules.specs.Calls.{unsent_notarization, unsent_nullification, unsent_finalization}
+use Rattle.simplex_wire.specs.declared.scheme.Scheme as scheme
+use Rattle.simplex_types.specs.declared.elector.Elector as elector
 use Rattle.simplex_state.specs.declared.rounds.RoundRecord.{RoundRecord}
 use Rattle.simplex_state.specs.declared.held.Held.{Held}
 use Rattle.simplex_state.specs.declared.missing.Missing.{Missing}
@@ -41,12 +40,12 @@ use Rattle.simplex_state.proofs.Facts.{round_step, progress_step, option_or-none
 use Rattle.simplex_state.proofs.Publishing.{published_same, published_moved, unpublished_later}
 use Rattle.simplex_state.proofs.Sound.{sound_other, timely_step}
 
-module _ {S L : Type 0} (attests : S → Subject → Option Attestation) (elects : L → Round → ℕ) where
+module _ {S L : Type 0} {g : scheme.Ghosts S} {h : elector.Ghosts L} where
   -- the member gave a view up
-  pub keeps_nullify : (state : State S L) (made : Made) (known : List Fact) (n : Nullify) (nullified' : Ranges)
-      → Keeps attests elects state made known
+  pub keeps_nullify : (state : State S L g h) (made : Made) (known : List Fact) (n : Nullify) (nullified' : Ranges)
+      → Keeps state made known
       → ((q : ℕ) → holds nullified' q ≡ (n.round.view == q || holds state.nullified q))
-      → Keeps attests elects (record state { nullified = nullified' }) made (Voted (votes.Nullify n) ∷ known)
+      → Keeps (record state { nullified = nullified' }) made (Voted (votes.Nullify n) ∷ known)
   unfolding learn_progress learn_round opens ends least_active last_finalized has_nullified has_false_verdict has_true_verdict is_covered is_unjudged verdict_of notarization_of nullification_of finalization_of was_broadcast held_notarization held_nullification held_finalization unsent_notarization unsent_nullification unsent_finalization first_of greatest_of
   keeps_nullify state made known n nullified' k nullified_are =
       let f = Voted (votes.Nullify n) in
@@ -84,8 +83,8 @@ module _ {S L : Type 0} (attests : S → Subject → Option Attestation) (elects
       }
 
   -- a verdict is taken
-  pub keeps_good : (state : State S L) (made : Made) (known : List Fact) (v : ℕ) (now : ℕ) (progress' : Progress) (published' : Option ℕ) (rounds' : BTreeMap ℕ RoundRecord) (certified' : BTreeSet ℕ)
-      → Keeps attests elects state made known
+  pub keeps_good : (state : State S L g h) (made : Made) (known : List Fact) (v : ℕ) (now : ℕ) (progress' : Progress) (published' : Option ℕ) (rounds' : BTreeMap ℕ RoundRecord) (certified' : BTreeSet ℕ)
+      → Keeps state made known
       → state.gave_up ≡ false
       → now < 2 ^ 63
       → verdict_of known v ≡ None
@@ -93,7 +92,7 @@ module _ {S L : Type 0} (attests : S → Subject → Option Attestation) (elects
       → published' ≡ (if nat_lt state.progress.current (next_of v) then None else state.published)
       → ((q : ℕ) → (progress_of made known).pruned ≤ q → round_in rounds' q ≡ learn_round (Judged v true now) q (round_in state.rounds q))
       → ((q : ℕ) → has certified' q ≡ (v == q || has state.certified q))
-      → Keeps attests elects (record state { progress = progress'; published = published'; rounds = rounds'; certified = certified' }) made (Judged v true now ∷ known)
+      → Keeps (record state { progress = progress'; published = published'; rounds = rounds'; certified = certified' }) made (Judged v true now ∷ known)
   unfolding learn_progress learn_round opens ends least_active last_finalized has_nullified has_false_verdict has_true_verdict is_covered is_unjudged verdict_of notarization_of nullification_of finalization_of was_broadcast held_notarization held_nullification held_finalization unsent_notarization unsent_nullification unsent_finalization first_of greatest_of
   keeps_good state made known v now progress' published' rounds' certified' k given_up stamp none progress_is published_is rounds_are certified_are =
       let f = Judged v true now in
@@ -130,13 +129,13 @@ module _ {S L : Type 0} (attests : S → Subject → Option Attestation) (elects
         unsent_finalizations = λ view. grind (arith, common_steps, k.unsent_finalizations view, option_or-none);
       }
 
-  pub keeps_bad : (state : State S L) (made : Made) (known : List Fact) (v : ℕ) (now : ℕ) (rounds' : BTreeMap ℕ RoundRecord) (failed' : Ranges)
-      → Keeps attests elects state made known
+  pub keeps_bad : (state : State S L g h) (made : Made) (known : List Fact) (v : ℕ) (now : ℕ) (rounds' : BTreeMap ℕ RoundRecord) (failed' : Ranges)
+      → Keeps state made known
       → now < 2 ^ 63
       → verdict_of known v ≡ None
       → ((q : ℕ) → (progress_of made known).pruned ≤ q → round_in rounds' q ≡ learn_round (Judged v false now) q (round_in state.rounds q))
       → ((q : ℕ) → holds failed' q ≡ (v == q || holds state.failed q))
-      → Keeps attests elects (record state { rounds = rounds'; failed = failed' }) made (Judged v false now ∷ known)
+      → Keeps (record state { rounds = rounds'; failed = failed' }) made (Judged v false now ∷ known)
   unfolding learn_progress learn_round opens ends least_active last_finalized has_nullified has_false_verdict has_true_verdict is_covered is_unjudged verdict_of notarization_of nullification_of finalization_of was_broadcast held_notarization held_nullification held_finalization unsent_notarization unsent_nullification unsent_finalization first_of greatest_of
   keeps_bad state made known v now rounds' failed' k stamp none rounds_are failed_are =
       let f = Judged v false now in
@@ -174,14 +173,14 @@ module _ {S L : Type 0} (attests : S → Subject → Option Attestation) (elects
       }
 
   -- a certificate is known
-  pub keeps_notarization : (state : State S L) (made : Made) (known : List Fact) (n : Notarization) (now : ℕ) (rounds' : BTreeMap ℕ RoundRecord) (waiting' : BTreeSet ℕ) (notarizations' : BTreeMap ℕ (Held Notarization))
-      → Keeps attests elects state made known
+  pub keeps_notarization : (state : State S L g h) (made : Made) (known : List Fact) (n : Notarization) (now : ℕ) (rounds' : BTreeMap ℕ RoundRecord) (waiting' : BTreeSet ℕ) (notarizations' : BTreeMap ℕ (Held Notarization))
+      → Keeps state made known
       → now < 2 ^ 63
       → (progress_of made known).pruned ≤ view_of n.proposal
       → ((q : ℕ) → (progress_of made known).pruned ≤ q → round_in rounds' q ≡ learn_round (Added (certificates.Notarization n) now) q (round_in state.rounds q))
       → ((q : ℕ) → has waiting' q ≡ (view_of n.proposal == q || has state.waiting q))
       → ((q : ℕ) → found notarizations' q ≡ (if view_of n.proposal == q then Some (unwrap_or (found state.notarizations q) (held false n)) else found state.notarizations q))
-      → Keeps attests elects (record state { rounds = rounds'; waiting = waiting'; notarizations = notarizations' }) made (Added (certificates.Notarization n) now ∷ known)
+      → Keeps (record state { rounds = rounds'; waiting = waiting'; notarizations = notarizations' }) made (Added (certificates.Notarization n) now ∷ known)
   unfolding learn_progress learn_round opens ends least_active last_finalized has_nullified has_false_verdict has_true_verdict is_covered is_unjudged verdict_of notarization_of nullification_of finalization_of was_broadcast held_notarization held_nullification held_finalization unsent_notarization unsent_nullification unsent_finalization first_of greatest_of
   keeps_notarization state made known n now rounds' waiting' notarizations' k stamp active rounds_are waiting_are held_are =
       let f = Added (certificates.Notarization n) now in
@@ -218,8 +217,8 @@ module _ {S L : Type 0} (attests : S → Subject → Option Attestation) (elects
         unsent_finalizations = λ view. grind (arith, common_steps, k.unsent_finalizations view, option_or-none);
       }
 
-  pub keeps_nullification : (state : State S L) (made : Made) (known : List Fact) (n : Nullification) (now : ℕ) (progress' : Progress) (published' : Option ℕ) (covered' : BTreeMap ℕ ℕ) (whole' : Ranges) (nullifications' : BTreeMap ℕ (Held Nullification))
-      → Keeps attests elects state made known
+  pub keeps_nullification : (state : State S L g h) (made : Made) (known : List Fact) (n : Nullification) (now : ℕ) (progress' : Progress) (published' : Option ℕ) (covered' : BTreeMap ℕ ℕ) (whole' : Ranges) (nullifications' : BTreeMap ℕ (Held Nullification))
+      → Keeps state made known
       → state.gave_up ≡ false
       → now < 2 ^ 63
       → (progress_of made known).pruned ≤ n.round.view
@@ -228,7 +227,7 @@ module _ {S L : Type 0} (attests : S → Subject → Option Attestation) (elects
       → ((q : ℕ) → covered_in made.term_length covered' q ≡ (covers made.term_length n.round.view q || covered_in made.term_length state.covered q))
       → ((q : ℕ) → holds whole' (term_index made.term_length q) ≡ true → (covers made.term_length n.round.view q || holds state.whole (term_index made.term_length q)) ≡ true)
       → ((q : ℕ) → found nullifications' q ≡ (if n.round.view == q then Some (unwrap_or (found state.nullifications q) (held false n)) else found state.nullifications q))
-      → Keeps attests elects (record state { progress = progress'; published = published'; covered = covered'; whole = whole'; nullifications = nullifications' }) made (Added (certificates.Nullification n) now ∷ known)
+      → Keeps (record state { progress = progress'; published = published'; covered = covered'; whole = whole'; nullifications = nullifications' }) made (Added (certificates.Nullification n) now ∷ known)
   unfolding learn_progress learn_round opens ends least_active last_finalized has_nullified has_false_verdict has_true_verdict is_covered is_unjudged verdict_of notarization_of nullification_of finalization_of was_broadcast held_notarization held_nullification held_finalization unsent_notarization unsent_nullification unsent_finalization first_of greatest_of
   keeps_nullification state made known n now progress' published' covered' whole' nullifications' k given_up stamp active progress_is published_is covered_are whole_are held_are =
       let f = Added (certificates.Nullification n) now in
@@ -265,8 +264,8 @@ module _ {S L : Type 0} (attests : S → Subject → Option Attestation) (elects
         unsent_finalizations = λ view. grind (arith, common_steps, k.unsent_finalizations view, option_or-none);
       }
 
-  pub keeps_finalization : (state : State S L) (made : Made) (known : List Fact) (n : Finalization) (now : ℕ) (progress' : Progress) (published' : Option ℕ) (rounds' : BTreeMap ℕ RoundRecord) (finalizations' : BTreeMap ℕ (Held Finalization))
-      → Keeps attests elects state made known
+  pub keeps_finalization : (state : State S L g h) (made : Made) (known : List Fact) (n : Finalization) (now : ℕ) (progress' : Progress) (published' : Option ℕ) (rounds' : BTreeMap ℕ RoundRecord) (finalizations' : BTreeMap ℕ (Held Finalization))
+      → Keeps state made known
       → state.gave_up ≡ false
       → now < 2 ^ 63
       → (progress_of made known).pruned ≤ view_of n.proposal
@@ -274,7 +273,7 @@ module _ {S L : Type 0} (attests : S → Subject → Option Attestation) (elects
       → published' ≡ (if nat_lt state.progress.current (next_of (view_of n.proposal)) then None else state.published)
       → ((q : ℕ) → (progress_of made known).pruned ≤ q → round_in rounds' q ≡ learn_round (Added (certificates.Finalization n) now) q (round_in state.rounds q))
       → ((q : ℕ) → found finalizations' q ≡ (if view_of n.proposal == q then Some (unwrap_or (found state.finalizations q) (held false n)) else found state.finalizations q))
-      → Keeps attests elects (record state { progress = progress'; published = published'; rounds = rounds'; finalizations = finalizations' }) made (Added (certificates.Finalization n) now ∷ known)
+      → Keeps (record state { progress = progress'; published = published'; rounds = rounds'; finalizations = finalizations' }) made (Added (certificates.Finalization n) now ∷ known)
   unfolding learn_progress learn_round opens ends least_active last_finalized has_nullified has_false_verdict has_true_verdict is_covered is_unjudged verdict_of notarization_of nullification_of finalization_of was_broadcast held_notarization held_nullification held_finalization unsent_notarization unsent_nullification unsent_finalization first_of greatest_of
   keeps_finalization state made known n now progress' published' rounds' finalizations' k given_up stamp active progress_is published_is rounds_are held_are =
       let f = Added (certificates.Finalization n) now in
@@ -312,11 +311,11 @@ module _ {S L : Type 0} (attests : S → Subject → Option Attestation) (elects
       }
 
   -- a certificate counts as sent
-  pub keeps_sent_notarization : (state : State S L) (made : Made) (known : List Fact) (v : ℕ) (notarizations' : BTreeMap ℕ (Held Notarization))
-      → Keeps attests elects state made known
+  pub keeps_sent_notarization : (state : State S L g h) (made : Made) (known : List Fact) (v : ℕ) (notarizations' : BTreeMap ℕ (Held Notarization))
+      → Keeps state made known
       → is_some (notarization_of known v) ≡ true
       → ((q : ℕ) → found notarizations' q ≡ (if v == q then option_map (λ h. held true h.certificate) (found state.notarizations q) else found state.notarizations q))
-      → Keeps attests elects (record state { notarizations = notarizations' }) made (Broadcast kinds.Notarization v ∷ known)
+      → Keeps (record state { notarizations = notarizations' }) made (Broadcast kinds.Notarization v ∷ known)
   unfolding learn_progress learn_round opens ends least_active last_finalized has_nullified has_false_verdict has_true_verdict is_covered is_unjudged verdict_of notarization_of nullification_of finalization_of was_broadcast held_notarization held_nullification held_finalization unsent_notarization unsent_nullification unsent_finalization first_of greatest_of
   keeps_sent_notarization state made known v notarizations' k some held_are =
       let f = Broadcast kinds.Notarization v in
@@ -354,11 +353,11 @@ module _ {S L : Type 0} (attests : S → Subject → Option Attestation) (elects
       }
 
   -- a certificate counts as sent
-  pub keeps_sent_nullification : (state : State S L) (made : Made) (known : List Fact) (v : ℕ) (nullifications' : BTreeMap ℕ (Held Nullification))
-      → Keeps attests elects state made known
+  pub keeps_sent_nullification : (state : State S L g h) (made : Made) (known : List Fact) (v : ℕ) (nullifications' : BTreeMap ℕ (Held Nullification))
+      → Keeps state made known
       → is_some (nullification_of known v) ≡ true
       → ((q : ℕ) → found nullifications' q ≡ (if v == q then option_map (λ h. held true h.certificate) (found state.nullifications q) else found state.nullifications q))
-      → Keeps attests elects (record state { nullifications = nullifications' }) made (Broadcast kinds.Nullification v ∷ known)
+      → Keeps (record state { nullifications = nullifications' }) made (Broadcast kinds.Nullification v ∷ known)
   unfolding learn_progress learn_round opens ends least_active last_finalized has_nullified has_false_verdict has_true_verdict is_covered is_unjudged verdict_of notarization_of nullification_of finalization_of was_broadcast held_notarization held_nullification held_finalization unsent_notarization unsent_nullification unsent_finalization first_of greatest_of
   keeps_sent_nullification state made known v nullifications' k some held_are =
       let f = Broadcast kinds.Nullification v in
@@ -396,11 +395,11 @@ module _ {S L : Type 0} (attests : S → Subject → Option Attestation) (elects
       }
 
   -- a certificate counts as sent
-  pub keeps_sent_finalization : (state : State S L) (made : Made) (known : List Fact) (v : ℕ) (finalizations' : BTreeMap ℕ (Held Finalization))
-      → Keeps attests elects state made known
+  pub keeps_sent_finalization : (state : State S L g h) (made : Made) (known : List Fact) (v : ℕ) (finalizations' : BTreeMap ℕ (Held Finalization))
+      → Keeps state made known
       → is_some (finalization_of known v) ≡ true
       → ((q : ℕ) → found finalizations' q ≡ (if v == q then option_map (λ h. held true h.certificate) (found state.finalizations q) else found state.finalizations q))
-      → Keeps attests elects (record state { finalizations = finalizations' }) made (Broadcast kinds.Finalization v ∷ known)
+      → Keeps (record state { finalizations = finalizations' }) made (Broadcast kinds.Finalization v ∷ known)
   unfolding learn_progress learn_round opens ends least_active last_finalized has_nullified has_false_verdict has_true_verdict is_covered is_unjudged verdict_of notarization_of nullification_of finalization_of was_broadcast held_notarization held_nullification held_finalization unsent_notarization unsent_nullification unsent_finalization first_of greatest_of
   keeps_sent_finalization state made known v finalizations' k some held_are =
       let f = Broadcast kinds.Finalization v in
@@ -438,10 +437,10 @@ module _ {S L : Type 0} (attests : S → Subject → Option Attestation) (elects
       }
 
   -- what is missing below a proposal was asked for
-  pub keeps_missing : (state : State S L) (made : Made) (known : List Fact) (p v : ℕ) (kind : Kind) (missing' : Missing)
-      → Keeps attests elects state made known
+  pub keeps_missing : (state : State S L g h) (made : Made) (known : List Fact) (p v : ℕ) (kind : Kind) (missing' : Missing)
+      → Keeps state made known
       → ((q u : ℕ) (other : Kind) → is_asked missing' q u other ≡ ((p == q && v == u && is_kind kind other) || is_asked state.missing q u other))
-      → Keeps attests elects (record state { missing = missing' }) made (MissingAsked p v kind ∷ known)
+      → Keeps (record state { missing = missing' }) made (MissingAsked p v kind ∷ known)
   unfolding learn_progress learn_round opens ends least_active last_finalized has_nullified has_false_verdict has_true_verdict is_covered is_unjudged verdict_of notarization_of nullification_of finalization_of was_broadcast held_notarization held_nullification held_finalization unsent_notarization unsent_nullification unsent_finalization first_of greatest_of
   keeps_missing state made known p v kind missing' k missing_are =
       let f = MissingAsked p v kind in

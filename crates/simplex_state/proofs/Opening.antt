@@ -7,14 +7,13 @@ use Rattle.simplex_wire.specs.declared.certificate.Nullification.{Nullification}
 use Rattle.simplex_wire.specs.declared.certificate.Finalization.{Finalization}
 use Rattle.simplex_wire.specs.declared.certificate.Certificate.TheVariants as certificates
 use Rattle.simplex_values.specs.Terms.{greatest_view, next_of, term_end, term_index, next_term_start}
-use Rattle.simplex_values.specs.declared.proposal.Subject.{Subject}
-use Rattle.simplex_values.specs.declared.round.Round.{Round}
-use Rattle.simplex_wire.specs.declared.attestation.Attestation.{Attestation}
 use Rattle.model_rules.specs.Lists.{first_of}
 use Rattle.model_rules.specs.Known.{Made, Fact, Added, notarization_of, nullification_of, finalization_of}
 use Rattle.model_rules.specs.Views.{last_finalized, current_of, least_active}
 use Rattle.model_rules.specs.Ancestry.{has_true_verdict}
 use Rattle.model_rules.specs.Best.{opening_nullification, greater, best_certificate}
+use Rattle.simplex_wire.specs.declared.scheme.Scheme as scheme
+use Rattle.simplex_types.specs.declared.elector.Elector as elector
 use Rattle.simplex_state.specs.declared.state.State.{State}
 use Rattle.simplex_values.specs.Maps.{found}
 use Rattle.simplex_state.specs.Progress.{progress_of}
@@ -142,22 +141,22 @@ opens_alike length q g current some e le (inr top) low =
 
 -- ---- the state's nullifications
 
-module _ {S L : Type 0} (attests : S → Subject → Option Attestation) (elects : L → Round → ℕ) where
+module _ {S L : Type 0} {g : scheme.Ghosts S} {h : elector.Ghosts L} where
   -- those that open the current view are held
-  opening_held : (state : State S L) (made : Made) (known : List Fact) (q : ℕ) → Keeps attests elects state made known
+  opening_held : (state : State S L g h) (made : Made) (known : List Fact) (q : ℕ) → Keeps state made known
       → next_term_start made.term_length q ≡ current_of made known → found state.nullifications q ≡ held_nullification known q
   unfolding progress_of
   opening_held state made known q k e = k.nullifications q (grind (arith, common_steps, e))
 
-  pub none_opens : (state : State S L) (made : Made) (known : List Fact) → Keeps attests elects state made known
+  pub none_opens : (state : State S L g h) (made : Made) (known : List Fact) → Keeps state made known
       → ((q : ℕ) → next_term_start made.term_length q ≡ current_of made known → is_some (found state.nullifications q) ≡ false)
       → None ≡ opening_nullification made.term_length known (current_of made known)
   unfolding held_nullification
   none_opens state made known k none =
       sym (opening_none made.term_length known (current_of made known) (λ q e. grind (arith, common_steps, none q e, opening_held state made known q k e)))
 
-  opens_at : (state : State S L) (made : Made) (known : List Fact) (g : ℕ) (best : Option Nullification) → nullification_of known g ≡ best
-      → Keeps attests elects state made known
+  opens_at : (state : State S L g h) (made : Made) (known : List Fact) (g : ℕ) (best : Option Nullification) → nullification_of known g ≡ best
+      → Keeps state made known
       → is_some (found state.nullifications g) ≡ true
       → next_term_start made.term_length g ≡ current_of made known
       → ((q : ℕ) → next_term_start made.term_length q ≡ current_of made known → is_some (found state.nullifications q) ≡ true → q ≤ g)
@@ -168,7 +167,7 @@ module _ {S L : Type 0} (attests : S → Subject → Option Attestation) (elects
       (let w = opening_is made.term_length known (current_of made known) g n e opens (λ q o s. greatest q o (grind (arith, common_steps, s, opening_held state made known q k o))) in
       grind (arith, common_steps, e, w, opening_held state made known g k opens))
 
-  pub one_opens : (state : State S L) (made : Made) (known : List Fact) (g : ℕ) → Keeps attests elects state made known
+  pub one_opens : (state : State S L g h) (made : Made) (known : List Fact) (g : ℕ) → Keeps state made known
       → is_some (found state.nullifications g) ≡ true
       → next_term_start made.term_length g ≡ current_of made known
       → ((q : ℕ) → next_term_start made.term_length q ≡ current_of made known → is_some (found state.nullifications q) ≡ true → q ≤ g)

@@ -4,13 +4,12 @@ use Rattle.std.proofs.lemmas.Grind.{common_steps}
 use Rattle.std.specs.BTreeMap.{BTreeMap}
 use Rattle.std.specs.Option.{is_none}
 use Rattle.simplex_values.specs.declared.proposal.Proposal.{Proposal}
-use Rattle.simplex_values.specs.declared.proposal.Subject.{Subject}
-use Rattle.simplex_values.specs.declared.round.Round.{Round}
-use Rattle.simplex_wire.specs.declared.attestation.Attestation.{Attestation}
 use Rattle.model_rules.specs.Known.{Made, Fact, Taken, Answered, view_of}
 use Rattle.model_rules.specs.Views.{least_active, admits_vote, admits_certificate}
 use Rattle.model_rules.specs.Slot.{slot_of, records_proposal}
 use Rattle.model_rules.specs.Calls.{Call, known_of, facts_of}
+use Rattle.simplex_wire.specs.declared.scheme.Scheme as scheme
+use Rattle.simplex_types.specs.declared.elector.Elector as elector
 use Rattle.simplex_state.specs.declared.rounds.RoundRecord.{RoundRecord}
 use Rattle.simplex_state.specs.declared.state.State.{State}
 use Rattle.simplex_state.specs.Rounds.{round_in, round_of, learn_round, slot_in}
@@ -37,39 +36,39 @@ pub records_empty : (made : Made) (known : List Fact) (p : Proposal) → records
 unfolding records_proposal
 records_empty made known p e = grind (arith, common_steps, e, slot_is known (view_of p))
 
-module _ {S L : Type 0} (attests : S → Subject → Option Attestation) (elects : L → Round → ℕ) where
-  pub keeps_taken : (state : State S L) (made : Made) (known : List Fact) (p : Proposal) (rounds : BTreeMap ℕ RoundRecord)
-      → Keeps attests elects state made known
+module _ {S L : Type 0} {g : scheme.Ghosts S} {h : elector.Ghosts L} where
+  pub keeps_taken : (state : State S L g h) (made : Made) (known : List Fact) (p : Proposal) (rounds : BTreeMap ℕ RoundRecord)
+      → Keeps state made known
       → (progress_of made known).pruned ≤ view_of p
       → is_none (slot_in (round_of known (view_of p))) ≡ true
       → ((q : ℕ) → round_in rounds q ≡ (if view_of p == q then record (round_in state.rounds (view_of p)) { proposed = Some p } else round_in state.rounds q))
-      → Keeps attests elects (record state { rounds = rounds }) made (Taken p ∷ known)
+      → Keeps (record state { rounds = rounds }) made (Taken p ∷ known)
   unfolding learn_round learn_progress
   keeps_taken state made known p rounds k active none e =
-      keeps_quiet attests elects state made (Taken p) known rounds state.progress k refl
+      keeps_quiet state made (Taken p) known rounds state.progress k refl
       (sound_taken known p (none_proposed _ none) k.sound)
       (timely_step made (Taken p) known (omega arith) k.timely)
       refl
       (λ q. grind (arith, common_steps, e q, k.rounds (view_of p) active, none_proposed (round_of known (view_of p)) none))
 
-  pub keeps_answered : (state : State S L) (made : Made) (known : List Fact) (p : Proposal) (rounds : BTreeMap ℕ RoundRecord)
-      → Keeps attests elects state made known
+  pub keeps_answered : (state : State S L g h) (made : Made) (known : List Fact) (p : Proposal) (rounds : BTreeMap ℕ RoundRecord)
+      → Keeps state made known
       → (progress_of made known).pruned ≤ view_of p
       → is_none (slot_in (round_of known (view_of p))) ≡ true
       → ((q : ℕ) → round_in rounds q ≡ (if view_of p == q then record (round_in state.rounds (view_of p)) { proposed = Some p; answered = true } else round_in state.rounds q))
-      → Keeps attests elects (record state { rounds = rounds }) made (Answered p ∷ known)
+      → Keeps (record state { rounds = rounds }) made (Answered p ∷ known)
   unfolding learn_round learn_progress
   keeps_answered state made known p rounds k active none e =
-      keeps_quiet attests elects state made (Answered p) known rounds state.progress k refl
+      keeps_quiet state made (Answered p) known rounds state.progress k refl
       (sound_answered known p (none_proposed _ none) k.sound)
       (timely_step made (Answered p) known (omega arith) k.timely)
       refl
       (λ q. grind (arith, common_steps, e q, k.rounds (view_of p) active, none_proposed (round_of known (view_of p)) none))
 
   -- a call that adds these facts
-  pub takes_facts : (state : State S L) (made : Made) (calls : List Call) (call : Call) (facts : List Fact)
+  pub takes_facts : (state : State S L g h) (made : Made) (calls : List Call) (call : Call) (facts : List Fact)
       → facts_of made (known_of made calls) call ≡ facts
-      → Keeps attests elects state made (facts ++ known_of made calls)
-      → StandsFor attests elects state made (call ∷ calls)
+      → Keeps state made (facts ++ known_of made calls)
+      → StandsFor state made (call ∷ calls)
   unfolding StandsFor known_of
   takes_facts state made calls call facts e k = rw e k

@@ -3,12 +3,9 @@ use Rattle.std.proofs.Common.{◌≡◌, ℕ, ◌≤◌, Bool, true, false, List
 use Rattle.std.proofs.lemmas.Grind.{common_steps}
 use Rattle.std.specs.BTreeMap.{BTreeMap}
 use Rattle.std.specs.List.{list_any}
-use Rattle.simplex_values.specs.declared.proposal.Subject.{Subject}
-use Rattle.simplex_values.specs.declared.round.Round.{Round}
 use Rattle.simplex_values.specs.declared.ask.Kind.{Kind}
 use Rattle.simplex_values.specs.declared.timeout.TimeoutReason.{TimeoutReason}
 use Rattle.simplex_values.specs.declared.timeout.TimeoutReason.TheVariants.{Inactivity}
-use Rattle.simplex_wire.specs.declared.attestation.Attestation.{Attestation}
 use Rattle.simplex_wire.specs.declared.vote.Vote.TheVariants as votes
 use Rattle.simplex_wire.specs.declared.certificate.CertificateKind.{CertificateKind}
 use Rattle.simplex_wire.specs.declared.certificate.CertificateKind.TheVariants as kinds
@@ -18,6 +15,8 @@ use Rattle.model_rules.specs.Views.{least_active, last_finalized}
 use Rattle.model_rules.specs.Ancestry.{is_covered, has_true_verdict, has_false_verdict}
 use Rattle.model_rules.specs.Requests.{is_unjudged, is_missing_in}
 use Rattle.model_rules.specs.Calls.{unsent_notarization, unsent_nullification, unsent_finalization}
+use Rattle.simplex_wire.specs.declared.scheme.Scheme as scheme
+use Rattle.simplex_types.specs.declared.elector.Elector as elector
 use Rattle.simplex_state.specs.declared.rounds.RoundRecord.{RoundRecord}
 use Rattle.simplex_state.specs.declared.progress.Progress.{Progress}
 use Rattle.simplex_state.specs.declared.state.State.{State}
@@ -277,15 +276,15 @@ quiet made (ParentAsked a) known e = let p = progress_step made (ParentAsked a) 
 }
 
 -- the state behind a quiet fact. The records below the last pruned view may be anything
-module _ {S L : Type 0} (attests : S → Subject → Option Attestation) (elects : L → Round → ℕ) where
-  pub keeps_quiet_above : (state : State S L) (made : Made) (f : Fact) (known : List Fact) (rounds : BTreeMap ℕ RoundRecord) (progress : Progress)
-      → Keeps attests elects state made known
+module _ {S L : Type 0} {g : scheme.Ghosts S} {h : elector.Ghosts L} where
+  pub keeps_quiet_above : (state : State S L g h) (made : Made) (f : Fact) (known : List Fact) (rounds : BTreeMap ℕ RoundRecord) (progress : Progress)
+      → Keeps state made known
       → is_round_fact f ≡ true
       → IsSound (f ∷ known)
       → IsTimely made (f ∷ known)
       → progress ≡ learn_progress made f state.progress
       → ((q : ℕ) → (progress_of made known).pruned ≤ q → round_in rounds q ≡ learn_round f q (round_in state.rounds q))
-      → Keeps attests elects (record state { rounds = rounds; progress = progress }) made (f ∷ known)
+      → Keeps (record state { rounds = rounds; progress = progress }) made (f ∷ known)
   unfolding least_active has_false_verdict has_true_verdict held_notarization held_nullification held_finalization unsent_notarization unsent_nullification unsent_finalization
   keeps_quiet_above state made f known rounds progress k is_round sound timely progress_is rounds_are =
       let w = quiet made f known is_round in
@@ -321,13 +320,13 @@ module _ {S L : Type 0} (attests : S → Subject → Option Attestation) (elects
         unsent_finalizations = λ view. grind (arith, k.unsent_finalizations view, w.finalization view, w.sent kinds.Finalization view);
       }
 
-  pub keeps_quiet : (state : State S L) (made : Made) (f : Fact) (known : List Fact) (rounds : BTreeMap ℕ RoundRecord) (progress : Progress)
-      → Keeps attests elects state made known
+  pub keeps_quiet : (state : State S L g h) (made : Made) (f : Fact) (known : List Fact) (rounds : BTreeMap ℕ RoundRecord) (progress : Progress)
+      → Keeps state made known
       → is_round_fact f ≡ true
       → IsSound (f ∷ known)
       → IsTimely made (f ∷ known)
       → progress ≡ learn_progress made f state.progress
       → ((q : ℕ) → round_in rounds q ≡ learn_round f q (round_in state.rounds q))
-      → Keeps attests elects (record state { rounds = rounds; progress = progress }) made (f ∷ known)
+      → Keeps (record state { rounds = rounds; progress = progress }) made (f ∷ known)
   keeps_quiet state made f known rounds progress k is_round sound timely progress_is rounds_are =
       keeps_quiet_above state made f known rounds progress k is_round sound timely progress_is (λ q low. rounds_are q)

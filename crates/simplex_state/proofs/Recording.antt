@@ -3,11 +3,10 @@ use Rattle.std.proofs.Common.{◌≡◌, ℕ, ◌<◌, ◌≤◌, ◌^◌, ◌�
 use Rattle.std.specs.BTreeMap.{BTreeMap}
 use Rattle.std.specs.BTreeSet.{BTreeSet}
 use Rattle.std.specs.Option.{is_some}
-use Rattle.simplex_values.specs.declared.proposal.Subject.{Subject}
-use Rattle.simplex_values.specs.declared.round.Round.{Round}
-use Rattle.simplex_wire.specs.declared.attestation.Attestation.{Attestation}
 use Rattle.model_rules.specs.Known.{Made, Fact, notarization_of}
 use Rattle.model_rules.specs.Requests.{is_unjudged}
+use Rattle.simplex_wire.specs.declared.scheme.Scheme as scheme
+use Rattle.simplex_types.specs.declared.elector.Elector as elector
 use Rattle.simplex_state.specs.declared.rounds.RoundRecord.{RoundRecord}
 use Rattle.simplex_state.specs.declared.state.State.{State}
 use Rattle.simplex_values.specs.Maps.{has}
@@ -17,28 +16,28 @@ use Rattle.simplex_state.specs.Stands.{Keeps}
 use Rattle.simplex_state.proofs.Quiet.{keeps_quiet, is_round_fact}
 use Rattle.simplex_state.proofs.Sound.{sound_other, timely_step, is_no_proposal, stamp_of}
 
-module _ {S L : Type 0} (attests : S → Subject → Option Attestation) (elects : L → Round → ℕ) where
-  pub keeps_record : (state : State S L) (made : Made) (known : List Fact) (f : Fact) (rounds : BTreeMap ℕ RoundRecord)
-      → Keeps attests elects state made known
+module _ {S L : Type 0} {g : scheme.Ghosts S} {h : elector.Ghosts L} where
+  pub keeps_record : (state : State S L g h) (made : Made) (known : List Fact) (f : Fact) (rounds : BTreeMap ℕ RoundRecord)
+      → Keeps state made known
       → is_round_fact f ≡ true
       → is_no_proposal f ≡ true
       → stamp_of f < 2 ^ 63
       → learn_progress made f state.progress ≡ state.progress
       → ((q : ℕ) → round_in rounds q ≡ learn_round f q (round_in state.rounds q))
-      → Keeps attests elects (record state { rounds = rounds }) made (f ∷ known)
+      → Keeps (record state { rounds = rounds }) made (f ∷ known)
   keeps_record state made known f rounds k is_round is_none stamp p e =
-      keeps_quiet attests elects state made f known rounds state.progress k is_round
+      keeps_quiet state made f known rounds state.progress k is_round
       (sound_other f known is_none k.sound)
       (timely_step made f known stamp k.timely)
       (sym p)
       e
 
   -- nothing more is known. The records below the last pruned view, and what waits for nothing, may be anything
-  pub keeps_same : (state : State S L) (made : Made) (known : List Fact) (rounds' : BTreeMap ℕ RoundRecord) (waiting' : BTreeSet ℕ)
-      → Keeps attests elects state made known
+  pub keeps_same : (state : State S L g h) (made : Made) (known : List Fact) (rounds' : BTreeMap ℕ RoundRecord) (waiting' : BTreeSet ℕ)
+      → Keeps state made known
       → ((q : ℕ) → (progress_of made known).pruned ≤ q → round_in rounds' q ≡ round_in state.rounds q)
       → ((q : ℕ) → is_some (notarization_of known q) ≡ true → is_unjudged known q ≡ true → has waiting' q ≡ true)
-      → Keeps attests elects (record state { rounds = rounds'; waiting = waiting' }) made known
+      → Keeps (record state { rounds = rounds'; waiting = waiting' }) made known
   keeps_same state made known rounds' waiting' k rounds_are waiting_are =
       record {
         attest = k.attest;

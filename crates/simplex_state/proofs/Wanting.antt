@@ -6,9 +6,6 @@ use Rattle.std.specs.List.{range_with_len}
 use Rattle.std.specs.Option.{option_map, option_or, option_and_then, is_none, is_some}
 use Rattle.std.specs.BTreeMap.{BTreeMap}
 use Rattle.simplex_values.specs.declared.proposal.Proposal.{Proposal}
-use Rattle.simplex_values.specs.declared.proposal.Subject.{Subject}
-use Rattle.simplex_values.specs.declared.round.Round.{Round}
-use Rattle.simplex_wire.specs.declared.attestation.Attestation.{Attestation}
 use Rattle.model_rules.specs.declared.request.Verify.TheVariants.{Wait}
 use Rattle.model_rules.specs.Known.{Made, Fact, VerifyAsked, view_of, has_nullified}
 use Rattle.model_rules.specs.Slot.{slot_of, is_own_slot}
@@ -17,6 +14,8 @@ use Rattle.simplex_values.specs.Terms.{admission_limit}
 use Rattle.model_rules.specs.Views.{last_finalized, current_of}
 use Rattle.model_rules.specs.Ancestry.{has_ancestry}
 use Rattle.model_rules.proofs.Soundness.{slot_view}
+use Rattle.simplex_wire.specs.declared.scheme.Scheme as scheme
+use Rattle.simplex_types.specs.declared.elector.Elector as elector
 use Rattle.simplex_state.specs.declared.rounds.RoundRecord.{RoundRecord}
 use Rattle.simplex_state.specs.declared.state.State.{State}
 use Rattle.simplex_state.specs.Rounds.{round_in, round_of, learn_round, slot_in, blank}
@@ -161,16 +160,16 @@ pub request_missing : (made : Made) (known : List Fact) (view : ℕ) → find (�
 unfolding verify_request ready_verify missing_verify
 request_missing made known view none e = grind (arith, common_steps, none, e)
 
-module _ {S L : Type 0} (attests : S → Subject → Option Attestation) (elects : L → Round → ℕ) where
+module _ {S L : Type 0} {g : scheme.Ghosts S} {h : elector.Ghosts L} where
   -- the application was asked to verify a proposal of a view for the first time
-  pub keeps_verify_asked : (state : State S L) (made : Made) (known : List Fact) (p : Proposal) (rounds : BTreeMap ℕ RoundRecord)
-      → Keeps attests elects state made known
+  pub keeps_verify_asked : (state : State S L g h) (made : Made) (known : List Fact) (p : Proposal) (rounds : BTreeMap ℕ RoundRecord)
+      → Keeps state made known
       → verify_asked known (view_of p) ≡ None
       → ((q : ℕ) → round_in rounds q ≡ (if view_of p == q then record (round_in state.rounds (view_of p)) { asked = option_or (round_in state.rounds (view_of p)).asked (Some p) } else round_in state.rounds q))
-      → Keeps attests elects (record state { rounds = rounds }) made (VerifyAsked p ∷ known)
+      → Keeps (record state { rounds = rounds }) made (VerifyAsked p ∷ known)
   unfolding learn_round learn_progress round_of
   keeps_verify_asked state made known p rounds k none e =
-      keeps_quiet attests elects state made (VerifyAsked p) known rounds state.progress k refl
+      keeps_quiet state made (VerifyAsked p) known rounds state.progress k refl
       (sound_verify_asked known p none k.sound)
       (timely_step made (VerifyAsked p) known (omega arith) k.timely)
       refl
@@ -178,23 +177,23 @@ module _ {S L : Type 0} (attests : S → Subject → Option Attestation) (elects
 
   -- ---- walking from record to record
 
-  bare : (state : State S L) (made : Made) (known : List Fact) (q : ℕ) → Keeps attests elects state made known → (progress_of made known).pruned ≤ q
+  bare : (state : State S L g h) (made : Made) (known : List Fact) (q : ℕ) → Keeps state made known → (progress_of made known).pruned ≤ q
       → round_in state.rounds q ≡ blank → wants_verify known q ≡ false
   bare state made known q k low e = blank_waits known q (grind (arith, k.rounds q low, e))
 
-  pub wanting_here : (state : State S L) (made : Made) (known : List Fact) (from view n : ℕ) → Keeps attests elects state made known → (progress_of made known).pruned ≤ from
+  pub wanting_here : (state : State S L g h) (made : Made) (known : List Fact) (from view n : ℕ) → Keeps state made known → (progress_of made known).pruned ≤ from
       → from ≤ view → view < n → ((q : ℕ) → from ≤ q → q < view → round_in state.rounds q ≡ blank) → wants_verify known view ≡ true
       → Some view ≡ find (wants_verify known) (range_with_len from (n - from))
   wanting_here state made known from view n k low l h blanks wants =
       sym (walk_here (wants_verify known) from view n l h (λ q a b. bare state made known q k (omega (arith, a, low)) (blanks q a b)) wants)
 
-  pub wanting_on : (state : State S L) (made : Made) (known : List Fact) (from view next n : ℕ) → Keeps attests elects state made known → (progress_of made known).pruned ≤ from
+  pub wanting_on : (state : State S L g h) (made : Made) (known : List Fact) (from view next n : ℕ) → Keeps state made known → (progress_of made known).pruned ≤ from
       → from ≤ view → next ≡ view + 1 → ((q : ℕ) → from ≤ q → q < view → round_in state.rounds q ≡ blank) → wants_verify known view ≡ false
       → find (wants_verify known) (range_with_len next (n - next)) ≡ find (wants_verify known) (range_with_len from (n - from))
   wanting_on state made known from view next n k low l e blanks wants =
       walk_on (wants_verify known) from view next n l e (λ q a b. bare state made known q k (omega (arith, a, low)) (blanks q a b)) wants
 
-  pub wanting_end : (state : State S L) (made : Made) (known : List Fact) (from view n : ℕ) → Keeps attests elects state made known → (progress_of made known).pruned ≤ from
+  pub wanting_end : (state : State S L g h) (made : Made) (known : List Fact) (from view n : ℕ) → Keeps state made known → (progress_of made known).pruned ≤ from
       → from ≤ view → n ≡ view + 1 → ((q : ℕ) → from ≤ q → q < view → round_in state.rounds q ≡ blank) → wants_verify known view ≡ false
       → None ≡ find (wants_verify known) (range_with_len from (n - from))
   wanting_end state made known from view n k low l e blanks wants =
@@ -203,7 +202,7 @@ module _ {S L : Type 0} (attests : S → Subject → Option Attestation) (elects
         | inr s ↦ bare state made known q k (omega (arith, a, low)) (blanks q a (omega (arith, s)))
       ]))
 
-  pub wanting_out : (state : State S L) (made : Made) (known : List Fact) (from n : ℕ) → Keeps attests elects state made known → (progress_of made known).pruned ≤ from
+  pub wanting_out : (state : State S L g h) (made : Made) (known : List Fact) (from n : ℕ) → Keeps state made known → (progress_of made known).pruned ≤ from
       → ((q : ℕ) → from ≤ q → q < n → round_in state.rounds q ≡ blank) → None ≡ find (wants_verify known) (range_with_len from (n - from))
   wanting_out state made known from n k low blanks =
       sym (walk_out (wants_verify known) from n (λ q a b. bare state made known q k (omega (arith, a, low)) (blanks q a b)))
@@ -245,12 +244,12 @@ module _ (made : Made) (known : List Fact) where
       (let s = find_some (λ view. wants_verify known view && is_founded made known view) a (n - a) f (sym e) in
       (s.0, grind (arith, common_steps, s.2), grind (arith, common_steps, s.2)))
 
-module _ {S L : Type 0} (attests : S → Subject → Option Attestation) (elects : L → Round → ℕ) where
-  pub current_kept : (state : State S L) (made : Made) (known : List Fact) → Keeps attests elects state made known → (progress_of made known).pruned ≤ state.progress.current
+module _ {S L : Type 0} {g : scheme.Ghosts S} {h : elector.Ghosts L} where
+  pub current_kept : (state : State S L g h) (made : Made) (known : List Fact) → Keeps state made known → (progress_of made known).pruned ≤ state.progress.current
   current_kept state made known k = grind (arith, k.ahead, k.progress)
 
   -- the admitted views, by what the state keeps
-  pub admitted_find : (state : State S L) (made : Made) (known : List Fact) (limit : ℕ) (test : ℕ → Bool) → Keeps attests elects state made known
+  pub admitted_find : (state : State S L g h) (made : Made) (known : List Fact) (limit : ℕ) (test : ℕ → Bool) → Keeps state made known
       → limit ≡ admission_limit state.settings.terms.length state.settings.terms.lookahead state.progress.current
       → find test (range_with_len state.progress.current (limit + 1 - state.progress.current)) ≡ find test (admitted_views made known)
   unfolding progress_of admitted_views

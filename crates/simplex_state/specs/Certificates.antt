@@ -21,10 +21,13 @@ certificate_in kept = option_map (λ h. h.certificate) kept
 
 -- the certificates of a view, and whether they were sent
 unfoldable pub held_notarization : List Fact → ℕ → Option (Held Notarization)
-held_notarization known view = option_map (held (was_broadcast known kinds.Notarization view)) (notarization_of known view)
+held_notarization known view =
+    option_map (held (was_broadcast known kinds.Notarization view)) (notarization_of known view)
 
 unfoldable pub held_nullification : List Fact → ℕ → Option (Held Nullification)
-held_nullification known view = option_map (held (was_broadcast known kinds.Nullification view)) (nullification_of known view)
+held_nullification known view =
+    option_map (held (was_broadcast known kinds.Nullification view)) (nullification_of known view)
 
 unfoldable pub held_finalization : List Fact → ℕ → Option (Held Finalization)
-held_finalization known view = option_map (held (was_broadcast known kinds.Finalization view)) (finalization_of known view)
+held_finalization known view =
+    option_map (held (was_broadcast known kinds.Finalization view)) (finalization_of known view)

@@ -14,7 +14,8 @@ proposal_to_certify known n = if may_certify known n then Some n.proposal else N
 
 -- its parent, where the notarization of that has to be asked for
 abbrev pub parent_to_fetch : List Fact → Notarization → Option CertificateFetch
-parent_to_fetch known n = if lacks_parent known n then Some (record { proposal = view_of n.proposal; view = n.proposal.parent }) else None
+parent_to_fetch known n =
+    if lacks_parent known n then Some (record { proposal = view_of n.proposal; view = n.proposal.parent }) else None
 
 -- the same, of a view
 unfoldable pub certify_at : List Fact → ℕ → Option Proposal

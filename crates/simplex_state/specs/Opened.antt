@@ -85,12 +85,17 @@ held = tt
 
 -- which certificates are added, and what they leave
 unfoldable pub certificates : ⊤
-unfolding votes held covered_in learn_round found is_contradicted admits_certificate adds_notarization adds_nullification adds_finalization contradicted_leader add_notarization_answer add_finalization_answer covers
+unfolding votes held covered_in learn_round found is_contradicted admits_certificate adds_notarization
+    adds_nullification adds_finalization contradicted_leader add_notarization_answer add_finalization_answer covers
 certificates = tt
 
 -- all that is said of a member that knows its floor alone
 unfoldable pub nothing_known : ⊤
-unfolding progress held made_of covered_in round_in round_of first_of last_of greatest_of reached notarization_of nullification_of finalization_of was_broadcast verdict_of proposal_of was_answered was_approved own_notarize has_nullified has_finalized last_finalized current_of entered_at term_entered_at finalized_at least_active is_covered has_true_verdict has_false_verdict published_at inactivity_count was_proposal_asked verify_asked known_of unsent_notarization unsent_nullification unsent_finalization
+unfolding progress held made_of covered_in round_in round_of first_of last_of greatest_of reached notarization_of
+    nullification_of finalization_of was_broadcast verdict_of proposal_of was_answered was_approved own_notarize
+    has_nullified has_finalized last_finalized current_of entered_at term_entered_at finalized_at least_active
+    is_covered has_true_verdict has_false_verdict published_at inactivity_count was_proposal_asked verify_asked known_of
+    unsent_notarization unsent_nullification unsent_finalization
 nothing_known = tt
 
 -- a notarize that is signed

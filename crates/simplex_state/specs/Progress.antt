@@ -26,7 +26,15 @@ progress_of made known =
 -- how far it is where nothing is known
 abbrev pub beginning : ℕ → Progress
 beginning start =
-    record { last_finalized = 0; current = 1; entered = start; term_entered = start; finalized_at = start; skipped = 0; pruned = 0 }
+    record {
+      last_finalized = 0;
+      current = 1;
+      entered = start;
+      term_entered = start;
+      finalized_at = start;
+      skipped = 0;
+      pruned = 0;
+    }
 
 -- a view opens
 unfoldable pub opens : ℕ → ℕ → ℕ → Progress → Progress
@@ -49,7 +57,8 @@ ends length view now p =
 -- what one more fact changes of it
 unfoldable pub learn_progress : Made → Fact → Progress → Progress
 learn_progress made (Added (certificates.Finalization f) now) p = ends made.term_length (view_of f.proposal) now p
-learn_progress made (Added (certificates.Nullification n) now) p = opens made.term_length (next_term_start made.term_length n.round.view) now p
+learn_progress made (Added (certificates.Nullification n) now) p =
+    opens made.term_length (next_term_start made.term_length n.round.view) now p
 learn_progress made (Judged view true now) p = opens made.term_length (next_of view) now p
 learn_progress made (Expired view Inactivity now) p = record p { skipped = 1 + p.skipped }
 learn_progress made (Pruned view) p = record p { pruned = max view p.pruned }

@@ -11,4 +11,5 @@ start_of ranges number = greatest_below (λ start. is_some (found ranges.runs st
 
 -- whether that run reaches the number
 unfoldable pub holds : Ranges → ℕ → Bool
-holds ranges number = option_map_or (λ start. nat_le number (start + unwrap_or (found ranges.runs start) 0)) (start_of ranges number) false
+holds ranges number = option_map_or (λ start. nat_le number (start + unwrap_or (found ranges.runs start) 0))
+    (start_of ranges number) false

@@ -72,15 +72,21 @@ round_of known view =
 -- what one more fact changes of it
 unfoldable pub learn_round : Fact → ℕ → RoundRecord → RoundRecord
 learn_round (FloorAt v payload) view r = if v == view then record r { floor = option_or r.floor (Some payload) } else r
-learn_round (Added (certificates.Notarization n) now) view r = if view_of n.proposal == view then record r { notarized = option_or r.notarized (Some n.proposal) } else r
-learn_round (Added (certificates.Finalization f) now) view r = if view_of f.proposal == view then record r { finalized = option_or r.finalized (Some f.proposal) } else r
+learn_round (Added (certificates.Notarization n) now) view r =
+    if view_of n.proposal == view then record r { notarized = option_or r.notarized (Some n.proposal) } else r
+learn_round (Added (certificates.Finalization f) now) view r =
+    if view_of f.proposal == view then record r { finalized = option_or r.finalized (Some f.proposal) } else r
 learn_round (Taken p) view r = if view_of p == view then record r { proposed = option_or r.proposed (Some p) } else r
-learn_round (Answered p) view r = if view_of p == view then record r { proposed = option_or r.proposed (Some p); answered = true } else r
+learn_round (Answered p) view r =
+    if view_of p == view then record r { proposed = option_or r.proposed (Some p); answered = true } else r
 learn_round (Approved p) view r = if view_of p == view then record r { approved = true } else r
 learn_round (Judged v good now) view r = if v == view then record r { verdict = option_or r.verdict (Some good) } else r
-learn_round (Voted (votes.Notarize n)) view r = if view_of n.proposal == view then record r { voted = option_or r.voted (Some n.proposal) } else r
-learn_round (Voted (votes.Finalize f)) view r = if view_of f.proposal == view then record r { voted_final = true } else r
-learn_round (Expired v reason now) view r = if v == view then record r { expired = option_or r.expired (Some (now, reason)) } else r
+learn_round (Voted (votes.Notarize n)) view r =
+    if view_of n.proposal == view then record r { voted = option_or r.voted (Some n.proposal) } else r
+learn_round (Voted (votes.Finalize f)) view r =
+    if view_of f.proposal == view then record r { voted_final = true } else r
+learn_round (Expired v reason now) view r =
+    if v == view then record r { expired = option_or r.expired (Some (now, reason)) } else r
 learn_round (Failed v reason) view r = if v == view then record r { failed = option_or r.failed (Some reason) } else r
 learn_round (ProposalAsked v) view r = if v == view then record r { proposal_asked = true } else r
 learn_round (ProposalFreed v) view r = if v == view then record r { proposal_asked = false } else r
@@ -99,12 +105,14 @@ slot_in r = option_or r.notarized (option_or r.finalized (option_or r.voted r.pr
 
 unfoldable pub is_vouched_in : RoundRecord → Proposal → Bool
 is_vouched_in r proposal =
-    is_named r.voted proposal || (r.answered && is_named r.proposed proposal) || (r.approved && is_named r.asked proposal)
+    is_named r.voted proposal || (r.answered && is_named r.proposed proposal)
+    || (r.approved && is_named r.asked proposal)
 
 unfoldable pub is_checked_in : RoundRecord → Bool
 is_checked_in r =
     option_map_or
-    (λ p. is_vouched_in r p && (is_none r.notarized || is_named r.notarized p) && (is_none r.finalized || is_named r.finalized p))
+    (λ p. is_vouched_in r p && (is_none r.notarized || is_named r.notarized p)
+    && (is_none r.finalized || is_named r.finalized p))
     (slot_in r)
     false
 

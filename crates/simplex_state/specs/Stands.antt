@@ -11,6 +11,8 @@ use Rattle.simplex_values.specs.declared.terms.Terms.{Terms}
 use Rattle.simplex_values.specs.Terms.{term_index, next_term_start}
 use Rattle.simplex_wire.specs.declared.attestation.Attestation.{Attestation}
 use Rattle.simplex_wire.specs.declared.certificate.CertificateKind.TheVariants as kinds
+use Rattle.simplex_wire.specs.declared.scheme.Scheme as scheme
+use Rattle.simplex_types.specs.declared.elector.Elector as elector
 use Rattle.model_rules.specs.Known.{Made, Fact, view_of, was_answered, was_approved, was_broadcast, has_nullified, notarization_of, nullification_of, finalization_of}
 use Rattle.model_rules.specs.Views.{least_active}
 use Rattle.model_rules.specs.Ancestry.{is_covered, has_true_verdict, has_false_verdict}
@@ -108,10 +110,11 @@ module _ {S L : Type 0} where
     pub timeout_retry : config.timeout_retry ≤ 2 ^ 62
     pub stall_timeout : IfSome (cuts config.elector).stall_timeout (λ stall. (config.certification_timeout < stall) × (stall ≤ 2 ^ 62))
 
+module _ {S L : Type 0} {s : scheme.Ghosts S} {l : elector.Ghosts L} where
   -- the state keeps what is known, but for what is below the last pruned view and cannot be asked for any more
-  pub record Keeps (attests : S → Subject → Option Attestation) (elects : L → Round → ℕ) (state : State S L) (made : Made) (known : List Fact) : Type 0 where
-    pub attest : attests state.scheme ≡ made.signs
-    pub leads : elects state.elector ≡ made.elects
+  pub record Keeps (state : State S L s l) (made : Made) (known : List Fact) : Type 0 where
+    pub attest : s.attests state.scheme ≡ made.signs
+    pub leads : l.elects state.elector ≡ made.elects
     pub settings : IsMadeWith state.settings made
     pub progress : state.progress ≡ progress_of made known
     pub active : (progress_of made known).pruned ≤ least_active made known
@@ -139,20 +142,17 @@ module _ {S L : Type 0} where
     pub unsent_finalizations : (view : ℕ) → unsent_in (found state.finalizations view) ≡ unsent_finalization known view
 
   -- the state stands for the calls that it was given, the newest first
-  unfoldable pub StandsFor : (S → Subject → Option Attestation) → (L → Round → ℕ) → State S L → Made → List Call → Type 0
-  StandsFor attests elects state made calls = Keeps attests elects state made (known_of made calls)
+  unfoldable pub StandsFor : State S L s l → Made → List Call → Type 0
+  StandsFor state made calls = Keeps state made (known_of made calls)
 
   -- whatever calls the old state stands for, the new one stands for them with this one behind
-  abbrev pub Takes : (S → Subject → Option Attestation) → (L → Round → ℕ) → State S L → State S L → Call → Type 0
-  Takes attests elects old new call =
-      (made : Made) (calls : List Call) → StandsFor attests elects old made calls → StandsFor attests elects new made (call ∷ calls)
+  abbrev pub Takes : State S L s l → State S L s l → Call → Type 0
+  Takes old new call = (made : Made) (calls : List Call) → StandsFor old made calls → StandsFor new made (call ∷ calls)
 
   -- whatever calls the old state stands for, the new one stands for them
-  abbrev pub Stays : (S → Subject → Option Attestation) → (L → Round → ℕ) → State S L → State S L → Type 0
-  Stays attests elects old new =
-      (made : Made) (calls : List Call) → StandsFor attests elects old made calls → StandsFor attests elects new made calls
+  abbrev pub Stays : State S L s l → State S L s l → Type 0
+  Stays old new = (made : Made) (calls : List Call) → StandsFor old made calls → StandsFor new made calls
 
   -- whatever calls the state stands for, the answer is the rule's at what is known after them
-  abbrev pub Answers : {R : Type 0} → (S → Subject → Option Attestation) → (L → Round → ℕ) → State S L → (Made → List Fact → R) → R → Type 0
-  Answers attests elects state rule answer =
-      (made : Made) (calls : List Call) → StandsFor attests elects state made calls → answer ≡ rule made (known_of made calls)
+  abbrev pub Answers : {R : Type 0} → State S L s l → (Made → List Fact → R) → R → Type 0
+  Answers state rule answer = (made : Made) (calls : List Call) → StandsFor state made calls → answer ≡ rule made (known_of made calls)

@@ -11,7 +11,8 @@ use Rattle.simplex_state.specs.Rounds.{slot_in, own_slot_in}
 -- a slot of another's that waits to be verified, but for an own nullify
 unfoldable pub wants_in : RoundRecord → Bool
 wants_in r =
-    is_some (slot_in r) && not (own_slot_in r) && is_none r.asked && is_none r.voted && is_none r.notarized && is_none r.finalized
+    is_some (slot_in r) && not (own_slot_in r) && is_none r.asked
+    && is_none r.voted && is_none r.notarized && is_none r.finalized
 
 -- a request that gives no proposal to verify a second time
 abbrev pub is_unasked : List Fact → Verify → Bool

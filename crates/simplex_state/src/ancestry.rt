@@ -25,7 +25,8 @@ impl<S: Scheme + Drop, L: Elector + Drop> State<S, L> {
     /// Whether a proposal on the context's parent makes room for one on another parent.
     #[tactic(auto, unfolding(model_rules::specs::Requests::is_superseded))]
     pub fn supersede_proposal_request(&self, context: &Context) -> bool
-        ensures answer { Answers S.attests L.elects self.now (λ made known. is_superseded made known context.now.parent.view context.now.round.view) result }
+        ensures answer { Answers self.now
+            (λ made known. is_superseded made known context.now.parent.view context.now.round.view) result }
     {
         !self.has_ancestry(context.parent.view, context.round.view)
             && self.greatest_parent(context.round.view).is_some()
@@ -34,7 +35,8 @@ impl<S: Scheme + Drop, L: Elector + Drop> State<S, L> {
     /// Whether a handoff is given up: the member gave up its view or its parent's, or the parent failed.
     #[tactic(auto, unfolding(crate::specs::Stands::StandsFor, model_rules::specs::Requests::is_abandoned))]
     pub fn pending_handoff_abandonment(&self, context: &Context) -> bool
-        ensures answer { Answers S.attests L.elects self.now (λ made known. is_abandoned known context.now.parent.view context.now.round.view) result }
+        ensures answer { Answers self.now
+            (λ made known. is_abandoned known context.now.parent.view context.now.round.view) result }
     {
         let parent = context.parent.view;
         self.has_given_up(context.round.view)
@@ -45,7 +47,7 @@ impl<S: Scheme + Drop, L: Elector + Drop> State<S, L> {
     /// Whether a proposal of the view may stand on the parent.
     #[tactic(auto, unfolding(crate::specs::Stands::StandsFor, crate::specs::Progress::progress_of, model_rules::specs::Views::least_active, model_rules::specs::Ancestry::has_ancestry))]
     pub(crate) fn has_ancestry(&self, parent: View, view: View) -> bool
-        ensures { Answers S.attests L.elects self.now (λ made known. has_ancestry made known parent view) result }
+        ensures { Answers self.now (λ made known. has_ancestry made known parent view) result }
     {
         if parent < self.progress.last_finalized || view <= parent {
             return false;
@@ -56,7 +58,7 @@ impl<S: Scheme + Drop, L: Elector + Drop> State<S, L> {
 
     /// The greatest parent that a proposal of the view may stand on.
     pub(crate) fn greatest_parent(&self, view: View) -> Option<View>
-        ensures { Answers S.attests L.elects self.now (λ made known. greatest_parent made known view) result }
+        ensures { Answers self.now (λ made known. greatest_parent made known view) result }
     {
         let last = self.progress.last_finalized;
         if view <= last {
@@ -76,11 +78,14 @@ impl<S: Scheme + Drop, L: Elector + Drop> State<S, L> {
     /// The greatest certified view up to this one, which is not before the last final one.
     #[tactic(auto, unfolding(crate::specs::Stands::StandsFor, crate::specs::Progress::progress_of, model_rules::specs::Views::least_active, model_rules::specs::Ancestry::is_certified))]
     fn last_certified(&self, view: View) -> View
-        ensures above { (made : Made) (known : List Fact) → Keeps S.attests L.elects self.now made known → last_finalized known ≤ result }
-        ensures bound { (made : Made) (known : List Fact) → Keeps S.attests L.elects self.now made known → last_finalized known ≤ view → result ≤ view }
-        ensures certified { (made : Made) (known : List Fact) → Keeps S.attests L.elects self.now made known → is_certified known result ≡ true }
-        ensures greatest { (made : Made) (known : List Fact) → Keeps S.attests L.elects self.now made known
-            → (q : ℕ) → result < q → q ≤ view → is_certified known q ≡ false }
+        ensures above { (made : Made) (known : List Fact) → Keeps self.now made known
+            → last_finalized known ≤ result }
+        ensures bound { (made : Made) (known : List Fact) → Keeps self.now made known
+            → last_finalized known ≤ view → result ≤ view }
+        ensures certified { (made : Made) (known : List Fact) → Keeps self.now made known
+            → is_certified known result ≡ true }
+        ensures greatest { (made : Made) (known : List Fact) → Keeps self.now made known → (q : ℕ)
+            → result < q → q ≤ view → is_certified known q ≡ false }
     {
         let last = self.progress.last_finalized;
         match last_up_to(&self.certified, view.0) {
@@ -98,7 +103,7 @@ impl<S: Scheme + Drop, L: Elector + Drop> State<S, L> {
     /// [met-by-own-vote]
     #[tactic(auto, unfolding(crate::specs::Stands::StandsFor, crate::specs::Rounds::round_of, crate::specs::Rounds::slot_in, model_rules::specs::Slot::slot_of, model_rules::specs::Ancestry::is_met))]
     pub(crate) fn is_met(&self, parent: View, view: View) -> bool
-        ensures { (made : Made) (known : List Fact) → Keeps S.attests L.elects self.now made known
+        ensures { (made : Made) (known : List Fact) → Keeps self.now made known
             → (progress_of made known).pruned ≤ parent → result ≡ is_met known parent view }
     {
         parent < view
@@ -109,8 +114,9 @@ impl<S: Scheme + Drop, L: Elector + Drop> State<S, L> {
 
     /// The least view strictly between that no known nullification covers. [runs-of-terms]
     pub(crate) fn gap_between(&self, parent: View, view: View) -> Option<View>
-        ensures { (made : Made) (known : List Fact) → Keeps S.attests L.elects self.now made known
-            → (progress_of made known).pruned ≤ parent → result ≡ gap_between made known parent view }
+        ensures { (made : Made) (known : List Fact) → Keeps self.now made known
+            → (progress_of made known).pruned ≤ parent
+            → result ≡ gap_between made known parent view }
     {
         if view <= parent {
             return None;
@@ -135,8 +141,10 @@ fn gap_from(
 ) -> Option<View>
     requires some { 0 < length }
     requires low { end < 2 ^ 64 }
-    ensures { ((q : ℕ) → first ≤ q → holds whole.now (term_index length q) ≡ true → covered_in length covered.now q ≡ true)
-        → result ≡ find (λ v. not (covered_in length covered.now v)) (range_with_len first (end - first)) }
+    ensures { ((q : ℕ) → first ≤ q → holds whole.now (term_index length q) ≡ true
+        → covered_in length covered.now q ≡ true)
+        → result ≡ find (λ v. not (covered_in length covered.now v))
+        (range_with_len first (end - first)) }
 {
     let mut view = first;
     while view < end {
@@ -152,7 +160,9 @@ fn gap_from(
 fn behind(whole: &Ranges, length: TermLength, view: View) -> View
     requires { 0 < length }
     ensures later { view < greatest_view → view < result }
-    ensures passed { (q : ℕ) → view ≤ q → q < result → (term_index length q == term_index length view || holds whole.now (term_index length q)) ≡ true }
+    ensures passed { (q : ℕ) → view ≤ q → q < result
+        → (term_index length q == term_index length view
+        || holds whole.now (term_index length q)) ≡ true }
 {
     let next = view.next_term_start(length);
     match whole.run_end(next.term_index(length)) {

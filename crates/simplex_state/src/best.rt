@@ -25,7 +25,8 @@ impl<S: Scheme + Drop, L: Elector + Drop> State<S, L> {
     /// The certificate that shows why the member is in its view: the finalization of the view before, else its
     /// notarization with a true verdict, else the greatest nullification that ends the term before.
     pub fn get_best_certificate(&self) -> Result<Option<Certificate>, AllocError>
-        ensures { IfOk result (λ best. Answers S.attests L.elects self.now (λ made known. best_certificate made known) best) }
+        ensures { IfOk result (λ best. Answers self.now
+            (λ made known. best_certificate made known) best) }
     {
         let before = self.view_before();
         if let Some(finalization) = self.kept_finalization(before)? {
@@ -43,7 +44,8 @@ impl<S: Scheme + Drop, L: Elector + Drop> State<S, L> {
     /// The view before the current one, which is not forgotten.
     fn view_before(&self) -> View
         ensures value { result ≡ self.now.progress.current - 1 }
-        ensures kept { (made : Made) (calls : List Call) → StandsFor S.attests L.elects self.now made calls → (progress_of made (known_of made calls)).pruned ≤ result }
+        ensures kept { (made : Made) (calls : List Call) → StandsFor self.now made calls
+            → (progress_of made (known_of made calls)).pruned ≤ result }
     {
         // The proof wants the bound of the last final view.
         let _last = self.last_finalized();
@@ -52,16 +54,16 @@ impl<S: Scheme + Drop, L: Elector + Drop> State<S, L> {
 
     /// The finalization of the view.
     fn kept_finalization(&self, view: View) -> Result<Option<Finalization>, AllocError>
-        ensures { IfOk result (λ finalization. (made : Made) (known : List Fact) → Keeps S.attests L.elects self.now made known
-            → (progress_of made known).pruned ≤ view
-            → finalization ≡ finalization_of known view) }
+        ensures { IfOk result (λ finalization. (made : Made) (known : List Fact) → Keeps self.now made known
+            → (progress_of made known).pruned ≤ view → finalization ≡ finalization_of known view) }
     {
         copy_at(self.alloc, &self.finalizations, view.0)
     }
 
     /// The notarization of the view, where its verdict is true.
     fn approved_notarization(&self, view: View) -> Result<Option<Notarization>, AllocError>
-        ensures { IfOk result (λ notarization. (made : Made) (known : List Fact) → Keeps S.attests L.elects self.now made known
+        ensures { IfOk result
+            (λ notarization. (made : Made) (known : List Fact) → Keeps self.now made known
             → (progress_of made known).pruned ≤ view
             → notarization ≡ (if has_true_verdict known view then notarization_of known view else None)) }
     {
@@ -73,8 +75,10 @@ impl<S: Scheme + Drop, L: Elector + Drop> State<S, L> {
 
     /// The greatest nullification that opens the current view.
     fn opening_nullification(&self) -> Result<Option<Nullification>, AllocError>
-        ensures { IfOk result (λ nullification. (made : Made) (known : List Fact) → Keeps S.attests L.elects self.now made known
-            → nullification ≡ opening_nullification made.term_length known (current_of made known)) }
+        ensures { IfOk result (λ nullification. (made : Made) (known : List Fact)
+            → Keeps self.now made known
+            → nullification ≡ opening_nullification made.term_length known
+            (current_of made known)) }
     {
         let Some(view) = self.last_nullified() else {
             return Ok(None);
@@ -92,11 +96,14 @@ impl<S: Scheme + Drop, L: Elector + Drop> State<S, L> {
     fn last_nullified(&self) -> Option<View>
         ensures fits { self.now.progress.current ≤ greatest_view }
         ensures held { IfSome result (λ view. is_some (found self.now.nullifications view) ≡ true) }
-        ensures below { IfSome result (λ view. (view < self.now.progress.current) ⊎ (greatest_view ≤ self.now.progress.current)) }
-        ensures greatest { IfSome result (λ view. (length q : ℕ) → 0 < length → next_term_start length q ≡ self.now.progress.current
+        ensures below { IfSome result
+            (λ view. (view < self.now.progress.current) ⊎
+            (greatest_view ≤ self.now.progress.current)) }
+        ensures greatest { IfSome result (λ view. (length q : ℕ) → 0 < length → next_term_start length q
+            ≡ self.now.progress.current
             → is_some (found self.now.nullifications q) ≡ true → q ≤ view) }
-        ensures none { IfNone result ((length q : ℕ) → 0 < length → next_term_start length q ≡ self.now.progress.current
-            → found self.now.nullifications q ≡ None) }
+        ensures none { IfNone result ((length q : ℕ) → 0 < length → next_term_start length q
+            ≡ self.now.progress.current → found self.now.nullifications q ≡ None) }
     {
         let current = self.progress.current;
         if current.0 == u64::MAX {

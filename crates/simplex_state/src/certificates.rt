@@ -33,8 +33,9 @@ impl<S: Scheme + Drop, L: Elector + Drop> State<S, L> {
         now: u64,
     ) -> Result<(bool, Option<Participant>), AllocError>
         requires clock { now < 2 ^ 63 }
-        ensures stands { OnOk result (Takes S.attests L.elects self.old self.new (AddNotarization notarization now)) }
-        ensures answer { IfOk result (Answers S.attests L.elects self.old (λ made known. add_notarization_answer made known notarization)) }
+        ensures stands { OnOk result (Takes self.old self.new (AddNotarization notarization now)) }
+        ensures answer { IfOk result (Answers self.old
+            (λ made known. add_notarization_answer made known notarization)) }
     {
         if !self.adds_notarization(&notarization) {
             return Ok((false, None));
@@ -51,8 +52,10 @@ impl<S: Scheme + Drop, L: Elector + Drop> State<S, L> {
         now: u64,
     ) -> Result<bool, AllocError>
         requires clock { now < 2 ^ 63 }
-        ensures stands { OnOk result (Takes S.attests L.elects self.old self.new (AddNullification nullification now)) }
-        ensures answer { IfOk result (Answers S.attests L.elects self.old (λ made known. adds_nullification made known nullification)) }
+        ensures stands { OnOk result (Takes self.old self.new
+            (AddNullification nullification now)) }
+        ensures answer { IfOk result (Answers self.old
+            (λ made known. adds_nullification made known nullification)) }
     {
         if !self.adds_nullification(&nullification) {
             return Ok(false);
@@ -68,8 +71,9 @@ impl<S: Scheme + Drop, L: Elector + Drop> State<S, L> {
         now: u64,
     ) -> Result<(bool, Option<Participant>), AllocError>
         requires clock { now < 2 ^ 63 }
-        ensures stands { OnOk result (Takes S.attests L.elects self.old self.new (AddFinalization finalization now)) }
-        ensures answer { IfOk result (Answers S.attests L.elects self.old (λ made known. add_finalization_answer made known finalization)) }
+        ensures stands { OnOk result (Takes self.old self.new (AddFinalization finalization now)) }
+        ensures answer { IfOk result (Answers self.old
+            (λ made known. add_finalization_answer made known finalization)) }
     {
         if !self.adds_finalization(&finalization) {
             return Ok((false, None));
@@ -81,7 +85,8 @@ impl<S: Scheme + Drop, L: Elector + Drop> State<S, L> {
 
     /// Whether a notarization is added.
     fn adds_notarization(&self, notarization: &Notarization) -> bool
-        ensures { Answers S.attests L.elects self.now (λ made known. adds_notarization made known notarization.now) result }
+        ensures { Answers self.now
+            (λ made known. adds_notarization made known notarization.now) result }
     {
         let view = notarization.view();
         self.admits_certificate(view) && round_at(&self.rounds, view.0).notarized.is_none()
@@ -89,7 +94,8 @@ impl<S: Scheme + Drop, L: Elector + Drop> State<S, L> {
 
     /// Whether a nullification is added.
     fn adds_nullification(&self, nullification: &Nullification) -> bool
-        ensures { Answers S.attests L.elects self.now (λ made known. adds_nullification made known nullification.now) result }
+        ensures { Answers self.now
+            (λ made known. adds_nullification made known nullification.now) result }
     {
         let view = nullification.view();
         self.admits_certificate(view) && !self.nullifications.contains_key(&view.0)
@@ -97,7 +103,8 @@ impl<S: Scheme + Drop, L: Elector + Drop> State<S, L> {
 
     /// Whether a finalization is added.
     fn adds_finalization(&self, finalization: &Finalization) -> bool
-        ensures { Answers S.attests L.elects self.now (λ made known. adds_finalization made known finalization.now) result }
+        ensures { Answers self.now
+            (λ made known. adds_finalization made known finalization.now) result }
     {
         let view = finalization.view();
         self.admits_certificate(view) && round_at(&self.rounds, view.0).finalized.is_none()
@@ -105,7 +112,7 @@ impl<S: Scheme + Drop, L: Elector + Drop> State<S, L> {
 
     /// The leader of the proposal's view, where its slot names another proposal. [leader-is-told]
     pub(crate) fn contradicted_leader(&self, proposal: &Proposal) -> Option<Participant>
-        ensures { (made : Made) (calls : List Call) → StandsFor S.attests L.elects self.now made calls
+        ensures { (made : Made) (calls : List Call) → StandsFor self.now made calls
             → (progress_of made (known_of made calls)).pruned ≤ proposal.now.round.view
             → result ≡ contradicted_leader made (known_of made calls) proposal.now }
     {
@@ -123,9 +130,10 @@ impl<S: Scheme + Drop, L: Elector + Drop> State<S, L> {
         now: u64,
     ) -> Result<(), AllocError>
         requires clock { now < 2 ^ 63 }
-        ensures { OnOk result ((made : Made) (known : List Fact) → Keeps S.attests L.elects self.old made known
+        ensures { OnOk result
+            ((made : Made) (known : List Fact) → Keeps self.old made known
             → (progress_of made known).pruned ≤ view_of notarization.proposal
-            → Keeps S.attests L.elects self.new made (Added (certificates.Notarization notarization) now ∷ known)) }
+            → Keeps self.new made (Added (certificates.Notarization notarization) now ∷ known)) }
     {
         let view = notarization.view().0;
         let mut round = round_at(&self.rounds, view);
@@ -142,9 +150,10 @@ impl<S: Scheme + Drop, L: Elector + Drop> State<S, L> {
         now: u64,
     ) -> Result<(), AllocError>
         requires clock { now < 2 ^ 63 }
-        ensures { OnOk result ((made : Made) (known : List Fact) → Keeps S.attests L.elects self.old made known
+        ensures { OnOk result
+            ((made : Made) (known : List Fact) → Keeps self.old made known
             → (progress_of made known).pruned ≤ nullification.round.view
-            → Keeps S.attests L.elects self.new made (Added (certificates.Nullification nullification) now ∷ known)) }
+            → Keeps self.new made (Added (certificates.Nullification nullification) now ∷ known)) }
     {
         let view = nullification.view();
         let length = self.term_length();
@@ -164,9 +173,10 @@ impl<S: Scheme + Drop, L: Elector + Drop> State<S, L> {
         now: u64,
     ) -> Result<(), AllocError>
         requires clock { now < 2 ^ 63 }
-        ensures { OnOk result ((made : Made) (known : List Fact) → Keeps S.attests L.elects self.old made known
+        ensures { OnOk result
+            ((made : Made) (known : List Fact) → Keeps self.old made known
             → (progress_of made known).pruned ≤ view_of finalization.proposal
-            → Keeps S.attests L.elects self.new made (Added (certificates.Finalization finalization) now ∷ known)) }
+            → Keeps self.new made (Added (certificates.Finalization finalization) now ∷ known)) }
     {
         let view = finalization.view();
         self.put_away()?;
@@ -186,7 +196,9 @@ pub(crate) fn cover(
     length: TermLength,
     view: View,
 ) -> Result<(), AllocError>
-    ensures { OnOk result ((q : ℕ) → covered_in length covered.new q ≡ (covers length view q || covered_in length covered.old q)) }
+    ensures { OnOk result ((q : ℕ)
+        → covered_in length covered.new q
+        ≡ (covers length view q || covered_in length covered.old q)) }
 {
     let term = view.term_index(length);
     let least = match covered.get(&term) {
@@ -199,7 +211,8 @@ pub(crate) fn cover(
 /// Takes the view's term for whole, where the view is its first.
 pub(crate) fn complete(whole: &mut Ranges, length: TermLength, view: View) -> Result<(), AllocError>
     requires { 0 < length }
-    ensures { OnOk result ((q : ℕ) → holds whole.new (term_index length q) ≡ true → (covers length view q || holds whole.old (term_index length q)) ≡ true) }
+    ensures { OnOk result ((q : ℕ) → holds whole.new (term_index length q) ≡ true
+        → (covers length view q || holds whole.old (term_index length q)) ≡ true) }
 {
     if view != view.term_start(length) {
         return Ok(());

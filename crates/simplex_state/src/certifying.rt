@@ -28,9 +28,11 @@ impl<S: Scheme + Drop, L: Elector + Drop> State<S, L> {
     pub fn certify_candidates(
         &mut self,
     ) -> Result<(Vec<Proposal>, Vec<CertificateFetch>), AllocError>
-        ensures stands { OnOk result (Takes S.attests L.elects self.old self.new CertifyCandidates) }
-        ensures proposals { IfOk result (λ found. Answers S.attests L.elects self.old (λ made known. certify_requests known) found.0.items) }
-        ensures fetches { IfOk result (λ found. Answers S.attests L.elects self.old (λ made known. parent_fetches known) found.1.items) }
+        ensures stands { OnOk result (Takes self.old self.new CertifyCandidates) }
+        ensures proposals { IfOk result (λ found. Answers self.old
+            (λ made known. certify_requests known) found.0.items) }
+        ensures fetches { IfOk result (λ found. Answers self.old
+            (λ made known. parent_fetches known) found.1.items) }
     {
         self.drop_settled();
         let (proposals, fetches) = self.candidates()?;
@@ -41,7 +43,7 @@ impl<S: Scheme + Drop, L: Elector + Drop> State<S, L> {
 
     /// Lets go of the views that wait no more.
     fn drop_settled(&mut self)
-        ensures { Stays S.attests L.elects self.old self.new }
+        ensures { Stays self.old self.new }
     {
         keep_open(
             &mut self.waiting,
@@ -52,8 +54,10 @@ impl<S: Scheme + Drop, L: Elector + Drop> State<S, L> {
 
     /// What is to be asked for the views that wait, in their order.
     fn candidates(&self) -> Result<(Vec<Proposal>, Vec<CertificateFetch>), AllocError>
-        ensures proposals { IfOk result (λ found. Answers S.attests L.elects self.now (λ made known. certify_requests known) found.0.items) }
-        ensures fetches { IfOk result (λ found. Answers S.attests L.elects self.now (λ made known. parent_fetches known) found.1.items) }
+        ensures proposals { IfOk result (λ found. Answers self.now
+            (λ made known. certify_requests known) found.0.items) }
+        ensures fetches { IfOk result (λ found. Answers self.now
+            (λ made known. parent_fetches known) found.1.items) }
     {
         let mut proposals = Vec::new(self.alloc);
         let mut fetches = Vec::new(self.alloc);
@@ -66,7 +70,8 @@ impl<S: Scheme + Drop, L: Elector + Drop> State<S, L> {
 
     /// Notes the proposal of the view, where it can be certified now.
     fn note_proposal(&self, view: View, proposals: &mut Vec<Proposal>) -> Result<(), AllocError>
-        ensures { OnOk result (Answers S.attests L.elects self.now (λ made known. proposals.old.items ++ option_to_list (certify_at known view)) proposals.new.items) }
+        ensures { OnOk result (Answers self.now (λ made known. proposals.old.items
+            ++ option_to_list (certify_at known view)) proposals.new.items) }
     {
         if let Some(proposal) = self.proposal_to_certify(view) {
             proposals.push(proposal)?;
@@ -76,7 +81,9 @@ impl<S: Scheme + Drop, L: Elector + Drop> State<S, L> {
 
     /// Notes the parent of the view's proposal, where its notarization has to be asked for.
     fn note_parent(&self, view: View, fetches: &mut Vec<CertificateFetch>) -> Result<(), AllocError>
-        ensures { OnOk result (Answers S.attests L.elects self.now (λ made known. fetches.old.items ++ option_to_list (fetch_at known view)) fetches.new.items) }
+        ensures { OnOk result (Answers self.now
+            (λ made known. fetches.old.items
+            ++ option_to_list (fetch_at known view)) fetches.new.items) }
     {
         if let Some(fetch) = self.parent_to_fetch(view) {
             fetches.push(fetch)?;
@@ -86,7 +93,7 @@ impl<S: Scheme + Drop, L: Elector + Drop> State<S, L> {
 
     /// The proposal of the view, where it can be certified now.
     fn proposal_to_certify(&self, view: View) -> Option<Proposal>
-        ensures { Answers S.attests L.elects self.now (λ made known. certify_at known view) result }
+        ensures { Answers self.now (λ made known. certify_at known view) result }
     {
         let proposal = self.open_proposal(view)?;
         if !self.is_certified(proposal.parent) {
@@ -97,7 +104,7 @@ impl<S: Scheme + Drop, L: Elector + Drop> State<S, L> {
 
     /// The parent of the view's proposal, where its notarization has to be asked for.
     fn parent_to_fetch(&self, view: View) -> Option<CertificateFetch>
-        ensures { Answers S.attests L.elects self.now (λ made known. fetch_at known view) result }
+        ensures { Answers self.now (λ made known. fetch_at known view) result }
     {
         let parent = self.open_proposal(view)?.parent;
         if round_at(&self.rounds, view.0).parent_asked {
@@ -114,8 +121,8 @@ impl<S: Scheme + Drop, L: Elector + Drop> State<S, L> {
 
     /// The notarized proposal of the view, where its verdict has still to be asked for.
     fn open_proposal(&self, view: View) -> Option<Proposal>
-        ensures answer { Answers S.attests L.elects self.now (λ made known. open_at known view) result }
-        ensures above { (made : Made) (known : List Fact) → Keeps S.attests L.elects self.now made known
+        ensures answer { Answers self.now (λ made known. open_at known view) result }
+        ensures above { (made : Made) (known : List Fact) → Keeps self.now made known
             → is_some result ≡ true → (progress_of made known).pruned ≤ view }
     {
         if view <= self.progress.last_finalized {
@@ -130,7 +137,7 @@ impl<S: Scheme + Drop, L: Elector + Drop> State<S, L> {
 
     /// Whether the parent is later than the last final view, and nothing is known of it.
     fn is_lacking(&self, parent: View) -> bool
-        ensures { Answers S.attests L.elects self.now (λ made known. is_lacking known parent) result }
+        ensures { Answers self.now (λ made known. is_lacking known parent) result }
     {
         if parent <= self.progress.last_finalized {
             return false;
@@ -142,8 +149,8 @@ impl<S: Scheme + Drop, L: Elector + Drop> State<S, L> {
     /// The application is asked to certify the proposals. The last one is noted first: what is known is a
     /// list with the newest first.
     fn ask_certify(&mut self, proposals: &[Proposal]) -> Result<(), AllocError>
-        ensures { OnOk result ((made : Made) (known : List Fact) → Keeps S.attests L.elects self.old made known
-            → Keeps S.attests L.elects self.new made (map (λ p. CertifyAsked (view_of p)) proposals.now ++ known)) }
+        ensures { OnOk result ((made : Made) (known : List Fact) → Keeps self.old made known
+            → Keeps self.new made (map (λ p. CertifyAsked (view_of p)) proposals.now ++ known)) }
     {
         let mut left = proposals.len();
         while left > 0 {
@@ -155,8 +162,9 @@ impl<S: Scheme + Drop, L: Elector + Drop> State<S, L> {
 
     /// The parents' notarizations are asked for, the last one noted first as well.
     fn ask_parents(&mut self, fetches: &[CertificateFetch]) -> Result<(), AllocError>
-        ensures { OnOk result ((made : Made) (known : List Fact) → Keeps S.attests L.elects self.old made known
-            → Keeps S.attests L.elects self.new made (map (λ (f : CertificateFetch). ParentAsked f.proposal) fetches.now ++ known)) }
+        ensures { OnOk result ((made : Made) (known : List Fact) → Keeps self.old made known
+            → Keeps self.new made
+            (map (λ (f : CertificateFetch). ParentAsked f.proposal) fetches.now ++ known)) }
     {
         let mut left = fetches.len();
         while left > 0 {
@@ -168,8 +176,8 @@ impl<S: Scheme + Drop, L: Elector + Drop> State<S, L> {
 
     /// The application is asked to certify the view.
     fn mark_certify(&mut self, view: View) -> Result<(), AllocError>
-        ensures { OnOk result ((made : Made) (known : List Fact) → Keeps S.attests L.elects self.old made known
-            → Keeps S.attests L.elects self.new made (CertifyAsked view ∷ known)) }
+        ensures { OnOk result ((made : Made) (known : List Fact) → Keeps self.old made known
+            → Keeps self.new made (CertifyAsked view ∷ known)) }
     {
         let mut round = round_at(&self.rounds, view.0);
         round.certify_asked = true;
@@ -178,8 +186,8 @@ impl<S: Scheme + Drop, L: Elector + Drop> State<S, L> {
 
     /// The notarization of the parent of the view's proposal is asked for.
     fn mark_parent(&mut self, view: View) -> Result<(), AllocError>
-        ensures { OnOk result ((made : Made) (known : List Fact) → Keeps S.attests L.elects self.old made known
-            → Keeps S.attests L.elects self.new made (ParentAsked view ∷ known)) }
+        ensures { OnOk result ((made : Made) (known : List Fact) → Keeps self.old made known
+            → Keeps self.new made (ParentAsked view ∷ known)) }
     {
         let mut round = round_at(&self.rounds, view.0);
         round.parent_asked = true;
@@ -189,7 +197,8 @@ impl<S: Scheme + Drop, L: Elector + Drop> State<S, L> {
 
 /// Keeps of the views those that are later than the last final one and wait for their verdict to be asked for.
 fn keep_open(views: &mut BTreeSet<u64>, rounds: &BTreeMap<u64, RoundRecord>, last: View)
-    ensures { (q : ℕ) → has views.new q ≡ (has views.old q && (nat_lt last q && is_open (round_in rounds.now q))) }
+    ensures { (q : ℕ) → has views.new q
+        ≡ (has views.old q && (nat_lt last q && is_open (round_in rounds.now q))) }
 {
     views.retain(|view| last.0 < *view && round_at(rounds, *view).is_open());
 }

@@ -26,7 +26,7 @@ impl<S: Scheme + Drop, L: Elector + Drop> State<S, L> {
         now: u64,
     ) -> Result<(), AllocError>
         requires clock { now < 2 ^ 63 }
-        ensures stands { OnOk result (Takes S.attests L.elects self.old self.new (TriggerTimeout view reason now)) }
+        ensures stands { OnOk result (Takes self.old self.new (TriggerTimeout view reason now)) }
     {
         self.trigger(view, reason, now)?;
         Ok(())
@@ -40,7 +40,8 @@ impl<S: Scheme + Drop, L: Elector + Drop> State<S, L> {
         now: u64,
     ) -> Result<(), AllocError>
         requires clock { now < 2 ^ 63 }
-        ensures stands { OnOk result (Takes S.attests L.elects self.old self.new (VerificationFailed view reason now)) }
+        ensures stands { OnOk result (Takes self.old self.new
+            (VerificationFailed view reason now)) }
     {
         self.trigger(view, reason, now)?;
         Ok(())
@@ -50,7 +51,7 @@ impl<S: Scheme + Drop, L: Elector + Drop> State<S, L> {
     /// which the limits keep away.
     #[tactic(auto, unfolding(crate::specs::Opened::slots, model_rules::specs::Deadline::deadline_of, model_rules::specs::Deadline::first_deadline))]
     pub fn next_timeout(&self) -> (u64, TimeoutReason)
-        ensures answer { Answers S.attests L.elects self.now (λ made known. deadline_of made known) result }
+        ensures answer { Answers self.now (λ made known. deadline_of made known) result }
     {
         if let Some(at) = self.published {
             return (
@@ -69,9 +70,10 @@ impl<S: Scheme + Drop, L: Elector + Drop> State<S, L> {
     /// The moment when the view expires in time: for want of a proposal, a certificate or a final view.
     #[tactic(auto, unfolding(crate::specs::Opened::slots, model_rules::specs::Deadline::own_moment, model_rules::specs::Deadline::stall_moment))]
     fn timely(&self, round: &RoundRecord) -> (u64, TimeoutReason)
-        ensures { (made : Made) (known : List Fact) → Keeps S.attests L.elects self.now made known
-            → round.now ≡ round_of known (current_of made known)
-            → result ≡ option_map_or (sooner (own_moment made known)) (stall_moment made known) (own_moment made known) }
+        ensures { (made : Made) (known : List Fact)
+            → Keeps self.now made known → round.now ≡ round_of known (current_of made known)
+            → result ≡ option_map_or (sooner (own_moment made known)) (stall_moment made known)
+            (own_moment made known) }
     {
         let entered = self.progress.entered;
         let own = match round.slot() {
@@ -99,7 +101,7 @@ impl<S: Scheme + Drop, L: Elector + Drop> State<S, L> {
     /// The expiry of the current view: as it happened, or on entry where the view had failed before.
     #[tactic(auto, unfolding(crate::specs::Opened::slots, model_rules::specs::Deadline::expiry_of))]
     fn expiry(&self, round: &RoundRecord) -> Option<(u64, TimeoutReason)>
-        ensures { (made : Made) (known : List Fact) → Keeps S.attests L.elects self.now made known
+        ensures { (made : Made) (known : List Fact) → Keeps self.now made known
             → round.now ≡ round_of known (current_of made known) → result ≡ expiry_of made known }
     {
         match round.expired {
@@ -119,8 +121,8 @@ impl<S: Scheme + Drop, L: Elector + Drop> State<S, L> {
         reason: TimeoutReason,
         now: u64,
     ) -> Result<(), AllocError>
-        ensures { OnOk result ((made : Made) (known : List Fact) → Keeps S.attests L.elects self.old made known
-            → Keeps S.attests L.elects self.new made (triggered made known view reason now ++ known)) }
+        ensures { OnOk result ((made : Made) (known : List Fact) → Keeps self.old made known
+            → Keeps self.new made (triggered made known view reason now ++ known)) }
     {
         if self.expires(view, reason) {
             self.expire(view, reason, now)?;
@@ -132,7 +134,8 @@ impl<S: Scheme + Drop, L: Elector + Drop> State<S, L> {
 
     /// Whether a trigger expires the view now.
     fn expires(&self, view: View, reason: TimeoutReason) -> bool
-        ensures { (made : Made) (known : List Fact) → Keeps S.attests L.elects self.now made known → result ≡ expires made known view reason }
+        ensures { (made : Made) (known : List Fact) → Keeps self.now made known
+            → result ≡ expires made known view reason }
     {
         if view != self.progress.current {
             return false;
@@ -147,16 +150,17 @@ impl<S: Scheme + Drop, L: Elector + Drop> State<S, L> {
 
     /// Whether a trigger expires the view later, as it becomes current.
     fn fails(&self, view: View, reason: TimeoutReason) -> bool
-        ensures { (made : Made) (known : List Fact) → Keeps S.attests L.elects self.now made known → result ≡ fails made known view reason }
+        ensures { (made : Made) (known : List Fact) → Keeps self.now made known
+            → result ≡ fails made known view reason }
     {
         self.progress.current < view && is_failure(reason)
     }
 
     /// The view expires now. [first-expiry]
     fn expire(&mut self, view: View, reason: TimeoutReason, now: u64) -> Result<(), AllocError>
-        ensures { OnOk result ((made : Made) (known : List Fact) → Keeps S.attests L.elects self.old made known
+        ensures { OnOk result ((made : Made) (known : List Fact) → Keeps self.old made known
             → expires made known view reason ≡ true
-            → Keeps S.attests L.elects self.new made (Expired view reason now ∷ known)) }
+            → Keeps self.new made (Expired view reason now ∷ known)) }
     {
         let mut round = round_at(&self.rounds, view.0);
         round.expired = round.expired.or(Some((now, reason)));
@@ -168,8 +172,8 @@ impl<S: Scheme + Drop, L: Elector + Drop> State<S, L> {
 
     /// The view expires as it becomes current.
     fn fail(&mut self, view: View, reason: TimeoutReason) -> Result<(), AllocError>
-        ensures { OnOk result ((made : Made) (known : List Fact) → Keeps S.attests L.elects self.old made known
-            → Keeps S.attests L.elects self.new made (Failed view reason ∷ known)) }
+        ensures { OnOk result ((made : Made) (known : List Fact) → Keeps self.old made known
+            → Keeps self.new made (Failed view reason ∷ known)) }
     {
         let mut round = round_at(&self.rounds, view.0);
         round.failed = round.failed.or(Some(reason));

@@ -24,7 +24,7 @@ impl<S: Scheme + Drop, L: Elector + Drop> State<S, L> {
     /// Takes the floor for final, and answers its finalization.
     pub fn set_floor(&mut self, floor: Floor, now: u64) -> Result<Option<Finalization>, AllocError>
         requires clock { now < 2 ^ 63 }
-        ensures stands { OnOk result (Takes S.attests L.elects self.old self.new (SetFloor floor now)) }
+        ensures stands { OnOk result (Takes self.old self.new (SetFloor floor now)) }
         ensures answer { IfOk result (λ it. it ≡ set_floor_answer floor) }
     {
         match floor {
@@ -43,8 +43,8 @@ impl<S: Scheme + Drop, L: Elector + Drop> State<S, L> {
     /// Forgets the views below the least active one, which it answers where that rose since the last prune.
     /// [states-forget]
     pub fn prune(&mut self) -> Option<View>
-        ensures stands { Takes S.attests L.elects self.old self.new Prune }
-        ensures answer { Answers S.attests L.elects self.old (λ made known. prune_answer made known) result }
+        ensures stands { Takes self.old self.new Prune }
+        ensures answer { Answers self.old (λ made known. prune_answer made known) result }
     {
         let last = self.last_finalized();
         let least = last.saturating_sub(self.settings.view_retention);
@@ -58,8 +58,10 @@ impl<S: Scheme + Drop, L: Elector + Drop> State<S, L> {
     /// Takes the floor's finalization, which need not be sent.
     fn start_from(&mut self, finalization: Finalization, now: u64) -> Result<(), AllocError>
         requires clock { now < 2 ^ 63 }
-        ensures { OnOk result ((made : Made) (known : List Fact) → Keeps S.attests L.elects self.old made known
-            → Keeps S.attests L.elects self.new made (Broadcast kinds.Finalization (view_of finalization.proposal) ∷ Added (certificates.Finalization finalization) now
+        ensures { OnOk result ((made : Made) (known : List Fact) → Keeps self.old made known
+            → Keeps self.new made
+            (Broadcast kinds.Finalization (view_of finalization.proposal)
+            ∷ Added (certificates.Finalization finalization) now
             ∷ FloorAt (view_of finalization.proposal) finalization.proposal.payload ∷ known)) }
     {
         let view = finalization.view();
@@ -69,8 +71,8 @@ impl<S: Scheme + Drop, L: Elector + Drop> State<S, L> {
 
     /// Takes the view's payload for final. [floor-is-final]
     fn know_floor(&mut self, view: View, payload: &Digest) -> Result<(), AllocError>
-        ensures { OnOk result ((made : Made) (known : List Fact) → Keeps S.attests L.elects self.old made known
-            → Keeps S.attests L.elects self.new made (FloorAt view payload.now ∷ known)) }
+        ensures { OnOk result ((made : Made) (known : List Fact) → Keeps self.old made known
+            → Keeps self.new made (FloorAt view payload.now ∷ known)) }
     {
         let mut round = round_at(&self.rounds, view.0);
         round.floor = round.floor.or(Some(*payload));
@@ -79,11 +81,10 @@ impl<S: Scheme + Drop, L: Elector + Drop> State<S, L> {
 
     /// Forgets what is below the view.
     fn forget(&mut self, least: View)
-        ensures { (made : Made) (known : List Fact) → Keeps S.attests L.elects self.old made known
-            → least ≡ least_active made known
-            → least ≤ (progress_of made known).current
-            → (progress_of made known).pruned ≤ least
-            → Keeps S.attests L.elects self.new made (Pruned least ∷ known) }
+        ensures { (made : Made) (known : List Fact)
+            → Keeps self.old made known → least ≡ least_active made known
+            → least ≤ (progress_of made known).current → (progress_of made known).pruned ≤ least
+            → Keeps self.new made (Pruned least ∷ known) }
     {
         let length = self.settings.terms.length;
         self.progress.pruned = least;

@@ -30,9 +30,10 @@ impl<S: Scheme + Drop, L: Elector + Drop> State<S, L> {
         now: u64,
     ) -> Option<(bool, Nullify)>
         requires clock { now < 2 ^ 63 }
-        requires current { Answers S.attests L.elects self.old (λ made known. current_of made known) view }
-        ensures stands { Takes S.attests L.elects self.old self.new (ConstructNullify view reason now) }
-        ensures answer { Answers S.attests L.elects self.old (λ made known. construct_nullify_answer made known view) result }
+        requires current { Answers self.old (λ made known. current_of made known) view }
+        ensures stands { Takes self.old self.new (ConstructNullify view reason now) }
+        ensures answer { Answers self.old
+            (λ made known. construct_nullify_answer made known view) result }
     {
         let Some(vote) = self.nullify_at(view) else {
             return None;
@@ -45,25 +46,28 @@ impl<S: Scheme + Drop, L: Elector + Drop> State<S, L> {
     /// Whether the member gave the view up.
     #[tactic(auto, unfolding(crate::specs::Stands::StandsFor))]
     pub fn voted_nullify(&self, view: View) -> bool
-        ensures answer { Answers S.attests L.elects self.now (λ made known. has_nullified known view) result }
+        ensures answer { Answers self.now (λ made known. has_nullified known view) result }
     {
         self.has_given_up(view)
     }
 
     /// Whether the member gave the view up.
     pub(crate) fn has_given_up(&self, view: View) -> bool
-        ensures { (made : Made) (known : List Fact) → Keeps S.attests L.elects self.now made known → result ≡ has_nullified known view }
+        ensures { (made : Made) (known : List Fact) → Keeps self.now made known
+            → result ≡ has_nullified known view }
     {
         (self.gave_up && view == self.progress.current) || self.nullified.contains(view.0)
     }
 
     /// The last view up to this one that the member gave up.
     pub(crate) fn last_given_up(&self, view: View) -> Option<View>
-        ensures member { IfSome result (λ u. (made : Made) (known : List Fact) → Keeps S.attests L.elects self.now made known → has_nullified known u ≡ true) }
+        ensures member { IfSome result (λ u. (made : Made) (known : List Fact)
+            → Keeps self.now made known → has_nullified known u ≡ true) }
         ensures bound { IfSome result (λ u. u ≤ view) }
-        ensures greatest { IfSome result (λ u. (made : Made) (known : List Fact) → Keeps S.attests L.elects self.now made known
-            → (q : ℕ) → q ≤ view → has_nullified known q ≡ true → q ≤ u) }
-        ensures none { IfNone result ((made : Made) (known : List Fact) → Keeps S.attests L.elects self.now made known
+        ensures greatest { IfSome result (λ u. (made : Made) (known : List Fact)
+            → Keeps self.now made known → (q : ℕ) → q ≤ view
+            → has_nullified known q ≡ true → q ≤ u) }
+        ensures none { IfNone result ((made : Made) (known : List Fact) → Keeps self.now made known
             → (q : ℕ) → q ≤ view → has_nullified known q ≡ false) }
     {
         let current = self.progress.current;
@@ -80,7 +84,7 @@ impl<S: Scheme + Drop, L: Elector + Drop> State<S, L> {
     /// The member's nullify of the view.
     #[tactic(auto, unfolding(crate::specs::Stands::StandsFor, model_rules::specs::Votes::nullify_at, model_rules::specs::Votes::signed_nullify))]
     fn nullify_at(&self, view: View) -> Option<Nullify>
-        ensures { Answers S.attests L.elects self.now (λ made known. nullify_at made view) result }
+        ensures { Answers self.now (λ made known. nullify_at made view) result }
     {
         let round = Round {
             epoch: self.settings.epoch,
@@ -92,9 +96,9 @@ impl<S: Scheme + Drop, L: Elector + Drop> State<S, L> {
     /// Takes an own nullify of the current view, which goes out now.
     fn give_up(&mut self, now: u64)
         requires clock { now < 2 ^ 63 }
-        ensures { (made : Made) (known : List Fact) (vote : nullifies.Nullify) → Keeps S.attests L.elects self.old made known
+        ensures { (made : Made) (known : List Fact) (vote : nullifies.Nullify) → Keeps self.old made known
             → vote.round.view ≡ current_of made known
-            → Keeps S.attests L.elects self.new made (nullify_facts known vote.round.view now vote ++ known) }
+            → Keeps self.new made (nullify_facts known vote.round.view now vote ++ known) }
     {
         self.gave_up = true;
         self.published = Some(now);
@@ -102,9 +106,9 @@ impl<S: Scheme + Drop, L: Elector + Drop> State<S, L> {
 
     /// Takes an own nullify of any view.
     pub(crate) fn vote_nullify(&mut self, view: View, vote: &Nullify) -> Result<(), AllocError>
-        ensures { OnOk result ((made : Made) (known : List Fact) → Keeps S.attests L.elects self.old made known
+        ensures { OnOk result ((made : Made) (known : List Fact) → Keeps self.old made known
             → vote.now.round.view ≡ view
-            → Keeps S.attests L.elects self.new made (Voted (votes.Nullify vote.now) ∷ known)) }
+            → Keeps self.new made (Voted (votes.Nullify vote.now) ∷ known)) }
     {
         self.nullified.insert(view.0)?;
         Ok(())
@@ -113,7 +117,8 @@ impl<S: Scheme + Drop, L: Elector + Drop> State<S, L> {
     /// Puts the current view to those given up before, where it is given up: another may become current.
     /// [given-up-for-good]
     pub(crate) fn put_away(&mut self) -> Result<(), AllocError>
-        ensures kept { OnOk result ((made : Made) (known : List Fact) → Keeps S.attests L.elects self.old made known → Keeps S.attests L.elects self.new made known) }
+        ensures kept { OnOk result ((made : Made) (known : List Fact) → Keeps self.old made known
+            → Keeps self.new made known) }
         ensures away { OnOk result (self.new.gave_up ≡ false) }
     {
         if !self.gave_up {
@@ -127,7 +132,8 @@ impl<S: Scheme + Drop, L: Elector + Drop> State<S, L> {
 
     /// When the own nullify last went out of the view that is current once this one opened.
     pub(crate) fn published_in(&self, view: View) -> Option<u64>
-        ensures { result ≡ (if nat_lt self.now.progress.current view then None else self.now.published) }
+        ensures { result ≡ (if nat_lt self.now.progress.current view then None
+            else self.now.published) }
     {
         if self.progress.current < view {
             return None;

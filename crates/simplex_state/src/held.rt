@@ -26,7 +26,9 @@ pub(crate) fn hold<C: Drop>(
     view: u64,
     certificate: C,
 ) -> Result<(), AllocError>
-    ensures { OnOk result ((q : ℕ) → found certificates.new q ≡ (if view == q then Some (unwrap_or (found certificates.old q) (held false certificate)) else found certificates.old q)) }
+    ensures { OnOk result ((q : ℕ) → found certificates.new q ≡ (if view == q then Some
+        (unwrap_or (found certificates.old q) (held false certificate))
+        else found certificates.old q)) }
 {
     if certificates.contains_key(&view) {
         return Ok(());
@@ -43,7 +45,8 @@ pub(crate) fn hold<C: Drop>(
 
 /// Lets the certificate of a view count as sent.
 pub(crate) fn mark_sent<C>(certificates: &mut BTreeMap<u64, Held<C>>, view: u64)
-    ensures { (q : ℕ) → found certificates.new q ≡ (if view == q then option_map (λ h. held true h.certificate) (found certificates.old q) else found certificates.old q) }
+    ensures { (q : ℕ) → found certificates.new q ≡ (if view == q then option_map
+        (λ h. held true h.certificate) (found certificates.old q) else found certificates.old q) }
 {
     if let Some(kept) = certificates.get_mut(&view) {
         kept.sent = true;
@@ -86,7 +89,8 @@ pub(crate) fn copy_unsent<C: Keep + Drop>(
 /// Drops the certificates below a view, up to one that has still to be sent.
 pub(crate) fn forget_sent<C: Drop>(certificates: &mut BTreeMap<u64, Held<C>>, least: u64)
     ensures kept { (q : ℕ) → least ≤ q → found certificates.new q ≡ found certificates.old q }
-    ensures unsent { (q : ℕ) → unsent_in (found certificates.new q) ≡ unsent_in (found certificates.old q) }
+    ensures unsent { (q : ℕ)
+        → unsent_in (found certificates.new q) ≡ unsent_in (found certificates.old q) }
 {
     while let Some((first, kept)) = certificates.first_key_value() {
         if *first >= least || !kept.sent {
@@ -104,8 +108,10 @@ pub(crate) fn forget_opened<C: Drop>(
     current: View,
 )
     ensures kept { (q : ℕ) → least ≤ q → found certificates.new q ≡ found certificates.old q }
-    ensures opening { (q : ℕ) → current ≤ next_term_start length q → found certificates.new q ≡ found certificates.old q }
-    ensures unsent { (q : ℕ) → unsent_in (found certificates.new q) ≡ unsent_in (found certificates.old q) }
+    ensures opening { (q : ℕ) → current ≤ next_term_start length q
+        → found certificates.new q ≡ found certificates.old q }
+    ensures unsent { (q : ℕ)
+        → unsent_in (found certificates.new q) ≡ unsent_in (found certificates.old q) }
 {
     while let Some((first, kept)) = certificates.first_key_value() {
         if *first >= least || !kept.sent || View(*first).next_term_start(length) >= current {

@@ -22,6 +22,7 @@ mod settings;
 mod state;
 mod verdicts;
 mod verification;
+mod views;
 mod votes;
 
 pub use config::StateConfig;

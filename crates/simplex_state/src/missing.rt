@@ -41,7 +41,8 @@ impl Missing {
 
     /// For a proposal of the first view, the certificate of this kind of the second is asked for.
     pub(crate) fn ask(&mut self, proposal: View, view: View, kind: Kind) -> Result<(), AllocError>
-        ensures { OnOk result ((p v : ℕ) (k : kinds.Kind) → is_asked self.new p v k ≡ ((proposal == p && view == v && is_kind kind k) || is_asked self.old p v k)) }
+        ensures { OnOk result ((p v : ℕ) (k : kinds.Kind) → is_asked self.new p v k
+            ≡ ((proposal == p && view == v && is_kind kind k) || is_asked self.old p v k)) }
     {
         match kind {
             Kind::Notarization => add_pair(&mut self.notarizations, proposal.0, view.0),
@@ -51,7 +52,8 @@ impl Missing {
 
     /// Forgets what was asked for below the view.
     pub(crate) fn forget(&mut self, least: View)
-        ensures { (p v : ℕ) (k : kinds.Kind) → least ≤ p → is_asked self.new p v k ≡ is_asked self.old p v k }
+        ensures { (p v : ℕ) (k : kinds.Kind) → least ≤ p
+            → is_asked self.new p v k ≡ is_asked self.old p v k }
     {
         remove_pairs_below(&mut self.notarizations, least.0);
         remove_pairs_below(&mut self.nullifications, least.0);
@@ -60,7 +62,8 @@ impl Missing {
 
 /// Puts the two views into the set.
 fn add_pair(pairs: &mut BTreeSet<(u64, u64)>, first: u64, second: u64) -> Result<(), AllocError>
-    ensures { OnOk result ((p v : ℕ) → has_pair pairs.new p v ≡ ((first == p && second == v) || has_pair pairs.old p v)) }
+    ensures { OnOk result ((p v : ℕ)
+        → has_pair pairs.new p v ≡ ((first == p && second == v) || has_pair pairs.old p v)) }
 {
     pairs.insert((first, second))?;
     Ok(())

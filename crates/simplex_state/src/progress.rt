@@ -56,7 +56,8 @@ impl Progress {
 
     /// Counts a view that inactivity skipped, up to the budget.
     pub(crate) fn skip(&mut self, inactive: bool, budget: u64)
-        ensures { self.new ≡ (if inactive && nat_lt self.old.skipped budget then record self.old { skipped = 1 + self.old.skipped } else self.old) }
+        ensures { self.new ≡ (if inactive
+            && nat_lt self.old.skipped budget then record self.old { skipped = 1 + self.old.skipped } else self.old) }
     {
         if inactive && self.skipped < budget {
             self.skipped += 1;

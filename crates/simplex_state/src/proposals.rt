@@ -20,8 +20,9 @@ use std::alloc::AllocError;
 impl<S: Scheme + Drop, L: Elector + Drop> State<S, L> {
     /// Records a proposal from the batcher for its view, where one is still of use and none stands there.
     pub fn set_proposal(&mut self, view: View, proposal: &Proposal) -> Result<bool, AllocError>
-        ensures stands { OnOk result (Takes S.attests L.elects self.old self.new (SetProposal view proposal.now)) }
-        ensures answer { IfOk result (Answers S.attests L.elects self.old (λ made known. records_proposal made known proposal.now)) }
+        ensures stands { OnOk result (Takes self.old self.new (SetProposal view proposal.now)) }
+        ensures answer { IfOk result (Answers self.old
+            (λ made known. records_proposal made known proposal.now)) }
     {
         if !self.records_proposal(proposal) {
             return Ok(false);
@@ -32,8 +33,9 @@ impl<S: Scheme + Drop, L: Elector + Drop> State<S, L> {
 
     /// Records the application's own proposal, where its view is not past, has no proposal and was not given up.
     pub fn proposed(&mut self, context: &Context, payload: Digest) -> Result<bool, AllocError>
-        ensures stands { OnOk result (Takes S.attests L.elects self.old self.new (Proposed context.now payload)) }
-        ensures answer { IfOk result (Answers S.attests L.elects self.old (λ made known. records_answer made known context.now.round.view)) }
+        ensures stands { OnOk result (Takes self.old self.new (Proposed context.now payload)) }
+        ensures answer { IfOk result (Answers self.old
+            (λ made known. records_answer made known context.now.round.view)) }
     {
         if !self.records_answer(context.round.view) {
             return Ok(false);
@@ -52,7 +54,7 @@ impl<S: Scheme + Drop, L: Elector + Drop> State<S, L> {
 
     /// Takes it that the application verified the proposal that it was asked to verify. [checked-as-asked]
     pub fn verified(&mut self, view: View) -> Result<(), AllocError>
-        ensures { OnOk result (Takes S.attests L.elects self.old self.new (Verified view)) }
+        ensures { OnOk result (Takes self.old self.new (Verified view)) }
     {
         let mut round = round_at(&self.rounds, view.0);
         if round.asked.is_none() {
@@ -65,10 +67,10 @@ impl<S: Scheme + Drop, L: Elector + Drop> State<S, L> {
     /// Takes a proposal for its view's.
     #[tactic(auto)]
     fn take(&mut self, proposal: &Proposal) -> Result<(), AllocError>
-        ensures { OnOk result ((made : Made) (known : List Fact) → Keeps S.attests L.elects self.old made known
-            → (progress_of made known).pruned ≤ view_of proposal.now
+        ensures { OnOk result ((made : Made) (known : List Fact)
+            → Keeps self.old made known → (progress_of made known).pruned ≤ view_of proposal.now
             → is_none (slot_in (round_of known (view_of proposal.now))) ≡ true
-            → Keeps S.attests L.elects self.new made (Taken proposal.now ∷ known)) }
+            → Keeps self.new made (Taken proposal.now ∷ known)) }
     {
         let view = proposal.view().0;
         let mut round = round_at(&self.rounds, view);
@@ -78,7 +80,7 @@ impl<S: Scheme + Drop, L: Elector + Drop> State<S, L> {
 
     /// Whether a proposal from the batcher is recorded.
     fn records_proposal(&self, proposal: &Proposal) -> bool
-        ensures { Answers S.attests L.elects self.now (λ made known. records_proposal made known proposal.now) result }
+        ensures { Answers self.now (λ made known. records_proposal made known proposal.now) result }
     {
         let view = proposal.view();
         self.admits_vote(view)
@@ -89,7 +91,7 @@ impl<S: Scheme + Drop, L: Elector + Drop> State<S, L> {
     /// Whether the application's proposal for the view is recorded.
     #[tactic(auto, unfolding(crate::specs::Opened::slots, model_rules::specs::Slot::records_answer))]
     fn records_answer(&self, view: View) -> bool
-        ensures { Answers S.attests L.elects self.now (λ made known. records_answer made known view) result }
+        ensures { Answers self.now (λ made known. records_answer made known view) result }
     {
         view >= self.progress.current
             && round_at(&self.rounds, view.0).slot().is_none()

@@ -53,7 +53,8 @@ impl Ranges {
     pub fn last_up_to(&self, number: u64) -> Option<u64>
         ensures member { IfSome result (λ u. holds self.now u ≡ true) }
         ensures bound { IfSome result (λ u. u ≤ number) }
-        ensures greatest { IfSome result (λ u. (q : ℕ) → q ≤ number → holds self.now q ≡ true → q ≤ u) }
+        ensures greatest { IfSome result (λ u. (q : ℕ) → q ≤ number
+            → holds self.now q ≡ true → q ≤ u) }
         ensures none { IfNone result ((q : ℕ) → q ≤ number → holds self.now q ≡ false) }
     {
         match self.run_at(number) {
@@ -65,7 +66,8 @@ impl Ranges {
     /// A number up to which each one from this one on is in the set.
     pub fn run_end(&self, number: u64) -> Option<u64>
         ensures bound { IfSome result (λ last. number ≤ last) }
-        ensures held { IfSome result (λ last. (q : ℕ) → number ≤ q → q ≤ last → holds self.now q ≡ true) }
+        ensures held { IfSome result (λ last. (q : ℕ) → number ≤ q → q ≤ last
+            → holds self.now q ≡ true) }
     {
         let (start, more) = self.run_at(number)?;
         let last = start.saturating_add(more);
@@ -97,7 +99,8 @@ impl Ranges {
     fn run_at(&self, number: u64) -> Option<(u64, u64)>
         ensures run { IfSome result (λ run. found self.now.runs run.0 ≡ Some run.1) }
         ensures bound { IfSome result (λ run. run.0 ≤ number) }
-        ensures greatest { IfSome result (λ run. (q : ℕ) → q ≤ number → is_some (found self.now.runs q) ≡ true → q ≤ run.0) }
+        ensures greatest { IfSome result (λ run. (q : ℕ) → q ≤ number
+            → is_some (found self.now.runs q) ≡ true → q ≤ run.0) }
         ensures none { IfNone result ((q : ℕ) → q ≤ number → found self.now.runs q ≡ None) }
     {
         let (start, more) = self.runs.range(..=number).next_back()?;

@@ -26,10 +26,13 @@ impl<S: Scheme + Drop, L: Elector + Drop> State<S, L> {
         now: u64,
     ) -> Result<Option<Participant>, AllocError>
         requires clock { now < 2 ^ 63 }
-        ensures stands { OnOk result (Takes S.attests L.elects self.old self.new (Replay artifact now)) }
-        ensures answer { IfOk result (λ leader. (made : Made) (calls : List Call) → StandsFor S.attests L.elects self.old made calls
-            → keeps_record (known_of made calls) artifact ≡ true → leader ≡ replay_answer made (known_of made calls) artifact) }
-        ensures forgotten { IfOk result (λ leader. (made : Made) (calls : List Call) → StandsFor S.attests L.elects self.old made calls
+        ensures stands { OnOk result (Takes self.old self.new (Replay artifact now)) }
+        ensures answer { IfOk result
+            (λ leader. (made : Made) (calls : List Call) → StandsFor self.old made calls
+            → keeps_record (known_of made calls) artifact ≡ true
+            → leader ≡ replay_answer made (known_of made calls) artifact) }
+        ensures forgotten { IfOk result (λ leader. (made : Made) (calls : List Call)
+            → StandsFor self.old made calls
             → keeps_record (known_of made calls) artifact ≡ false → leader ≡ None) }
     {
         match artifact {
@@ -68,8 +71,10 @@ impl<S: Scheme + Drop, L: Elector + Drop> State<S, L> {
 
     /// The leader that a certificate of the proposal contradicts, or nobody where its view was forgotten.
     fn blamed_leader(&self, proposal: &Proposal) -> Option<Participant>
-        ensures { (made : Made) (calls : List Call) → StandsFor S.attests L.elects self.now made calls
-            → result ≡ (if keeps_view (known_of made calls) (view_of proposal.now) then contradicted_leader made (known_of made calls) proposal.now else None) }
+        ensures { (made : Made) (calls : List Call) → StandsFor self.now made calls
+            → result ≡ (if keeps_view (known_of made calls)
+            (view_of proposal.now) then contradicted_leader made
+            (known_of made calls) proposal.now else None) }
     {
         if proposal.view() < self.progress.pruned {
             return None;
@@ -79,9 +84,9 @@ impl<S: Scheme + Drop, L: Elector + Drop> State<S, L> {
 
     /// A notarization of a view that was forgotten is known again: where it is held it counts as sent.
     fn pass_notarization(&mut self, notarization: &Notarization)
-        ensures { (made : Made) (known : List Fact) (now : ℕ) → now < 2 ^ 63 → Keeps S.attests L.elects self.old made known
+        ensures { (made : Made) (known : List Fact) (now : ℕ) → now < 2 ^ 63 → Keeps self.old made known
             → view_of notarization.now.proposal < (progress_of made known).pruned
-            → Keeps S.attests L.elects self.new made (kept_notarization notarization.now now ++ known) }
+            → Keeps self.new made (kept_notarization notarization.now now ++ known) }
     {
         let view = notarization.view();
         mark_sent(&mut self.notarizations, view.0);
@@ -90,8 +95,8 @@ impl<S: Scheme + Drop, L: Elector + Drop> State<S, L> {
     /// Takes a notarization for known and sent.
     fn keep_notarization(&mut self, notarization: Notarization, now: u64) -> Result<(), AllocError>
         requires clock { now < 2 ^ 63 }
-        ensures { OnOk result ((made : Made) (known : List Fact) → Keeps S.attests L.elects self.old made known
-            → Keeps S.attests L.elects self.new made (kept_notarization notarization now ++ known)) }
+        ensures { OnOk result ((made : Made) (known : List Fact) → Keeps self.old made known
+            → Keeps self.new made (kept_notarization notarization now ++ known)) }
     {
         let view = notarization.view();
         if view < self.progress.pruned {
@@ -110,8 +115,8 @@ impl<S: Scheme + Drop, L: Elector + Drop> State<S, L> {
         now: u64,
     ) -> Result<(), AllocError>
         requires clock { now < 2 ^ 63 }
-        ensures { OnOk result ((made : Made) (known : List Fact) → Keeps S.attests L.elects self.old made known
-            → Keeps S.attests L.elects self.new made (kept_nullification nullification now ++ known)) }
+        ensures { OnOk result ((made : Made) (known : List Fact) → Keeps self.old made known
+            → Keeps self.new made (kept_nullification nullification now ++ known)) }
     {
         let view = nullification.view();
         let length = self.term_length();
@@ -128,9 +133,9 @@ impl<S: Scheme + Drop, L: Elector + Drop> State<S, L> {
 
     /// A finalization of a view that was forgotten is known again: where it is held it counts as sent.
     fn pass_finalization(&mut self, finalization: &Finalization)
-        ensures { (made : Made) (known : List Fact) (now : ℕ) → now < 2 ^ 63 → Keeps S.attests L.elects self.old made known
+        ensures { (made : Made) (known : List Fact) (now : ℕ) → now < 2 ^ 63 → Keeps self.old made known
             → view_of finalization.now.proposal < (progress_of made known).pruned
-            → Keeps S.attests L.elects self.new made (kept_finalization finalization.now now ++ known) }
+            → Keeps self.new made (kept_finalization finalization.now now ++ known) }
     {
         let view = finalization.view();
         mark_sent(&mut self.finalizations, view.0);
@@ -143,8 +148,8 @@ impl<S: Scheme + Drop, L: Elector + Drop> State<S, L> {
         now: u64,
     ) -> Result<(), AllocError>
         requires clock { now < 2 ^ 63 }
-        ensures { OnOk result ((made : Made) (known : List Fact) → Keeps S.attests L.elects self.old made known
-            → Keeps S.attests L.elects self.new made (kept_finalization finalization now ++ known)) }
+        ensures { OnOk result ((made : Made) (known : List Fact) → Keeps self.old made known
+            → Keeps self.new made (kept_finalization finalization now ++ known)) }
     {
         let view = finalization.view();
         if view < self.progress.pruned {
@@ -159,8 +164,9 @@ impl<S: Scheme + Drop, L: Elector + Drop> State<S, L> {
     /// Takes a verdict, where one on its view is taken. [kept-verdicts]
     fn replay_verdict(&mut self, view: View, good: bool, now: u64) -> Result<(), AllocError>
         requires clock { now < 2 ^ 63 }
-        ensures { OnOk result ((made : Made) (calls : List Call) → StandsFor S.attests L.elects self.old made calls
-            → Keeps S.attests L.elects self.new made (judged made (known_of made calls) view good now ++ known_of made calls)) }
+        ensures { OnOk result ((made : Made) (calls : List Call) → StandsFor self.old made calls
+            → Keeps self.new made
+            (judged made (known_of made calls) view good now ++ known_of made calls)) }
     {
         if !self.takes_verdict(view) {
             return Ok(());

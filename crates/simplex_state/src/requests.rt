@@ -24,8 +24,9 @@ use std::alloc::AllocError;
 impl<S: Scheme + Drop, L: Elector + Drop> State<S, L> {
     /// What to ask the application to propose, where no proposal is pending.
     pub fn try_propose(&mut self) -> Result<Option<ProposalRequest>, AllocError>
-        ensures stands { OnOk result (Takes S.attests L.elects self.old self.new TryPropose) }
-        ensures answer { IfOk result (Answers S.attests L.elects self.old (λ made known. proposal_request made known)) }
+        ensures stands { OnOk result (Takes self.old self.new TryPropose) }
+        ensures answer { IfOk result (Answers self.old
+            (λ made known. proposal_request made known)) }
     {
         let Some(request) = self.proposal_request() else {
             return Ok(None);
@@ -37,7 +38,7 @@ impl<S: Scheme + Drop, L: Elector + Drop> State<S, L> {
 
     /// Lets the application be asked for a proposal of the view again.
     pub fn release_proposal_request(&mut self, view: View)
-        ensures stands { Takes S.attests L.elects self.old self.new (ReleaseProposalRequest view) }
+        ensures stands { Takes self.old self.new (ReleaseProposalRequest view) }
     {
         free_proposal(&mut self.rounds, view.0);
     }
@@ -45,8 +46,8 @@ impl<S: Scheme + Drop, L: Elector + Drop> State<S, L> {
     /// The proposal of the view, where it was notarized and the member checked it.
     #[tactic(auto, using(crate::proofs::Checking::forwardable_is), unfolding(crate::specs::Opened::progress, model_rules::specs::Views::least_active, model_rules::specs::Views::admits_certificate))]
     pub fn forwardable_proposal(&self, view: View) -> Option<Proposal>
-        requires active { Answers S.attests L.elects self.now (λ made known. admits_certificate made known view) true }
-        ensures answer { Answers S.attests L.elects self.now (λ made known. forwardable_at known view) result }
+        requires active { Answers self.now (λ made known. admits_certificate made known view) true }
+        ensures answer { Answers self.now (λ made known. forwardable_at known view) result }
     {
         let round = round_at(&self.rounds, view.0);
         if round.notarized.is_some() && round.is_checked() {
@@ -58,7 +59,7 @@ impl<S: Scheme + Drop, L: Elector + Drop> State<S, L> {
     /// What to ask the application to propose. [no-handoff-no-candidate]
     #[tactic(auto, using(crate::proofs::Walking::parent_above), unfolding(crate::specs::Opened::requested))]
     fn proposal_request(&self) -> Option<ProposalRequest>
-        ensures { Answers S.attests L.elects self.now (λ made known. proposal_request made known) result }
+        ensures { Answers self.now (λ made known. proposal_request made known) result }
     {
         let view = self.proposal_view()?;
         let parent = self.greatest_parent(view)?;
@@ -75,7 +76,7 @@ impl<S: Scheme + Drop, L: Elector + Drop> State<S, L> {
     /// The first admitted view, or with handoffs the next term's first, in which the member may propose.
     #[tactic(auto, unfolding(crate::specs::Stands::StandsFor, crate::specs::Progress::progress_of, model_rules::specs::Views::least_active, model_rules::specs::Requests::proposal_view))]
     fn proposal_view(&self) -> Option<View>
-        ensures { Answers S.attests L.elects self.now (λ made known. proposal_view made known) result }
+        ensures { Answers self.now (λ made known. proposal_view made known) result }
     {
         if let Some(view) = self.first_admitted() {
             return Some(view);
@@ -95,7 +96,8 @@ impl<S: Scheme + Drop, L: Elector + Drop> State<S, L> {
     /// [own-parent-ahead]
     #[tactic(auto, unfolding(crate::specs::Stands::StandsFor, crate::specs::Progress::progress_of, model_rules::specs::Views::least_active, model_rules::specs::Requests::admitted_views))]
     fn first_admitted(&self) -> Option<View>
-        ensures { Answers S.attests L.elects self.now (λ made known. find (may_propose made known) (admitted_views made known)) result }
+        ensures { Answers self.now
+            (λ made known. find (may_propose made known) (admitted_views made known)) result }
     {
         let limit = self.lookahead().admission_limit(self.progress.current);
         let mut view = self.progress.current;
@@ -117,7 +119,7 @@ impl<S: Scheme + Drop, L: Elector + Drop> State<S, L> {
     /// Whether the member may propose in the view: it leads it, and nothing is proposed, given up or asked for yet.
     #[tactic(auto, using(crate::proofs::Walking::parent_some), unfolding(crate::specs::Opened::proposing))]
     fn may_propose(&self, view: View) -> bool
-        ensures { Answers S.attests L.elects self.now (λ made known. may_propose made known view) result }
+        ensures { Answers self.now (λ made known. may_propose made known view) result }
     {
         self.settings.me == Some(self.leader_index(view))
             && self.greatest_parent(view).is_some()
@@ -127,9 +129,9 @@ impl<S: Scheme + Drop, L: Elector + Drop> State<S, L> {
     /// Whether nothing is proposed in the view, given up or asked for yet.
     #[tactic(auto, unfolding(crate::specs::Stands::StandsFor, crate::specs::Rounds::round_of, crate::specs::Rounds::slot_in, model_rules::specs::Slot::slot_of))]
     fn is_free(&self, view: View) -> bool
-        ensures { (made : Made) (known : List Fact) → Keeps S.attests L.elects self.now made known
-            → (progress_of made known).pruned ≤ view
-            → result ≡ (is_none (slot_of known view) && not (has_nullified known view) && not (was_proposal_asked known view)) }
+        ensures { (made : Made) (known : List Fact) → Keeps self.now made known
+            → (progress_of made known).pruned ≤ view → result ≡ (is_none (slot_of known view)
+            && not (has_nullified known view) && not (was_proposal_asked known view)) }
     {
         let round = round_at(&self.rounds, view.0);
         round.slot().is_none() && !self.has_given_up(view) && !round.proposal_asked
@@ -138,7 +140,7 @@ impl<S: Scheme + Drop, L: Elector + Drop> State<S, L> {
     /// Whether a term begins on a parent that is not certified.
     #[tactic(auto, unfolding(crate::specs::Stands::StandsFor, model_rules::specs::Requests::needs_handoff))]
     fn needs_handoff(&self, parent: View, view: View) -> bool
-        ensures { Answers S.attests L.elects self.now (λ made known. needs_handoff made known parent view) result }
+        ensures { Answers self.now (λ made known. needs_handoff made known parent view) result }
     {
         view == view.term_start(self.settings.terms.length) && !self.is_certified(parent)
     }
@@ -146,8 +148,9 @@ impl<S: Scheme + Drop, L: Elector + Drop> State<S, L> {
     /// A proposal of the view on the parent.
     #[tactic(auto, unfolding(crate::specs::Stands::StandsFor, model_rules::specs::Requests::context_at, model_rules::specs::Requests::leader_of))]
     pub(crate) fn context(&self, parent: View, view: View) -> Context
-        ensures { (made : Made) (calls : List Call) → StandsFor S.attests L.elects self.now made calls
-            → (progress_of made (known_of made calls)).pruned ≤ parent → result ≡ context_at made (known_of made calls) parent view }
+        ensures { (made : Made) (calls : List Call) → StandsFor self.now made calls
+            → (progress_of made (known_of made calls)).pruned ≤ parent
+            → result ≡ context_at made (known_of made calls) parent view }
     {
         Context {
             round: Round {
@@ -165,7 +168,7 @@ impl<S: Scheme + Drop, L: Elector + Drop> State<S, L> {
     /// The payload of a parent: the floor's, else the finalized one, else the slot's, else that of genesis.
     #[tactic(auto, unfolding(crate::specs::Stands::StandsFor, crate::specs::Rounds::round_of, crate::specs::Rounds::slot_in, model_rules::specs::Slot::slot_of, model_rules::specs::Ancestry::payload_at))]
     pub(crate) fn payload(&self, view: View) -> Digest
-        ensures { (made : Made) (known : List Fact) → Keeps S.attests L.elects self.now made known
+        ensures { (made : Made) (known : List Fact) → Keeps self.now made known
             → (progress_of made known).pruned ≤ view → result ≡ payload_at made known view }
     {
         let round = round_at(&self.rounds, view.0);
@@ -183,8 +186,8 @@ impl<S: Scheme + Drop, L: Elector + Drop> State<S, L> {
 
     /// The application is asked for a proposal of the view.
     fn ask_proposal(&mut self, view: View) -> Result<(), AllocError>
-        ensures { OnOk result ((made : Made) (known : List Fact) → Keeps S.attests L.elects self.old made known
-            → Keeps S.attests L.elects self.new made (ProposalAsked view ∷ known)) }
+        ensures { OnOk result ((made : Made) (known : List Fact) → Keeps self.old made known
+            → Keeps self.new made (ProposalAsked view ∷ known)) }
     {
         let mut round = round_at(&self.rounds, view.0);
         round.proposal_asked = true;

@@ -155,7 +155,8 @@ pub(crate) fn put_round(
     view: u64,
     round: RoundRecord,
 ) -> Result<(), AllocError>
-    ensures { OnOk result ((q : ℕ) → round_in rounds.new q ≡ (if view == q then round else round_in rounds.old q)) }
+    ensures { OnOk result ((q : ℕ)
+        → round_in rounds.new q ≡ (if view == q then round else round_in rounds.old q)) }
 {
     // The proof of the move wants the types of the parts named.
     let (_, _): (Option<Proposal>, Option<Digest>) = (round.proposed, round.floor);
@@ -164,7 +165,8 @@ pub(crate) fn put_round(
 
 /// Lets a proposal of a view be asked for again.
 pub(crate) fn free_proposal(rounds: &mut BTreeMap<u64, RoundRecord>, view: u64)
-    ensures { (q : ℕ) → round_in rounds.new q ≡ (if view == q then record (round_in rounds.old q) { proposal_asked = false } else round_in rounds.old q) }
+    ensures { (q : ℕ) → round_in rounds.new q ≡ (if view == q then record
+        (round_in rounds.old q) { proposal_asked = false } else round_in rounds.old q) }
 {
     if let Some(round) = rounds.get_mut(&view) {
         round.proposal_asked = false;
@@ -178,7 +180,8 @@ pub(crate) fn first_round(
     last: View,
 ) -> Option<View>
     ensures bounds { IfSome result (λ view. (first ≤ view) × (view ≤ last)) }
-    ensures least { IfSome result (λ view. (q : ℕ) → first ≤ q → q < view → round_in rounds.now q ≡ blank) }
+    ensures least { IfSome result (λ view. (q : ℕ) → first ≤ q → q < view
+        → round_in rounds.now q ≡ blank) }
     ensures none { IfNone result ((q : ℕ) → first ≤ q → q ≤ last → round_in rounds.now q ≡ blank) }
 {
     Some(View(first_between(rounds, first.0, last.0)?))

@@ -15,8 +15,9 @@ use std::alloc::AllocError;
 impl<S: Scheme + Drop, L: Elector + Drop> State<S, L> {
     /// The notarization of the view, where it has still to be sent. From now on it counts as sent.
     pub fn broadcast_notarization(&mut self, view: View) -> Result<Option<Notarization>, AllocError>
-        ensures stands { OnOk result (Takes S.attests L.elects self.old self.new (BroadcastNotarization view)) }
-        ensures answer { IfOk result (Answers S.attests L.elects self.old (λ made known. unsent_notarization known view)) }
+        ensures stands { OnOk result (Takes self.old self.new (BroadcastNotarization view)) }
+        ensures answer { IfOk result (Answers self.old
+            (λ made known. unsent_notarization known view)) }
     {
         let Some(certificate) = copy_unsent(self.alloc, &self.notarizations, view.0)? else {
             return Ok(None);
@@ -30,8 +31,9 @@ impl<S: Scheme + Drop, L: Elector + Drop> State<S, L> {
         &mut self,
         view: View,
     ) -> Result<Option<Nullification>, AllocError>
-        ensures stands { OnOk result (Takes S.attests L.elects self.old self.new (BroadcastNullification view)) }
-        ensures answer { IfOk result (Answers S.attests L.elects self.old (λ made known. unsent_nullification known view)) }
+        ensures stands { OnOk result (Takes self.old self.new (BroadcastNullification view)) }
+        ensures answer { IfOk result (Answers self.old
+            (λ made known. unsent_nullification known view)) }
     {
         let Some(certificate) = copy_unsent(self.alloc, &self.nullifications, view.0)? else {
             return Ok(None);
@@ -42,8 +44,9 @@ impl<S: Scheme + Drop, L: Elector + Drop> State<S, L> {
 
     /// The finalization of the view, where it has still to be sent. From now on it counts as sent.
     pub fn broadcast_finalization(&mut self, view: View) -> Result<Option<Finalization>, AllocError>
-        ensures stands { OnOk result (Takes S.attests L.elects self.old self.new (BroadcastFinalization view)) }
-        ensures answer { IfOk result (Answers S.attests L.elects self.old (λ made known. unsent_finalization known view)) }
+        ensures stands { OnOk result (Takes self.old self.new (BroadcastFinalization view)) }
+        ensures answer { IfOk result (Answers self.old
+            (λ made known. unsent_finalization known view)) }
     {
         let Some(certificate) = copy_unsent(self.alloc, &self.finalizations, view.0)? else {
             return Ok(None);

@@ -28,8 +28,9 @@ impl<S: Scheme + Drop, L: Elector + Drop> State<S, L> {
         now: u64,
     ) -> Result<Option<Notarization>, AllocError>
         requires clock { now < 2 ^ 63 }
-        ensures stands { OnOk result (Takes S.attests L.elects self.old self.new (Certified view good now)) }
-        ensures answer { IfOk result (Answers S.attests L.elects self.old (λ made known. certified_answer known view)) }
+        ensures stands { OnOk result (Takes self.old self.new (Certified view good now)) }
+        ensures answer { IfOk result (Answers self.old
+            (λ made known. certified_answer known view)) }
     {
         if !self.takes_verdict(view) {
             return Ok(None);
@@ -41,14 +42,14 @@ impl<S: Scheme + Drop, L: Elector + Drop> State<S, L> {
 
     /// Whether the parent's view is the last final one, or a later one with a true verdict. [parent-by-view]
     pub fn parent_certified(&self, parent: Parent) -> bool
-        ensures answer { Answers S.attests L.elects self.now (λ made known. is_certified known parent.view) result }
+        ensures answer { Answers self.now (λ made known. is_certified known parent.view) result }
     {
         self.is_certified(parent.view)
     }
 
     /// Whether a verdict on the view is taken.
     pub(crate) fn takes_verdict(&self, view: View) -> bool
-        ensures { Answers S.attests L.elects self.now (λ made known. takes_verdict known view) result }
+        ensures { Answers self.now (λ made known. takes_verdict known view) result }
     {
         if view <= self.progress.last_finalized {
             return false;
@@ -60,9 +61,11 @@ impl<S: Scheme + Drop, L: Elector + Drop> State<S, L> {
     /// Takes a verdict, and the failure that a false one is.
     pub(crate) fn judge(&mut self, view: View, good: bool, now: u64) -> Result<(), AllocError>
         requires clock { now < 2 ^ 63 }
-        ensures { OnOk result ((made : Made) (known : List Fact) → Keeps S.attests L.elects self.old made known
-            → verdict_of known view ≡ None
-            → Keeps S.attests L.elects self.new made ((if good then [] else triggered made known view FailedCertification now) ++ Judged view good now ∷ known)) }
+        ensures { OnOk result ((made : Made) (known : List Fact)
+            → Keeps self.old made known → verdict_of known view ≡ None
+            → Keeps self.new made
+            ((if good then [] else triggered made known view FailedCertification now)
+            ++ Judged view good now ∷ known)) }
     {
         if good {
             self.approve(view, now)?;
@@ -76,9 +79,8 @@ impl<S: Scheme + Drop, L: Elector + Drop> State<S, L> {
     /// Takes a true verdict, which opens the next view.
     fn approve(&mut self, view: View, now: u64) -> Result<(), AllocError>
         requires clock { now < 2 ^ 63 }
-        ensures { OnOk result ((made : Made) (known : List Fact) → Keeps S.attests L.elects self.old made known
-            → verdict_of known view ≡ None
-            → Keeps S.attests L.elects self.new made (Judged view true now ∷ known)) }
+        ensures { OnOk result ((made : Made) (known : List Fact) → Keeps self.old made known
+            → verdict_of known view ≡ None → Keeps self.new made (Judged view true now ∷ known)) }
     {
         self.put_away()?;
         let mut round = round_at(&self.rounds, view.0);
@@ -94,9 +96,8 @@ impl<S: Scheme + Drop, L: Elector + Drop> State<S, L> {
     /// Takes a false verdict. [replayed-failures]
     fn reject(&mut self, view: View, now: u64) -> Result<(), AllocError>
         requires clock { now < 2 ^ 63 }
-        ensures { OnOk result ((made : Made) (known : List Fact) → Keeps S.attests L.elects self.old made known
-            → verdict_of known view ≡ None
-            → Keeps S.attests L.elects self.new made (Judged view false now ∷ known)) }
+        ensures { OnOk result ((made : Made) (known : List Fact) → Keeps self.old made known
+            → verdict_of known view ≡ None → Keeps self.new made (Judged view false now ∷ known)) }
     {
         let mut round = round_at(&self.rounds, view.0);
         round.verdict = round.verdict.or(Some(false));
@@ -108,7 +109,7 @@ impl<S: Scheme + Drop, L: Elector + Drop> State<S, L> {
     /// Whether the view is the last final one, or a later one with a true verdict.
     #[tactic(auto, unfolding(crate::specs::Stands::StandsFor, crate::specs::Progress::progress_of, model_rules::specs::Ancestry::is_certified, model_rules::specs::Views::least_active))]
     pub(crate) fn is_certified(&self, view: View) -> bool
-        ensures { Answers S.attests L.elects self.now (λ made known. is_certified known view) result }
+        ensures { Answers self.now (λ made known. is_certified known view) result }
     {
         view == self.progress.last_finalized
             || (self.progress.last_finalized < view && contains(&self.certified, view.0))

@@ -28,8 +28,8 @@ impl<S: Scheme + Drop, L: Elector + Drop> State<S, L> {
     /// What to ask the application to verify, or else which missing certificate to ask for, where no
     /// verification is pending.
     pub fn try_verify(&mut self) -> Result<Verify, AllocError>
-        ensures stands { OnOk result (Takes S.attests L.elects self.old self.new TryVerify) }
-        ensures answer { IfOk result (Answers S.attests L.elects self.old (λ made known. verify_request made known)) }
+        ensures stands { OnOk result (Takes self.old self.new TryVerify) }
+        ensures answer { IfOk result (Answers self.old (λ made known. verify_request made known)) }
     {
         let request = self.verify_request();
         self.note_verify(&request)?;
@@ -38,8 +38,9 @@ impl<S: Scheme + Drop, L: Elector + Drop> State<S, L> {
 
     /// What to ask the application to verify, or else which missing certificate to ask for.
     fn verify_request(&self) -> Verify
-        ensures answer { Answers S.attests L.elects self.now (λ made known. verify_request made known) result }
-        ensures fresh { (made : Made) (calls : List Call) → StandsFor S.attests L.elects self.now made calls → is_unasked (known_of made calls) result ≡ true }
+        ensures answer { Answers self.now (λ made known. verify_request made known) result }
+        ensures fresh { (made : Made) (calls : List Call) → StandsFor self.now made calls
+            → is_unasked (known_of made calls) result ≡ true }
     {
         let limit = self.lookahead().admission_limit(self.progress.current);
         let Some(first) = self.next_wanting(self.progress.current, limit) else {
@@ -54,7 +55,7 @@ impl<S: Scheme + Drop, L: Elector + Drop> State<S, L> {
     /// The least view from one to another whose slot waits to be verified.
     fn next_wanting(&self, first: View, limit: View) -> Option<View>
         ensures bounds { IfSome result (λ view. (first ≤ view) × (view ≤ limit)) }
-        ensures least { (made : Made) (known : List Fact) → Keeps S.attests L.elects self.now made known
+        ensures least { (made : Made) (known : List Fact) → Keeps self.now made known
             → (progress_of made known).pruned ≤ first
             → result ≡ find (wants_verify known) (range_with_len first (limit + 1 - first)) }
     {
@@ -73,9 +74,12 @@ impl<S: Scheme + Drop, L: Elector + Drop> State<S, L> {
 
     /// The least such view whose slot may stand on its parent.
     fn first_ready(&self, first: View, limit: View) -> Option<View>
-        ensures { (made : Made) (calls : List Call) → StandsFor S.attests L.elects self.now made calls
-            → (progress_of made (known_of made calls)).pruned ≤ first
-            → result ≡ find (λ view. wants_verify (known_of made calls) view && is_founded made (known_of made calls) view) (range_with_len first (limit + 1 - first)) }
+        ensures { (made : Made) (calls : List Call) → StandsFor self.now made calls
+            → (progress_of made
+            (known_of made calls)).pruned ≤ first
+            → result ≡ find (λ view. wants_verify (known_of made calls) view
+            && is_founded made (known_of made calls) view) (range_with_len first
+            (limit + 1 - first)) }
     {
         let mut from = first;
         while let Some(view) = self.next_wanting(from, limit) {
@@ -93,7 +97,7 @@ impl<S: Scheme + Drop, L: Elector + Drop> State<S, L> {
     /// Whether the view's slot waits to be verified: another's, in a view without own vote or certificate.
     #[tactic(auto, using(crate::proofs::Wanting::wants_by), unfolding(crate::specs::Stands::StandsFor))]
     fn wants_verify(&self, view: View) -> bool
-        ensures { (made : Made) (known : List Fact) → Keeps S.attests L.elects self.now made known
+        ensures { (made : Made) (known : List Fact) → Keeps self.now made known
             → (progress_of made known).pruned ≤ view → result ≡ wants_verify known view }
     {
         round_at(&self.rounds, view.0).wants_verify() && !self.has_given_up(view)
@@ -102,8 +106,8 @@ impl<S: Scheme + Drop, L: Elector + Drop> State<S, L> {
     /// Whether the view's slot may stand on its parent.
     #[tactic(auto, unfolding(crate::specs::Stands::StandsFor, crate::specs::Rounds::round_of, crate::specs::Rounds::slot_in, model_rules::specs::Slot::slot_of, model_rules::specs::Requests::is_founded))]
     fn is_founded(&self, view: View) -> bool
-        ensures { (made : Made) (calls : List Call) → StandsFor S.attests L.elects self.now made calls
-            → (progress_of made (known_of made calls)).pruned ≤ view
+        ensures { (made : Made) (calls : List Call) → StandsFor self.now made calls → (progress_of made
+            (known_of made calls)).pruned ≤ view
             → result ≡ is_founded made (known_of made calls) view }
     {
         match round_at(&self.rounds, view.0).slot() {
@@ -115,12 +119,13 @@ impl<S: Scheme + Drop, L: Elector + Drop> State<S, L> {
     /// The slot of the view, to be verified.
     #[tactic(auto, using(crate::proofs::Wanting::founded_above), unfolding(crate::specs::Opened::slots, model_rules::specs::Views::least_active, model_rules::specs::Requests::verify_of))]
     fn ready_verify(&self, view: View) -> Verify
-        ensures answer { (made : Made) (calls : List Call) → StandsFor S.attests L.elects self.now made calls
-            → (progress_of made (known_of made calls)).pruned ≤ view
-            → is_founded made (known_of made calls) view ≡ true
-            → result ≡ unwrap_or (option_map (verify_of made (known_of made calls) view) (slot_of (known_of made calls) view)) requests.Wait }
-        ensures fresh { (made : Made) (calls : List Call) → StandsFor S.attests L.elects self.now made calls
-            → (progress_of made (known_of made calls)).pruned ≤ view
+        ensures answer { (made : Made) (calls : List Call) → StandsFor self.now made calls
+            → (progress_of made
+            (known_of made calls)).pruned ≤ view → is_founded made (known_of made calls) view ≡ true
+            → result ≡ unwrap_or (option_map (verify_of made (known_of made calls) view)
+            (slot_of (known_of made calls) view)) requests.Wait }
+        ensures fresh { (made : Made) (calls : List Call)
+            → StandsFor self.now made calls → (progress_of made (known_of made calls)).pruned ≤ view
             → wants_verify (known_of made calls) view ≡ true
             → is_unasked (known_of made calls) result ≡ true }
     {
@@ -141,9 +146,12 @@ impl<S: Scheme + Drop, L: Elector + Drop> State<S, L> {
     /// What is missing below the slot of the view, where it was not asked for.
     #[tactic(auto, unfolding(crate::specs::Stands::StandsFor, model_rules::specs::Requests::resolve_of))]
     fn missing_verify(&self, view: View) -> Verify
-        ensures answer { (made : Made) (calls : List Call) → StandsFor S.attests L.elects self.now made calls
+        ensures answer { (made : Made) (calls : List Call) → StandsFor self.now made calls
             → (progress_of made (known_of made calls)).pruned ≤ view
-            → result ≡ unwrap_or (option_and_then (resolve_of made (known_of made calls) view) (option_and_then (missing_below made (known_of made calls) view) (slot_of (known_of made calls) view))) requests.Wait }
+            → result ≡ unwrap_or
+            (option_and_then (resolve_of made (known_of made calls) view)
+            (option_and_then (missing_below made (known_of made calls) view)
+            (slot_of (known_of made calls) view))) requests.Wait }
         ensures fresh { (known : List Fact) → is_unasked known result ≡ true }
     {
         let Some((gap, kind)) = self.missing_below(view) else {
@@ -163,9 +171,10 @@ impl<S: Scheme + Drop, L: Elector + Drop> State<S, L> {
     /// The least missing view below the slot of the view, and what is missing of it.
     #[tactic(auto, unfolding(crate::specs::Opened::slots, model_rules::specs::Views::least_active, model_rules::specs::Requests::missing_below))]
     fn missing_below(&self, view: View) -> Option<(View, Kind)>
-        ensures { (made : Made) (calls : List Call) → StandsFor S.attests L.elects self.now made calls
-            → (progress_of made (known_of made calls)).pruned ≤ view
-            → result ≡ option_and_then (missing_below made (known_of made calls) view) (slot_of (known_of made calls) view) }
+        ensures { (made : Made) (calls : List Call)
+            → StandsFor self.now made calls → (progress_of made (known_of made calls)).pruned ≤ view
+            → result ≡ option_and_then (missing_below made (known_of made calls) view)
+            (slot_of (known_of made calls) view) }
     {
         let parent = round_at(&self.rounds, view.0).slot()?.parent;
         if parent < self.progress.last_finalized || view <= parent {
@@ -181,9 +190,11 @@ impl<S: Scheme + Drop, L: Elector + Drop> State<S, L> {
     /// Whether nothing shows yet that a proposal of the view may stand on the parent.
     #[tactic(auto, unfolding(crate::specs::Stands::StandsFor, crate::specs::Rounds::round_of))]
     fn lacks_notarization(&self, parent: View, view: View) -> bool
-        ensures { (made : Made) (calls : List Call) → StandsFor S.attests L.elects self.now made calls
-            → (progress_of made (known_of made calls)).pruned ≤ parent
-            → result ≡ (not (is_certified (known_of made calls) parent) && is_none (notarization_of (known_of made calls) parent) && not (is_met (known_of made calls) parent view)) }
+        ensures { (made : Made) (calls : List Call) → StandsFor self.now made calls
+            → (progress_of made
+            (known_of made calls)).pruned ≤ parent
+            → result ≡ (not (is_certified (known_of made calls) parent) && is_none (notarization_of
+            (known_of made calls) parent) && not (is_met (known_of made calls) parent view)) }
     {
         !self.is_certified(parent)
             && round_at(&self.rounds, parent.0).notarized.is_none()
@@ -192,9 +203,9 @@ impl<S: Scheme + Drop, L: Elector + Drop> State<S, L> {
 
     /// The request is made.
     fn note_verify(&mut self, request: &Verify) -> Result<(), AllocError>
-        ensures { OnOk result ((made : Made) (known : List Fact) → Keeps S.attests L.elects self.old made known
+        ensures { OnOk result ((made : Made) (known : List Fact) → Keeps self.old made known
             → is_unasked known request.now ≡ true
-            → Keeps S.attests L.elects self.new made (verify_facts request.now ++ known)) }
+            → Keeps self.new made (verify_facts request.now ++ known)) }
     {
         match *request {
             Verify::Ready(_, proposal) => self.ask_verify(&proposal),
@@ -210,9 +221,9 @@ impl<S: Scheme + Drop, L: Elector + Drop> State<S, L> {
 
     /// The application is asked to verify the proposal.
     fn ask_verify(&mut self, proposal: &Proposal) -> Result<(), AllocError>
-        ensures { OnOk result ((made : Made) (known : List Fact) → Keeps S.attests L.elects self.old made known
+        ensures { OnOk result ((made : Made) (known : List Fact) → Keeps self.old made known
             → verify_asked known (view_of proposal.now) ≡ None
-            → Keeps S.attests L.elects self.new made (VerifyAsked proposal.now ∷ known)) }
+            → Keeps self.new made (VerifyAsked proposal.now ∷ known)) }
     {
         let view = proposal.view();
         let mut round = round_at(&self.rounds, view.0);
@@ -222,8 +233,8 @@ impl<S: Scheme + Drop, L: Elector + Drop> State<S, L> {
 
     /// For the proposal of the first view, the certificate of this kind of the second is asked for.
     fn ask_missing(&mut self, proposal: View, view: View, kind: Kind) -> Result<(), AllocError>
-        ensures { OnOk result ((made : Made) (known : List Fact) → Keeps S.attests L.elects self.old made known
-            → Keeps S.attests L.elects self.new made (MissingAsked proposal view kind ∷ known)) }
+        ensures { OnOk result ((made : Made) (known : List Fact) → Keeps self.old made known
+            → Keeps self.new made (MissingAsked proposal view kind ∷ known)) }
     {
         self.missing.ask(proposal, view, kind)
     }

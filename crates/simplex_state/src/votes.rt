@@ -20,8 +20,9 @@ use std::alloc::AllocError;
 impl<S: Scheme + Drop, L: Elector + Drop> State<S, L> {
     /// Votes for the proposal of the view, where the vote rule gives it and the scheme signs it.
     pub fn construct_notarize(&mut self, view: View) -> Result<Option<Notarize>, AllocError>
-        ensures stands { OnOk result (Takes S.attests L.elects self.old self.new (ConstructNotarize view)) }
-        ensures answer { IfOk result (Answers S.attests L.elects self.old (λ made known. notarize_at made known view)) }
+        ensures stands { OnOk result (Takes self.old self.new (ConstructNotarize view)) }
+        ensures answer { IfOk result (Answers self.old
+            (λ made known. notarize_at made known view)) }
     {
         let Some(vote) = self.notarize_at(view) else {
             return Ok(None);
@@ -32,8 +33,9 @@ impl<S: Scheme + Drop, L: Elector + Drop> State<S, L> {
 
     /// Votes that the proposal of the view is final, where the vote rule gives it and the scheme signs it.
     pub fn construct_finalize(&mut self, view: View) -> Result<Option<Finalize>, AllocError>
-        ensures stands { OnOk result (Takes S.attests L.elects self.old self.new (ConstructFinalize view)) }
-        ensures answer { IfOk result (Answers S.attests L.elects self.old (λ made known. finalize_at made known view)) }
+        ensures stands { OnOk result (Takes self.old self.new (ConstructFinalize view)) }
+        ensures answer { IfOk result (Answers self.old
+            (λ made known. finalize_at made known view)) }
     {
         let Some(vote) = self.finalize_at(view) else {
             return Ok(None);
@@ -45,7 +47,7 @@ impl<S: Scheme + Drop, L: Elector + Drop> State<S, L> {
     /// The member's vote for the view's proposal.
     #[tactic(auto, using(crate::proofs::Checking::signed, crate::proofs::Checking::slotless, crate::proofs::Checking::early, crate::proofs::Proposing::slot_is), unfolding(crate::specs::Opened::signing))]
     fn notarize_at(&self, view: View) -> Option<Notarize>
-        ensures { Answers S.attests L.elects self.now (λ made known. notarize_at made known view) result }
+        ensures { Answers self.now (λ made known. notarize_at made known view) result }
     {
         if !self.is_votable(view) {
             return None;
@@ -67,8 +69,9 @@ impl<S: Scheme + Drop, L: Elector + Drop> State<S, L> {
     /// Whether the member votes in the view now: the current one, one ahead of it, or its own first of the next term.
     #[tactic(auto, using(crate::proofs::Checking::unvotable, crate::proofs::Checking::own_slot_is), unfolding(crate::specs::Opened::votable))]
     fn is_votable(&self, view: View) -> bool
-        ensures above { (made : Made) (known : List Fact) → Keeps S.attests L.elects self.now made known → result ≡ true → (progress_of made known).pruned ≤ view }
-        ensures answer { Answers S.attests L.elects self.now (λ made known. is_votable made known view) result }
+        ensures above { (made : Made) (known : List Fact) → Keeps self.now made known
+            → result ≡ true → (progress_of made known).pruned ≤ view }
+        ensures answer { Answers self.now (λ made known. is_votable made known view) result }
     {
         let current = self.progress.current;
         if view < current {
@@ -82,9 +85,9 @@ impl<S: Scheme + Drop, L: Elector + Drop> State<S, L> {
 
     /// Takes an own vote for a proposal.
     pub(crate) fn vote_notarize(&mut self, view: View, vote: &Notarize) -> Result<(), AllocError>
-        ensures { OnOk result ((made : Made) (known : List Fact) → Keeps S.attests L.elects self.old made known
+        ensures { OnOk result ((made : Made) (known : List Fact) → Keeps self.old made known
             → vote.now.proposal.round.view ≡ view
-            → Keeps S.attests L.elects self.new made (Voted (votes.Notarize vote.now) ∷ known)) }
+            → Keeps self.new made (Voted (votes.Notarize vote.now) ∷ known)) }
     {
         let mut round = round_at(&self.rounds, view.0);
         round.voted = round.voted.or(Some(vote.proposal));
@@ -94,7 +97,7 @@ impl<S: Scheme + Drop, L: Elector + Drop> State<S, L> {
     /// The member's vote that the view's proposal is final.
     #[tactic(auto, unfolding(crate::specs::Opened::votes, model_rules::specs::Votes::finalize_at, model_rules::specs::Votes::signed_finalize))]
     fn finalize_at(&self, view: View) -> Option<Finalize>
-        ensures { Answers S.attests L.elects self.now (λ made known. finalize_at made known view) result }
+        ensures { Answers self.now (λ made known. finalize_at made known view) result }
     {
         if !self.finalizes(view) {
             return None;
@@ -106,8 +109,9 @@ impl<S: Scheme + Drop, L: Elector + Drop> State<S, L> {
     /// Whether the member votes for the finality of the view's slot.
     #[tactic(auto, unfolding(crate::specs::Opened::votes, model_rules::specs::Votes::finalizes))]
     fn finalizes(&self, view: View) -> bool
-        ensures above { (made : Made) (known : List Fact) → Keeps S.attests L.elects self.now made known → result ≡ true → (progress_of made known).pruned ≤ view }
-        ensures answer { Answers S.attests L.elects self.now (λ made known. finalizes made known view) result }
+        ensures above { (made : Made) (known : List Fact) → Keeps self.now made known
+            → result ≡ true → (progress_of made known).pruned ≤ view }
+        ensures answer { Answers self.now (λ made known. finalizes made known view) result }
     {
         if view <= self.progress.last_finalized || !contains(&self.certified, view.0) {
             return false;
@@ -118,7 +122,7 @@ impl<S: Scheme + Drop, L: Elector + Drop> State<S, L> {
     /// Whether the member gave up a view that finality of this one would have to skip.
     #[tactic(auto, unfolding(crate::specs::Stands::StandsFor, crate::specs::Progress::progress_of, model_rules::specs::Votes::is_gated))]
     fn is_gated(&self, view: View) -> bool
-        ensures { Answers S.attests L.elects self.now (λ made known. is_gated made known view) result }
+        ensures { Answers self.now (λ made known. is_gated made known view) result }
     {
         match self.last_given_up(view) {
             None => false,
@@ -130,9 +134,9 @@ impl<S: Scheme + Drop, L: Elector + Drop> State<S, L> {
 
     /// Takes an own vote for finality.
     pub(crate) fn vote_final(&mut self, view: View, vote: &Finalize) -> Result<(), AllocError>
-        ensures { OnOk result ((made : Made) (known : List Fact) → Keeps S.attests L.elects self.old made known
+        ensures { OnOk result ((made : Made) (known : List Fact) → Keeps self.old made known
             → vote.now.proposal.round.view ≡ view
-            → Keeps S.attests L.elects self.new made (Voted (votes.Finalize vote.now) ∷ known)) }
+            → Keeps self.new made (Voted (votes.Finalize vote.now) ∷ known)) }
     {
         let mut round = round_at(&self.rounds, view.0);
         round.voted_final = true;

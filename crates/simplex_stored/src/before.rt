@@ -42,7 +42,8 @@ impl Before {
 
     /// One call more.
     pub(crate) fn take(&mut self, alloc: Global, call: &AuditCall) -> Result<(), AllocError>
-        ensures { OnOk result ((calls : List Call) → BeforeStands self.old calls → BeforeStands self.new (calls ++ made call.now)) }
+        ensures { OnOk result ((calls : List Call) → BeforeStands self.old calls
+            → BeforeStands self.new (calls ++ made call.now)) }
     {
         match call {
             AuditCall::Append(section, artifact) => self.take_append(alloc, *section, artifact),
@@ -60,7 +61,8 @@ impl Before {
     ) -> Result<(), AllocError>
         ensures stored { OnOk result (self.new.stored ≡ self.old.stored) }
         ensures waiting { OnOk result ((number : ℕ) (bytes : List ℕ) → waits self.new.waiting number bytes
-            ≡ (section == number && is_spelled bytes artifact.now || waits self.old.waiting number bytes)) }
+            ≡ (section == number && is_spelled bytes artifact.now
+            || waits self.old.waiting number bytes)) }
     {
         let Some(vote) = vote_of(artifact) else {
             return Ok(());
@@ -71,7 +73,8 @@ impl Before {
 
     // Counts the votes that wait in the section as stored.
     fn sync(&mut self, section: u64) -> Result<(), AllocError>
-        ensures stored { OnOk result ((bytes : List ℕ) → is_in self.new.stored bytes ≡ (waits self.old.waiting section bytes || is_in self.old.stored bytes)) }
+        ensures stored { OnOk result ((bytes : List ℕ) → is_in self.new.stored bytes
+            ≡ (waits self.old.waiting section bytes || is_in self.old.stored bytes)) }
         ensures waiting { OnOk result ((number : ℕ) (bytes : List ℕ) → waits self.new.waiting number bytes
             ≡ (if section == number then false else waits self.old.waiting number bytes)) }
     {
@@ -104,7 +107,9 @@ fn wait(
 
 // Keeps each of these.
 fn add_each(stored: &mut Spellings, spellings: Sequence<Bytes>) -> Result<(), AllocError>
-    ensures { OnOk result ((bytes : List ℕ) → is_in stored.new bytes ≡ (list_any (bytes_eq bytes) spellings || is_in stored.old bytes)) }
+    ensures { OnOk result ((bytes : List ℕ)
+        → is_in stored.new bytes
+        ≡ (list_any (bytes_eq bytes) spellings || is_in stored.old bytes)) }
 {
     for bytes in spellings.into_vec() {
         stored.add(bytes)?;

@@ -14,7 +14,8 @@ pub(crate) fn append(
     artifact: &Artifact,
 ) -> Result<(), AllocError>
     requires unordered { journal.old.order.call ≡ 0 }
-    ensures sections { OnOk result (journal.new.sections ≡ appended section artifact.now journal.old.sections) }
+    ensures sections { OnOk result (journal.new.sections
+        ≡ appended section artifact.now journal.old.sections) }
     ensures unordered { journal.new.order.call ≡ 0 }
 {
     match journal.append(alloc, section, artifact) {

@@ -34,7 +34,8 @@ impl Spellings {
 
     /// Keeps these bytes.
     pub(crate) fn add(&mut self, bytes: Bytes) -> Result<(), AllocError>
-        ensures { OnOk result ((other : List ℕ) → is_in self.new other ≡ (bytes_eq other bytes || is_in self.old other)) }
+        ensures { OnOk result ((other : List ℕ)
+            → is_in self.new other ≡ (bytes_eq other bytes || is_in self.old other)) }
     {
         self.bytes.insert(bytes.into_vec())?;
         Ok(())

@@ -97,7 +97,8 @@ impl Stored {
 
     /// Whether a step that makes these calls stores its votes before it sends them.
     pub fn stores_first(&self, alloc: Global, calls: &[AuditCall]) -> Result<bool, AllocError>
-        ensures { IfOk result (λ stored. stored ≡ order.are_in_order (kept self.now) [] (filter_map call_for calls.now)) }
+        ensures { IfOk result (λ stored. stored
+            ≡ order.are_in_order (kept self.now) [] (filter_map call_for calls.now)) }
     {
         let mut before = Before::new(alloc);
         for call in calls {
@@ -111,7 +112,8 @@ impl Stored {
 
     // Whether the call may be made behind these.
     fn may_call(&self, alloc: Global, before: &Before, call: &AuditCall) -> Result<bool, AllocError>
-        ensures { IfOk result (λ may. (calls : List Call) → BeforeStands before.now calls → may ≡ may_make (kept self.now) calls call.now) }
+        ensures { IfOk result (λ may. (calls : List Call) → BeforeStands before.now calls
+            → may ≡ may_make (kept self.now) calls call.now) }
     {
         match call {
             AuditCall::Send(Channel::Vote, bytes) => self.may_send(alloc, before, bytes.as_slice()),
@@ -121,7 +123,8 @@ impl Stored {
 
     // Whether a vote of these bytes may be sent.
     fn may_send(&self, alloc: Global, before: &Before, bytes: &[u8]) -> Result<bool, AllocError>
-        ensures { IfOk result (λ may. (calls : List Call) → BeforeStands before.now calls → may ≡ order.may_send (kept self.now) calls (whole vote bytes.now)) }
+        ensures { IfOk result (λ may. (calls : List Call) → BeforeStands before.now calls
+            → may ≡ order.may_send (kept self.now) calls (whole vote bytes.now)) }
     {
         let Ok(vote) = Vote::decode(bytes) else {
             return Ok(true);

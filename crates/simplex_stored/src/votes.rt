@@ -51,7 +51,8 @@ pub(crate) fn keep_nullify(
     bytes: &[u8],
     sections: &BTreeMap<u64, SectionLists>,
 ) -> Result<bool, AllocError>
-    ensures { IfOk result (λ held. held ≡ list_any (before.is_nullify bytes.now) (kept (sections_of sections.now.entries))) }
+    ensures { IfOk result (λ held. held
+        ≡ list_any (before.is_nullify bytes.now) (kept (sections_of sections.now.entries))) }
 {
     for (_, lists) in sections {
         if have_nullify(alloc, bytes, lists.synced())? {

@@ -24,7 +24,8 @@ fn finalized_text(alloc: Global, view: u64, payload: &str) -> Result<String, All
 }
 
 fn finalized(alloc: Global, view: View, payload: &Digest) -> Result<String, AllocError>
-    ensures { IfOk result (λ text. string_bytes text ≡ finalized_of view (encode_lower payload.now)) }
+    ensures { IfOk result (λ text. string_bytes text
+        ≡ finalized_of view (encode_lower payload.now)) }
 {
     let payload = hex::encode(alloc, payload.0.as_slice())?;
     finalized_text(alloc, view.0, payload.as_str())
@@ -76,7 +77,8 @@ pub fn push_line(
     node: &Node,
     what: Option<&str>,
 ) -> Result<(), AllocError>
-    ensures { OnOk result (string_bytes text.new ≡ string_bytes text.old ++ line_if event node.now (option_map (λ s. s.now) what.entry)) }
+    ensures { OnOk result (string_bytes text.new
+        ≡ string_bytes text.old ++ line_if event node.now (option_map (λ s. s.now) what.entry)) }
 {
     if let Some(what) = what {
         text.push_str(line(alloc, event, node, what)?.as_str())?;
@@ -92,7 +94,8 @@ fn push_call(
     node: &Node,
     call: &Call,
 ) -> Result<(), AllocError>
-    ensures { OnOk result (string_bytes text.new ≡ string_bytes text.old ++ call_line_of event node.now call.now) }
+    ensures { OnOk result (string_bytes text.new
+        ≡ string_bytes text.old ++ call_line_of event node.now call.now) }
 {
     if let Call::Report(activity) = call
         && let Some(what) = told(alloc, activity)?
@@ -110,7 +113,8 @@ pub fn push_calls(
     node: &Node,
     calls: &[Call],
 ) -> Result<(), AllocError>
-    ensures { OnOk result (string_bytes text.new ≡ string_bytes text.old ++ flat_map (call_line_of event node.now) calls.now) }
+    ensures { OnOk result (string_bytes text.new
+        ≡ string_bytes text.old ++ flat_map (call_line_of event node.now) calls.now) }
 {
     let mut rest = calls;
     while let [call, after @ ..] = rest {

@@ -35,7 +35,9 @@ fn push_entry(
     entry: &Entry,
     stop: Option<&str>,
 ) -> Result<(), AllocError>
-    ensures { OnOk result (string_bytes text.new ≡ string_bytes text.old ++ lines_at entry.now.who (option_map (λ s. s.now) stop.entry) entry.now) }
+    ensures { OnOk result (string_bytes text.new
+        ≡ string_bytes text.old
+        ++ lines_at entry.now.who (option_map (λ s. s.now) stop.entry) entry.now) }
 {
     if let Some(node) = &entry.who {
         push_calls(alloc, text, entry.event, node, entry.calls.as_slice())?;

@@ -6,11 +6,6 @@ use Rattle.std.specs.BTreeSet.{BTreeSet}
 use Rattle.simplex_wire.specs.declared.scheme.Scheme as scheme
 use Rattle.simplex_types.specs.declared.elector.Elector as elector
 use Rattle.simplex_journal.specs.declared.journal.Journal as journal
-use Rattle.simplex_values.specs.declared.proposal.Subject.{Subject}
-use Rattle.simplex_values.specs.declared.round.Round.{Round}
-use Rattle.simplex_wire.specs.declared.attestation.Attestation.{Attestation}
-use Rattle.simplex_journal.specs.Journal.{Section}
-use Rattle.simplex_journal.specs.Order.{Order}
 use Rattle.simplex_mailbox.specs.Mail.{Mail}
 use Rattle.simplex_mailbox.specs.Waiting.{Waiting}
 use Rattle.simplex_messages.specs.declared.step.StepOut.{StepOut}
@@ -72,10 +67,10 @@ record-of handle skips terms passes held mailbox log are is kept =
     subst (λ (terms : Terms). IsRecord handle skips terms.capacity terms.passes log) (are ∙ ap (λ (mail : Mail _). record { capacity = mail.capacity; passes = passes }) is) kept
 
 -- over a journal that tells, the voter's journal holds what its history says
-held-told : {S L J : Type 0} (attests : S → Subject → Option Attestation) (elects : L → Round → ℕ) (sections : J → List Section) (order : J → Option Order) (actor : Actor S L J) (made : VoterMade) (past : List Given)
-    → StandsFor attests elects sections order actor made past → sections (journal_of actor) ≡ (place_of made past).sections
+held-told : {S L J : Type 0} {s : scheme.Ghosts S} {l : elector.Ghosts L} {j : journal.Ghosts J} (actor : Actor S L J s l j) (made : VoterMade) (past : List Given)
+    → StandsFor actor made past → j.sections (journal_of actor) ≡ (place_of made past).sections
 unfolding StandsFor
-held-told attests elects sections order actor made past stands = stands.sections_are
+held-told actor made past stands = stands.sections_are
 
 voter-at : {S L J : Type 0} {s : scheme.Ghosts S} {l : elector.Ghosts L} {j : journal.Ghosts J} (crew : Crew S L J s l j) (now : ℕ) (feed : Feed) (old : Team S L J s l j) → IsReady crew now feed old
     → (told : Bool) (parts : Parts) → Holds told crew parts → VoterIsAt told old.voter parts.voter (voter_start parts now feed.voter.items)
@@ -134,7 +129,7 @@ module _ {S L J : Type 0} {s : scheme.Ghosts S} {l : elector.Ghosts L} {j : jour
         did = ran.did;
         free = ran.free;
         ended = subst (λ (ends : List Outcome). Ended turns ends (faults_in crew) (j.fault_count (journal_of new.voter.actor))) over.0
-            (subst (λ (actor : Actor S L J). Ended turns ran.ends (j.fault_count (journal_of actor)) (j.fault_count (journal_of new.voter.actor))) ready.voter ran.ended);
+            (subst (λ (actor : Actor S L J s l j). Ended turns ran.ends (j.fault_count (journal_of actor)) (j.fault_count (journal_of new.voter.actor))) ready.voter ran.ended);
         calls = takes-of none_skipped _ _ logs.voter _ _ (map took_of ran.did) h.to_voter ready.voter_filled ready.takers.1 same.own records.voter_own ran.took;
         gave = over.1;
         journal = over.2;
@@ -152,5 +147,5 @@ module _ {S L J : Type 0} {s : scheme.Ghosts S} {l : elector.Ghosts L} {j : jour
         count = length-map ran.did took_of ∙ told.0;
         calls = takes-of none_skipped _ _ logs.voter _ _ (map took_of ran.did) h.to_voter ready.voter_filled ready.takers.1 same.own records.voter_own ran.took;
         gave = gives.0;
-        journal = held-told s.attests l.elects j.sections j.order _ _ _ gives.1.stands ∙ ap (λ (place : Place). place.sections) gives.1.place_is;
+        journal = held-told _ _ _ gives.1.stands ∙ ap (λ (place : Place). place.sections) gives.1.place_is;
       }

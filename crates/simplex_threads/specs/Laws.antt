@@ -33,19 +33,22 @@ SendsWhatIsSynced made =
 abbrev pub VotesByRule : VoterMade → Found → StepOut → Type 0
 VotesByRule made (place, None) out = vote_packets out.calls ≡ []
 VotesByRule made (place, Some input) out =
-    vote_packets out.calls ≡ map packet_of (votes_by_rule made.rules place.now (place_of made place.past).standing input)
+    vote_packets out.calls ≡ map packet_of
+    (votes_by_rule made.rules place.now (place_of made place.past).standing input)
 
 -- this holds of each of the turns, one after another
 unfoldable pub AllSendWhatIsSynced : VoterMade → VoterPlace → List Turn → Type 0
 AllSendWhatIsSynced made place [] = Unit {0}
 AllSendWhatIsSynced made place (turn ∷ rest) =
-    SendsWhatIsSynced (voter_turn made place turn).1.calls × AllSendWhatIsSynced made (voter_turn made place turn).0 rest
+    SendsWhatIsSynced (voter_turn made place turn).1.calls
+    × AllSendWhatIsSynced made (voter_turn made place turn).0 rest
 
 -- and this of each that no stop broke off
 unfoldable pub AllVoteByRule : VoterMade → VoterPlace → List Turn → Type 0
 AllVoteByRule made place [] = Unit {0}
 AllVoteByRule made place (turn ∷ rest) =
-    (is_whole (turn_outcome made place turn) ≡ true → VotesByRule made (finds made place turn.0) (voter_turn made place turn).1)
+    (is_whole (turn_outcome made place turn) ≡ true
+    → VotesByRule made (finds made place turn.0) (voter_turn made place turn).1)
     × AllVoteByRule made (voter_turn made place turn).0 rest
 
 -- ---- votes are stored before they go out
@@ -62,8 +65,10 @@ pub record IsOfLife (made : Made) (sections : List Section) : Type 0 where
 unfoldable pub HasLived : VoterMade → List Given → Type 0
 HasLived made [] = ⊥
 HasLived made (Started now stop ∷ past) =
-    (past ≡ []) × IsFloor made.floor × IsOfLife made.rules made.sections × (is_whole (start_given made past now stop).outcome ≡ true)
-HasLived made (Stepped input now stop ∷ past) = HasLived made past × (is_whole (step_given made past input now stop).outcome ≡ true)
+    (past ≡ []) × IsFloor made.floor × IsOfLife made.rules made.sections
+    × (is_whole (start_given made past now stop).outcome ≡ true)
+HasLived made (Stepped input now stop ∷ past) =
+    HasLived made past × (is_whole (step_given made past input now stop).outcome ≡ true)
 HasLived made (Answered number answer ∷ past) = HasLived made past
 
 -- so it is of the voter of an engine

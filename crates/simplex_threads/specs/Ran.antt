@@ -49,14 +49,16 @@ voter_start parts now feed = record { past = parts.given; now = now; feed = feed
 
 -- the batcher made so many turns: what they gave is what its rules give for what the record says that it took, and for its
 -- feed, all at one clock
-pub record BatcherRan (parts : Parts) (now turns : ℕ) (feed : List Delivery) (log : List (Op batcher_message.Message)) (outs : List StepOut) : Type 0 where
+pub record BatcherRan (parts : Parts) (now turns : ℕ) (feed : List Delivery) (log : List (Op batcher_message.Message))
+    (outs : List StepOut) : Type 0 where
   pub taken : List (Option batcher_message.Message)
   pub count : length taken ≡ turns
   pub calls : Takes none_skipped parts.to_batcher taken (calls_by caller_of 0 log)
   pub gave : outs ≡ outs_of (batcher_turn parts.batcher now) (batcher_start parts feed) taken
   pub is_record : IsRecord batcher_handled none_skipped parts.to_batcher.capacity 2 log
 
-pub record ResolverRan (parts : Parts) (now turns : ℕ) (feed : List Delivery) (log : List (Op MailboxMessage)) (outs : List StepOut) : Type 0 where
+pub record ResolverRan (parts : Parts) (now turns : ℕ) (feed : List Delivery) (log : List (Op MailboxMessage))
+    (outs : List StepOut) : Type 0 where
   pub taken : List (Option MailboxMessage)
   pub count : length taken ≡ turns
   pub calls : Takes none_skipped parts.to_resolver taken (calls_by caller_of 0 log)
@@ -66,7 +68,8 @@ pub record ResolverRan (parts : Parts) (now turns : ℕ) (feed : List Delivery) 
 -- The voter made so many turns, or those up to one that a failing call of the journal ended: then the journal's count of
 -- faults rose. In each turn there is a stop that none became by what the journal did, with which its rules give what it gave,
 -- and leave what the journal holds.
-pub record VoterRan (parts : Parts) (now turns : ℕ) (feed : List FeedItem) (log : List (Op voter_message.Message)) (outs : List StepOut) (faults_before faults_now : ℕ) (sections : List Section) : Type 0 where
+pub record VoterRan (parts : Parts) (now turns : ℕ) (feed : List FeedItem) (log : List (Op voter_message.Message))
+    (outs : List StepOut) (faults_before faults_now : ℕ) (sections : List Section) : Type 0 where
   pub did : List Turn
   pub free : All IsFree did
   pub ended : Ended turns (outcomes_of parts.voter (voter_start parts now feed) did) faults_before faults_now
@@ -76,12 +79,14 @@ pub record VoterRan (parts : Parts) (now turns : ℕ) (feed : List FeedItem) (lo
   pub is_record : IsRecord voter_handled none_skipped parts.to_voter.capacity 3 log
 
 -- over a journal of which no call fails all turns were made, and no stop is any but none
-pub record VoterRanWhole (parts : Parts) (now turns : ℕ) (feed : List FeedItem) (log : List (Op voter_message.Message)) (outs : List StepOut) (sections : List Section) : Type 0 where
+pub record VoterRanWhole (parts : Parts) (now turns : ℕ) (feed : List FeedItem) (log : List (Op voter_message.Message))
+    (outs : List StepOut) (sections : List Section) : Type 0 where
   pub taken : List (Option voter_message.Message)
   pub count : length taken ≡ turns
   pub calls : Takes none_skipped parts.to_voter taken (calls_by caller_of 0 log)
   pub gave : outs ≡ outs_of (voter_turn parts.voter) (voter_start parts now feed) (map unstopped taken)
-  pub journal : sections ≡ (place_of parts.voter (after (voter_turn parts.voter) (voter_start parts now feed) (map unstopped taken)).past).sections
+  pub journal : sections ≡ (place_of parts.voter
+      (after (voter_turn parts.voter) (voter_start parts now feed) (map unstopped taken)).past).sections
 
 -- ---- what went from one to another
 

@@ -25,11 +25,13 @@ module _ {S L J : Type 0} {s : scheme.Ghosts S} {l : elector.Ghosts L} {j : jour
     pub voter_feed : team.voter.feed.items ≡ feed.voter.items
     pub resolver_feed : team.resolver.feed.items ≡ feed.resolver.items
     pub takers : (team.batcher.own.number ≡ 0) × (team.voter.own.number ≡ 0) × (team.resolver.own.number ≡ 0)
-    pub givers : (team.voter.batcher.number ≡ 1) × (team.voter.resolver.number ≡ 1) × (team.batcher.voter.number ≡ 1) × (team.resolver.voter.number ≡ 2)
+    pub givers : (team.voter.batcher.number ≡ 1) × (team.voter.resolver.number ≡ 1) × (team.batcher.voter.number ≡ 1)
+        × (team.resolver.voter.number ≡ 2)
     pub batcher_filled : Filled none_skipped crew.boxes.batcher (calls_of team.batcher.own)
     pub voter_filled : Filled none_skipped crew.boxes.voter (calls_of team.voter.own)
     pub resolver_filled : Filled none_skipped crew.boxes.resolver (calls_of team.resolver.own)
-    pub unused : (calls_of team.voter.batcher ≡ []) × (calls_of team.voter.resolver ≡ []) × (calls_of team.batcher.voter ≡ []) × (calls_of team.resolver.voter ≡ [])
+    pub unused : (calls_of team.voter.batcher ≡ []) × (calls_of team.voter.resolver ≡ [])
+        × (calls_of team.batcher.voter ≡ []) × (calls_of team.resolver.voter ≡ [])
     pub batcher_terms : team.boxes.batcher.terms ≡ record { capacity = crew.boxes.batcher.capacity; passes = 2 }
     pub voter_terms : team.boxes.voter.terms ≡ record { capacity = crew.boxes.voter.capacity; passes = 3 }
     pub resolver_terms : team.boxes.resolver.terms ≡ record { capacity = crew.boxes.resolver.capacity; passes = 2 }

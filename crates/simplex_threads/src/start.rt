@@ -47,20 +47,28 @@ where
     requires clocks { All IsInTime feed.voter.items }
     // What each actor gave, turn by turn. What the engine stands for over a journal that tells that no call of it will fail,
     // it stands for over any.
-    ensures over { (made : EngineMade) (past : List Did) → StandsFor engine made past → StandsOver engine made past }
+    ensures over { (made : EngineMade) (past : List Did) → StandsFor engine made past
+        → StandsOver engine made past }
     ensures batcher { IfOk result (λ run. (made : EngineMade) (past : List Did) → StandsOver engine made past
-        → BatcherRan (parts_of made past) (clock_of engine) turns feed.batcher.items run.logs.batcher run.batcher.items) }
+        → BatcherRan (parts_of made past) (clock_of engine) turns feed.batcher.items
+        run.logs.batcher run.batcher.items) }
     ensures resolver { IfOk result (λ run. (made : EngineMade) (past : List Did) → StandsOver engine made past
-        → ResolverRan (parts_of made past) (clock_of engine) turns feed.resolver.items run.logs.resolver run.resolver.items) }
+        → ResolverRan (parts_of made past) (clock_of engine) turns feed.resolver.items
+        run.logs.resolver run.resolver.items) }
     ensures voter { IfOk result (λ run. (made : EngineMade) (past : List Did) → StandsOver engine made past
-        → VoterRan (parts_of made past) (clock_of engine) turns feed.voter.items run.logs.voter run.voter.items (faults_of engine) (J.fault_count run.journal) (J.sections run.journal)) }
+        → VoterRan (parts_of made past) (clock_of engine) turns feed.voter.items
+        run.logs.voter run.voter.items (faults_of engine) (J.fault_count run.journal)
+        (J.sections run.journal)) }
     ensures whole { IfOk result (λ run. (made : EngineMade) (past : List Did) → StandsFor engine made past
-        → VoterRanWhole (parts_of made past) (clock_of engine) turns feed.voter.items run.logs.voter run.voter.items (J.sections run.journal)) }
+        → VoterRanWhole (parts_of made past) (clock_of engine) turns feed.voter.items
+        run.logs.voter run.voter.items (J.sections run.journal)) }
     // What each put into the mailboxes of the others.
     ensures handed { IfOk result IsHandedOn }
     ensures running { OnOk result (is_running engine ≡ true) }
-    ensures refused { IfErr result (λ error. is_memory error ≡ false → (is_running engine ≡ false) × (error ≡ not_running engine)) }
-    ensures runs { (made : EngineMade) (past : List Did) → StandsOver engine made past → is_running engine ≡ runs past }
+    ensures refused { IfErr result (λ error. is_memory error ≡ false → (is_running engine ≡ false)
+        × (error ≡ not_running engine)) }
+    ensures runs { (made : EngineMade) (past : List Did) → StandsOver engine made past
+        → is_running engine ≡ runs past }
 {
     engine.stands_over();
     engine.is_running();
@@ -150,12 +158,16 @@ where
     R: Threads + Wait + Sync,
     requires clock { now < 2 ^ 63 }
     requires clocks { All IsInTime feed.voter.items }
-    ensures batcher { IfOk result (λ run. (parts : Parts) → Holds false crew parts → BatcherRan parts now turns feed.batcher.items run.logs.batcher run.batcher.items) }
-    ensures resolver { IfOk result (λ run. (parts : Parts) → Holds false crew parts → ResolverRan parts now turns feed.resolver.items run.logs.resolver run.resolver.items) }
+    ensures batcher { IfOk result (λ run. (parts : Parts) → Holds false crew parts
+        → BatcherRan parts now turns feed.batcher.items run.logs.batcher run.batcher.items) }
+    ensures resolver { IfOk result (λ run. (parts : Parts) → Holds false crew parts
+        → ResolverRan parts now turns feed.resolver.items run.logs.resolver run.resolver.items) }
     ensures voter { IfOk result (λ run. (parts : Parts) → Holds false crew parts
-        → VoterRan parts now turns feed.voter.items run.logs.voter run.voter.items (faults_in crew) (J.fault_count run.journal) (J.sections run.journal)) }
+        → VoterRan parts now turns feed.voter.items run.logs.voter run.voter.items
+        (faults_in crew) (J.fault_count run.journal) (J.sections run.journal)) }
     ensures whole { IfOk result (λ run. (parts : Parts) → Holds true crew parts
-        → VoterRanWhole parts now turns feed.voter.items run.logs.voter run.voter.items (J.sections run.journal)) }
+        → VoterRanWhole parts now turns feed.voter.items run.logs.voter run.voter.items
+        (J.sections run.journal)) }
     ensures handed { IfOk result IsHandedOn }
 {
     let team = team_of(rt, crew, now, feed)?;

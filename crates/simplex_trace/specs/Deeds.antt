@@ -49,6 +49,8 @@ deed_text (events.Start node floor stop) = spaced (node_text node) (start_text f
 deed_text (events.Tick ms) = spaced (codes "tick") (decimal ms)
 deed_text (events.Deliver node packet) = spaced (node_text node) (spaced (codes "deliver") (ref_text packet))
 deed_text (events.Step node source stop) = spaced (node_text node) (spaced (codes "step") (source_word source))
-deed_text (events.Answer node request answer) = spaced (node_text node) (spaced (codes "answer") (spaced (ref_text request) (answer_text answer)))
+deed_text (events.Answer node request answer) =
+    spaced (node_text node) (spaced (codes "answer") (spaced (ref_text request) (answer_text answer)))
 deed_text (events.Crash node) = spaced (node_text node) (codes "crash")
-deed_text (events.Inject member channel to bytes) = spaced (decimal member) (spaced (codes "inject") (channel_word channel))
+deed_text (events.Inject member channel to bytes) =
+    spaced (decimal member) (spaced (codes "inject") (channel_word channel))

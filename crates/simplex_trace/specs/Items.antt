@@ -23,9 +23,11 @@ call_text (calls.Append section record_) = spaced (codes "append") (spaced (reco
 call_text (calls.Sync section) = spaced (codes "sync") (decimal section)
 call_text (calls.Prune least) = spaced (codes "prune below") (decimal least)
 call_text (calls.Send channel recipients bytes) = spaced (codes "send") (channel_word channel)
-call_text (calls.Report activity) = spaced (codes "report") (spaced (report_word activity) (decimal (activity_round activity).view))
+call_text (calls.Report activity) =
+    spaced (codes "report") (spaced (report_word activity) (decimal (activity_round activity).view))
 call_text (calls.Relay payload plan) = spaced (codes "relay") (payload_text payload)
-call_text (calls.Block member cause) = spaced (codes "block") (spaced (decimal member) (spaced (codes "for") (cause_word cause)))
+call_text (calls.Block member cause) =
+    spaced (codes "block") (spaced (decimal member) (spaced (codes "for") (cause_word cause)))
 
 -- what is asked, and of which view
 abbrev pub ask_text : Asked → List ℕ
@@ -51,15 +53,22 @@ nodes_text nodes = flat_map (λ node. codes " " ++ node_text node) nodes
 -- a packet by its channel and its name, and for whom it is
 abbrev pub packet_text : ℕ → ℕ × Packet → List ℕ
 packet_text event placed =
-    spaced (channel_word placed.1.channel) (spaced (ref_text (record { event = event; place = placed.0 })) (codes "to" ++ nodes_text placed.1.to))
+    spaced (channel_word placed.1.channel)
+    (spaced (ref_text (record { event = event; place = placed.0 })) (codes "to" ++ nodes_text placed.1.to))
 
 -- a request by its name
 abbrev pub request_text : ℕ → ℕ × Asked → List ℕ
-request_text event placed = spaced (codes "ask") (spaced (ask_text placed.1) (spaced (codes "as") (ref_text (record { event = event; place = placed.0 }))))
+request_text event placed =
+    spaced (codes "ask") (spaced (ask_text placed.1)
+    (spaced (codes "as") (ref_text (record { event = event; place = placed.0 }))))
 
 -- an item behind what stands before it
 abbrev pub item : List ℕ → List ℕ
 item text = codes ", " ++ text
+
+-- one for each of these
+abbrev pub items_by : {A : Type 0} → (A → List ℕ) → List A → List ℕ
+items_by text list = flat_map (λ it. item (text it)) list
 
 -- how the step ended, where it did not end as it should
 abbrev pub outcome_items : Outcome → List ℕ
@@ -72,8 +81,7 @@ outcome_items outcomes.Cut = item (codes "stopped: cut off")
 -- the calls, the messages that wait now, the requests and the packets
 abbrev pub items_of : Entry → List ℕ
 items_of entry =
-    (((flat_map (λ call. item (call_text call)) entry.calls
-    ++ flat_map (λ message. item (mail_text message)) entry.handed)
-    ++ flat_map (λ placed. item (request_text entry.event placed)) (enumerate_from 0 entry.asked))
-    ++ flat_map (λ placed. item (packet_text entry.event placed)) (enumerate_from 0 entry.packets))
+    (((items_by call_text entry.calls ++ items_by mail_text entry.handed)
+    ++ items_by (request_text entry.event) (enumerate_from 0 entry.asked))
+    ++ items_by (packet_text entry.event) (enumerate_from 0 entry.packets))
     ++ outcome_items entry.outcome

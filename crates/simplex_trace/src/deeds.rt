@@ -49,7 +49,8 @@ pub(crate) fn payload_text(alloc: Global, payload: &Digest) -> Result<String, Al
 
 // A payload behind a word.
 fn with_payload(alloc: Global, word: &str, payload: &Digest) -> Result<String, AllocError>
-    ensures { IfOk result (λ text. string_bytes text ≡ deeds.spaced word.now (deeds.payload_text payload.now)) }
+    ensures { IfOk result (λ text. string_bytes text
+        ≡ deeds.spaced word.now (deeds.payload_text payload.now)) }
 {
     let payload = payload_text(alloc, payload)?;
     spaced(alloc, word, payload.as_str())
@@ -70,7 +71,8 @@ fn answer_text(alloc: Global, answer: &Answer) -> Result<String, AllocError>
 }
 
 fn start_text(alloc: Global, floor: Option<&Finalization>) -> Result<String, AllocError>
-    ensures { IfOk result (λ text. string_bytes text ≡ deeds.start_text (option_map (λ f. f.now) floor.entry)) }
+    ensures { IfOk result (λ text. string_bytes text
+        ≡ deeds.start_text (option_map (λ f. f.now) floor.entry)) }
 {
     match floor {
         None => String::from_str(alloc, "start"),
@@ -80,14 +82,17 @@ fn start_text(alloc: Global, floor: Option<&Finalization>) -> Result<String, All
 
 // What a node does.
 fn node_does(alloc: Global, node: &Node, what: &str) -> Result<String, AllocError>
-    ensures { IfOk result (λ text. string_bytes text ≡ deeds.spaced (deeds.node_text node.now) what.now) }
+    ensures { IfOk result (λ text. string_bytes text
+        ≡ deeds.spaced (deeds.node_text node.now) what.now) }
 {
     let node = node_text(alloc, node)?;
     spaced(alloc, node.as_str(), what)
 }
 
 fn deliver_text(alloc: Global, node: &Node, packet: &Ref) -> Result<String, AllocError>
-    ensures { IfOk result (λ text. string_bytes text ≡ deeds.spaced (deeds.node_text node.now) (deeds.spaced (codes "deliver") (deeds.ref_text packet.now))) }
+    ensures { IfOk result (λ text. string_bytes text
+        ≡ deeds.spaced (deeds.node_text node.now)
+        (deeds.spaced (codes "deliver") (deeds.ref_text packet.now))) }
 {
     let packet = ref_text(alloc, packet)?;
     let what = spaced(alloc, "deliver", packet.as_str())?;
@@ -101,7 +106,9 @@ fn answered_text(
     answer: &Answer,
 ) -> Result<String, AllocError>
     ensures { IfOk result (λ text. string_bytes text
-        ≡ deeds.spaced (deeds.node_text node.now) (deeds.spaced (codes "answer") (deeds.spaced (deeds.ref_text request.now) (deeds.answer_text answer.now)))) }
+        ≡ deeds.spaced (deeds.node_text node.now)
+        (deeds.spaced (codes "answer")
+        (deeds.spaced (deeds.ref_text request.now) (deeds.answer_text answer.now)))) }
 {
     let request = ref_text(alloc, request)?;
     let answer = answer_text(alloc, answer)?;
@@ -140,7 +147,9 @@ pub(crate) fn deed_text(alloc: Global, event: &Event) -> Result<String, AllocErr
 }
 
 fn injected_text(alloc: Global, member: u64, channel: Channel) -> Result<String, AllocError>
-    ensures { IfOk result (λ text. string_bytes text ≡ deeds.spaced (decimal member) (deeds.spaced (codes "inject") (names.channel_word channel))) }
+    ensures { IfOk result (λ text. string_bytes text
+        ≡ deeds.spaced (decimal member)
+        (deeds.spaced (codes "inject") (names.channel_word channel))) }
 {
     let what = spaced(alloc, "inject", channel_word(channel))?;
     let what = what.as_str();

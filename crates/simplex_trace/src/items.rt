@@ -1,5 +1,5 @@
 //! What came of an event, item by item.
-ghost use Rattle.std.specs.Prelude.{◌≡◌, ◌++◌, codes, decimal, flat_map, IfOk, OnOk, string_bytes};
+ghost use Rattle.std.specs.Prelude.{◌≡◌, ◌++◌, codes, decimal, IfOk, OnOk, string_bytes};
 ghost use Rattle.std.specs.List.{enumerate_from};
 ghost use Rattle.simplex_messages.specs.declared.call.Call.TheVariants as calls;
 ghost use Rattle.simplex_trace.specs.Deeds as deeds;
@@ -16,21 +16,25 @@ use simplex_types::{Activity, Artifact, BlockCause, Digest, Participant};
 use std::alloc::{AllocError, Global};
 
 fn append_text(alloc: Global, section: u64, artifact: &Artifact) -> Result<String, AllocError>
-    ensures { IfOk result (λ text. string_bytes text ≡ deeds.spaced (codes "append") (deeds.spaced (words.record_word artifact.now) (decimal section))) }
+    ensures { IfOk result (λ text. string_bytes text
+        ≡ deeds.spaced (codes "append")
+        (deeds.spaced (words.record_word artifact.now) (decimal section))) }
 {
     let what = numbered(alloc, record_word(artifact), section)?;
     spaced(alloc, "append", what.as_str())
 }
 
 fn report_text(alloc: Global, activity: &Activity) -> Result<String, AllocError>
-    ensures { IfOk result (λ text. string_bytes text ≡ items.call_text (calls.Report activity.now)) }
+    ensures { IfOk result (λ text. string_bytes text
+        ≡ items.call_text (calls.Report activity.now)) }
 {
     let what = numbered(alloc, report_word(activity), activity.view().0)?;
     spaced(alloc, "report", what.as_str())
 }
 
 fn relay_text(alloc: Global, payload: &Digest) -> Result<String, AllocError>
-    ensures { IfOk result (λ text. string_bytes text ≡ deeds.spaced (codes "relay") (deeds.payload_text payload.now)) }
+    ensures { IfOk result (λ text. string_bytes text
+        ≡ deeds.spaced (codes "relay") (deeds.payload_text payload.now)) }
 {
     let payload = payload_text(alloc, payload)?;
     spaced(alloc, "relay", payload.as_str())
@@ -91,7 +95,8 @@ fn mail_text(alloc: Global, handed: &Handed) -> Result<String, AllocError>
 
 // Writes a text behind a mark.
 fn push_behind(text: &mut String, mark: &str, what: &str) -> Result<(), AllocError>
-    ensures { OnOk result (string_bytes text.new ≡ string_bytes text.old ++ (mark.now ++ what.now)) }
+    ensures { OnOk result (string_bytes text.new
+        ≡ string_bytes text.old ++ (mark.now ++ what.now)) }
 {
     text.push_str(mark)?;
     text.push_str(what)
@@ -105,7 +110,8 @@ fn push_item(text: &mut String, what: &str) -> Result<(), AllocError>
 }
 
 fn push_calls(alloc: Global, text: &mut String, calls: &[Call]) -> Result<(), AllocError>
-    ensures { OnOk result (string_bytes text.new ≡ string_bytes text.old ++ flat_map (λ call. items.item (items.call_text call)) calls.now) }
+    ensures { OnOk result (string_bytes text.new
+        ≡ string_bytes text.old ++ items.items_by items.call_text calls.now) }
 {
     for call in calls {
         let what = call_text(alloc, call)?;
@@ -115,7 +121,8 @@ fn push_calls(alloc: Global, text: &mut String, calls: &[Call]) -> Result<(), Al
 }
 
 fn push_mail(alloc: Global, text: &mut String, handed: &[Handed]) -> Result<(), AllocError>
-    ensures { OnOk result (string_bytes text.new ≡ string_bytes text.old ++ flat_map (λ message. items.item (items.mail_text message)) handed.now) }
+    ensures { OnOk result (string_bytes text.new
+        ≡ string_bytes text.old ++ items.items_by items.mail_text handed.now) }
 {
     for message in handed {
         let what = mail_text(alloc, message)?;
@@ -125,7 +132,8 @@ fn push_mail(alloc: Global, text: &mut String, handed: &[Handed]) -> Result<(), 
 }
 
 fn request_text(alloc: Global, event: u64, place: u64, asked: &Asked) -> Result<String, AllocError>
-    ensures { IfOk result (λ text. string_bytes text ≡ items.request_text event (place, asked.now)) }
+    ensures { IfOk result (λ text. string_bytes text
+        ≡ items.request_text event (place, asked.now)) }
 {
     let name = ref_text(alloc, &Ref { event, place })?;
     let name = spaced(alloc, "as", name.as_str())?;
@@ -140,7 +148,8 @@ fn push_requests(
     event: u64,
     requests: &[Asked],
 ) -> Result<(), AllocError>
-    ensures { OnOk result (string_bytes text.new ≡ string_bytes text.old ++ flat_map (λ placed. items.item (items.request_text event placed)) (enumerate_from 0 requests.now)) }
+    ensures { OnOk result (string_bytes text.new ≡ string_bytes text.old
+        ++ items.items_by (items.request_text event) (enumerate_from 0 requests.now)) }
 {
     for (place, asked) in requests.iter().enumerate() {
         let what = request_text(alloc, event, place as u64, asked)?;
@@ -161,7 +170,8 @@ fn nodes_text(alloc: Global, nodes: &[Node]) -> Result<String, AllocError>
 }
 
 fn packet_text(alloc: Global, event: u64, place: u64, packet: &Packet) -> Result<String, AllocError>
-    ensures { IfOk result (λ text. string_bytes text ≡ items.packet_text event (place, packet.now)) }
+    ensures { IfOk result (λ text. string_bytes text
+        ≡ items.packet_text event (place, packet.now)) }
 {
     let name = ref_text(alloc, &Ref { event, place })?;
     let to = nodes_text(alloc, packet.to.as_slice())?;
@@ -175,7 +185,8 @@ fn push_packets(
     event: u64,
     packets: &[Packet],
 ) -> Result<(), AllocError>
-    ensures { OnOk result (string_bytes text.new ≡ string_bytes text.old ++ flat_map (λ placed. items.item (items.packet_text event placed)) (enumerate_from 0 packets.now)) }
+    ensures { OnOk result (string_bytes text.new ≡ string_bytes text.old
+        ++ items.items_by (items.packet_text event) (enumerate_from 0 packets.now)) }
 {
     for (place, packet) in packets.iter().enumerate() {
         let what = packet_text(alloc, event, place as u64, packet)?;
@@ -185,7 +196,8 @@ fn push_packets(
 }
 
 fn push_outcome(text: &mut String, outcome: Outcome) -> Result<(), AllocError>
-    ensures { OnOk result (string_bytes text.new ≡ string_bytes text.old ++ items.outcome_items outcome) }
+    ensures { OnOk result (string_bytes text.new
+        ≡ string_bytes text.old ++ items.outcome_items outcome) }
 {
     match outcome {
         Outcome::Done => Ok(()),

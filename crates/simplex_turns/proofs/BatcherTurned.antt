@@ -67,29 +67,29 @@ module _ {S : Type 0} {s : scheme.Ghosts S} where
       let turn = found-turn made old.now place taken None left (found-at old taken None left found made place at) in (
         empty ∙ sym (ap (λ did. did.1) turn),
         subst (λ there. BatcherIsAt new made there) (sym (ap (λ did. did.0) turn)) (record {
-          stands = subst (λ a. StandsFor s.verifies s.recovers s.members s.member a made place.past) (sym actor) at.stands;
+          stands = subst (λ a. StandsFor a made place.past) (sym actor) at.stands;
           feed = rest;
           blocked = λ member. ap (λ (set : BTreeSet ℕ). holds_member set.keys member) kept ∙ at.blocked member;
         }),
       )
 
   -- a step was made on what was found
-  pub turned-step : (old new : BatcherThread S s) (actor : Actor S) (now : ℕ) (blocked : BTreeSet ℕ) (taken : Option Message) (input : BatcherInput) (left : List Delivery) (out : StepOut)
+  pub turned-step : (old new : BatcherThread S s) (actor : Actor S s) (now : ℕ) (blocked : BTreeSet ℕ) (taken : Option Message) (input : BatcherInput) (left : List Delivery) (out : StepOut)
       → Found old.blocked.keys old.feed.items taken (Some input) left → new.feed.items ≡ left → actor ≡ old.actor → now ≡ old.now → blocked ≡ old.blocked
-      → Takes s.verifies s.recovers s.members s.member actor new.actor (record { input = input; now = now })
-      → Answers s.verifies s.recovers s.members s.member actor (λ made past. step_out made past (record { input = input; now = now })) out
+      → Takes actor new.actor (record { input = input; now = now })
+      → Answers actor (λ made past. step_out made past (record { input = input; now = now })) out
       → IsSameSet new.blocked.keys (blocked_by_calls out.calls ++ blocked.keys)
       → (made : Made) (place : BatcherPlace) → BatcherIsAt old made place
       → (out ≡ (batcher_turn made old.now place taken).1) × BatcherIsAt new made (batcher_turn made old.now place taken).0
   turned-step old new actor now blocked taken input left out found rest same clock kept takes answers noted = λ made place at.
       let turn = found-turn made old.now place taken (Some input) left (found-at old taken (Some input) left found made place at) in
-      let stood : StandsFor s.verifies s.recovers s.members s.member actor made place.past = subst (λ a. StandsFor s.verifies s.recovers s.members s.member a made place.past) (sym same) at.stands in
+      let stood : StandsFor actor made place.past = subst (λ a. StandsFor a made place.past) (sym same) at.stands in
       let timed : ℕ → Timed = λ at_clock. record { input = input; now = at_clock } in
       let gave : out ≡ step_out made place.past (timed old.now) = answers made place.past stood ∙ ap (λ t. step_out made place.past (timed t)) clock in
       let before : IsSameSet blocked.keys place.blocked = λ member. ap (λ (set : BTreeSet ℕ). holds_member set.keys member) kept ∙ at.blocked member in (
         gave ∙ sym (ap (λ did. did.1) turn),
         subst (λ there. BatcherIsAt new made there) (sym (ap (λ did. did.0) turn)) (record {
-          stands = subst (λ t. StandsFor s.verifies s.recovers s.members s.member new.actor made (timed t ∷ place.past)) clock (takes made place.past stood);
+          stands = subst (λ t. StandsFor new.actor made (timed t ∷ place.past)) clock (takes made place.past stood);
           feed = rest;
           blocked = λ member.
               noted member ∙ same-more (blocked_by_calls out.calls) blocked.keys place.blocked before member

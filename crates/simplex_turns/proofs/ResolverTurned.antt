@@ -81,14 +81,14 @@ module _ {S : Type 0} {s : scheme.Ghosts S} where
   pub turned-step : (mid new : ResolverThread S s) (made : Made) (at_clock now : ℕ) (place there : ResolverPlace) (taken : Option MailboxMessage) (input : ResolverInput) (out : StepOut)
       → at_clock ≡ now → mid.now ≡ at_clock → resolver_turn made at_clock place taken ≡ resolver_step made at_clock there (Some input) → ResolverIsAt mid made there
       → new.feed.items ≡ mid.feed.items
-      → Takes s.verifies s.members s.member mid.actor new.actor (Stepped input mid.now)
-      → Answers s.verifies s.members s.member mid.actor (λ made past. step_out made past input mid.now) out
+      → Takes mid.actor new.actor (Stepped input mid.now)
+      → Answers mid.actor (λ made past. step_out made past input mid.now) out
       → (out ≡ (resolver_turn made now place taken).1) × ResolverIsAt new made (resolver_turn made now place taken).0
   turned-step mid new made at_clock now place there taken input out clock here turn at rest takes answers =
       subst (λ t. (out ≡ (resolver_turn made t place taken).1) × ResolverIsAt new made (resolver_turn made t place taken).0) clock (
         answers made there.past at.stands ∙ ap (λ t. step_out made there.past input t) here ∙ sym (ap (λ did. did.1) turn),
         subst (λ p. ResolverIsAt new made p) (sym (ap (λ did. did.0) turn))
-            (record { stands = subst (λ t. StandsFor s.verifies s.members s.member new.actor made (Stepped input t ∷ there.past)) here (takes made there.past at.stands); feed = rest ∙ at.feed }),
+            (record { stands = subst (λ t. StandsFor new.actor made (Stepped input t ∷ there.past)) here (takes made there.past at.stands); feed = rest ∙ at.feed }),
       )
 
   -- ---- turns

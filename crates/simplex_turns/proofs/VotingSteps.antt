@@ -17,15 +17,10 @@ use Rattle.simplex_shared.specs.declared.op.Op.TheVariants.{Took}
 use Rattle.simplex_shared.specs.declared.op.Op.{Op}
 use Rattle.simplex_shared.specs.Passes.{Viewer, IsSamePass, calls_of}
 use Rattle.model_steps.specs.VoterLife.{VoterMade, Given, Stepped, Place, place_of, step_given}
-use Rattle.simplex_values.specs.declared.proposal.Subject.{Subject}
-use Rattle.simplex_values.specs.declared.round.Round.{Round}
-use Rattle.simplex_wire.specs.declared.attestation.Attestation.{Attestation}
-use Rattle.simplex_journal.specs.Journal.{Section}
-use Rattle.simplex_journal.specs.Order.{Order}
 use Rattle.simplex_voter.specs.declared.actor.Actor.{Actor}
-use Rattle.simplex_voter.specs.Actor.{VoterStands, Takes, TakesOver, Answers, AnswersOver, Gives, Fares, journal_of}
+use Rattle.simplex_voter.specs.Actor.{VoterStands, Takes, TakesOver, Answers, Gives, Fares, journal_of}
 use Rattle.simplex_voter.specs.Turned.{FaultsAt, step_left}
-use Rattle.simplex_voter.proofs.LivesOver.{held-over}
+use Rattle.simplex_voter.proofs.LivesOver.{held-over, known-over}
 use Rattle.simplex_turns.specs.declared.voter.VoterThread.{VoterThread}
 use Rattle.simplex_turns.specs.Handing.{PutsBehind}
 use Rattle.simplex_turns.specs.Voting.{VoterPlace, finds, voter_step, voter_turn, turn_outcome, turn_leaves}
@@ -37,40 +32,37 @@ pub held-put : {M : Type 0} (messages start held items : List M) (before after :
 held-put messages start held items before after empty is same put = subst (λ list. PutsBehind list before after) (same ∙ is ∙ ap (λ list. list ++ messages) empty) put
 
 -- over a journal that tells its order, and over any
-module _ {S L J : Type 0} (attests : S → Subject → Option Attestation) (elects : L → Round → ℕ) (sections : J → List Section) (order : J → Option Order) where
-  pub either-takes : (told : Bool) (old new : Actor S L J) (given : Given)
-      → Takes attests elects sections order old new given → TakesOver attests elects sections old new given
-      → (made : VoterMade) (past : List Given) → VoterStands attests elects sections order told old made past → VoterStands attests elects sections order told new made (given ∷ past)
+module _ {S L J : Type 0} {s : scheme.Ghosts S} {l : elector.Ghosts L} {j : journal.Ghosts J} where
+  pub either-takes : (told : Bool) (old new : Actor S L J s l j) (given : Given)
+      → Takes old new given → TakesOver old new given
+      → (made : VoterMade) (past : List Given) → VoterStands told old made past → VoterStands told new made (given ∷ past)
   either-takes true old new given takes over = takes
   either-takes false old new given takes over = over
 
-  pub either-answers : {R : Type 0} (told : Bool) (actor : Actor S L J) (rule : VoterMade → List Given → R) (answer : R)
-      → Answers attests elects sections order actor rule answer → AnswersOver attests elects sections actor rule answer
-      → (made : VoterMade) (past : List Given) → VoterStands attests elects sections order told actor made past → answer ≡ rule made past
-  either-answers true actor rule answer told over = told
-  either-answers false actor rule answer told over = over
+  pub either-answers : {R : Type 0} (told : Bool) (actor : Actor S L J s l j) (rule : VoterMade → List Given → R) (answer : R)
+      → Answers actor rule answer → (made : VoterMade) (past : List Given) → VoterStands told actor made past → answer ≡ rule made past
+  either-answers told actor rule answer over = λ made past stands. over made past (known-over told actor made past stands)
 
 module _ {S L J : Type 0} {s : scheme.Ghosts S} {l : elector.Ghosts L} {j : journal.Ghosts J} where
   -- ---- what is told of a voter
 
   -- what the actor answers by a rule that reads its place, it answers at the thread's place
   pub told-at : {R : Type 0} (told : Bool) (thread : VoterThread S L J s l j) (rule : VoterMade → Place → R) (answer : R)
-      → Answers s.attests l.elects j.sections j.order thread.actor (λ made past. rule made (place_of made past)) answer
-      → AnswersOver s.attests l.elects j.sections thread.actor (λ made past. rule made (place_of made past)) answer
+      → Answers thread.actor (λ made past. rule made (place_of made past)) answer
       → (made : VoterMade) (place : VoterPlace) → VoterIsAt told thread made place → answer ≡ rule made (place_of made place.past)
-  told-at told thread rule answer stands over made place h =
-      either-answers s.attests l.elects j.sections j.order told thread.actor (λ made past. rule made (place_of made past)) answer stands over made h.given h.stands
+  told-at told thread rule answer over made place h =
+      either-answers told thread.actor (λ made past. rule made (place_of made past)) answer over made h.given h.stands
       ∙ ap (rule made) h.place_is
 
   -- what the actor took itself, whose place is this
   pub answered-at : (told : Bool) (old new : VoterThread S L J s l j) (given : Given) (past : List Given)
-      → Takes s.attests l.elects j.sections j.order old.actor new.actor given → TakesOver s.attests l.elects j.sections old.actor new.actor given
+      → Takes old.actor new.actor given → TakesOver old.actor new.actor given
       → new.now ≡ old.now → new.feed ≡ old.feed
       → (made : VoterMade) (place : VoterPlace) → (h : VoterIsAt told old made place) → place_of made (given ∷ h.given) ≡ place_of made past
       → VoterIsAt told new made (record place { past = past })
   answered-at told old new given past takes over now feed made place h is = record {
     given = given ∷ h.given;
-    stands = either-takes s.attests l.elects j.sections j.order told old.actor new.actor given takes over made h.given h.stands;
+    stands = either-takes told old.actor new.actor given takes over made h.given h.stands;
     place_is = is;
     now = now ∙ h.now;
     feed = ap (λ q. q.items) feed ∙ h.feed;
@@ -93,7 +85,7 @@ module _ {S L J : Type 0} {s : scheme.Ghosts S} {l : elector.Ghosts L} {j : jour
   module _ (old new : VoterThread S L J s l j) (input : VoterInput) (stop : Stop) (now : new.now ≡ old.now) (feed : new.feed ≡ old.feed) where
     -- the place behind the step, where the actor took it
     step-stands : (told : Bool) (made : VoterMade) (place : VoterPlace) (h : VoterIsAt told old made place)
-        → VoterStands s.attests l.elects j.sections j.order told new.actor made (Stepped input old.now stop ∷ h.given)
+        → VoterStands told new.actor made (Stepped input old.now stop ∷ h.given)
         → VoterIsAt told new made (voter_step made (place, Some input) stop).0
     step-stands told made place h stands = record {
       given = Stepped input old.now stop ∷ h.given;
@@ -113,9 +105,9 @@ module _ {S L J : Type 0} {s : scheme.Ghosts S} {l : elector.Ghosts L} {j : jour
 
   pub step-steps : (old new : VoterThread S L J s l j) (input : VoterInput) (outcome : Outcome) (out : StepOut)
       → new.now ≡ old.now → new.feed ≡ old.feed
-      → Takes s.attests l.elects j.sections j.order old.actor new.actor (Stepped input old.now stops.None)
-      → Gives s.attests l.elects j.sections j.order old.actor (λ made past. step_given made past input old.now stops.None) outcome out
-      → Fares s.attests l.elects j.sections old.actor new.actor stops.None outcome out (λ turned. Stepped input old.now turned) (λ turned made past. step_given made past input old.now turned) (λ turned made past. step_left made past input old.now stops.None turned)
+      → Takes old.actor new.actor (Stepped input old.now stops.None)
+      → Gives old.actor (λ made past. step_given made past input old.now stops.None) outcome out
+      → Fares old.actor new.actor stops.None outcome out (λ turned. Stepped input old.now turned) (λ turned made past. step_given made past input old.now turned) (λ turned made past. step_left made past input old.now stops.None turned)
       → FaultsAt outcome (faults_in old) (faults_in new)
       → PutsBehind (filter_map for_batcher out.handed) (calls_of old.batcher) (calls_of new.batcher)
       → PutsBehind (filter_map for_resolver out.handed) (calls_of old.resolver) (calls_of new.resolver)
@@ -146,7 +138,7 @@ module _ {S L J : Type 0} {s : scheme.Ghosts S} {l : elector.Ghosts L} {j : jour
   -- what the journal of a voter holds
   pub held-at : (thread : VoterThread S L J s l j) (made : VoterMade) (place : VoterPlace) → VoterIsAt false thread made place
       → j.sections (journal_of thread.actor) ≡ (place_of made place.past).sections
-  held-at thread made place h = held-over s.attests l.elects j.sections _ _ _ h.stands ∙ ap (λ (p : Place). p.sections) h.place_is
+  held-at thread made place h = held-over _ _ _ h.stands ∙ ap (λ (p : Place). p.sections) h.place_is
 
   -- nothing was found
   pub idle-steps : (thread : VoterThread S L J s l j) (out : StepOut) → out ≡ no_out

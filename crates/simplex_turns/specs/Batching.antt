@@ -1,5 +1,5 @@
 -- A batcher's turns.
-use Rattle.std.specs.Prelude.{ℕ, List, ◌∷◌, ◌++◌, drop, Option, Some, None, if◌then◌else◌}
+use Rattle.std.specs.Prelude.{◌≡◌, ℕ, List, ◌∷◌, ◌++◌, drop, Option, Some, None, if◌then◌else◌}
 use Rattle.std.specs.Option.{option_and_then}
 use Rattle.simplex_values.specs.declared.plan.Channel.{Channel}
 use Rattle.simplex_values.specs.declared.plan.Channel.TheVariants as channels
@@ -7,6 +7,7 @@ use Rattle.simplex_mailbox.specs.Waiting.{front}
 use Rattle.simplex_messages.specs.declared.batcher.Message.{Message}
 use Rattle.simplex_messages.specs.declared.batcher.BatcherInput.{BatcherInput}
 use Rattle.simplex_messages.specs.declared.batcher.BatcherInput.TheVariants as inputs
+use Rattle.simplex_messages.specs.declared.call.Call.{Call}
 use Rattle.simplex_messages.specs.declared.step.StepOut.{StepOut}
 use Rattle.simplex_messages.specs.Step.{no_out, blocked_by_calls}
 use Rattle.model_resolver.specs.Asks.{holds_member}
@@ -19,6 +20,10 @@ pub record BatcherPlace : Type 0 where
   pub past : List Timed
   pub feed : List Delivery
   pub blocked : List ℕ
+
+-- besides those that were blocked before, those are whom the calls block, and no others
+abbrev pub AlsoBlocks : List Call → (old new : List ℕ) → Type 0
+AlsoBlocks calls old new = (member : ℕ) → holds_member new member ≡ holds_member (blocked_by_calls calls ++ old) member
 
 -- a packet is an input of the batcher on the channels of votes and of certificates
 abbrev pub heard_on : Channel → ℕ → List ℕ → Option BatcherInput
@@ -43,4 +48,5 @@ batcher_step made now place (Some input) =
 unfoldable pub batcher_turn : Made → ℕ → BatcherPlace → Option Message → BatcherPlace × StepOut
 batcher_turn made now place (Some message) = batcher_step made now place (Some (inputs.Mail message))
 batcher_turn made now place None =
-    batcher_step made now (record place { feed = drop 1 place.feed }) (option_and_then (batcher_input place.blocked) (front place.feed))
+    batcher_step made now (record place { feed = drop 1 place.feed })
+    (option_and_then (batcher_input place.blocked) (front place.feed))

@@ -9,7 +9,9 @@ use Rattle.simplex_turns.specs.Resolving.{ResolverPlace, resolver_step, resolver
 use Rattle.simplex_turns.specs.Threads.{ResolverIsAt}
 
 -- wherever the old resolver is, its turn is a step on this input, made where the new one is
-abbrev pub ResolverFinds : {S : Type 0} {s : scheme.Ghosts S} → ResolverThread S s → ResolverThread S s → Option MailboxMessage → Option ResolverInput → Type 0
+abbrev pub ResolverFinds : {S : Type 0} {s : scheme.Ghosts S} → ResolverThread S s → ResolverThread S s
+    → Option MailboxMessage → Option ResolverInput → Type 0
 ResolverFinds old new taken input =
     (made : Made) (place : ResolverPlace) → ResolverIsAt old made place
-    → (there : ResolverPlace) × (resolver_turn made old.now place taken ≡ resolver_step made old.now there input) × ResolverIsAt new made there
+    → (there : ResolverPlace) × (resolver_turn made old.now place taken ≡ resolver_step made old.now there input)
+    × ResolverIsAt new made there

@@ -28,7 +28,8 @@ module _ {M : Type 0} where
     pub puts : Puts held calls
 
   -- a legal history of a mailbox of this capacity, with calls of so many passes
-  pub record IsRecord (handle : Waiting M → M → Waiting M) (skips : M → Bool) (capacity passes : ℕ) (log : List (Op M)) : Type 0 where
+  pub record IsRecord (handle : Waiting M → M → Waiting M) (skips : M → Bool) (capacity passes : ℕ)
+      (log : List (Op M)) : Type 0 where
     pub legal : IsLegal handle skips capacity log
     pub callers : All (λ call. caller_of call < passes) log
 

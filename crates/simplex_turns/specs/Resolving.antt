@@ -40,7 +40,8 @@ abbrev pub on_feed : Made → ℕ → List Given → List Delivery → ResolverP
 on_feed made now past [] =
     resolver_step made now (record { past = past; feed = [] })
     (if is_reached now (deadline_after made past) then Some inputs.Timer else None)
-on_feed made now past (delivery ∷ feed) = resolver_step made now (record { past = past; feed = feed }) (resolver_input (blocked_after made past) delivery)
+on_feed made now past (delivery ∷ feed) =
+    resolver_step made now (record { past = past; feed = feed }) (resolver_input (blocked_after made past) delivery)
 
 abbrev pub on_handler : Made → ℕ → ResolverPlace → Option HandlerMessage → ResolverPlace × StepOut
 on_handler made now place (Some message) =

@@ -25,16 +25,19 @@ Has log pass = calls_by caller_of pass.number log ≡ calls_of pass
 -- an actor whose clock is a time, and whose passes are of these mailboxes, may run
 module _ {S : Type 0} {s : scheme.Ghosts S} where
   abbrev pub BatcherMayRun : BatcherThread S s → Mailboxes → Type 0
-  BatcherMayRun thread boxes = (thread.now < 2 ^ 63) × (thread.own.mailbox ≡ boxes.batcher) × (thread.voter.mailbox ≡ boxes.voter)
+  BatcherMayRun thread boxes =
+      (thread.now < 2 ^ 63) × (thread.own.mailbox ≡ boxes.batcher) × (thread.voter.mailbox ≡ boxes.voter)
 
   abbrev pub ResolverMayRun : ResolverThread S s → Mailboxes → Type 0
-  ResolverMayRun thread boxes = (thread.now < 2 ^ 63) × (thread.own.mailbox ≡ boxes.resolver) × (thread.voter.mailbox ≡ boxes.voter)
+  ResolverMayRun thread boxes =
+      (thread.now < 2 ^ 63) × (thread.own.mailbox ≡ boxes.resolver) × (thread.voter.mailbox ≡ boxes.voter)
 
 module _ {S L J : Type 0} {s : scheme.Ghosts S} {l : elector.Ghosts L} {j : journal.Ghosts J} where
   abbrev pub VoterMayRun : VoterThread S L J s l j → Mailboxes → Type 0
   VoterMayRun thread boxes =
       (thread.now < 2 ^ 63) × All IsInTime thread.feed.items
-      × (thread.own.mailbox ≡ boxes.voter) × (thread.batcher.mailbox ≡ boxes.batcher) × (thread.resolver.mailbox ≡ boxes.resolver)
+      × (thread.own.mailbox ≡ boxes.voter) × (thread.batcher.mailbox ≡ boxes.batcher)
+      × (thread.resolver.mailbox ≡ boxes.resolver)
 
   -- their passes are of the mailboxes that they share
   pub record ShareMailboxes (team : Team S L J s l j) : Type 0 where
@@ -48,9 +51,12 @@ module _ {S L J : Type 0} {s : scheme.Ghosts S} {l : elector.Ghosts L} {j : jour
 
   -- the logs are the records of these mailboxes, with the calls of all passes
   pub record Records (team : Team S L J s l j) (logs : Logs) : Type 0 where
-    pub batcher : IsRecord batcher_handled none_skipped team.boxes.batcher.terms.capacity team.boxes.batcher.terms.passes logs.batcher
-    pub voter : IsRecord voter_handled none_skipped team.boxes.voter.terms.capacity team.boxes.voter.terms.passes logs.voter
-    pub resolver : IsRecord resolver_handled none_skipped team.boxes.resolver.terms.capacity team.boxes.resolver.terms.passes logs.resolver
+    pub batcher : IsRecord batcher_handled none_skipped team.boxes.batcher.terms.capacity
+        team.boxes.batcher.terms.passes logs.batcher
+    pub voter : IsRecord voter_handled none_skipped team.boxes.voter.terms.capacity
+        team.boxes.voter.terms.passes logs.voter
+    pub resolver : IsRecord resolver_handled none_skipped team.boxes.resolver.terms.capacity
+        team.boxes.resolver.terms.passes logs.resolver
     pub batcher_own : Has logs.batcher team.batcher.own
     pub voter_batcher : Has logs.batcher team.voter.batcher
     pub voter_own : Has logs.voter team.voter.own

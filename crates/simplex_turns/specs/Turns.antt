@@ -15,4 +15,5 @@ module _ {P T : Type 0} (turn : P → T → P × StepOut) where
 
   -- wherever the old one is, its turns gave these outputs, and the new one is where they end
   abbrev pub Gives : {A : Type 0} → (A → P → Type 0) → A → A → List T → List StepOut → Type 0
-  Gives IsAt old new taken outs = (place : P) → IsAt old place → (outs ≡ outs_of place taken) × IsAt new (after place taken)
+  Gives IsAt old new taken outs =
+      (place : P) → IsAt old place → (outs ≡ outs_of place taken) × IsAt new (after place taken)

@@ -81,8 +81,10 @@ Turn = Option Message × Stop
 -- a step on what was found, and an empty one where there is no input
 abbrev pub voter_step : VoterMade → Found → Stop → VoterPlace × StepOut
 voter_step made (place, None) stop = (place, no_out)
-voter_step made (place, Some input) stop =
-    (record place { past = Stepped input place.now stop ∷ place.past }, (step_given made place.past input place.now stop).out)
+voter_step made (place, Some input) stop = (
+  record place { past = Stepped input place.now stop ∷ place.past },
+  (step_given made place.past input place.now stop).out,
+)
 
 unfoldable pub voter_turn : VoterMade → VoterPlace → Turn → VoterPlace × StepOut
 voter_turn made place turn = voter_step made (finds made place turn.0) turn.1
@@ -105,7 +107,8 @@ turn_leaves made place turn = step_leaves made (finds made place turn.0) turn.1
 -- how turns end, one after another
 unfoldable pub outcomes_of : VoterMade → VoterPlace → List Turn → List Outcome
 outcomes_of made place [] = []
-outcomes_of made place (turn ∷ rest) = turn_outcome made place turn ∷ outcomes_of made (voter_turn made place turn).0 rest
+outcomes_of made place (turn ∷ rest) =
+    turn_outcome made place turn ∷ outcomes_of made (voter_turn made place turn).0 rest
 
 -- what the journal holds behind them
 unfoldable pub leave : VoterMade → VoterPlace → List Turn → List Section

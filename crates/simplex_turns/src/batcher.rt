@@ -1,15 +1,13 @@
 //! A batcher on a thread of its own.
-ghost use Rattle.std.specs.Prelude.{◌≡◌, ◌<◌, ◌^◌, ◌++◌, ℕ, drop, filter_map, IfOk, OnOk, MatchOption, Some};
+ghost use Rattle.std.specs.Prelude.{◌≡◌, ◌<◌, ◌^◌, drop, filter_map, IfOk, OnOk, MatchOption, Some};
 ghost use Rattle.std.specs.Option.{option_and_then};
 ghost use Rattle.simplex_mailbox.specs.Waiting.{front};
 ghost use Rattle.simplex_messages.specs.declared.batcher.BatcherInput.TheVariants as inputs;
 ghost use Rattle.simplex_messages.specs.Handing.{for_voter};
-ghost use Rattle.simplex_messages.specs.Step.{blocked_by_calls};
 ghost use Rattle.simplex_shared.specs.Passes.{IsSamePass, calls_of};
-ghost use Rattle.model_resolver.specs.Asks.{holds_member};
 ghost use Rattle.model_steps.specs.Batcher.{step_out};
 ghost use Rattle.simplex_batcher.specs.Stands.{Takes, Answers};
-ghost use Rattle.simplex_turns.specs.Batching.{batcher_input, heard_on};
+ghost use Rattle.simplex_turns.specs.Batching.{batcher_input, heard_on, AlsoBlocks};
 ghost use Rattle.simplex_turns.specs.Handing.{PutsBehind};
 
 use crate::blocking::note_blocks;
@@ -59,7 +57,8 @@ impl<S: Scheme + Drop> BatcherThread<S> {
         gate: &G,
     ) -> Result<(BatcherThread<S>, Vec<StepOut>), AllocError>
         requires clock { self.now < 2 ^ 63 }
-        requires own { (self.own.mailbox ≡ boxes.now.batcher) × (self.voter.mailbox ≡ boxes.now.voter) }
+        requires own { (self.own.mailbox ≡ boxes.now.batcher)
+            × (self.voter.mailbox ≡ boxes.now.voter) }
         ensures same { IfOk result (λ ran. IsSameBatcher self ran.0) }
         ensures runs { IfOk result (λ ran. BatcherRuns self ran.0 turns ran.1.items) }
     {
@@ -75,7 +74,8 @@ impl<S: Scheme + Drop> BatcherThread<S> {
     /// Takes a message, else the next packet of its feed, and makes a step on it. May wait.
     fn turn<R: Wait>(&mut self, rt: &R, boxes: &Mailboxes) -> Result<StepOut, AllocError>
         requires clock { self.old.now < 2 ^ 63 }
-        requires own { (self.old.own.mailbox ≡ boxes.now.batcher) × (self.old.voter.mailbox ≡ boxes.now.voter) }
+        requires own { (self.old.own.mailbox ≡ boxes.now.batcher)
+            × (self.old.voter.mailbox ≡ boxes.now.voter) }
         ensures same { IfOk result (λ _. IsSameBatcher self.old self.new) }
         ensures turns { IfOk result (λ out. BatcherTurns self.old self.new out) }
     {
@@ -95,8 +95,12 @@ impl<S: Scheme + Drop> BatcherThread<S> {
         ensures same { (self.new.actor ≡ self.old.actor) × (self.new.now ≡ self.old.now) }
         ensures passes { (self.new.own ≡ self.old.own) × (self.new.voter ≡ self.old.voter) }
         ensures blocked { self.new.blocked ≡ self.old.blocked }
-        ensures found { MatchOption taken ((result ≡ option_and_then (batcher_input self.old.blocked.keys) (front self.old.feed.items)) × (self.new.feed.items ≡ drop 1 self.old.feed.items))
-            (λ message. (result ≡ Some (inputs.Mail message)) × (self.new.feed.items ≡ self.old.feed.items)) }
+        ensures found { MatchOption taken
+            ((result ≡ option_and_then (batcher_input self.old.blocked.keys)
+            (front self.old.feed.items))
+            × (self.new.feed.items ≡ drop 1 self.old.feed.items))
+            (λ message. (result ≡ Some (inputs.Mail message))
+            × (self.new.feed.items ≡ self.old.feed.items)) }
     {
         match taken {
             Some(message) => Some(BatcherInput::Mail(message)),
@@ -116,12 +120,17 @@ impl<S: Scheme + Drop> BatcherThread<S> {
     ) -> Result<StepOut, AllocError>
         requires clock { self.old.now < 2 ^ 63 }
         requires own { self.old.voter.mailbox ≡ boxes.now.voter }
-        ensures same { OnOk result ((self.new.own ≡ self.old.own) × (self.new.now ≡ self.old.now) × (self.new.feed.items ≡ self.old.feed.items)) }
+        ensures same { OnOk result ((self.new.own ≡ self.old.own) × (self.new.now ≡ self.old.now)
+            × (self.new.feed.items ≡ self.old.feed.items)) }
         ensures voter { OnOk result (IsSamePass self.old.voter self.new.voter) }
-        ensures put { IfOk result (λ out. PutsBehind (filter_map for_voter out.handed) (calls_of self.old.voter) (calls_of self.new.voter)) }
-        ensures stands { OnOk result (Takes S.verifies S.recovers S.members S.member self.old.actor self.new.actor (record { input = input; now = self.old.now })) }
-        ensures blocked { IfOk result (λ out. (member : ℕ) → holds_member self.new.blocked.keys member ≡ holds_member (blocked_by_calls out.calls ++ self.old.blocked.keys) member) }
-        ensures out { IfOk result (λ out. Answers S.verifies S.recovers S.members S.member self.old.actor (λ made past. step_out made past (record { input = input; now = self.old.now })) out) }
+        ensures put { IfOk result (λ out. PutsBehind (filter_map for_voter out.handed) (calls_of self.old.voter)
+            (calls_of self.new.voter)) }
+        ensures stands { OnOk result (Takes self.old.actor self.new.actor
+            (record { input = input; now = self.old.now })) }
+        ensures blocked { IfOk result
+            (λ out. AlsoBlocks out.calls self.old.blocked.keys self.new.blocked.keys) }
+        ensures out { IfOk result (λ out. Answers self.old.actor
+            (λ made past. step_out made past (record { input = input; now = self.old.now })) out) }
     {
         let mut out = StepOut::new(self.alloc);
         let mut held = Held::new(self.alloc);

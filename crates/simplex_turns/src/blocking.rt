@@ -1,7 +1,6 @@
 //! Whom a batcher's steps block.
-ghost use Rattle.std.specs.Prelude.{◌≡◌, ◌++◌, ℕ, [], ◌∷◌, OnOk};
-ghost use Rattle.simplex_messages.specs.Step.{blocked_by_calls};
-ghost use Rattle.model_resolver.specs.Asks.{holds_member};
+ghost use Rattle.std.specs.Prelude.{[], ◌∷◌, OnOk};
+ghost use Rattle.simplex_turns.specs.Batching.{AlsoBlocks};
 
 use simplex_messages::Call;
 use simplex_types::Participant;
@@ -10,7 +9,7 @@ use std::collections::BTreeSet;
 
 /// The members that these calls block are among the blocked.
 pub(crate) fn note_blocks(blocked: &mut BTreeSet<u32>, calls: &[Call]) -> Result<(), AllocError>
-    ensures { OnOk result ((q : ℕ) → holds_member blocked.new.keys q ≡ holds_member (blocked_by_calls calls.now ++ blocked.old.keys) q) }
+    ensures { OnOk result (AlsoBlocks calls.now blocked.old.keys blocked.new.keys) }
 {
     for call in calls {
         note(blocked, call)?;
@@ -20,7 +19,7 @@ pub(crate) fn note_blocks(blocked: &mut BTreeSet<u32>, calls: &[Call]) -> Result
 
 // The member that the call blocks, if it does, is among the blocked.
 fn note(blocked: &mut BTreeSet<u32>, call: &Call) -> Result<(), AllocError>
-    ensures { OnOk result ((q : ℕ) → holds_member blocked.new.keys q ≡ holds_member (blocked_by_calls (call.now ∷ []) ++ blocked.old.keys) q) }
+    ensures { OnOk result (AlsoBlocks (call.now ∷ []) blocked.old.keys blocked.new.keys) }
 {
     match call {
         Call::Block(member, _) => {

@@ -33,7 +33,8 @@ pub(crate) fn log_of_two<M: Policy + Keep, R: Wait>(
     second: Pass<M>,
 ) -> Result<Log<M>, AllocError>
     requires own { (first.mailbox ≡ mailbox) × (second.mailbox ≡ mailbox) }
-    ensures record_is { IfOk result (λ log. IsRecord M.handle M.is_skipped mailbox.terms.capacity mailbox.terms.passes log) }
+    ensures record_is { IfOk result
+        (λ log. IsRecord M.handle M.is_skipped mailbox.terms.capacity mailbox.terms.passes log) }
     ensures first { IfOk result (λ log. calls_by caller_of first.number log ≡ calls_of first) }
     ensures second { IfOk result (λ log. calls_by caller_of second.number log ≡ calls_of second) }
 {
@@ -52,8 +53,10 @@ pub(crate) fn log_of_three<M: Policy + Keep, R: Wait>(
     second: Pass<M>,
     third: Pass<M>,
 ) -> Result<Log<M>, AllocError>
-    requires own { (first.mailbox ≡ mailbox) × (second.mailbox ≡ mailbox) × (third.mailbox ≡ mailbox) }
-    ensures record_is { IfOk result (λ log. IsRecord M.handle M.is_skipped mailbox.terms.capacity mailbox.terms.passes log) }
+    requires own { (first.mailbox ≡ mailbox) × (second.mailbox ≡ mailbox)
+        × (third.mailbox ≡ mailbox) }
+    ensures record_is { IfOk result
+        (λ log. IsRecord M.handle M.is_skipped mailbox.terms.capacity mailbox.terms.passes log) }
     ensures first { IfOk result (λ log. calls_by caller_of first.number log ≡ calls_of first) }
     ensures second { IfOk result (λ log. calls_by caller_of second.number log ≡ calls_of second) }
     ensures third { IfOk result (λ log. calls_by caller_of third.number log ≡ calls_of third) }

@@ -16,7 +16,8 @@ pub fn open_for_two<M: Policy + Keep, R: Wait>(
     alloc: Global,
     mailbox: Mailbox<M>,
 ) -> Result<(RecordedMailbox<M>, Pass<M>, Pass<M>), AllocError>
-    ensures terms { IfOk result (λ made. made.0.terms ≡ record { capacity = mailbox.capacity; passes = 2 }) }
+    ensures terms { IfOk result (λ made. made.0.terms
+        ≡ record { capacity = mailbox.capacity; passes = 2 }) }
     ensures own { IfOk result (λ made. (made.1.mailbox ≡ made.0) × (made.2.mailbox ≡ made.0)) }
     ensures numbers { IfOk result (λ made. (made.1.number ≡ 0) × (made.2.number ≡ 1)) }
     ensures filled { IfOk result (λ made. Filled M.is_skipped mailbox (calls_of made.1)) }
@@ -40,9 +41,12 @@ pub fn open_for_three<M: Policy + Keep, R: Wait>(
     alloc: Global,
     mailbox: Mailbox<M>,
 ) -> Result<(RecordedMailbox<M>, Pass<M>, Pass<M>, Pass<M>), AllocError>
-    ensures terms { IfOk result (λ made. made.0.terms ≡ record { capacity = mailbox.capacity; passes = 3 }) }
-    ensures own { IfOk result (λ made. (made.1.mailbox ≡ made.0) × (made.2.mailbox ≡ made.0) × (made.3.mailbox ≡ made.0)) }
-    ensures numbers { IfOk result (λ made. (made.1.number ≡ 0) × (made.2.number ≡ 1) × (made.3.number ≡ 2)) }
+    ensures terms { IfOk result (λ made. made.0.terms
+        ≡ record { capacity = mailbox.capacity; passes = 3 }) }
+    ensures own { IfOk result (λ made. (made.1.mailbox ≡ made.0) × (made.2.mailbox ≡ made.0)
+        × (made.3.mailbox ≡ made.0)) }
+    ensures numbers { IfOk result (λ made. (made.1.number ≡ 0) × (made.2.number ≡ 1)
+        × (made.3.number ≡ 2)) }
     ensures filled { IfOk result (λ made. Filled M.is_skipped mailbox (calls_of made.1)) }
     ensures unused { IfOk result (λ made. (calls_of made.2 ≡ []) × (calls_of made.3 ≡ [])) }
 {

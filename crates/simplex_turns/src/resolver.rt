@@ -43,7 +43,7 @@ pub struct ResolverThread<S: Scheme> {
 
 impl<S: Scheme + Drop> ResolverThread<S> {
     ghost use Rattle.simplex_turns.specs.Finding.{ResolverFinds};
-    ghost use Rattle.simplex_turns.specs.Threads.{ResolverTurns, ResolverRuns, IsSameResolver};
+    ghost use Rattle.simplex_turns.specs.Threads.{ResolverTurns, ResolverRuns, IsSameResolver, KeepsResolver};
 
     /// Makes so many turns, and passes the gate before each. May wait.
     pub fn run<G: Gate, R: Wait>(
@@ -54,7 +54,8 @@ impl<S: Scheme + Drop> ResolverThread<S> {
         gate: &G,
     ) -> Result<(ResolverThread<S>, Vec<StepOut>), AllocError>
         requires clock { self.now < 2 ^ 63 }
-        requires own { (self.own.mailbox ≡ boxes.now.resolver) × (self.voter.mailbox ≡ boxes.now.voter) }
+        requires own { (self.own.mailbox ≡ boxes.now.resolver)
+            × (self.voter.mailbox ≡ boxes.now.voter) }
         ensures same { IfOk result (λ ran. IsSameResolver self ran.0) }
         ensures runs { IfOk result (λ ran. ResolverRuns self ran.0 turns ran.1.items) }
     {
@@ -71,7 +72,8 @@ impl<S: Scheme + Drop> ResolverThread<S> {
     /// makes a step on it. May wait.
     fn turn<R: Wait>(&mut self, rt: &R, boxes: &Mailboxes) -> Result<StepOut, AllocError>
         requires clock { self.old.now < 2 ^ 63 }
-        requires own { (self.old.own.mailbox ≡ boxes.now.resolver) × (self.old.voter.mailbox ≡ boxes.now.voter) }
+        requires own { (self.old.own.mailbox ≡ boxes.now.resolver)
+            × (self.old.voter.mailbox ≡ boxes.now.voter) }
         ensures same { IfOk result (λ _. IsSameResolver self.old self.new) }
         ensures turns { IfOk result (λ out. ResolverTurns self.old self.new out) }
     {
@@ -87,7 +89,7 @@ impl<S: Scheme + Drop> ResolverThread<S> {
 
     // The message, else what the resolver finds of its own.
     fn find(&mut self, taken: Option<MailboxMessage>) -> Option<ResolverInput>
-        ensures same { (self.new.own ≡ self.old.own) × (self.new.voter ≡ self.old.voter) × (self.new.now ≡ self.old.now) }
+        ensures same { KeepsResolver self.old self.new }
         ensures finds { ResolverFinds self.old self.new taken result }
     {
         match taken {
@@ -99,7 +101,7 @@ impl<S: Scheme + Drop> ResolverThread<S> {
     // A message of the handler, else the next packet of the feed, else a deadline that is reached. A packet of another
     // channel, or of a blocked member, is taken, and is none.
     fn find_own(&mut self) -> Option<ResolverInput>
-        ensures same { (self.new.own ≡ self.old.own) × (self.new.voter ≡ self.old.voter) × (self.new.now ≡ self.old.now) }
+        ensures same { KeepsResolver self.old self.new }
         ensures finds { ResolverFinds self.old self.new None result }
     {
         if self.actor.holds_handler() {
@@ -113,8 +115,9 @@ impl<S: Scheme + Drop> ResolverThread<S> {
 
     // The first message of the handler, which holds one.
     fn find_handled(&mut self) -> Option<ResolverInput>
-        ensures same { (self.new.own ≡ self.old.own) × (self.new.voter ≡ self.old.voter) × (self.new.now ≡ self.old.now) }
-        ensures finds { Answers S.verifies S.members S.member self.old.actor (λ made past. holds_handled made past) true → ResolverFinds self.old self.new None result }
+        ensures same { KeepsResolver self.old self.new }
+        ensures finds { Answers self.old.actor (λ made past. holds_handled made past) true
+            → ResolverFinds self.old self.new None result }
     {
         let message = self.actor.take_handler()?;
         Some(ResolverInput::Handler(message))
@@ -122,7 +125,8 @@ impl<S: Scheme + Drop> ResolverThread<S> {
 
     // A packet as an input of the resolver, where its fetcher does not count the sender as blocked and it is one of its channel.
     fn heard(&self, delivery: Delivery) -> Option<ResolverInput>
-        ensures { Answers S.verifies S.members S.member self.entry.now.actor (λ made past. resolver_input (blocked_after made past) delivery) result }
+        ensures { Answers self.entry.now.actor
+            (λ made past. resolver_input (blocked_after made past) delivery) result }
     {
         if self.actor.is_blocked(delivery.sender) {
             return None;
@@ -132,7 +136,10 @@ impl<S: Scheme + Drop> ResolverThread<S> {
 
     // A deadline of the fetcher that is reached.
     fn find_deadline(&self) -> Option<ResolverInput>
-        ensures { Answers S.verifies S.members S.member self.entry.now.actor (λ made past. if is_reached self.entry.now.now (deadline_after made past) then Some inputs.Timer else None) result }
+        ensures { Answers self.entry.now.actor
+            (λ made past. if is_reached self.entry.now.now
+            (deadline_after made past) then Some inputs.Timer
+            else None) result }
     {
         if is_reached(self.now, self.actor.next_deadline()) {
             Some(ResolverInput::Timer)
@@ -150,11 +157,15 @@ impl<S: Scheme + Drop> ResolverThread<S> {
     ) -> Result<StepOut, AllocError>
         requires clock { self.old.now < 2 ^ 63 }
         requires own { self.old.voter.mailbox ≡ boxes.now.voter }
-        ensures same { OnOk result ((self.new.own ≡ self.old.own) × (self.new.now ≡ self.old.now) × (self.new.feed.items ≡ self.old.feed.items)) }
+        ensures same { OnOk result ((self.new.own ≡ self.old.own) × (self.new.now ≡ self.old.now)
+            × (self.new.feed.items ≡ self.old.feed.items)) }
         ensures voter { OnOk result (IsSamePass self.old.voter self.new.voter) }
-        ensures put { IfOk result (λ out. PutsBehind (filter_map for_voter out.handed) (calls_of self.old.voter) (calls_of self.new.voter)) }
-        ensures stands { OnOk result (Takes S.verifies S.members S.member self.old.actor self.new.actor (Stepped input self.old.now)) }
-        ensures out { IfOk result (λ out. Answers S.verifies S.members S.member self.old.actor (λ made past. step_out made past input self.old.now) out) }
+        ensures put { IfOk result (λ out. PutsBehind (filter_map for_voter out.handed) (calls_of self.old.voter)
+            (calls_of self.new.voter)) }
+        ensures stands { OnOk result (Takes self.old.actor self.new.actor
+            (Stepped input self.old.now)) }
+        ensures out { IfOk result (λ out. Answers self.old.actor
+            (λ made past. step_out made past input self.old.now) out) }
     {
         let mut out = StepOut::new(self.alloc);
         let mut held = Held::new(self.alloc);

@@ -1,7 +1,7 @@
 //! The actors of an engine, each on a thread of its own at once.
 ghost use Rattle.std.specs.Prelude.{◌≡◌, ◌<◌, ◌^◌, All, IfOk};
 ghost use Rattle.simplex_voter.specs.Actor.{journal_of};
-ghost use Rattle.simplex_turns.specs.Threads.{BatcherRuns, ResolverRuns, VoterRuns, IsSameBatcher, IsSameResolver, IsSameVoter, IsInTime};
+ghost use Rattle.simplex_turns.specs.Threads.{IsInTime, BatcherGoesOn, VoterGoesOn, ResolverGoesOn};
 ghost use Rattle.simplex_turns.specs.Team.{BatcherMayRun, ResolverMayRun, VoterMayRun, ShareMailboxes, Records};
 
 use crate::batcher::BatcherThread;
@@ -52,13 +52,17 @@ impl<S: Scheme + Drop + Send, L: Elector + Drop + Send, J: Journal + Drop + Send
         turns: u64,
         gate: &G,
     ) -> Result<(Team<S, L, J>, Outs), AllocError>
-        requires clocks { (self.batcher.now < 2 ^ 63) × (self.voter.now < 2 ^ 63) × (self.resolver.now < 2 ^ 63) × All IsInTime self.voter.feed.items }
+        requires clocks { (self.batcher.now < 2 ^ 63) × (self.voter.now < 2 ^ 63) × (self.resolver.now < 2 ^ 63)
+            × All IsInTime self.voter.feed.items }
         requires share { ShareMailboxes self }
         ensures boxes { IfOk result (λ ran. ran.0.boxes ≡ self.boxes) }
         ensures share { IfOk result (λ ran. ShareMailboxes ran.0) }
-        ensures batcher { IfOk result (λ ran. IsSameBatcher self.batcher ran.0.batcher × BatcherRuns self.batcher ran.0.batcher turns ran.1.batcher.items) }
-        ensures voter { IfOk result (λ ran. IsSameVoter self.voter ran.0.voter × VoterRuns self.voter ran.0.voter turns ran.1.voter.items) }
-        ensures resolver { IfOk result (λ ran. IsSameResolver self.resolver ran.0.resolver × ResolverRuns self.resolver ran.0.resolver turns ran.1.resolver.items) }
+        ensures batcher { IfOk result
+            (λ ran. BatcherGoesOn self.batcher ran.0.batcher turns ran.1.batcher.items) }
+        ensures voter { IfOk result
+            (λ ran. VoterGoesOn self.voter ran.0.voter turns ran.1.voter.items) }
+        ensures resolver { IfOk result
+            (λ ran. ResolverGoesOn self.resolver ran.0.resolver turns ran.1.resolver.items) }
     {
         let Team {
             boxes,
@@ -71,7 +75,7 @@ impl<S: Scheme + Drop + Send, L: Elector + Drop + Send, J: Journal + Drop + Send
             rt,
             move || -> Result<(BatcherThread<S>, Vec<StepOut>), AllocError>
                 requires { BatcherMayRun batcher shared.now }
-                ensures { IfOk result (λ ran. IsSameBatcher batcher ran.0 × BatcherRuns batcher ran.0 turns ran.1.items) }
+                ensures { IfOk result (λ ran. BatcherGoesOn batcher ran.0 turns ran.1.items) }
             { batcher.run(rt, shared, turns, gate) },
             move || -> (
                 Result<(VoterThread<S, L, J>, Vec<StepOut>), AllocError>,
@@ -79,18 +83,20 @@ impl<S: Scheme + Drop + Send, L: Elector + Drop + Send, J: Journal + Drop + Send
             )
                 requires voter { VoterMayRun voter shared.now }
                 requires resolver { ResolverMayRun resolver shared.now }
-                ensures voter { IfOk result.0 (λ ran. IsSameVoter voter ran.0 × VoterRuns voter ran.0 turns ran.1.items) }
-                ensures resolver { IfOk result.1 (λ ran. IsSameResolver resolver ran.0 × ResolverRuns resolver ran.0 turns ran.1.items) }
+                ensures voter { IfOk result.0 (λ ran. VoterGoesOn voter ran.0 turns ran.1.items) }
+                ensures resolver { IfOk result.1
+                    (λ ran. ResolverGoesOn resolver ran.0 turns ran.1.items) }
             {
                 thread::join(
                     rt,
                     move || -> Result<(VoterThread<S, L, J>, Vec<StepOut>), AllocError>
                         requires { VoterMayRun voter shared.now }
-                        ensures { IfOk result (λ ran. IsSameVoter voter ran.0 × VoterRuns voter ran.0 turns ran.1.items) }
+                        ensures { IfOk result (λ ran. VoterGoesOn voter ran.0 turns ran.1.items) }
                     { voter.run(rt, shared, turns, gate) },
                     move || -> Result<(ResolverThread<S>, Vec<StepOut>), AllocError>
                         requires { ResolverMayRun resolver shared.now }
-                        ensures { IfOk result (λ ran. IsSameResolver resolver ran.0 × ResolverRuns resolver ran.0 turns ran.1.items) }
+                        ensures { IfOk result
+                            (λ ran. ResolverGoesOn resolver ran.0 turns ran.1.items) }
                     { resolver.run(rt, shared, turns, gate) },
                 )
             },

@@ -45,7 +45,7 @@ impl<S: Scheme + Drop, L: Elector + Drop, J: Journal + Drop> VoterThread<S, L, J
     ghost use Rattle.simplex_shared.specs.Passes.{IsSamePass};
     ghost use Rattle.model_steps.specs.VoterLife.{VoterMade, place_of};
     ghost use Rattle.simplex_turns.specs.declared.feed.FeedItem.TheVariants as items;
-    ghost use Rattle.simplex_turns.specs.Threads.{VoterIsAt, KeepsVoter, Finds, VoterSteps, VoterTurns, VoterRuns, IsSameVoter, IsInTime};
+    ghost use Rattle.simplex_turns.specs.Threads.{VoterIsAt, KeepsVoter, Finds, VoterSteps, VoterTurns, VoterRuns, IsSameVoter, IsInTime, IsOfBoxes};
     ghost use Rattle.simplex_turns.specs.Voting.{VoterPlace, finds, on_item, holds_candidate};
 
     /// Makes so many turns, and passes the gate before each. A turn that a failing call of the journal ends is the last.
@@ -58,7 +58,7 @@ impl<S: Scheme + Drop, L: Elector + Drop, J: Journal + Drop> VoterThread<S, L, J
         gate: &G,
     ) -> Result<(VoterThread<S, L, J>, Vec<StepOut>), AllocError>
         requires clock { (self.now < 2 ^ 63) × All IsInTime self.feed.items }
-        requires own { (self.own.mailbox ≡ boxes.now.voter) × (self.batcher.mailbox ≡ boxes.now.batcher) × (self.resolver.mailbox ≡ boxes.now.resolver) }
+        requires own { IsOfBoxes self boxes.now }
         ensures same { IfOk result (λ ran. IsSameVoter self ran.0) }
         ensures runs { IfOk result (λ ran. VoterRuns self ran.0 turns ran.1.items) }
     {
@@ -78,8 +78,9 @@ impl<S: Scheme + Drop, L: Elector + Drop, J: Journal + Drop> VoterThread<S, L, J
     /// it. May wait. [turns-take-once]
     fn turn<R: Wait>(&mut self, rt: &R, boxes: &Mailboxes) -> Result<(Outcome, StepOut), AllocError>
         requires clock { (self.old.now < 2 ^ 63) × All IsInTime self.old.feed.items }
-        requires own { (self.old.own.mailbox ≡ boxes.now.voter) × (self.old.batcher.mailbox ≡ boxes.now.batcher) × (self.old.resolver.mailbox ≡ boxes.now.resolver) }
-        ensures clock { IfOk result (λ _. (self.new.now < 2 ^ 63) × All IsInTime self.new.feed.items) }
+        requires own { IsOfBoxes self.old boxes.now }
+        ensures clock { IfOk result (λ _. (self.new.now < 2 ^ 63)
+            × All IsInTime self.new.feed.items) }
         ensures same { IfOk result (λ _. IsSameVoter self.old self.new) }
         ensures turns { IfOk result (λ given. VoterTurns self.old self.new given.0 given.1) }
     {
@@ -128,7 +129,8 @@ impl<S: Scheme + Drop, L: Elector + Drop, J: Journal + Drop> VoterThread<S, L, J
 
     // Whether a payload is held whose parent is certified.
     fn holds_candidate(&self) -> bool
-        ensures { (told : Bool) (made : VoterMade) (place : VoterPlace) → VoterIsAt told self.entry.now made place → result ≡ holds_candidate (place_of made place.past).standing }
+        ensures { (told : Bool) (made : VoterMade) (place : VoterPlace) → VoterIsAt told self.entry.now made place
+            → result ≡ holds_candidate (place_of made place.past).standing }
     {
         let Some(state) = self.actor.proposal_state() else {
             return false;
@@ -144,7 +146,8 @@ impl<S: Scheme + Drop, L: Elector + Drop, J: Journal + Drop> VoterThread<S, L, J
     fn reply(&mut self, kind: AskKind, answer: Answer) -> Option<VoterInput>
         ensures clock { (self.new.now ≡ self.old.now) × (self.new.feed ≡ self.old.feed) }
         ensures keeps { KeepsVoter self.old self.new }
-        ensures finds { Finds self.old self.new (λ made place. on_item made place (Some (items.Reply kind answer))) result }
+        ensures finds { Finds self.old self.new
+            (λ made place. on_item made place (Some (items.Reply kind answer))) result }
     {
         let request = self.actor.unanswered(kind)?;
         if !self.actor.answer(request, answer) {
@@ -161,11 +164,15 @@ impl<S: Scheme + Drop, L: Elector + Drop, J: Journal + Drop> VoterThread<S, L, J
         input: VoterInput,
     ) -> Result<(Outcome, StepOut), AllocError>
         requires clock { self.old.now < 2 ^ 63 }
-        requires boxes { (self.old.batcher.mailbox ≡ boxes.now.batcher) × (self.old.resolver.mailbox ≡ boxes.now.resolver) }
-        ensures clock { IfOk result (λ _. (self.new.now ≡ self.old.now) × (self.new.feed ≡ self.old.feed)) }
+        requires boxes { (self.old.batcher.mailbox ≡ boxes.now.batcher)
+            × (self.old.resolver.mailbox ≡ boxes.now.resolver) }
+        ensures clock { IfOk result (λ _. (self.new.now ≡ self.old.now)
+            × (self.new.feed ≡ self.old.feed)) }
         ensures own { IfOk result (λ _. self.new.own ≡ self.old.own) }
-        ensures same { IfOk result (λ _. IsSamePass self.old.batcher self.new.batcher × IsSamePass self.old.resolver self.new.resolver) }
-        ensures steps { IfOk result (λ given. VoterSteps self.old self.new (Some input) given.0 given.1) }
+        ensures same { IfOk result (λ _. IsSamePass self.old.batcher self.new.batcher
+            × IsSamePass self.old.resolver self.new.resolver) }
+        ensures steps { IfOk result
+            (λ given. VoterSteps self.old self.new (Some input) given.0 given.1) }
     {
         posted_are_held::<batcher::Message>();
         posted_are_held::<MailboxMessage>();

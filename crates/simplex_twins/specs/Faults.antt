@@ -6,7 +6,8 @@ use Rattle.simplex_twins.specs.declared.error.TwinsError.TheVariants.{LeaderUnse
 use Rattle.simplex_twins.specs.Masks.{has, reaches}
 use Rattle.simplex_twins.specs.Script.{ScriptedRound}
 
--- the first fault of a round among n members: its leader is one of them, its halves talk with none but them, and one of them with the leader
+-- the first fault of a round among n members: its leader is one of them, its halves talk with none but them, and one of
+-- them with the leader
 unfoldable pub fault_of : ScriptedRound → ℕ → Option TwinsError
 fault_of round n =
     if nat_le n round.leader then Some BadLeader

@@ -12,7 +12,8 @@ pub record Leading (C : Type 0) : Type 0 where
 
 -- the scripted leader of the round's term, and behind the script the leader that is elected without it
 unfoldable pub scripted_leader : List ℕ → ℕ → (Round → ℕ) → Round → ℕ
-scripted_leader leaders length elects round = unwrap_or (slice_get leaders (round_index length round.view)) (elects round)
+scripted_leader leaders length elects round =
+    unwrap_or (slice_get leaders (round_index length round.view)) (elects round)
 
 -- whether each leader is one of n members
 abbrev pub are_members : List ℕ → ℕ → Bool

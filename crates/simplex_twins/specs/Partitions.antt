@@ -18,4 +18,5 @@ unfoldable pub cut_at : ℕ → ℕ → List ℕ → ℕ
 cut_at length_of_term view members = term_start length_of_term view % length members
 
 unfoldable pub view_partitions : ℕ → ℕ → List ℕ → List ℕ × List ℕ
-view_partitions length view members = (take (cut_at length view members) members, drop (cut_at length view members) members)
+view_partitions length view members =
+    (take (cut_at length view members) members, drop (cut_at length view members) members)

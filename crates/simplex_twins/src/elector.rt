@@ -43,9 +43,11 @@ impl<C: Drop> Elector<C> {
         scenario: &Scenario,
         participants: u32,
     ) -> Result<Elector<C>, TwinsError>
-        ensures fault { IfErr result (λ fault. fault ≡ (if has_bad_leader scenario.now participants then BadLeader else Memory)) }
+        ensures fault { IfErr result (λ fault. fault
+            ≡ (if has_bad_leader scenario.now participants then BadLeader else Memory)) }
         ensures good { IfOk result (λ _. has_bad_leader scenario.now participants ≡ false) }
-        ensures made { IfOk result (λ e. (e.leaders ≡ map (λ round. round.leader) scenario.now) × (e.fallback ≡ fallback) × (e.members ≡ participants)) }
+        ensures made { IfOk result (λ e. (e.leaders ≡ map (λ round. round.leader) scenario.now)
+            × (e.fallback ≡ fallback) × (e.members ≡ participants)) }
     {
         let rounds = scenario.rounds();
         if has_bad_leader(rounds, participants) {
@@ -129,7 +131,8 @@ impl<E: elector::Elector> elector::Elector for ElectorState<E> {
 
     ghost cuts = { λ e. E.cuts e.fallback };
 
-    ghost leader_is_below = { λ e round. scripted_leader-below e.leaders (E.cuts e.fallback).length (E.built_for e.fallback) (E.elects e.fallback) round e.members (E.leader_is_below e.fallback round) };
+    ghost leader_is_below = { λ e round. scripted_leader-below e.leaders (E.cuts e.fallback).length
+        (E.built_for e.fallback) (E.elects e.fallback) round e.members (E.leader_is_below e.fallback round) };
 
     fn terms(&self) -> Terms {
         self.fallback.terms()

@@ -8,7 +8,9 @@ ghost use Rattle.simplex_twins.specs.Every.{every_round, every_script, are_good}
 /// other; and every script of such rounds is among the scripts of its size.
 #[tactic(auto, using(crate::proofs::Listed::listed_round, crate::proofs::Listed::listed_script, crate::proofs::Listed::listed_rounds))]
 pub fn every_good_scenario_is_given()
-    ensures rounds { (n : ℕ) (round : ScriptedRound) → fault_of round n ≡ None → Contains (every_round n) round }
+    ensures rounds { (n : ℕ) (round : ScriptedRound) → fault_of round n ≡ None
+        → Contains (every_round n) round }
     ensures no_other { (n : ℕ) → All (λ round. fault_of round n ≡ None) (every_round n) }
-    ensures scripts { (n : ℕ) (script : List ScriptedRound) → IsTrue (are_good n script) → Contains (every_script n (length script)) script }
+    ensures scripts { (n : ℕ) (script : List ScriptedRound) → IsTrue (are_good n script)
+        → Contains (every_script n (length script)) script }
 {}

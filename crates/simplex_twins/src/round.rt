@@ -44,8 +44,10 @@ impl RoundScenario {
         secondary: u64,
         participants: u32,
     ) -> Result<RoundScenario, TwinsError>
-        ensures made { IfOk result (λ made. (made ≡ scripted leader primary secondary) × (fault_of made participants ≡ None)) }
-        ensures fault { IfErr result (λ fault. fault_of (scripted leader primary secondary) participants ≡ Some fault) }
+        ensures made { IfOk result (λ made. (made ≡ scripted leader primary secondary)
+            × (fault_of made participants ≡ None)) }
+        ensures fault { IfErr result
+            (λ fault. fault_of (scripted leader primary secondary) participants ≡ Some fault) }
     {
         if leader >= participants {
             return Err(TwinsError::BadLeader);
@@ -106,7 +108,8 @@ impl RoundScenario {
     pub(crate) fn later(self, participants: u32) -> Option<RoundScenario>
         requires most { participants ≤ 64 }
         requires good { fault_of self participants ≡ None }
-        ensures next { MatchOption result (rounds_after participants self ≡ []) (λ next. rounds_after participants self ≡ next ∷ rounds_after participants next) }
+        ensures next { MatchOption result (rounds_after participants self ≡ [])
+            (λ next. rounds_after participants self ≡ next ∷ rounds_after participants next) }
         ensures good { IfSome result (λ next. fault_of next participants ≡ None) }
     {
         let next = self.behind(participants)?;
@@ -117,7 +120,8 @@ impl RoundScenario {
     fn behind(self, participants: u32) -> Option<RoundScenario>
         requires most { participants ≤ 64 }
         requires among { IsAmong participants self }
-        ensures next { MatchOption result (rounds_after participants self ≡ []) (λ next. rounds_after participants self ≡ rounds_from participants next) }
+        ensures next { MatchOption result (rounds_after participants self ≡ [])
+            (λ next. rounds_after participants self ≡ rounds_from participants next) }
         ensures among { IfSome result (IsAmong participants) }
     {
         let last = last_mask(participants);

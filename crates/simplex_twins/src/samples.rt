@@ -24,7 +24,8 @@ pub fn scripts_come_out()
     ensures stranger { route script 1 1 4 four ≡ targets.None }
     ensures behind_both { route script 1 2 2 four ≡ targets.Both }
     ensures leader { scripted_leader (3 ∷ []) 1 (λ round. 9) (record { epoch = 0; view = 1 }) ≡ 3 }
-    ensures otherwise { scripted_leader (3 ∷ []) 1 (λ round. 9) (record { epoch = 0; view = 2 }) ≡ 9 }
+    ensures otherwise { scripted_leader (3 ∷ []) 1
+        (λ round. 9) (record { epoch = 0; view = 2 }) ≡ 9 }
 {}
 
 /// Which rounds are refused, and for which of their faults.
@@ -50,5 +51,8 @@ pub fn cuts_come_out()
 pub fn every_round_comes_out()
     ensures one { every_round 1 ≡ scripted 0 0 1 ∷ scripted 0 1 0 ∷ scripted 0 1 1 ∷ [] }
     ensures two { length (every_round 2) ≡ 24 }
-    ensures scripts { map (λ script. map (λ round. round.secondary) script) (every_script 1 2) ≡ (1 ∷ 1 ∷ []) ∷ (1 ∷ 0 ∷ []) ∷ (1 ∷ 1 ∷ []) ∷ (0 ∷ 1 ∷ []) ∷ (0 ∷ 0 ∷ []) ∷ (0 ∷ 1 ∷ []) ∷ (1 ∷ 1 ∷ []) ∷ (1 ∷ 0 ∷ []) ∷ (1 ∷ 1 ∷ []) ∷ [] }
+    ensures scripts { map (λ script. map (λ round. round.secondary) script) (every_script 1 2)
+        ≡ (1 ∷ 1 ∷ []) ∷ (1 ∷ 0 ∷ []) ∷ (1 ∷ 1 ∷ []) ∷ (0 ∷ 1 ∷ []) ∷ (0 ∷ 0 ∷ [])
+        ∷ (0 ∷ 1 ∷ []) ∷ (1 ∷ 1 ∷ []) ∷
+        (1 ∷ 0 ∷ []) ∷ (1 ∷ 1 ∷ []) ∷ [] }
 {}

@@ -58,8 +58,10 @@ impl Scenario {
         term: TermLength,
         members: &[Participant],
     ) -> Result<Partitions, AllocError>
-        ensures parts { IfOk result (λ parts. (parts.0.items, parts.1.items) ≡ partitions self.now term view members.now) }
-        ensures behind { length self.now ≤ round_index term view → IfOk result (λ parts. (parts.0.items ≡ members.now) × (parts.1.items ≡ members.now)) }
+        ensures parts { IfOk result (λ parts. (parts.0.items, parts.1.items)
+            ≡ partitions self.now term view members.now) }
+        ensures behind { length self.now ≤ round_index term view
+            → IfOk result (λ parts. (parts.0.items ≡ members.now) × (parts.1.items ≡ members.now)) }
     {
         match self.round_at(view, term) {
             Some(round) => Ok((

@@ -25,7 +25,8 @@ impl Model for Scenarios {
 
     ghost view = { λ s. take s.left (s.next.items ∷ scripts_after s.participants s.next.items) };
 
-    ghost invariant = { λ s. (0 < s.participants) × (s.participants ≤ 64) × (s.left < 2 ^ 64) × IsTrue (are_good s.participants s.next.items) };
+    ghost invariant = { λ s. (0 < s.participants) × (s.participants ≤ 64) × (s.left < 2 ^ 64)
+        × IsTrue (are_good s.participants s.next.items) };
 }
 
 impl Scenario {
@@ -41,8 +42,10 @@ impl Scenario {
     ) -> Result<Scenarios, AllocError>
         requires some { 0 < participants }
         requires most { participants ≤ 64 }
-        ensures all { IfOk result (λ scenarios. scenarios ≡ take limit (every_script participants rounds)) }
-        ensures count { IfOk result (λ scenarios. length scenarios ≡ min limit ((3 * participants * 4 ^ (participants - 1)) ^ rounds)) }
+        ensures all { IfOk result (λ scenarios. scenarios
+            ≡ take limit (every_script participants rounds)) }
+        ensures count { IfOk result (λ scenarios. length scenarios
+            ≡ min limit ((3 * participants * 4 ^ (participants - 1)) ^ rounds)) }
     {
         Ok(Scenarios {
             participants,
@@ -56,7 +59,8 @@ impl Scenarios {
     /// The next scenario, or none behind the last. Nothing is given where memory is wanting, and the
     /// scenario still comes next.
     pub fn next_scenario(&mut self, alloc: Global) -> Result<Option<Scenario>, AllocError>
-        ensures given { IfOk result (λ given. MatchOption given ((self.old ≡ []) × (self.new ≡ [])) (λ scenario. self.old ≡ scenario ∷ self.new)) }
+        ensures given { IfOk result (λ given. MatchOption given ((self.old ≡ []) × (self.new ≡ []))
+            (λ scenario. self.old ≡ scenario ∷ self.new)) }
         ensures err { OnErr result (self.new ≡ self.old) }
     {
         if self.left == 0 {
@@ -84,7 +88,9 @@ fn advance(rounds: &mut [RoundScenario], participants: u32) -> bool
     requires some { 0 < participants }
     requires most { participants ≤ 64 }
     requires good { IsTrue (are_good participants rounds.old) }
-    ensures next { MatchBool result (scripts_after participants rounds.old ≡ rounds.new ∷ scripts_after participants rounds.new) (scripts_after participants rounds.old ≡ []) }
+    ensures next { MatchBool result
+        (scripts_after participants rounds.old ≡ rounds.new ∷ scripts_after participants rounds.new)
+        (scripts_after participants rounds.old ≡ []) }
     ensures good { IsTrue (are_good participants rounds.new) }
 {
     let mut place = rounds.len();

@@ -17,7 +17,8 @@ pub fn view_partitions(
     members: &[Participant],
 ) -> Result<Partitions, AllocError>
     requires { 0 < length members.now }
-    ensures { IfOk result (λ parts. (parts.0.items, parts.1.items) ≡ view_partitions term view members.now) }
+    ensures { IfOk result (λ parts. (parts.0.items, parts.1.items)
+        ≡ view_partitions term view members.now) }
 {
     let (first, rest) = members.split_at(cut_at(view, term, members));
     Ok((

@@ -83,7 +83,8 @@ impl Activity {
 
     /// Whether its signatures verify, and evidence shows what it is evidence of.
     pub fn verify<S: Scheme>(&self, scheme: &S) -> bool
-        ensures { result ≡ activity_verifies (S.verifies scheme.now) (S.members scheme.now) self.now }
+        ensures { result ≡ activity_verifies (S.verifies scheme.now)
+            (S.members scheme.now) self.now }
     {
         match self {
             Activity::Notarize(it) => it.verify(scheme),

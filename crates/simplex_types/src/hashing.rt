@@ -22,7 +22,8 @@ pub fn absorb_number<D: Hash>(hasher: &mut D, number: u64)
 
 #[tactic(auto, using(crate::proofs::Spellings::round_spelling))]
 fn absorb_round<D: Hash>(hasher: &mut D, taken: &Round)
-    ensures { (m : List ℕ) → D.holds hasher.old m → D.holds hasher.new (m ++ round.spelling taken.now) }
+    ensures { (m : List ℕ) → D.holds hasher.old m
+        → D.holds hasher.new (m ++ round.spelling taken.now) }
 {
     absorb_number(hasher, taken.epoch.0);
     absorb_number(hasher, taken.view.0);
@@ -30,7 +31,8 @@ fn absorb_round<D: Hash>(hasher: &mut D, taken: &Round)
 
 #[tactic(auto, using(crate::proofs::Spellings::proposal_spelling))]
 fn absorb_proposal<D: Hash>(hasher: &mut D, taken: &Proposal)
-    ensures { (m : List ℕ) → D.holds hasher.old m → D.holds hasher.new (m ++ proposal.spelling taken.now) }
+    ensures { (m : List ℕ) → D.holds hasher.old m
+        → D.holds hasher.new (m ++ proposal.spelling taken.now) }
 {
     absorb_round(hasher, &taken.round);
     absorb_number(hasher, taken.parent.0);
@@ -39,7 +41,8 @@ fn absorb_proposal<D: Hash>(hasher: &mut D, taken: &Proposal)
 
 /// Takes the subject's bytes into the digest: those that are signed.
 pub(crate) fn absorb_subject<D: Hash>(hasher: &mut D, subject: &Subject)
-    ensures { (m : List ℕ) → D.holds hasher.old m → D.holds hasher.new (m ++ subject_bytes subject.now) }
+    ensures { (m : List ℕ) → D.holds hasher.old m
+        → D.holds hasher.new (m ++ subject_bytes subject.now) }
 {
     match subject {
         Subject::Notarize(proposal) => {

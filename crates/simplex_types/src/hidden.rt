@@ -26,7 +26,8 @@ impl Hidden {
     ) -> Result<Hidden, AllocError>
         requires some { 0 < participants }
         requires below { ForSome me (λ m. m < participants) }
-        ensures { IfOk result (λ scheme. (scheme.inner.key_base ≡ key_base) × (scheme.inner.participants ≡ participants) × (scheme.inner.me ≡ me)) }
+        ensures { IfOk result (λ scheme. (scheme.inner.key_base ≡ key_base)
+            × (scheme.inner.participants ≡ participants) × (scheme.inner.me ≡ me)) }
     {
         Ok(Hidden {
             inner: Keyed::new(alloc, key_base, participants, me)?,
@@ -64,9 +65,11 @@ impl Scheme for Hidden {
     }
 
     fn sign(&self, subject: &Subject) -> Option<Attestation>
-        ensures attests { result ≡ keyed_attests self.now.inner.key_base self.now.inner.me subject.now }
+        ensures attests { result
+            ≡ keyed_attests self.now.inner.key_base self.now.inner.me subject.now }
         // What it signs verifies.
-        ensures verified { IfSome result (λ a. IsTrue (keyed_verifies self.now.inner.key_base self.now.inner.participants subject.now a)) }
+        ensures verified { IfSome result (λ a. IsTrue
+            (keyed_verifies self.now.inner.key_base self.now.inner.participants subject.now a)) }
     {
         self.inner.sign(subject)
     }

@@ -36,7 +36,8 @@ impl Keyed {
     ) -> Result<Keyed, AllocError>
         requires some { 0 < participants }
         requires below { ForSome me (λ m. m < participants) }
-        ensures { IfOk result (λ scheme. (scheme.key_base ≡ key_base) × (scheme.participants ≡ participants) × (scheme.me ≡ me)) }
+        ensures { IfOk result (λ scheme. (scheme.key_base ≡ key_base)
+            × (scheme.participants ≡ participants) × (scheme.me ≡ me)) }
     {
         Ok(Keyed {
             key_base,
@@ -80,7 +81,8 @@ impl Scheme for Keyed {
     fn sign(&self, subject: &Subject) -> Option<Attestation>
         ensures attests { result ≡ keyed_attests self.now.key_base self.now.me subject.now }
         // What it signs verifies.
-        ensures verified { IfSome result (λ a. IsTrue (keyed_verifies self.now.key_base self.now.participants subject.now a)) }
+        ensures verified { IfSome result
+            (λ a. IsTrue (keyed_verifies self.now.key_base self.now.participants subject.now a)) }
     {
         let signer = self.me?;
         Some(Attestation {

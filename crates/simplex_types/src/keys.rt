@@ -67,7 +67,8 @@ impl Keys {
     #[tactic(auto, unfolding(crate::specs::Keyed::signature_of))]
     pub(crate) fn signature(&self, member: u32, subject: &Subject) -> [u8; 32]
         requires { member < length self.now }
-        ensures { (base n : ℕ) → self.now ≡ keys_of base n → member < n → result ≡ signature_of base member subject.now }
+        ensures { (base n : ℕ) → self.now ≡ keys_of base n → member < n
+            → result ≡ signature_of base member subject.now }
     {
         let mut hasher = Sha256::new();
         hasher.update(self.get(member));

@@ -25,7 +25,8 @@ pub fn empty_set(alloc: Global) -> BTreeSet<u64>
 
 /// Makes this the value at a view.
 pub fn put<V: Drop>(values: &mut BTreeMap<u64, V>, view: u64, value: V) -> Result<(), AllocError>
-    ensures ok { OnOk result ((q : ℕ) → found values.new q ≡ (if view == q then Some value else found values.old q)) }
+    ensures ok { OnOk result ((q : ℕ)
+        → found values.new q ≡ (if view == q then Some value else found values.old q)) }
     ensures err { OnErr result ((q : ℕ) → found values.new q ≡ found values.old q) }
 {
     values.insert(view, value)?;
@@ -118,7 +119,8 @@ pub fn last_up_to(views: &BTreeSet<u64>, view: u64) -> Option<u64>
 pub fn first_between<V>(values: &BTreeMap<u64, V>, first: u64, last: u64) -> Option<u64>
     ensures member { IfSome result (λ view. is_some (found values.now view) ≡ true) }
     ensures bounds { IfSome result (λ view. (first ≤ view) × (view ≤ last)) }
-    ensures least { IfSome result (λ view. (q : ℕ) → first ≤ q → q < view → found values.now q ≡ None) }
+    ensures least { IfSome result (λ view. (q : ℕ) → first ≤ q → q < view
+        → found values.now q ≡ None) }
     ensures none { IfNone result ((q : ℕ) → first ≤ q → q ≤ last → found values.now q ≡ None) }
 {
     let (view, _) = values.range(first..).next()?;
@@ -132,7 +134,8 @@ pub fn first_between<V>(values: &BTreeMap<u64, V>, first: u64, last: u64) -> Opt
 pub fn last_below<V>(values: &BTreeMap<u64, V>, end: u64) -> Option<u64>
     ensures bound { IfSome result (λ view. view < end) }
     ensures member { IfSome result (λ view. is_some (found values.now view) ≡ true) }
-    ensures greatest { IfSome result (λ view. (q : ℕ) → q < end → is_some (found values.now q) ≡ true → q ≤ view) }
+    ensures greatest { IfSome result (λ view. (q : ℕ) → q < end
+        → is_some (found values.now q) ≡ true → q ≤ view) }
     ensures none { IfNone result ((q : ℕ) → q < end → found values.now q ≡ None) }
 {
     match values.range(..end).next_back() {
@@ -144,7 +147,8 @@ pub fn last_below<V>(values: &BTreeMap<u64, V>, end: u64) -> Option<u64>
 /// The greatest view of the map.
 pub fn last_view<V>(values: &BTreeMap<u64, V>) -> Option<u64>
     ensures member { IfSome result (λ view. is_some (found values.now view) ≡ true) }
-    ensures greatest { IfSome result (λ view. (q : ℕ) → is_some (found values.now q) ≡ true → q ≤ view) }
+    ensures greatest { IfSome result (λ view. (q : ℕ)
+        → is_some (found values.now q) ≡ true → q ≤ view) }
     ensures none { IfNone result ((q : ℕ) → found values.now q ≡ None) }
 {
     match values.last_key_value() {

@@ -20,7 +20,8 @@ impl Terms {
     /// Whether the view lies so near the greatest u64 that the engine goes no further:
     /// it is greater than that less two terms and the lookahead.
     pub fn at_end(&self, view: View) -> bool
-        ensures { IsTrue result ↔ (greatest_view - 2 * self.now.length - self.now.lookahead < view) }
+        ensures { IsTrue result ↔
+            (greatest_view - 2 * self.now.length - self.now.lookahead < view) }
     {
         let last = u64::MAX - 2 * self.length.get();
         view.0 > last.saturating_sub(self.lookahead)

@@ -9,13 +9,12 @@ use Rattle.model_rules.specs.Pending.{Desk, Opened, Pending, is_open}
 use Rattle.model_rules.specs.declared.request.ProposalState.{ProposalState}
 use Rattle.model_rules.specs.declared.request.ProposalState.TheVariants.{Preparing, Proposing}
 use Rattle.model_steps.specs.Voter.{Standing, answer_to, fits_proposal, fits_verdict, takes_answer, answered, marked_answered}
+use Rattle.simplex_wire.specs.declared.scheme.Scheme as schemes
+use Rattle.simplex_types.specs.declared.elector.Elector as electors
 use Rattle.simplex_voter.specs.declared.request.Arrival.{Arrival}
 use Rattle.simplex_voter.specs.declared.request.OpenRequest.{OpenRequest}
 use Rattle.simplex_voter.specs.declared.request.PendingProposal.{PendingProposal}
 use Rattle.simplex_voter.specs.Arrivals.{arrival_from, arrival_of, pending_of, opened_of, is_below, AllKept, IsKept, IsProposalKept, IsVerifyKept, AllBelow, IsProposalBelow, IsVerifyBelow, proposal_waits, verify_waits, request_waits, mark_pending, mark_request, pending_takes, request_takes, takes_in, taken_answer, Arrived}
-use Rattle.simplex_values.specs.declared.proposal.Subject.{Subject}
-use Rattle.simplex_values.specs.declared.round.Round.{Round}
-use Rattle.simplex_wire.specs.declared.attestation.Attestation.{Attestation}
 use Rattle.model_rules.specs.Known.{Made}
 use Rattle.model_steps.specs.Desk.{Doing, begun}
 use Rattle.simplex_voter.specs.declared.planner.Planner.{Planner}
@@ -280,9 +279,9 @@ module _ (number : ℕ) (arrival : Arrival) where
   marked-certify [] = refl
   marked-certify (r ∷ rest) = rw (marked-opened r, marked-certify rest) refl
 
-module _ {S L : Type 0} {attests : S → Subject → Option Attestation} {elects : L → Round → ℕ} where
+module _ {S L : Type 0} {g : schemes.Ghosts S} {h : electors.Ghosts L} where
   -- whether the planner's requests take the answer is the rule
-  pub takes-said : {planner : Planner S L} {made : Made} {answers : List (ℕ × Answer)} {desk : Desk} (number : ℕ) (answer : Answer) → (s : Stands attests elects planner made answers (begun desk))
+  pub takes-said : {planner : Planner S L g h} {made : Made} {answers : List (ℕ × Answer)} {desk : Desk} (number : ℕ) (answer : Answer) → (s : Stands planner made answers (begun desk))
       → takes_in number answer planner.proposal planner.verify planner.certify.items ≡ takes_answer (record { desk = desk; answers = answers }) number answer
   unfolding doing_of
   takes-said {planner} {made} {answers} {desk} number answer s =
@@ -290,15 +289,15 @@ module _ {S L : Type 0} {attests : S → Subject → Option Attestation} {elects
       (ap (λ (d : Doing). d.desk.proposal) s.does) (ap (λ (d : Doing). d.desk.verify) s.does) (ap (λ (d : Doing). d.desk.certify) s.does) s.keeps
 
   -- what the planner stands for once its requests keep one more answer
-  pub stands-more : {old new : Planner S L} {made : Made} {answers : List (ℕ × Answer)} {desk : Desk} (number : ℕ) (answer : Answer)
+  pub stands-more : {old new : Planner S L g h} {made : Made} {answers : List (ℕ × Answer)} {desk : Desk} (number : ℕ) (answer : Answer)
       → new.state ≡ old.state → new.proposal ≡ option_map (mark_pending number (record { place = old.arrivals; answer = answer })) old.proposal
       → new.verify ≡ option_map (mark_request number (record { place = old.arrivals; answer = answer })) old.verify
       → new.certify.items ≡ map (mark_request number (record { place = old.arrivals; answer = answer })) old.certify.items
       → new.opened ≡ old.opened → new.arrivals ≡ cond (nat_lt old.arrivals old.opened) (old.arrivals + 1) old.arrivals
       → new.out ≡ old.out → new.dropped.items ≡ old.dropped.items → new.missing.items ≡ old.missing.items → new.wrote ≡ old.wrote → new.verdict ≡ old.verdict → new.nullify ≡ old.nullify
       → takes_in number answer old.proposal old.verify old.certify.items ≡ true
-      → Stands attests elects old made answers (begun desk)
-      → Stands attests elects new made (answers ++ (number, answer) ∷ []) (begun (record desk { proposal = option_map (marked_answered number) desk.proposal }))
+      → Stands old made answers (begun desk)
+      → Stands new made (answers ++ (number, answer) ∷ []) (begun (record desk { proposal = option_map (marked_answered number) desk.proposal }))
   unfolding doing_of
   stands-more {old} {new} {made} {answers} {desk} number answer state proposal verify certify opened arrivals out dropped missing wrote verdict nullify takes s =
       let arrival : Arrival = record { place = old.arrivals; answer = answer } in

@@ -1,11 +1,8 @@
 -- What a voter does in a start or a step over any journal.
-use Rattle.std.proofs.Common.{◌≡◌, ◌≢◌, ℕ, ◌+◌, ◌-◌, true, false, List, [], ◌∷◌, length, Option, Some, None, refl, ap, ◌∙◌, arith, inl, inr}
+use Rattle.std.proofs.Common.{◌≡◌, ◌≢◌, ℕ, ◌+◌, ◌-◌, Bool, true, false, List, [], ◌∷◌, length, Option, Some, None, refl, ap, ◌∙◌, arith, inl, inr}
 use Rattle.std.proofs.lemmas.Bool.Decides.{nat_tests}
 use Rattle.std.specs.Global.{Vec}
-use Rattle.simplex_values.specs.declared.proposal.Subject.{Subject}
-use Rattle.simplex_values.specs.declared.round.Round.{Round}
 use Rattle.simplex_values.specs.declared.answer.Answer.{Answer}
-use Rattle.simplex_wire.specs.declared.attestation.Attestation.{Attestation}
 use Rattle.simplex_wire.specs.declared.artifact.Artifact.{Artifact}
 use Rattle.model_rules.specs.Known.{Made}
 use Rattle.simplex_journal.specs.Journal.{Section, replayed}
@@ -20,9 +17,12 @@ use Rattle.model_steps.specs.Desk.{Doing, begun}
 use Rattle.model_steps.specs.Performed.{Performed, performed}
 use Rattle.model_steps.specs.Voter.{blank_desk, stepped, started}
 use Rattle.model_steps.specs.VoterLife.{VoterMade, Given, Started, Stepped, Place, place_of, rest, unreadable, start_at, start_given, step_given}
+use Rattle.simplex_wire.specs.declared.scheme.Scheme as schemes
+use Rattle.simplex_types.specs.declared.elector.Elector as electors
+use Rattle.simplex_journal.specs.declared.journal.Journal as journals
 use Rattle.simplex_voter.specs.declared.planner.Planner.{Planner}
 use Rattle.simplex_voter.specs.declared.actor.Actor.{Actor}
-use Rattle.simplex_voter.specs.Actor.{StaysOver, StandsOver, Fares, FaresFirst, journal_of, floor_calls}
+use Rattle.simplex_voter.specs.Actor.{StaysOver, StandsFor, StandsOver, VoterStands, Fares, FaresFirst, journal_of, floor_calls}
 use Rattle.simplex_voter.specs.Turned.{IsOfJournal, Becomes, left_by, left_as, step_left, start_left, past_reading, FaultsAt}
 use Rattle.simplex_voter.specs.Performing.{GaveOver, SettledOver, ReadOver, out_of}
 use Rattle.simplex_voter.specs.Stands.{Stands, Planned, Does, Finds, rested}
@@ -110,15 +110,15 @@ pub record Went (IsAt : Place → Type 0) (place : Place) (given : Performed) (l
   pub leaves : now ≡ left
   pub stays : outcome ≢ outcomes.Journal → IsAt place
 
-module _ {S L J : Type 0} {attests : S → Subject → Option Attestation} {elects : L → Round → ℕ} {sections : J → List Section} where
-  went-settled : {actor : Actor S L J} {made : VoterMade} {mid : Planner S L} {planned : StepOut} {outcome : Outcome} {out : StepOut} (before : Place) (journal : J) (stop : Stop) (doing : Doing) (answers : List (ℕ × Answer))
+module _ {S L J : Type 0} {g : schemes.Ghosts S} {h : electors.Ghosts L} {k : journals.Ghosts J} where
+  went-settled : {actor : Actor S L J g h k} {made : VoterMade} {mid : Planner S L g h} {planned : StepOut} {outcome : Outcome} {out : StepOut} (before : Place) (journal : J) (stop : Stop) (doing : Doing) (answers : List (ℕ × Answer))
       → actor.floor ≡ made.floor
-      → Stands attests elects mid made.rules answers doing
-      → Does attests elects mid actor.planner (λ made. rested) → Finds attests elects mid (λ made. out_of) planned
-      → sections journal ≡ before.sections
-      → (o : SettledOver stop planned (sections journal) outcome out (sections actor.journal))
-      → Went (StaysOver attests elects sections actor made) (record { standing = rest doing answers; sections = (performed o.turned doing before.sections).sections })
-      (performed o.turned doing before.sections) (left_as stop o.turned doing.calls before.sections) (sections actor.journal) outcome out
+      → Stands mid made.rules answers doing
+      → Does mid actor.planner (λ made. rested) → Finds mid (λ made. out_of) planned
+      → k.sections journal ≡ before.sections
+      → (o : SettledOver stop planned (k.sections journal) outcome out (k.sections actor.journal))
+      → Went (StaysOver actor made) (record { standing = rest doing answers; sections = (performed o.turned doing before.sections).sections })
+      (performed o.turned doing before.sections) (left_as stop o.turned doing.calls before.sections) (k.sections actor.journal) outcome out
   went-settled before journal stop doing answers floor does rests finds same o =
       let gave : GaveOver stop o.turned doing before.sections _ _ _ = rw same at (o.gives doing (finds _ _ _ does)) in
       record {
@@ -134,27 +134,27 @@ module _ {S L J : Type 0} {attests : S → Subject → Option Attestation} {elec
 
   -- ---- a step
 
-  step-went-by : {old new : Actor S L J} {mid : Planner S L} {planned : StepOut} {outcome : Outcome} {out : StepOut}
+  step-went-by : {old new : Actor S L J g h k} {mid : Planner S L g h} {planned : StepOut} {outcome : Outcome} {out : StepOut}
       (made : VoterMade) (past : List Given) (input : VoterInput) (now : ℕ) (stop : Stop) (done : Option Doing) → stepped made.rules now (place_of made past).standing input ≡ done
-      → Planned (Stands attests elects mid made.rules (place_of made past).standing.answers) (begun (place_of made past).standing.desk) done true
-      → Does attests elects mid new.planner (λ made. rested) → Finds attests elects mid (λ made. out_of) planned
-      → (o : SettledOver stop planned (sections old.journal) outcome out (sections new.journal))
+      → Planned (Stands mid made.rules (place_of made past).standing.answers) (begun (place_of made past).standing.desk) done true
+      → Does mid new.planner (λ made. rested) → Finds mid (λ made. out_of) planned
+      → (o : SettledOver stop planned (k.sections old.journal) outcome out (k.sections new.journal))
       → new.floor ≡ old.floor
-      → StaysOver attests elects sections old made (place_of made past)
-      → Went (StaysOver attests elects sections new made) (place_of made (Stepped input now o.turned ∷ past)) (step_given made past input now o.turned) (step_left made past input now stop o.turned) (sections new.journal) outcome out
+      → StaysOver old made (place_of made past)
+      → Went (StaysOver new made) (place_of made (Stepped input now o.turned ∷ past)) (step_given made past input now o.turned) (step_left made past input now stop o.turned) (k.sections new.journal) outcome out
   step-went-by made past input now stop None is plan rests finds o floor s = absurd (let e = plan.holds in cc)
   step-went-by made past input now stop (Some doing) is plan rests finds o floor s =
       rw (stepped-place made past input now o.turned doing is, stepped-given made past input now o.turned doing is, step-leaves made past input now stop o.turned doing is)
       (went-settled (place_of made past) _ stop doing (place_of made past).standing.answers (floor ∙ s.floor) plan.does rests finds s.sections_are o)
 
-  pub step-fares : {old new : Actor S L J} {mid : Planner S L} {planned : StepOut} {outcome : Outcome} {out : StepOut}
+  pub step-fares : {old new : Actor S L J g h k} {mid : Planner S L g h} {planned : StepOut} {outcome : Outcome} {out : StepOut}
       (input : VoterInput) (now : ℕ) (stop : Stop)
-      → ((made : VoterMade) (past : List Given) → StaysOver attests elects sections old made (place_of made past)
-      → Planned (Stands attests elects mid made.rules (place_of made past).standing.answers) (begun (place_of made past).standing.desk) (stepped made.rules now (place_of made past).standing input) true)
-      → Does attests elects mid new.planner (λ made. rested) → Finds attests elects mid (λ made. out_of) planned
-      → SettledOver stop planned (sections old.journal) outcome out (sections new.journal)
+      → ((made : VoterMade) (past : List Given) → StaysOver old made (place_of made past)
+      → Planned (Stands mid made.rules (place_of made past).standing.answers) (begun (place_of made past).standing.desk) (stepped made.rules now (place_of made past).standing input) true)
+      → Does mid new.planner (λ made. rested) → Finds mid (λ made. out_of) planned
+      → SettledOver stop planned (k.sections old.journal) outcome out (k.sections new.journal)
       → new.floor ≡ old.floor
-      → Fares attests elects sections old new stop outcome out (λ turned. Stepped input now turned) (λ turned made past. step_given made past input now turned) (λ turned made past. step_left made past input now stop turned)
+      → Fares old new stop outcome out (λ turned. Stepped input now turned) (λ turned made past. step_given made past input now turned) (λ turned made past. step_left made past input now stop turned)
   unfolding StandsOver
   step-fares {old} {new} {mid} {planned} {outcome} {out} input now stop plans rests finds o floor =
       record {
@@ -165,16 +165,16 @@ module _ {S L J : Type 0} {attests : S → Subject → Option Attestation} {elec
         stands = λ going made past s. (went made past s).stays going;
       }
     where
-      went : (made : VoterMade) (past : List Given) → (s : StaysOver attests elects sections old made (place_of made past))
-          → Went (StaysOver attests elects sections new made) (place_of made (Stepped input now o.turned ∷ past)) (step_given made past input now o.turned) (step_left made past input now stop o.turned) (sections new.journal) outcome out
+      went : (made : VoterMade) (past : List Given) → (s : StaysOver old made (place_of made past))
+          → Went (StaysOver new made) (place_of made (Stepped input now o.turned ∷ past)) (step_given made past input now o.turned) (step_left made past input now stop o.turned) (k.sections new.journal) outcome out
       went made past s = step-went-by made past input now stop (stepped made.rules now (place_of made past).standing input) refl (plans made past s) rests finds o floor s
 
-  idle-went-by : {old new : Actor S L J} {out : StepOut}
+  idle-went-by : {old new : Actor S L J g h k} {out : StepOut}
       (made : VoterMade) (past : List Given) (input : VoterInput) (now : ℕ) (stop turned : Stop) (done : Option Doing) → stepped made.rules now (place_of made past).standing input ≡ done
-      → Planned (Stands attests elects new.planner made.rules (place_of made past).standing.answers) (begun (place_of made past).standing.desk) done false
+      → Planned (Stands new.planner made.rules (place_of made past).standing.answers) (begun (place_of made past).standing.desk) done false
       → new.floor ≡ old.floor → new.journal ≡ old.journal → out ≡ no_out
-      → StaysOver attests elects sections old made (place_of made past)
-      → Went (StaysOver attests elects sections new made) (place_of made (Stepped input now turned ∷ past)) (step_given made past input now turned) (step_left made past input now stop turned) (sections new.journal) outcomes.Idle out
+      → StaysOver old made (place_of made past)
+      → Went (StaysOver new made) (place_of made (Stepped input now turned ∷ past)) (step_given made past input now turned) (step_left made past input now stop turned) (k.sections new.journal) outcomes.Idle out
   idle-went-by made past input now stop turned (Some doing) is plan floor journal empty s = absurd (let e = plan.holds in cc)
   idle-went-by made past input now stop turned None is plan floor journal empty s =
       rw (idle-place made past input now turned is, idle-given made past input now turned is, idle-leaves made past input now stop turned is)
@@ -185,12 +185,12 @@ module _ {S L J : Type 0} {attests : S → Subject → Option Attestation} {elec
         stays = λ going. record { floor = floor ∙ s.floor; planner = plan.does; sections_are = rw journal s.sections_are };
       })
 
-  pub idle-fares : {old new : Actor S L J} {out : StepOut}
+  pub idle-fares : {old new : Actor S L J g h k} {out : StepOut}
       (input : VoterInput) (now : ℕ) (stop : Stop)
-      → ((made : VoterMade) (past : List Given) → StaysOver attests elects sections old made (place_of made past)
-      → Planned (Stands attests elects new.planner made.rules (place_of made past).standing.answers) (begun (place_of made past).standing.desk) (stepped made.rules now (place_of made past).standing input) false)
+      → ((made : VoterMade) (past : List Given) → StaysOver old made (place_of made past)
+      → Planned (Stands new.planner made.rules (place_of made past).standing.answers) (begun (place_of made past).standing.desk) (stepped made.rules now (place_of made past).standing input) false)
       → new.floor ≡ old.floor → new.journal ≡ old.journal → out ≡ no_out
-      → Fares attests elects sections old new stop outcomes.Idle out (λ turned. Stepped input now turned) (λ turned made past. step_given made past input now turned) (λ turned made past. step_left made past input now stop turned)
+      → Fares old new stop outcomes.Idle out (λ turned. Stepped input now turned) (λ turned made past. step_given made past input now turned) (λ turned made past. step_left made past input now stop turned)
   unfolding StandsOver
   idle-fares {old} {new} {out} input now stop plans floor journal empty =
       record {
@@ -201,38 +201,38 @@ module _ {S L J : Type 0} {attests : S → Subject → Option Attestation} {elec
         stands = λ going made past s. (went made past s).stays going;
       }
     where
-      went : (made : VoterMade) (past : List Given) → (s : StaysOver attests elects sections old made (place_of made past))
-          → Went (StaysOver attests elects sections new made) (place_of made (Stepped input now (unfailing stop) ∷ past)) (step_given made past input now (unfailing stop)) (step_left made past input now stop (unfailing stop)) (sections new.journal) outcomes.Idle out
+      went : (made : VoterMade) (past : List Given) → (s : StaysOver old made (place_of made past))
+          → Went (StaysOver new made) (place_of made (Stepped input now (unfailing stop) ∷ past)) (step_given made past input now (unfailing stop)) (step_left made past input now stop (unfailing stop)) (k.sections new.journal) outcomes.Idle out
       went made past s = idle-went-by made past input now stop (unfailing stop) (stepped made.rules now (place_of made past).standing input) refl (plans made past s) floor journal empty s
 
   -- ---- a start
 
-  start-went : {old new : Actor S L J} {mid : Planner S L} {planned : StepOut} {outcome : Outcome} {out : StepOut} (records : Vec Artifact)
+  start-went : {old new : Actor S L J g h k} {mid : Planner S L g h} {planned : StepOut} {outcome : Outcome} {out : StepOut} (records : Vec Artifact)
       (journal : J) (made : VoterMade) (now : ℕ) (stop : Stop)
-      → ReadOver stop (sections old.journal) (Some records) (sections journal)
-      → ((made : Made) → Stands attests elects old.planner made [] (begun blank_desk) → Stands attests elects mid made [] (started made now old.floor records.items))
-      → Does attests elects mid new.planner (λ made. rested) → Finds attests elects mid (λ made. out_of) planned
-      → (o : SettledOver (past_reading stop) planned (sections journal) outcome out (sections new.journal))
+      → ReadOver stop (k.sections old.journal) (Some records) (k.sections journal)
+      → ((made : Made) → Stands old.planner made [] (begun blank_desk) → Stands mid made [] (started made now old.floor records.items))
+      → Does mid new.planner (λ made. rested) → Finds mid (λ made. out_of) planned
+      → (o : SettledOver (past_reading stop) planned (k.sections journal) outcome out (k.sections new.journal))
       → new.floor ≡ old.floor
-      → StaysOver attests elects sections old made (place_of made [])
-      → Went (StaysOver attests elects sections new made) (place_of made (Started now (unread_yet o.turned) ∷ [])) (start_given made [] now (unread_yet o.turned)) (start_left made [] now stop (unread_yet o.turned)) (sections new.journal) outcome out
+      → StaysOver old made (place_of made [])
+      → Went (StaysOver new made) (place_of made (Started now (unread_yet o.turned) ∷ [])) (start_given made [] now (unread_yet o.turned)) (start_left made [] now stop (unread_yet o.turned)) (k.sections new.journal) outcome out
   start-went {old} {new} {mid} {planned} {outcome} {out} records journal made now stop read starts rests finds o floor s =
-      let blank : StaysOver attests elects sections old made (record { standing = record { desk = blank_desk; answers = [] }; sections = made.sections }) = rw (blank-standing made) at s in
+      let blank : StaysOver old made (record { standing = record { desk = blank_desk; answers = [] }; sections = made.sections }) = rw (blank-standing made) at s in
       let readable = readable-yet stop o.turned _ o.becomes in
       let all : records.items ≡ replayed made.sections = read.0 ∙ ap replayed blank.sections_are in
-      let does : Stands attests elects mid made.rules [] (start_at made now made.sections) = rw (all, blank.floor) at (starts made.rules blank.planner) in
+      let does : Stands mid made.rules [] (start_at made now made.sections) = rw (all, blank.floor) at (starts made.rules blank.planner) in
       rw (start-place made now (unread_yet o.turned) readable, start-gives made now (unread_yet o.turned) readable, start-leaves made now stop (unread_yet o.turned) readable, past-yet o.turned)
       (went-settled (record { standing = record { desk = blank_desk; answers = [] }; sections = made.sections }) journal (past_reading stop) (start_at made now made.sections) [] (floor ∙ blank.floor) does rests finds (read.1 ∙ blank.sections_are) o)
 
   -- the journal was read
-  pub start-fares : {old new : Actor S L J} {mid : Planner S L} {planned : StepOut} {outcome : Outcome} {out : StepOut} (records : Vec Artifact)
+  pub start-fares : {old new : Actor S L J g h k} {mid : Planner S L g h} {planned : StepOut} {outcome : Outcome} {out : StepOut} (records : Vec Artifact)
       (journal : J) (now : ℕ) (stop : Stop)
-      → ReadOver stop (sections old.journal) (Some records) (sections journal)
-      → ((made : Made) → Stands attests elects old.planner made [] (begun blank_desk) → Stands attests elects mid made [] (started made now old.floor records.items))
-      → Does attests elects mid new.planner (λ made. rested) → Finds attests elects mid (λ made. out_of) planned
-      → SettledOver (past_reading stop) planned (sections journal) outcome out (sections new.journal)
+      → ReadOver stop (k.sections old.journal) (Some records) (k.sections journal)
+      → ((made : Made) → Stands old.planner made [] (begun blank_desk) → Stands mid made [] (started made now old.floor records.items))
+      → Does mid new.planner (λ made. rested) → Finds mid (λ made. out_of) planned
+      → SettledOver (past_reading stop) planned (k.sections journal) outcome out (k.sections new.journal)
       → new.floor ≡ old.floor
-      → FaresFirst attests elects sections old new stop outcome out (λ turned. Started now turned) (λ turned made past. start_given made past now turned) (λ turned made past. start_left made past now stop turned)
+      → FaresFirst old new stop outcome out (λ turned. Started now turned) (λ turned made past. start_given made past now turned) (λ turned made past. start_left made past now stop turned)
   unfolding StandsOver
   start-fares {old} {new} {mid} {planned} {outcome} {out} records journal now stop read starts rests finds o floor =
       record {
@@ -243,16 +243,16 @@ module _ {S L J : Type 0} {attests : S → Subject → Option Attestation} {elec
         stands = λ going made s. (went made s).stays going;
       }
     where
-      went : (made : VoterMade) → (s : StaysOver attests elects sections old made (place_of made []))
-          → Went (StaysOver attests elects sections new made) (place_of made (Started now (unread_yet o.turned) ∷ [])) (start_given made [] now (unread_yet o.turned)) (start_left made [] now stop (unread_yet o.turned)) (sections new.journal) outcome out
+      went : (made : VoterMade) → (s : StaysOver old made (place_of made []))
+          → Went (StaysOver new made) (place_of made (Started now (unread_yet o.turned) ∷ [])) (start_given made [] now (unread_yet o.turned)) (start_left made [] now stop (unread_yet o.turned)) (k.sections new.journal) outcome out
       went made s = start-went records journal made now stop read starts rests finds o floor s
 
   -- the reading failed
-  pub unread-fares : {old new : Actor S L J} {out : StepOut}
+  pub unread-fares : {old new : Actor S L J g h k} {out : StepOut}
       (now : ℕ) (stop : Stop)
-      → ReadOver stop (sections old.journal) None (sections new.journal)
+      → ReadOver stop (k.sections old.journal) None (k.sections new.journal)
       → new.floor ≡ old.floor → out ≡ record no_out { calls = floor_calls old.floor }
-      → FaresFirst attests elects sections old new stop outcomes.Journal out (λ turned. Started now turned) (λ turned made past. start_given made past now turned) (λ turned made past. start_left made past now stop turned)
+      → FaresFirst old new stop outcomes.Journal out (λ turned. Started now turned) (λ turned made past. start_given made past now turned) (λ turned made past. start_left made past now stop turned)
   unfolding StandsOver
   unread-fares {old} {new} {out} now stop read floor listed =
       record {
@@ -260,16 +260,23 @@ module _ {S L J : Type 0} {attests : S → Subject → Option Attestation} {elec
         becomes = inl refl;
         gives = λ made s. rw (unread-gives made now (stops.Fail 1 0) refl) (refl, rw s.floor at listed);
         leaves = λ made s.
-            let blank : StaysOver attests elects sections old made (record { standing = record { desk = blank_desk; answers = [] }; sections = made.sections }) = rw (blank-standing made) at s in
+            let blank : StaysOver old made (record { standing = record { desk = blank_desk; answers = [] }; sections = made.sections }) = rw (blank-standing made) at s in
             rw (unread-leaves made now stop (stops.Fail 1 0) refl) (read ∙ ap (left_by stop stops.None) blank.sections_are);
         stands = λ going made s. absurd (going refl);
       }
 
+-- what is known of a voter over a journal that tells its order is known over any
+pub known-over : {S L J : Type 0} {g : schemes.Ghosts S} {h : electors.Ghosts L} {k : journals.Ghosts J} (told : Bool) (actor : Actor S L J g h k) (made : VoterMade) (past : List Given)
+    → VoterStands told actor made past → StandsOver actor made past
+unfolding StandsFor StandsOver
+known-over true actor made past s = record { floor = s.floor; planner = s.planner; sections_are = s.sections_are }
+known-over false actor made past s = s
+
 -- what the journal of a voter holds
-pub held-over : {S L J : Type 0} (attests : S → Subject → Option Attestation) (elects : L → Round → ℕ) (sections : J → List Section) (actor : Actor S L J) (made : VoterMade) (past : List Given)
-    → StandsOver attests elects sections actor made past → sections (journal_of actor) ≡ (place_of made past).sections
+pub held-over : {S L J : Type 0} {g : schemes.Ghosts S} {h : electors.Ghosts L} {k : journals.Ghosts J} (actor : Actor S L J g h k) (made : VoterMade) (past : List Given)
+    → StandsOver actor made past → k.sections (journal_of actor) ≡ (place_of made past).sections
 unfolding StandsOver
-held-over attests elects sections actor made past stands = stands.sections_are
+held-over actor made past stands = stands.sections_are
 
 -- the count of faults stood when the journal was read
 pub faults-later : (outcome : Outcome) (before mid now : ℕ) → mid ≡ before → FaultsAt outcome mid now → FaultsAt outcome before now

@@ -1,10 +1,7 @@
 -- Whether a source holds anything, and which answer it would take.
 use Rattle.std.proofs.Common.{◌≡◌, ℕ, Bool, true, false, List, map, Option, Some, None, refl, ap, ◌∙◌, cond, nat_le}
 use Rattle.std.specs.Option.{is_some, option_map, option_and_then}
-use Rattle.simplex_values.specs.declared.proposal.Subject.{Subject}
 use Rattle.simplex_values.specs.declared.answer.Answer.{Answer}
-use Rattle.simplex_values.specs.declared.round.Round.{Round}
-use Rattle.simplex_wire.specs.declared.attestation.Attestation.{Attestation}
 use Rattle.model_rules.specs.Known.{Made}
 use Rattle.model_rules.specs.Ancestry.{is_certified}
 use Rattle.model_rules.specs.Deadline.{deadline_of}
@@ -15,6 +12,8 @@ use Rattle.model_rules.specs.declared.request.ProposalState.TheVariants.{Prepari
 use Rattle.simplex_messages.specs.declared.voter.VoterInput.TheVariants as inputs
 use Rattle.model_steps.specs.Desk.{Doing, begun}
 use Rattle.model_steps.specs.Voter.{Standing, answer_to, acted, take_proposal, act_on_deadline, propose, act_on_proposal, act_on_verify, act_on_certify, with_answer}
+use Rattle.simplex_wire.specs.declared.scheme.Scheme as schemes
+use Rattle.simplex_types.specs.declared.elector.Elector as electors
 use Rattle.simplex_voter.specs.declared.request.Arrival.{Arrival}
 use Rattle.simplex_voter.specs.declared.request.OpenRequest.{OpenRequest}
 use Rattle.simplex_voter.specs.declared.request.PendingProposal.{PendingProposal}
@@ -55,7 +54,7 @@ taken-numbered : (r : Option OpenRequest) → option_map (λ (taken : Opened × 
 taken-numbered None = refl
 taken-numbered (Some r) = mapped-twice (λ (taken : Opened × Answer). with_number taken.0.number taken.1) (λ (x : Arrival). with_answer x.answer (opened_of r)) r.arrival
 
-module _ {S L : Type 0} {attests : S → Subject → Option Attestation} {elects : L → Round → ℕ} {planner : Planner S L} {made : Made} {answers : List (ℕ × Answer)} {desk : Desk} (s : Stands attests elects planner made answers (begun desk)) where
+module _ {S L : Type 0} {g : schemes.Ghosts S} {h : electors.Ghosts L} {planner : Planner S L g h} {made : Made} {answers : List (ℕ × Answer)} {desk : Desk} (s : Stands planner made answers (begun desk)) where
   abbrev at : Standing
   at = record { desk = desk; answers = answers }
 

@@ -1,16 +1,15 @@
 -- The open requests that have no answer yet are those that keep none.
 use Rattle.std.proofs.Common.{◌≡◌, ℕ, Bool, true, false, List, [], ◌∷◌, map, find, Option, Some, None, refl, ap, ◌∙◌, cond}
 use Rattle.std.specs.Option.{is_none, option_map, option_and_then}
-use Rattle.simplex_values.specs.declared.proposal.Subject.{Subject}
 use Rattle.simplex_values.specs.declared.answer.Answer.{Answer}
-use Rattle.simplex_values.specs.declared.round.Round.{Round}
-use Rattle.simplex_wire.specs.declared.attestation.Attestation.{Attestation}
 use Rattle.model_rules.specs.Known.{Made}
 use Rattle.model_rules.specs.Pending.{Desk, Pending, Opened}
 use Rattle.model_rules.specs.declared.request.ProposalState.{ProposalState}
 use Rattle.model_rules.specs.declared.request.ProposalState.TheVariants.{Preparing, Proposing, Waiting, Held, Closed}
 use Rattle.model_steps.specs.Desk.{Doing, begun}
 use Rattle.model_steps.specs.Voter.{Standing, answer_to}
+use Rattle.simplex_wire.specs.declared.scheme.Scheme as schemes
+use Rattle.simplex_types.specs.declared.elector.Elector as electors
 use Rattle.simplex_voter.specs.declared.kind.AskKind.TheVariants.{Prepare, Propose, Verify, Certify}
 use Rattle.simplex_voter.specs.declared.request.Arrival.{Arrival}
 use Rattle.simplex_voter.specs.declared.request.OpenRequest.{OpenRequest}
@@ -47,7 +46,7 @@ first-kept given (r ∷ rest) kept =
     found-if (λ (c : Opened). c.number) (is_none (answer_to given r.number)) (opened_of r) (find (λ (c : Opened). is_none (answer_to given c.number)) (map opened_of rest))
     ∙ rw (none-kept given r.number r.arrival kept.0, first-kept given rest kept.1) refl
 
-module _ {S L : Type 0} {attests : S → Subject → Option Attestation} {elects : L → Round → ℕ} {planner : Planner S L} {made : Made} {answers : List (ℕ × Answer)} {desk : Desk} (s : Stands attests elects planner made answers (begun desk)) where
+module _ {S L : Type 0} {g : schemes.Ghosts S} {h : electors.Ghosts L} {planner : Planner S L g h} {made : Made} {answers : List (ℕ × Answer)} {desk : Desk} (s : Stands planner made answers (begun desk)) where
   abbrev at : Standing
   at = record { desk = desk; answers = answers }
 

@@ -2,10 +2,7 @@
 use Rattle.std.specs.Prelude.{◌≡◌, ℕ, ◌<◌, nat_lt, Bool, true, false, List, [], ◌∷◌, ◌++◌, map, unwrap_or, Option, Some, None, if◌then◌else◌}
 use Rattle.std.specs.Option.{option_map, option_map_or, is_some}
 use Rattle.std.specs.List.{list_any}
-use Rattle.simplex_values.specs.declared.proposal.Subject.{Subject}
 use Rattle.simplex_values.specs.declared.answer.Answer.{Answer}
-use Rattle.simplex_values.specs.declared.round.Round.{Round}
-use Rattle.simplex_wire.specs.declared.attestation.Attestation.{Attestation}
 use Rattle.simplex_wire.specs.declared.certificate.Certificate.{Certificate}
 use Rattle.simplex_wire.specs.declared.vote.Nullify.{Nullify}
 use Rattle.simplex_wire.specs.declared.certificate.Certificate.TheVariants as certificates
@@ -26,6 +23,8 @@ use Rattle.model_rules.specs.Ancestry.{is_certified}
 use Rattle.model_rules.specs.declared.request.ProposalState.TheVariants.{Waiting}
 use Rattle.simplex_values.specs.declared.answer.Handoff.{Handoff}
 use Rattle.simplex_values.specs.declared.answer.Handoff.TheVariants as handoffs
+use Rattle.simplex_wire.specs.declared.scheme.Scheme as schemes
+use Rattle.simplex_types.specs.declared.elector.Elector as electors
 use Rattle.simplex_state.specs.Stands as low
 use Rattle.simplex_messages.specs.declared.voter.VoterInput.{VoterInput}
 use Rattle.model_steps.specs.Desk.{Doing, begun, hand, append, tell, report}
@@ -119,9 +118,9 @@ pub record Planned (Stands : Doing → Type 0) (before : Doing) (done : Option D
   pub holds : held ≡ is_some done
   pub does : Stands (unwrap_or done before)
 
-module _ {S L : Type 0} where
+module _ {S L : Type 0} {s : schemes.Ghosts S} {l : electors.Ghosts L} where
   -- what the planner has done, where so much is known
-  unfoldable pub doing_of : List Fact → Planner S L → Doing
+  unfoldable pub doing_of : List Fact → Planner S L s l → Doing
   doing_of known planner =
       record {
         desk = record {
@@ -143,58 +142,58 @@ module _ {S L : Type 0} where
       }
 
   -- what the open requests keep of the answers
-  abbrev pub Keeps : List (ℕ × Answer) → Planner S L → Type 0
+  abbrev pub Keeps : List (ℕ × Answer) → Planner S L s l → Type 0
   Keeps answers planner = Arrived answers planner.proposal planner.verify planner.certify.items planner.opened planner.arrivals
 
   -- the planner has done this, after these answers: what is known is what its state was told
-  pub record Stands (attests : S → Subject → Option Attestation) (elects : L → Round → ℕ) (planner : Planner S L) (made : Made) (answers : List (ℕ × Answer)) (doing : Doing) : Type 0 where
+  pub record Stands (planner : Planner S L s l) (made : Made) (answers : List (ℕ × Answer)) (doing : Doing) : Type 0 where
     pub calls : List Call
-    pub state : low.StandsFor attests elects planner.state made calls
+    pub state : low.StandsFor planner.state made calls
     pub retains : 0 < made.retention
     pub does : doing ≡ doing_of (known_of made calls) planner
     pub keeps : Keeps answers planner
 
   -- whatever the planner had done before, it has done this with it since
-  abbrev pub Does : (S → Subject → Option Attestation) → (L → Round → ℕ) → Planner S L → Planner S L → (Made → Doing → Doing) → Type 0
-  Does attests elects old new change =
-      (made : Made) (answers : List (ℕ × Answer)) (doing : Doing) → Stands attests elects old made answers doing → Stands attests elects new made answers (change made doing)
+  abbrev pub Does : Planner S L s l → Planner S L s l → (Made → Doing → Doing) → Type 0
+  Does old new change =
+      (made : Made) (answers : List (ℕ × Answer)) (doing : Doing) → Stands old made answers doing → Stands new made answers (change made doing)
 
   -- whatever the planner has done, the answer is the rule's at what is known
-  abbrev pub Knows : {R : Type 0} → (S → Subject → Option Attestation) → (L → Round → ℕ) → Planner S L → (Made → List Fact → R) → R → Type 0
-  Knows attests elects planner rule answer =
-      (made : Made) (answers : List (ℕ × Answer)) (doing : Doing) → Stands attests elects planner made answers doing → answer ≡ rule made doing.desk.known
+  abbrev pub Knows : {R : Type 0} → Planner S L s l → (Made → List Fact → R) → R → Type 0
+  Knows planner rule answer =
+      (made : Made) (answers : List (ℕ × Answer)) (doing : Doing) → Stands planner made answers doing → answer ≡ rule made doing.desk.known
 
   -- whatever the planner has done, the answer is the rule's at that
-  abbrev pub Finds : {R : Type 0} → (S → Subject → Option Attestation) → (L → Round → ℕ) → Planner S L → (Made → Doing → R) → R → Type 0
-  Finds attests elects planner rule answer =
-      (made : Made) (answers : List (ℕ × Answer)) (doing : Doing) → Stands attests elects planner made answers doing → answer ≡ rule made doing
+  abbrev pub Finds : {R : Type 0} → Planner S L s l → (Made → Doing → R) → R → Type 0
+  Finds planner rule answer =
+      (made : Made) (answers : List (ℕ × Answer)) (doing : Doing) → Stands planner made answers doing → answer ≡ rule made doing
 
   -- whatever the planner stands at between two steps, it does with its source what the rule says
-  abbrev pub Acts : (S → Subject → Option Attestation) → (L → Round → ℕ) → Planner S L → Planner S L → (Made → Standing → Option (Doing × Option ℕ)) → Option (Option ℕ) → Type 0
-  Acts attests elects old new rule found =
-      (made : Made) (answers : List (ℕ × Answer)) (desk : Desk) → Stands attests elects old made answers (begun desk)
-      → Acted (Stands attests elects new made answers) (begun desk) (rule made (record { desk = desk; answers = answers })) found
+  abbrev pub Acts : Planner S L s l → Planner S L s l → (Made → Standing → Option (Doing × Option ℕ)) → Option (Option ℕ) → Type 0
+  Acts old new rule found =
+      (made : Made) (answers : List (ℕ × Answer)) (desk : Desk) → Stands old made answers (begun desk)
+      → Acted (Stands new made answers) (begun desk) (rule made (record { desk = desk; answers = answers })) found
 
   -- whatever the planner stands at between two steps, it has done all that the step does, if its source held anything
-  abbrev pub Plans : (S → Subject → Option Attestation) → (L → Round → ℕ) → Planner S L → Planner S L → ℕ → VoterInput → Bool → Type 0
-  Plans attests elects old new now input held =
-      (made : Made) (answers : List (ℕ × Answer)) (desk : Desk) → Stands attests elects old made answers (begun desk)
-      → Planned (Stands attests elects new made answers) (begun desk) (stepped made now (record { desk = desk; answers = answers }) input) held
+  abbrev pub Plans : Planner S L s l → Planner S L s l → ℕ → VoterInput → Bool → Type 0
+  Plans old new now input held =
+      (made : Made) (answers : List (ℕ × Answer)) (desk : Desk) → Stands old made answers (begun desk)
+      → Planned (Stands new made answers) (begun desk) (stepped made now (record { desk = desk; answers = answers }) input) held
 
   -- whatever the planner had done before, where nothing was forgotten yet, it has done this with it since
-  abbrev pub Restores : (S → Subject → Option Attestation) → (L → Round → ℕ) → Planner S L → Planner S L → (Made → Doing → Doing) → Type 0
-  Restores attests elects old new change =
-      (made : Made) (answers : List (ℕ × Answer)) (doing : Doing) → Stands attests elects old made answers doing → IsWhole doing.desk.known
-      → Stands attests elects new made answers (change made doing)
+  abbrev pub Restores : Planner S L s l → Planner S L s l → (Made → Doing → Doing) → Type 0
+  Restores old new change =
+      (made : Made) (answers : List (ℕ × Answer)) (doing : Doing) → Stands old made answers doing → IsWhole doing.desk.known
+      → Stands new made answers (change made doing)
 
   -- whatever the planner stands at between two steps, the answer is the rule's at that
-  abbrev pub Says : {R : Type 0} → (S → Subject → Option Attestation) → (L → Round → ℕ) → Planner S L → (Made → Standing → R) → R → Type 0
-  Says attests elects planner rule answer =
-      (made : Made) (answers : List (ℕ × Answer)) (desk : Desk) → Stands attests elects planner made answers (begun desk)
+  abbrev pub Says : {R : Type 0} → Planner S L s l → (Made → Standing → R) → R → Type 0
+  Says planner rule answer =
+      (made : Made) (answers : List (ℕ × Answer)) (desk : Desk) → Stands planner made answers (begun desk)
       → answer ≡ rule made (record { desk = desk; answers = answers })
 
   -- whatever the planner stands at between two steps, it stands at what becomes of it
-  abbrev pub Becomes : (S → Subject → Option Attestation) → (L → Round → ℕ) → Planner S L → Planner S L → (Standing → Standing) → Type 0
-  Becomes attests elects old new change =
-      (made : Made) (answers : List (ℕ × Answer)) (desk : Desk) → Stands attests elects old made answers (begun desk)
-      → Stands attests elects new made (change (record { desk = desk; answers = answers })).answers (begun (change (record { desk = desk; answers = answers })).desk)
+  abbrev pub Becomes : Planner S L s l → Planner S L s l → (Standing → Standing) → Type 0
+  Becomes old new change =
+      (made : Made) (answers : List (ℕ × Answer)) (desk : Desk) → Stands old made answers (begun desk)
+      → Stands new made (change (record { desk = desk; answers = answers })).answers (begun (change (record { desk = desk; answers = answers })).desk)

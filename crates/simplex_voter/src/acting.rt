@@ -27,7 +27,7 @@ impl<S: Scheme + Drop, L: Elector + Drop> Planner<S, L> {
         vote: &Option<(bool, Nullify)>,
         best: Option<Certificate>,
     ) -> Result<(), AllocError>
-        ensures { OnOk result (Does S.attests L.elects self.old self.new (λ made. with_nullify vote.now best)) }
+        ensures { OnOk result (Does self.old self.new (λ made. with_nullify vote.now best)) }
     {
         match vote {
             None => {}
@@ -44,7 +44,7 @@ impl<S: Scheme + Drop, L: Elector + Drop> Planner<S, L> {
     #[tactic(auto, unfolding(crate::specs::Stands::doing_of, model_steps::specs::Voter::act_on_deadline, model_rules::specs::Calls::construct_nullify_answer))]
     pub(crate) fn act_on_deadline(&mut self, now: u64) -> Result<(), AllocError>
         requires clock { now < 2 ^ 63 }
-        ensures { OnOk result (Does S.attests L.elects self.old self.new (λ made. act_on_deadline made now)) }
+        ensures { OnOk result (Does self.old self.new (λ made. act_on_deadline made now)) }
     {
         let best = self.state.get_best_certificate()?;
         let view = self.state.current_view();
@@ -55,7 +55,7 @@ impl<S: Scheme + Drop, L: Elector + Drop> Planner<S, L> {
 
     // The pending proposal is done with.
     fn settle_proposal(&mut self)
-        ensures { Does S.attests L.elects self.old self.new (λ made. settle_proposal) }
+        ensures { Does self.old self.new (λ made. settle_proposal) }
     {
         self.proposal = None;
     }
@@ -64,7 +64,7 @@ impl<S: Scheme + Drop, L: Elector + Drop> Planner<S, L> {
     fn proposal_stands(&mut self, pending: &PendingProposal, state: ProposalState)
         requires own { self.old.proposal ≡ Some pending.now }
         requires closed { is_open state ≡ false }
-        ensures { Does S.attests L.elects self.old self.new (λ made. proposal_stands (pending_of pending.now) state) }
+        ensures { Does self.old self.new (λ made. proposal_stands (pending_of pending.now) state) }
     {
         self.proposal = Some(PendingProposal {
             number: pending.number,
@@ -82,8 +82,10 @@ impl<S: Scheme + Drop, L: Elector + Drop> Planner<S, L> {
         pending: &PendingProposal,
         payload: &Digest,
     ) -> Result<Option<View>, AllocError>
-        ensures stands { OnOk result (Does S.attests L.elects self.old self.new (λ made doing. (propose made (pending_of pending.now) payload.now doing).0)) }
-        ensures view { IfOk result (Finds S.attests L.elects self.old (λ made doing. (propose made (pending_of pending.now) payload.now doing).1)) }
+        ensures stands { OnOk result (Does self.old self.new
+            (λ made doing. (propose made (pending_of pending.now) payload.now doing).0)) }
+        ensures view { IfOk result (Finds self.old
+            (λ made doing. (propose made (pending_of pending.now) payload.now doing).1)) }
     {
         let is_recorded = self.proposed(&pending.context, *payload)?;
         self.settle_proposal();
@@ -106,8 +108,10 @@ impl<S: Scheme + Drop, L: Elector + Drop> Planner<S, L> {
         payload: &Digest,
     ) -> Result<Option<View>, AllocError>
         requires own { self.old.proposal ≡ Some pending.now }
-        ensures stands { OnOk result (Does S.attests L.elects self.old self.new (λ made doing. (stage made (pending_of pending.now) payload.now doing).0)) }
-        ensures view { IfOk result (Finds S.attests L.elects self.old (λ made doing. (stage made (pending_of pending.now) payload.now doing).1)) }
+        ensures stands { OnOk result (Does self.old self.new
+            (λ made doing. (stage made (pending_of pending.now) payload.now doing).0)) }
+        ensures view { IfOk result (Finds self.old
+            (λ made doing. (stage made (pending_of pending.now) payload.now doing).1)) }
     {
         if self.state.parent_certified(pending.context.parent) {
             let view = self.propose(pending, payload)?;
@@ -127,7 +131,8 @@ impl<S: Scheme + Drop, L: Elector + Drop> Planner<S, L> {
     fn give_up(&mut self, pending: &PendingProposal, now: u64) -> Result<(), AllocError>
         requires clock { now < 2 ^ 63 }
         requires own { self.old.proposal ≡ Some pending.now }
-        ensures { OnOk result (Does S.attests L.elects self.old self.new (λ made doing. (give_up made now (pending_of pending.now) pending.now.state doing).0)) }
+        ensures { OnOk result (Does self.old self.new
+            (λ made doing. (give_up made now (pending_of pending.now) pending.now.state doing).0)) }
     {
         match pending.state {
             ProposalState::Preparing => self.proposal_stands(pending, ProposalState::Closed),
@@ -151,8 +156,10 @@ impl<S: Scheme + Drop, L: Elector + Drop> Planner<S, L> {
         decision: &Handoff<Digest>,
     ) -> Result<Option<View>, AllocError>
         requires own { self.old.proposal ≡ Some pending.now }
-        ensures stands { OnOk result (Does S.attests L.elects self.old self.new (λ made doing. (act_on_handoff made (pending_of pending.now) decision.now doing).0)) }
-        ensures view { IfOk result (Finds S.attests L.elects self.old (λ made doing. (act_on_handoff made (pending_of pending.now) decision.now doing).1)) }
+        ensures stands { OnOk result (Does self.old self.new
+            (λ made doing. (act_on_handoff made (pending_of pending.now) decision.now doing).0)) }
+        ensures view { IfOk result (Finds self.old
+            (λ made doing. (act_on_handoff made (pending_of pending.now) decision.now doing).1)) }
     {
         match decision {
             Handoff::Wait => {
@@ -180,8 +187,12 @@ impl<S: Scheme + Drop, L: Elector + Drop> Planner<S, L> {
     ) -> Result<Option<View>, AllocError>
         requires clock { now < 2 ^ 63 }
         requires own { self.old.proposal ≡ Some pending.now }
-        ensures stands { OnOk result (Does S.attests L.elects self.old self.new (λ made doing. (act_on_proposal made now (pending_of pending.now) answer.now doing).0)) }
-        ensures view { IfOk result (Finds S.attests L.elects self.old (λ made doing. (act_on_proposal made now (pending_of pending.now) answer.now doing).1)) }
+        ensures stands { OnOk result (Does self.old self.new
+            (λ made doing. (act_on_proposal made now
+            (pending_of pending.now) answer.now doing).0)) }
+        ensures view { IfOk result (Finds self.old
+            (λ made doing. (act_on_proposal made now
+            (pending_of pending.now) answer.now doing).1)) }
     {
         match answer {
             Answer::Payload(payload) => {
@@ -209,7 +220,8 @@ impl<S: Scheme + Drop, L: Elector + Drop> Planner<S, L> {
         now: u64,
     ) -> Result<(), AllocError>
         requires clock { now < 2 ^ 63 }
-        ensures { OnOk result (Does S.attests L.elects self.old self.new (λ made doing. (act_on_verify made now (opened_of request.now) answer.now doing).0)) }
+        ensures { OnOk result (Does self.old self.new
+            (λ made doing. (act_on_verify made now (opened_of request.now) answer.now doing).0)) }
     {
         self.settle_verify();
         match answer {
@@ -230,14 +242,14 @@ impl<S: Scheme + Drop, L: Elector + Drop> Planner<S, L> {
 
     // The open Verify is done with.
     fn settle_verify(&mut self)
-        ensures { Does S.attests L.elects self.old self.new (λ made. on_desk (λ desk. record desk { verify = None })) }
+        ensures { Does self.old self.new (λ made. on_desk (λ desk. record desk { verify = None })) }
     {
         self.verify = None;
     }
 
     // The request of this number is no longer open.
     fn settle_certify(&mut self, number: u64)
-        ensures { Does S.attests L.elects self.old self.new (λ made. settle_certify number) }
+        ensures { Does self.old self.new (λ made. settle_certify number) }
     {
         keep_others(&mut self.certify, number);
     }
@@ -249,8 +261,10 @@ impl<S: Scheme + Drop, L: Elector + Drop> Planner<S, L> {
         good: bool,
         taken: Option<Notarization>,
     ) -> Result<Option<View>, AllocError>
-        ensures stands { OnOk result (Does S.attests L.elects self.old self.new (λ made doing. (take_verdict made view good taken doing).0)) }
-        ensures view { IfOk result (Finds S.attests L.elects self.old (λ made doing. (take_verdict made view good taken doing).1)) }
+        ensures stands { OnOk result (Does self.old self.new
+            (λ made doing. (take_verdict made view good taken doing).0)) }
+        ensures view { IfOk result (Finds self.old
+            (λ made doing. (take_verdict made view good taken doing).1)) }
     {
         let Some(notarization) = taken else {
             return Ok(None);
@@ -270,8 +284,10 @@ impl<S: Scheme + Drop, L: Elector + Drop> Planner<S, L> {
         now: u64,
     ) -> Result<Option<View>, AllocError>
         requires clock { now < 2 ^ 63 }
-        ensures stands { OnOk result (Does S.attests L.elects self.old self.new (λ made doing. (act_on_certify made now (opened_of request.now) answer.now doing).0)) }
-        ensures view { IfOk result (Finds S.attests L.elects self.old (λ made doing. (act_on_certify made now (opened_of request.now) answer.now doing).1)) }
+        ensures stands { OnOk result (Does self.old self.new
+            (λ made doing. (act_on_certify made now (opened_of request.now) answer.now doing).0)) }
+        ensures view { IfOk result (Finds self.old
+            (λ made doing. (act_on_certify made now (opened_of request.now) answer.now doing).1)) }
     {
         self.settle_certify(request.number);
         let Answer::Verdict(good) = answer else {
@@ -290,9 +306,13 @@ impl<S: Scheme + Drop, L: Elector + Drop> Planner<S, L> {
         now: u64,
     ) -> Result<(bool, Option<Participant>), AllocError>
         requires clock { now < 2 ^ 63 }
-        ensures stands { OnOk result (Does S.attests L.elects self.old self.new (λ made. tell made (adding certificate.now now))) }
-        ensures added { IfOk result (λ it. Knows S.attests L.elects self.old (λ made known. adds made known certificate.now) it.0) }
-        ensures leader { IfOk result (λ it. it.0 ≡ true → Knows S.attests L.elects self.old (λ made known. replay_answer made known (record_of certificate.now)) it.1) }
+        ensures stands { OnOk result (Does self.old self.new
+            (λ made. tell made (adding certificate.now now))) }
+        ensures added { IfOk result (λ it. Knows self.old
+            (λ made known. adds made known certificate.now) it.0) }
+        ensures leader { IfOk result (λ it. it.0 ≡ true
+            → Knows self.old (λ made known. replay_answer made known
+            (record_of certificate.now)) it.1) }
     {
         match certificate {
             Certificate::Notarization(notarization) => {
@@ -312,7 +332,8 @@ impl<S: Scheme + Drop, L: Elector + Drop> Planner<S, L> {
 
     // The certificate became known.
     fn list_added(&mut self, certificate: Certificate) -> Result<(), AllocError>
-        ensures { OnOk result (Does S.attests L.elects self.old self.new (λ made doing. record doing { added = doing.added ++ certificate ∷ [] })) }
+        ensures { OnOk result (Does self.old self.new
+            (λ made doing. record doing { added = doing.added ++ certificate ∷ [] })) }
     {
         self.out.added.push(certificate)?;
         Ok(())
@@ -324,7 +345,7 @@ impl<S: Scheme + Drop, L: Elector + Drop> Planner<S, L> {
         certificate: Certificate,
         leader: Option<Participant>,
     ) -> Result<(), AllocError>
-        ensures { OnOk result (Does S.attests L.elects self.old self.new (λ made. recorded certificate leader)) }
+        ensures { OnOk result (Does self.old self.new (λ made. recorded certificate leader)) }
     {
         let added = certificate.keep(self.alloc)?;
         self.list_added(added)?;
@@ -344,8 +365,10 @@ impl<S: Scheme + Drop, L: Elector + Drop> Planner<S, L> {
         now: u64,
     ) -> Result<Option<View>, AllocError>
         requires clock { now < 2 ^ 63 }
-        ensures stands { OnOk result (Does S.attests L.elects self.old self.new (λ made doing. (act_on_certificate made now certificate doing).0)) }
-        ensures view { IfOk result (Finds S.attests L.elects self.old (λ made doing. (act_on_certificate made now certificate doing).1)) }
+        ensures stands { OnOk result (Does self.old self.new
+            (λ made doing. (act_on_certificate made now certificate doing).0)) }
+        ensures view { IfOk result (Finds self.old
+            (λ made doing. (act_on_certificate made now certificate doing).1)) }
     {
         let view = certificate.view();
         let is_admitted = self.state.admits_certificate(view);
@@ -361,8 +384,10 @@ impl<S: Scheme + Drop, L: Elector + Drop> Planner<S, L> {
 
     // The leader's proposal.
     fn act_on_leader(&mut self, proposal: &Proposal) -> Result<Option<View>, AllocError>
-        ensures stands { OnOk result (Does S.attests L.elects self.old self.new (λ made. tell made (SetProposal proposal.now.round.view proposal.now))) }
-        ensures view { IfOk result (Finds S.attests L.elects self.old (λ made doing. if records_proposal made doing.desk.known proposal.now then Some proposal.now.round.view else None)) }
+        ensures stands { OnOk result (Does self.old self.new
+            (λ made. tell made (SetProposal proposal.now.round.view proposal.now))) }
+        ensures view { IfOk result (Finds self.old
+            (λ made doing. if records_proposal made doing.desk.known proposal.now then Some proposal.now.round.view else None)) }
     {
         if self.set_proposal(proposal)? {
             return Ok(Some(proposal.round.view));
@@ -378,8 +403,10 @@ impl<S: Scheme + Drop, L: Elector + Drop> Planner<S, L> {
         now: u64,
     ) -> Result<Option<View>, AllocError>
         requires clock { now < 2 ^ 63 }
-        ensures stands { OnOk result (Does S.attests L.elects self.old self.new (λ made doing. (act_on_mail made now message doing).0)) }
-        ensures view { IfOk result (Finds S.attests L.elects self.old (λ made doing. (act_on_mail made now message doing).1)) }
+        ensures stands { OnOk result (Does self.old self.new
+            (λ made doing. (act_on_mail made now message doing).0)) }
+        ensures view { IfOk result (Finds self.old
+            (λ made doing. (act_on_mail made now message doing).1)) }
     {
         match message {
             voter::Message::Proposal { proposal } => {

@@ -25,7 +25,8 @@ impl<S: Scheme + Drop, L: Elector + Drop> Planner<S, L> {
 
     // Whether a Verify or Certify of this number waits for its answer.
     fn judgement_takes(&self, request: u64) -> bool
-        ensures { result ≡ (option_map_or (request_takes request) self.now.verify false || list_any (request_takes request) self.now.certify.items) }
+        ensures { result ≡ (option_map_or (request_takes request) self.now.verify false
+            || list_any (request_takes request) self.now.certify.items) }
     {
         verify_takes(&self.verify, request) || certify_takes(&self.certify, request)
     }
@@ -33,7 +34,7 @@ impl<S: Scheme + Drop, L: Elector + Drop> Planner<S, L> {
     // The answer came to the request of this number.
     fn keep_answer(&mut self, request: u64, answer: Answer)
         requires takes { takes_in request answer self.old.proposal self.old.verify self.old.certify.items ≡ true }
-        ensures { Becomes S.attests L.elects self.old self.new (taken_answer request answer) }
+        ensures { Becomes self.old self.new (taken_answer request answer) }
     {
         let arrival = Arrival {
             place: self.arrivals,
@@ -48,8 +49,8 @@ impl<S: Scheme + Drop, L: Elector + Drop> Planner<S, L> {
 
     /// Takes the answer, if it is one to an open request that waits for such a one.
     pub(crate) fn answer(&mut self, request: u64, answer: Answer) -> bool
-        ensures stands { Becomes S.attests L.elects self.old self.new (answered request answer) }
-        ensures answer { Says S.attests L.elects self.old (λ made s. takes_answer s request answer) result }
+        ensures stands { Becomes self.old self.new (answered request answer) }
+        ensures answer { Says self.old (λ made s. takes_answer s request answer) result }
     {
         if self.takes(request, &answer) {
             self.keep_answer(request, answer);

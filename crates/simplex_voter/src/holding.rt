@@ -18,7 +18,7 @@ use simplex_types::{Answer, Scheme};
 impl<S: Scheme + Drop, L: Elector + Drop> Planner<S, L> {
     // Whether an answer to the pending proposal came, or its payload is held and its parent certified.
     fn holds_proposal(&self, now: u64) -> bool
-        ensures { Says S.attests L.elects self.now (λ made s. is_some (acted made now s inputs.Propose)) result }
+        ensures { Says self.now (λ made s. is_some (acted made now s inputs.Propose)) result }
     {
         let Some(pending) = &self.proposal else {
             return false;
@@ -34,7 +34,7 @@ impl<S: Scheme + Drop, L: Elector + Drop> Planner<S, L> {
 
     // Whether the answer to the open Verify came.
     fn holds_verify(&self, now: u64) -> bool
-        ensures { Says S.attests L.elects self.now (λ made s. is_some (acted made now s inputs.Verify)) result }
+        ensures { Says self.now (λ made s. is_some (acted made now s inputs.Verify)) result }
     {
         match &self.verify {
             None => false,
@@ -44,7 +44,7 @@ impl<S: Scheme + Drop, L: Elector + Drop> Planner<S, L> {
 
     // Whether the answer to an open Certify came.
     fn holds_certify(&self, now: u64) -> bool
-        ensures { Says S.attests L.elects self.now (λ made s. is_some (acted made now s inputs.Certify)) result }
+        ensures { Says self.now (λ made s. is_some (acted made now s inputs.Certify)) result }
     {
         kept_answer(&first_answered(&self.certify)).is_some()
     }
@@ -52,7 +52,7 @@ impl<S: Scheme + Drop, L: Elector + Drop> Planner<S, L> {
     /// Whether the source holds anything.
     #[tactic(auto, unfolding(model_steps::specs::Voter::acted))]
     pub(crate) fn holds(&self, input: &VoterInput, now: u64) -> bool
-        ensures { Says S.attests L.elects self.now (λ made s. is_some (acted made now s input.now)) result }
+        ensures { Says self.now (λ made s. is_some (acted made now s input.now)) result }
     {
         match input {
             VoterInput::Mail(_) => true,
@@ -65,7 +65,7 @@ impl<S: Scheme + Drop, L: Elector + Drop> Planner<S, L> {
 
     /// The answer that a step with this source would take, and its request.
     pub(crate) fn next_answer(&self, input: &VoterInput) -> Option<(u64, Answer)>
-        ensures { Says S.attests L.elects self.now (λ made s. next_answer s input.now) result }
+        ensures { Says self.now (λ made s. next_answer s input.now) result }
     {
         match input {
             VoterInput::Propose => pending_answer(&self.proposal),
@@ -89,7 +89,8 @@ fn numbered(number: u64, arrival: &Option<Arrival>) -> Option<(u64, Answer)>
 
 // The answer that came to the pending proposal, if there is one, with its number.
 fn pending_answer(proposal: &Option<PendingProposal>) -> Option<(u64, Answer)>
-    ensures { result ≡ option_and_then (λ p. option_map (λ a. with_number p.number a.answer) p.arrival) proposal.now }
+    ensures { result ≡ option_and_then (λ p. option_map
+        (λ a. with_number p.number a.answer) p.arrival) proposal.now }
 {
     match proposal {
         None => None,

@@ -20,6 +20,7 @@ mod requests;
 mod starting;
 mod stepping;
 mod telling;
+mod voter;
 mod waiting;
 
 pub use actor::Actor;

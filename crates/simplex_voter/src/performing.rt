@@ -24,8 +24,11 @@ pub(crate) struct Break {
 
 // The call is made, as far as it is one of the journal.
 fn make_call<J: Journal>(journal: &mut J, alloc: Global, call: &Call) -> Result<(), JournalError>
-    ensures ok { OnOk result (J.sections journal.new ≡ after_call call.now (J.sections journal.old)) }
-    ensures part { IsErrOf result JournalError.Failed → FailsPart (J.order journal.old) call.now (J.sections journal.old) (J.sections journal.new) }
+    ensures ok { OnOk result (J.sections journal.new
+        ≡ after_call call.now (J.sections journal.old)) }
+    ensures part { IsErrOf result JournalError.Failed
+        → FailsPart (J.order journal.old) call.now (J.sections journal.old)
+        (J.sections journal.new) }
     ensures ordered { Heeds (J.order journal.old) call.now result (J.order journal.new) }
     ensures faults { Counts (J.fault_count journal.old) result (J.fault_count journal.new) }
 {
@@ -44,9 +47,13 @@ fn make_calls<J: Journal>(
     alloc: Global,
     calls: &[Call],
 ) -> Result<Option<usize>, AllocError>
-    ensures told { IfOk result (λ failed. (order : Order) → J.order journal.old ≡ Some order → Ran order calls.now (J.sections journal.old) failed (J.sections journal.new) (J.order journal.new)) }
-    ensures over { IfOk result (λ failed. Reached calls.now (J.sections journal.old) failed (J.sections journal.new)) }
-    ensures faults { IfOk result (λ failed. FaultsBy failed (J.fault_count journal.old) (J.fault_count journal.new)) }
+    ensures told { IfOk result (λ failed. (order : Order) → J.order journal.old ≡ Some order
+        → Ran order calls.now (J.sections journal.old) failed (J.sections journal.new)
+        (J.order journal.new)) }
+    ensures over { IfOk result
+        (λ failed. Reached calls.now (J.sections journal.old) failed (J.sections journal.new)) }
+    ensures faults { IfOk result
+        (λ failed. FaultsBy failed (J.fault_count journal.old) (J.fault_count journal.new)) }
 {
     for (place, call) in calls.iter().enumerate() {
         match make_call(journal, alloc, call) {
@@ -60,7 +67,8 @@ fn make_calls<J: Journal>(
 
 // A call of the journal at this place failed, if one did. [calls-before-the-stop]
 fn broken_off(failed: Option<usize>) -> Option<Break>
-    ensures { result ≡ option_map (λ place. record { place = place; outcome = outcomes.Journal }) failed }
+    ensures { result ≡ option_map
+        (λ place. record { place = place; outcome = outcomes.Journal }) failed }
 {
     match failed {
         None => None,
@@ -77,9 +85,13 @@ fn make_all<J: Journal>(
     alloc: Global,
     calls: &[Call],
 ) -> Result<Option<Break>, AllocError>
-    ensures told { IfOk result (λ broke. J.order journal.old ≡ Some no_order → Passed calls.now (J.sections journal.old) broke (J.sections journal.new) (J.order journal.new)) }
-    ensures over { IfOk result (λ broke. BrokeOver calls.now (J.sections journal.old) broke (J.sections journal.new)) }
-    ensures faults { IfOk result (λ broke. FaultsWith broke (J.fault_count journal.old) (J.fault_count journal.new)) }
+    ensures told { IfOk result (λ broke. J.order journal.old ≡ Some no_order
+        → Passed calls.now (J.sections journal.old) broke (J.sections journal.new)
+        (J.order journal.new)) }
+    ensures over { IfOk result
+        (λ broke. BrokeOver calls.now (J.sections journal.old) broke (J.sections journal.new)) }
+    ensures faults { IfOk result
+        (λ broke. FaultsWith broke (J.fault_count journal.old) (J.fault_count journal.new)) }
 {
     let failed = make_calls(journal, alloc, calls)?;
     Ok(broken_off(failed))
@@ -103,9 +115,13 @@ fn make_until<J: Journal>(
     call: u64,
     keep: u64,
 ) -> Result<Option<Break>, AllocError>
-    ensures told { IfOk result (λ broke. J.order journal.old ≡ Some no_order → Made (Stop.Cut call keep) calls.now (J.sections journal.old) broke (J.sections journal.new) (J.order journal.new)) }
-    ensures over { IfOk result (λ broke. MadeOver (Stop.Cut call keep) calls.now (J.sections journal.old) broke (J.sections journal.new)) }
-    ensures faults { IfOk result (λ broke. FaultsWith broke (J.fault_count journal.old) (J.fault_count journal.new)) }
+    ensures told { IfOk result (λ broke. J.order journal.old ≡ Some no_order
+        → Made (Stop.Cut call keep) calls.now (J.sections journal.old) broke
+        (J.sections journal.new) (J.order journal.new)) }
+    ensures over { IfOk result (λ broke. MadeOver (Stop.Cut call keep) calls.now
+        (J.sections journal.old) broke (J.sections journal.new)) }
+    ensures faults { IfOk result
+        (λ broke. FaultsWith broke (J.fault_count journal.old) (J.fault_count journal.new)) }
 {
     let Some(place) = cut_place(call, calls.len()) else {
         let broke = make_all(journal, alloc, calls)?;
@@ -131,9 +147,13 @@ fn make_failing<J: Journal>(
     call: u64,
     keep: u64,
 ) -> Result<Option<Break>, AllocError>
-    ensures told { IfOk result (λ broke. J.order journal.old ≡ Some no_order → Made (Stop.Fail call keep) calls.now (J.sections journal.old) broke (J.sections journal.new) (J.order journal.new)) }
-    ensures over { IfOk result (λ broke. MadeOver (Stop.Fail call keep) calls.now (J.sections journal.old) broke (J.sections journal.new)) }
-    ensures faults { IfOk result (λ broke. FaultsWith broke (J.fault_count journal.old) (J.fault_count journal.new)) }
+    ensures told { IfOk result (λ broke. J.order journal.old ≡ Some no_order
+        → Made (Stop.Fail call keep) calls.now (J.sections journal.old) broke
+        (J.sections journal.new) (J.order journal.new)) }
+    ensures over { IfOk result (λ broke. MadeOver (Stop.Fail call keep) calls.now
+        (J.sections journal.old) broke (J.sections journal.new)) }
+    ensures faults { IfOk result
+        (λ broke. FaultsWith broke (J.fault_count journal.old) (J.fault_count journal.new)) }
 {
     journal.fail_next(call, keep);
     let failed = make_calls(journal, alloc, calls)?;
@@ -151,9 +171,13 @@ fn perform<J: Journal>(
     calls: &[Call],
     stop: &Stop,
 ) -> Result<Option<Break>, AllocError>
-    ensures told { IfOk result (λ broke. J.order journal.old ≡ Some no_order → Made stop.now calls.now (J.sections journal.old) broke (J.sections journal.new) (J.order journal.new)) }
-    ensures over { IfOk result (λ broke. MadeOver stop.now calls.now (J.sections journal.old) broke (J.sections journal.new)) }
-    ensures faults { IfOk result (λ broke. FaultsWith broke (J.fault_count journal.old) (J.fault_count journal.new)) }
+    ensures told { IfOk result (λ broke. J.order journal.old ≡ Some no_order → Made stop.now calls.now
+        (J.sections journal.old) broke (J.sections journal.new) (J.order journal.new)) }
+    ensures over { IfOk result
+        (λ broke. MadeOver stop.now calls.now (J.sections journal.old) broke
+        (J.sections journal.new)) }
+    ensures faults { IfOk result
+        (λ broke. FaultsWith broke (J.fault_count journal.old) (J.fault_count journal.new)) }
 {
     match stop {
         Stop::None => {
@@ -189,9 +213,12 @@ pub(crate) fn settle<J: Journal>(
     out: &mut StepOut,
 ) -> Result<Outcome, AllocError>
     requires empty { out.old ≡ no_out }
-    ensures told { IfOk result (λ outcome. J.order journal.old ≡ Some no_order → Settled stop.now planned (J.sections journal.old) outcome out.new (J.sections journal.new) (J.order journal.new)) }
-    ensures over { IfOk result (λ outcome. SettledOver stop.now planned (J.sections journal.old) outcome out.new (J.sections journal.new)) }
-    ensures faults { IfOk result (λ outcome. FaultsAt outcome (J.fault_count journal.old) (J.fault_count journal.new)) }
+    ensures told { IfOk result (λ outcome. J.order journal.old ≡ Some no_order → Settled stop.now planned
+        (J.sections journal.old) outcome out.new (J.sections journal.new) (J.order journal.new)) }
+    ensures over { IfOk result (λ outcome. SettledOver stop.now planned
+        (J.sections journal.old) outcome out.new (J.sections journal.new)) }
+    ensures faults { IfOk result
+        (λ outcome. FaultsAt outcome (J.fault_count journal.old) (J.fault_count journal.new)) }
 {
     match perform(journal, alloc, planned.calls.as_slice(), stop)? {
         None => {

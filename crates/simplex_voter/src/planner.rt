@@ -32,7 +32,7 @@ pub(crate) struct Missing {
 
 /// What a voter works on.
 #[derive(Drop)]
-pub(crate) struct Planner<S, L> {
+pub(crate) struct Planner<S: Scheme, L: Elector> {
     pub(crate) alloc: Global,
     pub(crate) state: State<S, L>,
     pub(crate) proposal: Option<PendingProposal>,
@@ -63,7 +63,8 @@ impl<S: Scheme + Drop, L: Elector + Drop> Planner<S, L> {
     ) -> Result<Planner<S, L>, AllocError>
         requires limits { IsConfigured S.members L.built_for L.cuts config }
         requires clock { now < 2 ^ 63 }
-        ensures { IfOk result (λ planner. Stands S.attests L.elects planner (made_of S.attests S.member L.elects L.cuts config now) [] (begun blank_desk)) }
+        ensures { IfOk result (λ planner. Stands planner
+            (made_of S.attests S.member L.elects L.cuts config now) [] (begun blank_desk)) }
     {
         let state = State::new(alloc, config, now)?;
         Ok(Planner {
@@ -85,8 +86,8 @@ impl<S: Scheme + Drop, L: Elector + Drop> Planner<S, L> {
 
     /// What the step does is handed out, and the next begins with nothing done.
     pub(crate) fn take_out(&mut self) -> StepOut
-        ensures stands { Does S.attests L.elects self.old self.new (λ made. rested) }
-        ensures out { Finds S.attests L.elects self.old (λ made. out_of) result }
+        ensures stands { Does self.old self.new (λ made. rested) }
+        ensures out { Finds self.old (λ made. out_of) result }
     {
         let mut out = mem::replace(&mut self.out, StepOut::new(self.alloc));
         let dropped = mem::replace(&mut self.dropped, Vec::new(self.alloc));
@@ -100,7 +101,8 @@ impl<S: Scheme + Drop, L: Elector + Drop> Planner<S, L> {
 
     /// Where the pending proposal stands, if there is one.
     pub(crate) fn proposal_state(&self) -> Option<ProposalState>
-        ensures { Finds S.attests L.elects self.now (λ made doing. option_map (λ p. p.state) doing.desk.proposal) result }
+        ensures { Finds self.now (λ made doing. option_map
+            (λ p. p.state) doing.desk.proposal) result }
     {
         match &self.proposal {
             None => None,
@@ -110,14 +112,14 @@ impl<S: Scheme + Drop, L: Elector + Drop> Planner<S, L> {
 
     /// The view that the member is in.
     pub(crate) fn current_view(&self) -> View
-        ensures { Knows S.attests L.elects self.now (λ made known. current_of made known) result }
+        ensures { Knows self.now (λ made known. current_of made known) result }
     {
         self.state.current_view()
     }
 
     /// A message is put into a mailbox at the end of the step.
     pub(crate) fn hand(&mut self, message: Handed) -> Result<(), AllocError>
-        ensures { OnOk result (Does S.attests L.elects self.old self.new (λ made. hand message)) }
+        ensures { OnOk result (Does self.old self.new (λ made. hand message)) }
     {
         self.out.handed.push(message)?;
         Ok(())
@@ -125,7 +127,7 @@ impl<S: Scheme + Drop, L: Elector + Drop> Planner<S, L> {
 
     /// A call is made.
     pub(crate) fn make(&mut self, call: Call) -> Result<(), AllocError>
-        ensures { OnOk result (Does S.attests L.elects self.old self.new (λ made. make call)) }
+        ensures { OnOk result (Does self.old self.new (λ made. make call)) }
     {
         self.out.calls.push(call)?;
         Ok(())
@@ -133,7 +135,7 @@ impl<S: Scheme + Drop, L: Elector + Drop> Planner<S, L> {
 
     /// A record is appended to the section of its view.
     pub(crate) fn append(&mut self, artifact: Artifact) -> Result<(), AllocError>
-        ensures { OnOk result (Does S.attests L.elects self.old self.new (λ made. append artifact)) }
+        ensures { OnOk result (Does self.old self.new (λ made. append artifact)) }
     {
         let view = artifact.view();
         self.out.calls.push(Call::Append(view.0, artifact))?;
@@ -143,7 +145,7 @@ impl<S: Scheme + Drop, L: Elector + Drop> Planner<S, L> {
 
     /// A vote goes to the own batcher, and to all.
     pub(crate) fn send_vote(&mut self, vote: Vote) -> Result<(), AllocError>
-        ensures { OnOk result (Does S.attests L.elects self.old self.new (λ made. send_vote vote)) }
+        ensures { OnOk result (Does self.old self.new (λ made. send_vote vote)) }
     {
         let bytes = Sequence::from_vec(vote.encode(self.alloc)?);
         self.hand(Handed::Batcher(batcher::Message::Constructed(vote)))?;
@@ -157,7 +159,7 @@ impl<S: Scheme + Drop, L: Elector + Drop> Planner<S, L> {
 
     /// A certificate goes to all.
     pub(crate) fn send_certificate(&mut self, certificate: &Certificate) -> Result<(), AllocError>
-        ensures { OnOk result (Does S.attests L.elects self.old self.new (λ made. send_certificate certificate.now)) }
+        ensures { OnOk result (Does self.old self.new (λ made. send_certificate certificate.now)) }
     {
         let bytes = Sequence::from_vec(certificate.encode(self.alloc)?);
         self.make(Call::Send {
@@ -170,7 +172,7 @@ impl<S: Scheme + Drop, L: Elector + Drop> Planner<S, L> {
 
     /// The reporter is told.
     pub(crate) fn report(&mut self, activity: Activity) -> Result<(), AllocError>
-        ensures { OnOk result (Does S.attests L.elects self.old self.new (λ made. report activity)) }
+        ensures { OnOk result (Does self.old self.new (λ made. report activity)) }
     {
         self.make(Call::Report(activity))?;
         Ok(())
@@ -178,7 +180,7 @@ impl<S: Scheme + Drop, L: Elector + Drop> Planner<S, L> {
 
     /// What the open requests lack is sought from the resolver.
     pub(crate) fn seek(&mut self) -> Result<(), AllocError>
-        ensures { OnOk result (Does S.attests L.elects self.old self.new (λ made. seek)) }
+        ensures { OnOk result (Does self.old self.new (λ made. seek)) }
     {
         hand_each(&mut self.out.handed, &self.missing)?;
         self.missing.clear();
@@ -187,7 +189,7 @@ impl<S: Scheme + Drop, L: Elector + Drop> Planner<S, L> {
 
     /// The leader whose proposal a certificate contradicts is blocked, if there is one. [leader-is-blocked]
     pub(crate) fn block(&mut self, leader: Option<Participant>) -> Result<(), AllocError>
-        ensures { OnOk result (Does S.attests L.elects self.old self.new (λ made. block_for leader)) }
+        ensures { OnOk result (Does self.old self.new (λ made. block_for leader)) }
     {
         let Some(member) = leader else {
             return Ok(());
@@ -199,7 +201,8 @@ impl<S: Scheme + Drop, L: Elector + Drop> Planner<S, L> {
 
 // What is missing is sought from the resolver.
 fn hand_each(handed: &mut Sequence<Handed>, missing: &[Missing]) -> Result<(), AllocError>
-    ensures { OnOk result (handed.new ≡ handed.old ++ map (λ s. Resolver (resolve_of s)) (map sought_of missing.now)) }
+    ensures { OnOk result (handed.new
+        ≡ handed.old ++ map (λ s. Resolver (resolve_of s)) (map sought_of missing.now)) }
 {
     for lack in missing {
         handed.push(Handed::Resolver(resolver::MailboxMessage::Resolve {

@@ -16,8 +16,10 @@ fn post<B: Post<batcher::Message>, R: Post<resolver::MailboxMessage>>(
     batcher: &mut B,
     resolver: &mut R,
 ) -> Result<(), AllocError>
-    ensures batcher { OnOk result (Posted B.puts batcher.old (filter_map for_batcher (message.now ∷ [])) batcher.new) }
-    ensures resolver { OnOk result (Posted R.puts resolver.old (filter_map for_resolver (message.now ∷ [])) resolver.new) }
+    ensures batcher { OnOk result (Posted B.puts batcher.old
+        (filter_map for_batcher (message.now ∷ [])) batcher.new) }
+    ensures resolver { OnOk result (Posted R.puts resolver.old
+        (filter_map for_resolver (message.now ∷ [])) resolver.new) }
 {
     match message {
         Handed::Batcher(message) => {
@@ -38,8 +40,10 @@ pub(crate) fn post_all<B: Post<batcher::Message>, R: Post<resolver::MailboxMessa
     batcher: &mut B,
     resolver: &mut R,
 ) -> Result<(), AllocError>
-    ensures batcher { OnOk result (Posted B.puts batcher.old (filter_map for_batcher handed.now) batcher.new) }
-    ensures resolver { OnOk result (Posted R.puts resolver.old (filter_map for_resolver handed.now) resolver.new) }
+    ensures batcher { OnOk result (Posted B.puts batcher.old
+        (filter_map for_batcher handed.now) batcher.new) }
+    ensures resolver { OnOk result (Posted R.puts resolver.old
+        (filter_map for_resolver handed.now) resolver.new) }
 {
     for message in handed {
         post(alloc, message, batcher, resolver)?;

@@ -23,8 +23,8 @@ impl<S: Scheme + Drop, L: Elector + Drop> Planner<S, L> {
     // The vote that the vote rule gives for the view's proposal is appended.
     #[tactic(auto, unfolding(model_steps::specs::Voter::vote_notarize))]
     fn vote_notarize(&mut self, view: View) -> Result<Option<Notarize>, AllocError>
-        ensures stands { OnOk result (Does S.attests L.elects self.old self.new (λ made. vote_notarize made view)) }
-        ensures vote { IfOk result (Knows S.attests L.elects self.old (λ made known. notarize_at made known view)) }
+        ensures stands { OnOk result (Does self.old self.new (λ made. vote_notarize made view)) }
+        ensures vote { IfOk result (Knows self.old (λ made known. notarize_at made known view)) }
     {
         let vote = self.construct_notarize(view)?;
         if let Some(vote) = &vote {
@@ -36,8 +36,8 @@ impl<S: Scheme + Drop, L: Elector + Drop> Planner<S, L> {
     // The vote that the vote rule gives for the finality of the view's proposal is appended.
     #[tactic(auto, unfolding(model_steps::specs::Voter::vote_finalize))]
     fn vote_finalize(&mut self, view: View) -> Result<Option<Finalize>, AllocError>
-        ensures stands { OnOk result (Does S.attests L.elects self.old self.new (λ made. vote_finalize made view)) }
-        ensures vote { IfOk result (Knows S.attests L.elects self.old (λ made known. finalize_at made known view)) }
+        ensures stands { OnOk result (Does self.old self.new (λ made. vote_finalize made view)) }
+        ensures vote { IfOk result (Knows self.old (λ made known. finalize_at made known view)) }
     {
         let vote = self.construct_finalize(view)?;
         if let Some(vote) = &vote {
@@ -50,7 +50,7 @@ impl<S: Scheme + Drop, L: Elector + Drop> Planner<S, L> {
     #[tactic(auto, unfolding(model_steps::specs::Voter::open_requests))]
     fn open_requests(&mut self, now: u64) -> Result<(), AllocError>
         requires clock { now < 2 ^ 63 }
-        ensures { OnOk result (Does S.attests L.elects self.old self.new (λ made. open_requests made now)) }
+        ensures { OnOk result (Does self.old self.new (λ made. open_requests made now)) }
     {
         self.reconcile(now)?;
         self.seek()?;
@@ -59,7 +59,7 @@ impl<S: Scheme + Drop, L: Elector + Drop> Planner<S, L> {
 
     /// The view's section is synced, where anything was appended.
     pub(crate) fn sync(&mut self, view: View) -> Result<(), AllocError>
-        ensures { OnOk result (Does S.attests L.elects self.old self.new (λ made. sync view)) }
+        ensures { OnOk result (Does self.old self.new (λ made. sync view)) }
     {
         if self.wrote {
             self.make(Call::Sync(view.0))?;
@@ -70,7 +70,7 @@ impl<S: Scheme + Drop, L: Elector + Drop> Planner<S, L> {
     // The verdict that was taken goes to the resolver, and is reported where it is true.
     #[tactic(auto, unfolding(crate::specs::Stands::doing_of, model_steps::specs::Voter::publish_verdict))]
     fn publish_verdict(&mut self) -> Result<(), AllocError>
-        ensures { OnOk result (Does S.attests L.elects self.old self.new (λ made. publish_verdict)) }
+        ensures { OnOk result (Does self.old self.new (λ made. publish_verdict)) }
     {
         let Some((notarization, success)) = &self.verdict else {
             return Ok(());
@@ -91,7 +91,7 @@ impl<S: Scheme + Drop, L: Elector + Drop> Planner<S, L> {
     // The own nullify is sent, and behind it, where it is a repeat, the best certificate. [repeated-is-published]
     #[tactic(auto, unfolding(crate::specs::Stands::doing_of, model_steps::specs::Voter::publish_nullify))]
     fn publish_nullify(&mut self) -> Result<(), AllocError>
-        ensures { OnOk result (Does S.attests L.elects self.old self.new (λ made. publish_nullify)) }
+        ensures { OnOk result (Does self.old self.new (λ made. publish_nullify)) }
     {
         let Some((nullify, best)) = &self.nullify else {
             return Ok(());
@@ -107,7 +107,8 @@ impl<S: Scheme + Drop, L: Elector + Drop> Planner<S, L> {
 
     // The own notarize is sent, if the step made one.
     fn publish_notarize(&mut self, vote: Option<Notarize>) -> Result<(), AllocError>
-        ensures { OnOk result (Does S.attests L.elects self.old self.new (λ made doing. option_map_or (λ n. send_vote (votes.Notarize n) doing) vote doing)) }
+        ensures { OnOk result (Does self.old self.new
+            (λ made doing. option_map_or (λ n. send_vote (votes.Notarize n) doing) vote doing)) }
     {
         let Some(vote) = vote else {
             return Ok(());
@@ -118,7 +119,8 @@ impl<S: Scheme + Drop, L: Elector + Drop> Planner<S, L> {
 
     // The own finalize is sent, if the step made one.
     fn publish_finalize(&mut self, vote: Option<Finalize>) -> Result<(), AllocError>
-        ensures { OnOk result (Does S.attests L.elects self.old self.new (λ made doing. option_map_or (λ f. send_vote (votes.Finalize f) doing) vote doing)) }
+        ensures { OnOk result (Does self.old self.new
+            (λ made doing. option_map_or (λ f. send_vote (votes.Finalize f) doing) vote doing)) }
     {
         let Some(vote) = vote else {
             return Ok(());
@@ -130,7 +132,7 @@ impl<S: Scheme + Drop, L: Elector + Drop> Planner<S, L> {
     // The view's notarization is sent and reported, once.
     #[tactic(auto, unfolding(model_steps::specs::Voter::publish_notarization))]
     fn publish_notarization(&mut self, view: View) -> Result<(), AllocError>
-        ensures { OnOk result (Does S.attests L.elects self.old self.new (λ made. publish_notarization made view)) }
+        ensures { OnOk result (Does self.old self.new (λ made. publish_notarization made view)) }
     {
         let Some(notarization) = self.broadcast_notarization(view)? else {
             return Ok(());
@@ -144,7 +146,7 @@ impl<S: Scheme + Drop, L: Elector + Drop> Planner<S, L> {
     // The view's nullification is sent and reported, once.
     #[tactic(auto, unfolding(model_steps::specs::Voter::publish_nullification))]
     fn publish_nullification(&mut self, view: View) -> Result<(), AllocError>
-        ensures { OnOk result (Does S.attests L.elects self.old self.new (λ made. publish_nullification made view)) }
+        ensures { OnOk result (Does self.old self.new (λ made. publish_nullification made view)) }
     {
         let Some(nullification) = self.broadcast_nullification(view)? else {
             return Ok(());
@@ -158,7 +160,7 @@ impl<S: Scheme + Drop, L: Elector + Drop> Planner<S, L> {
     // The view's finalization is sent and reported, once.
     #[tactic(auto, unfolding(model_steps::specs::Voter::publish_finalization))]
     fn publish_finalization(&mut self, view: View) -> Result<(), AllocError>
-        ensures { OnOk result (Does S.attests L.elects self.old self.new (λ made. publish_finalization made view)) }
+        ensures { OnOk result (Does self.old self.new (λ made. publish_finalization made view)) }
     {
         let Some(finalization) = self.broadcast_finalization(view)? else {
             return Ok(());
@@ -171,7 +173,7 @@ impl<S: Scheme + Drop, L: Elector + Drop> Planner<S, L> {
 
     /// Where the member is now, for the batcher.
     pub(crate) fn update_message(&self, forwardable: Option<Proposal>) -> Handed
-        ensures { Knows S.attests L.elects self.now (λ made known. update_message made known forwardable) result }
+        ensures { Knows self.now (λ made known. update_message made known forwardable) result }
     {
         let current = self.state.current_view();
         Handed::Batcher(batcher::Message::Update {
@@ -185,7 +187,8 @@ impl<S: Scheme + Drop, L: Elector + Drop> Planner<S, L> {
     // The proposal of the view before the current one, where it is worth forwarding.
     #[tactic(auto, unfolding(crate::specs::Stands::doing_of, model_rules::specs::Views::admits_certificate, model_rules::specs::Views::least_active))]
     fn forwardable(&self) -> Option<Proposal>
-        ensures { Knows S.attests L.elects self.now (λ made known. forwardable_at known (current_of made known - 1)) result }
+        ensures { Knows self.now
+            (λ made known. forwardable_at known (current_of made known - 1)) result }
     {
         let current = self.state.current_view();
         let before = current.saturating_sub(ViewDelta(1));
@@ -203,7 +206,7 @@ impl<S: Scheme + Drop, L: Elector + Drop> Planner<S, L> {
     // The batcher is told where the member is, where its view rose.
     #[tactic(auto, unfolding(crate::specs::Stands::doing_of, model_steps::specs::Voter::update_batcher))]
     fn update_batcher(&mut self, before: View) -> Result<(), AllocError>
-        ensures { OnOk result (Does S.attests L.elects self.old self.new (λ made. update_batcher made before)) }
+        ensures { OnOk result (Does self.old self.new (λ made. update_batcher made before)) }
     {
         if self.state.current_view() <= before {
             return Ok(());
@@ -216,7 +219,7 @@ impl<S: Scheme + Drop, L: Elector + Drop> Planner<S, L> {
     // The end of a step on the view that it touched; it began in view `before`.
     fn end_step(&mut self, now: u64, before: View, view: View) -> Result<(), AllocError>
         requires clock { now < 2 ^ 63 }
-        ensures { OnOk result (Does S.attests L.elects self.old self.new (λ made. end_of_step made now before view)) }
+        ensures { OnOk result (Does self.old self.new (λ made. end_of_step made now before view)) }
     {
         let notarize = self.vote_notarize(view)?;
         let finalize = self.vote_finalize(view)?;
@@ -236,7 +239,7 @@ impl<S: Scheme + Drop, L: Elector + Drop> Planner<S, L> {
     // The journal is pruned, where the least active view rose.
     #[tactic(auto, unfolding(model_steps::specs::Voter::prune))]
     fn prune(&mut self) -> Result<(), AllocError>
-        ensures { OnOk result (Does S.attests L.elects self.old self.new (λ made. prune made)) }
+        ensures { OnOk result (Does self.old self.new (λ made. prune made)) }
     {
         let Some(least) = self.tell_prune() else {
             return Ok(());
@@ -249,7 +252,7 @@ impl<S: Scheme + Drop, L: Elector + Drop> Planner<S, L> {
     #[tactic(auto, unfolding(model_steps::specs::Voter::begin_iteration))]
     pub(crate) fn begin_iteration(&mut self, now: u64) -> Result<(), AllocError>
         requires clock { now < 2 ^ 63 }
-        ensures { OnOk result (Does S.attests L.elects self.old self.new (λ made. begin_iteration made now)) }
+        ensures { OnOk result (Does self.old self.new (λ made. begin_iteration made now)) }
     {
         self.iterate(now)?;
         self.seek()?;
@@ -266,7 +269,8 @@ impl<S: Scheme + Drop, L: Elector + Drop> Planner<S, L> {
         touched: Option<View>,
     ) -> Result<(), AllocError>
         requires clock { now < 2 ^ 63 }
-        ensures { OnOk result (Does S.attests L.elects self.old self.new (λ made doing. begin_iteration made now (ended made now before (doing, touched)))) }
+        ensures { OnOk result (Does self.old self.new
+            (λ made doing. begin_iteration made now (ended made now before (doing, touched)))) }
     {
         if let Some(view) = touched {
             self.end_step(now, before, view)?;

@@ -16,10 +16,13 @@ fn read_records<J: Journal>(
     journal: &mut J,
     alloc: Global,
 ) -> Result<Option<Vec<Artifact>>, AllocError>
-    ensures told { IfOk result (λ records. (order : Order) → J.order journal.old ≡ Some order → Reads order (J.sections journal.old) records (J.order journal.new)) }
-    ensures over { IfOk result (λ records. IfSome records (λ r. r.items ≡ replayed (J.sections journal.old))) }
+    ensures told { IfOk result (λ records. (order : Order) → J.order journal.old ≡ Some order
+        → Reads order (J.sections journal.old) records (J.order journal.new)) }
+    ensures over { IfOk result (λ records. IfSome records
+        (λ r. r.items ≡ replayed (J.sections journal.old))) }
     ensures stays { J.sections journal.new ≡ J.sections journal.old }
-    ensures faults { IfOk result (λ records. CountsReading records (J.fault_count journal.old) (J.fault_count journal.new)) }
+    ensures faults { IfOk result
+        (λ records. CountsReading records (J.fault_count journal.old) (J.fault_count journal.new)) }
 {
     match journal.replay(alloc) {
         Ok(records) => Ok(Some(records)),
@@ -43,9 +46,12 @@ fn read_failing<J: Journal>(
     call: u64,
     keep: u64,
 ) -> Result<Option<Vec<Artifact>>, AllocError>
-    ensures told { IfOk result (λ records. J.order journal.old ≡ Some no_order → Read (Stop.Fail call keep) (J.sections journal.old) records (J.sections journal.new) (J.order journal.new)) }
-    ensures over { IfOk result (λ records. ReadOver (Stop.Fail call keep) (J.sections journal.old) records (J.sections journal.new)) }
-    ensures faults { IfOk result (λ records. CountsReading records (J.fault_count journal.old) (J.fault_count journal.new)) }
+    ensures told { IfOk result (λ records. J.order journal.old ≡ Some no_order → Read (Stop.Fail call keep)
+        (J.sections journal.old) records (J.sections journal.new) (J.order journal.new)) }
+    ensures over { IfOk result (λ records. ReadOver (Stop.Fail call keep)
+        (J.sections journal.old) records (J.sections journal.new)) }
+    ensures faults { IfOk result
+        (λ records. CountsReading records (J.fault_count journal.old) (J.fault_count journal.new)) }
 {
     journal.fail_next(reading_of(call), keep);
     let records = read_records(journal, alloc)?;
@@ -62,9 +68,13 @@ pub(crate) fn read<J: Journal>(
     alloc: Global,
     stop: &Stop,
 ) -> Result<Option<Vec<Artifact>>, AllocError>
-    ensures told { IfOk result (λ records. J.order journal.old ≡ Some no_order → Read stop.now (J.sections journal.old) records (J.sections journal.new) (J.order journal.new)) }
-    ensures over { IfOk result (λ records. ReadOver stop.now (J.sections journal.old) records (J.sections journal.new)) }
-    ensures faults { IfOk result (λ records. CountsReading records (J.fault_count journal.old) (J.fault_count journal.new)) }
+    ensures told { IfOk result (λ records. J.order journal.old ≡ Some no_order
+        → Read stop.now (J.sections journal.old) records (J.sections journal.new)
+        (J.order journal.new)) }
+    ensures over { IfOk result
+        (λ records. ReadOver stop.now (J.sections journal.old) records (J.sections journal.new)) }
+    ensures faults { IfOk result
+        (λ records. CountsReading records (J.fault_count journal.old) (J.fault_count journal.new)) }
 {
     match stop {
         Stop::None => {

@@ -19,7 +19,8 @@ use std::alloc::AllocError;
 impl<S: Scheme + Drop, L: Elector + Drop> Planner<S, L> {
     // The request of this number is listed as dropped. [dropped-were-open]
     fn drop_number(&mut self, number: u64) -> Result<(), AllocError>
-        ensures { OnOk result (Does S.attests L.elects self.old self.new (λ made. on_desk (λ desk. drop_number desk number))) }
+        ensures { OnOk result (Does self.old self.new
+            (λ made. on_desk (λ desk. drop_number desk number))) }
     {
         insert_number(&mut self.dropped, number)?;
         Ok(())
@@ -27,7 +28,8 @@ impl<S: Scheme + Drop, L: Elector + Drop> Planner<S, L> {
 
     // The request of the pending proposal is dropped, where it is open.
     fn drop_request(&mut self, pending: &PendingProposal) -> Result<(), AllocError>
-        ensures { OnOk result (Does S.attests L.elects self.old self.new (λ made. on_desk (λ desk. drop_request desk (pending_of pending.now)))) }
+        ensures { OnOk result (Does self.old self.new
+            (λ made. on_desk (λ desk. drop_request desk (pending_of pending.now)))) }
     {
         match pending.state {
             ProposalState::Preparing | ProposalState::Proposing => {
@@ -40,7 +42,10 @@ impl<S: Scheme + Drop, L: Elector + Drop> Planner<S, L> {
 
     // Whether the pending proposal's view is past, or another parent serves where its own does not.
     fn is_stale(&self, pending: &PendingProposal) -> bool
-        ensures { Knows S.attests L.elects self.now (λ made known. nat_lt (pending_view (pending_of pending.now)) (current_of made known) || is_superseded made known (pending_parent (pending_of pending.now)) (pending_view (pending_of pending.now))) result }
+        ensures { Knows self.now
+            (λ made known. nat_lt (pending_view (pending_of pending.now)) (current_of made known)
+            || is_superseded made known (pending_parent (pending_of pending.now))
+            (pending_view (pending_of pending.now))) result }
     {
         pending.context.round.view < self.state.current_view()
             || self.state.supersede_proposal_request(&pending.context)
@@ -49,7 +54,7 @@ impl<S: Scheme + Drop, L: Elector + Drop> Planner<S, L> {
     // A pending proposal that is stale is dropped. [superseded-stays-asked]
     #[tactic(auto, unfolding(crate::specs::Stands::doing_of, model_rules::specs::Pending::drop_proposal))]
     fn drop_proposal(&mut self) -> Result<(), AllocError>
-        ensures { OnOk result (Does S.attests L.elects self.old self.new (λ made. on_desk (drop_proposal made))) }
+        ensures { OnOk result (Does self.old self.new (λ made. on_desk (drop_proposal made))) }
     {
         let Some(pending) = self.proposal else {
             return Ok(());
@@ -64,7 +69,7 @@ impl<S: Scheme + Drop, L: Elector + Drop> Planner<S, L> {
     // The pending Verify is dropped where its view is past.
     #[tactic(auto, unfolding(crate::specs::Stands::doing_of, model_rules::specs::Pending::drop_verify))]
     fn drop_verify(&mut self) -> Result<(), AllocError>
-        ensures { OnOk result (Does S.attests L.elects self.old self.new (λ made. on_desk (drop_verify made))) }
+        ensures { OnOk result (Does self.old self.new (λ made. on_desk (drop_verify made))) }
     {
         let Some(verify) = self.verify else {
             return Ok(());
@@ -79,7 +84,7 @@ impl<S: Scheme + Drop, L: Elector + Drop> Planner<S, L> {
     // A Prepare without an answer becomes Waiting where its handoff is given up.
     #[tactic(auto, unfolding(crate::specs::Stands::doing_of, model_rules::specs::Pending::abandon_handoff))]
     fn abandon_handoff(&mut self) -> Result<(), AllocError>
-        ensures { OnOk result (Does S.attests L.elects self.old self.new (λ made. on_desk abandon_handoff)) }
+        ensures { OnOk result (Does self.old self.new (λ made. on_desk abandon_handoff)) }
     {
         let Some(pending) = self.proposal else {
             return Ok(());
@@ -104,7 +109,7 @@ impl<S: Scheme + Drop, L: Elector + Drop> Planner<S, L> {
     #[tactic(auto, unfolding(crate::specs::Stands::doing_of, model_rules::specs::Pending::end_waiting, model_rules::specs::Calls::known_of))]
     fn end_waiting(&mut self, now: u64) -> Result<(), AllocError>
         requires clock { now < 2 ^ 63 }
-        ensures { OnOk result (Does S.attests L.elects self.old self.new (λ made. on_desk (end_waiting made now))) }
+        ensures { OnOk result (Does self.old self.new (λ made. on_desk (end_waiting made now))) }
     {
         let Some(pending) = &self.proposal else {
             return Ok(());
@@ -145,7 +150,8 @@ impl<S: Scheme + Drop, L: Elector + Drop> Planner<S, L> {
     ) -> Result<(), AllocError>
         requires none { self.old.proposal ≡ None }
         requires opens { is_open state ≡ true }
-        ensures { OnOk result (Does S.attests L.elects self.old self.new (λ made. on_desk (open_request context.now state request))) }
+        ensures { OnOk result (Does self.old self.new
+            (λ made. on_desk (open_request context.now state request))) }
     {
         let next = self.next_number()?;
         self.out.asked.push(request)?;
@@ -163,7 +169,8 @@ impl<S: Scheme + Drop, L: Elector + Drop> Planner<S, L> {
     // The request that the rules give is opened.
     fn ask_proposal(&mut self, request: &ProposalRequest) -> Result<(), AllocError>
         requires none { self.old.proposal ≡ None }
-        ensures { OnOk result (Does S.attests L.elects self.old self.new (λ made. on_desk (with_request (Some request.now)))) }
+        ensures { OnOk result (Does self.old self.new
+            (λ made. on_desk (with_request (Some request.now)))) }
     {
         match request {
             ProposalRequest::Prepare(context) => {
@@ -181,7 +188,7 @@ impl<S: Scheme + Drop, L: Elector + Drop> Planner<S, L> {
     // A proposal is asked for, where none is pending.
     #[tactic(auto, unfolding(crate::specs::Stands::doing_of, model_rules::specs::Pending::open_proposal))]
     fn open_proposal(&mut self) -> Result<(), AllocError>
-        ensures { OnOk result (Does S.attests L.elects self.old self.new (λ made. on_desk (open_proposal made))) }
+        ensures { OnOk result (Does self.old self.new (λ made. on_desk (open_proposal made))) }
     {
         if self.proposal.is_some() {
             return Ok(());
@@ -195,7 +202,11 @@ impl<S: Scheme + Drop, L: Elector + Drop> Planner<S, L> {
 
     // What is missing is sought.
     fn seek_missing(&mut self, missing: Missing) -> Result<(), AllocError>
-        ensures { OnOk result (Does S.attests L.elects self.old self.new (λ made. on_desk (λ desk. record desk { sought = desk.sought ++ sought_of missing ∷ [] }))) }
+        ensures { OnOk result (Does self.old self.new
+            (λ made. on_desk (λ desk. record desk {
+              sought = desk.sought
+                  ++ sought_of missing ∷ [];
+            }))) }
     {
         self.missing.push(missing)?;
         Ok(())
@@ -205,7 +216,8 @@ impl<S: Scheme + Drop, L: Elector + Drop> Planner<S, L> {
     #[tactic(auto, unfolding(crate::specs::Stands::doing_of), using(crate::proofs::Arriving::arrived_rules))]
     fn ask_verify(&mut self, context: &Context, proposal: &Proposal) -> Result<(), AllocError>
         requires none { self.old.verify ≡ None }
-        ensures { OnOk result (Does S.attests L.elects self.old self.new (λ made. on_desk (with_verify (Ready context.now proposal.now)))) }
+        ensures { OnOk result (Does self.old self.new
+            (λ made. on_desk (with_verify (Ready context.now proposal.now)))) }
     {
         let next = self.next_number()?;
         self.out
@@ -223,7 +235,7 @@ impl<S: Scheme + Drop, L: Elector + Drop> Planner<S, L> {
     // A proposal is given to verify, or what it lacks is sought. [one-verification]
     fn follow_verify(&mut self, request: &Verify) -> Result<(), AllocError>
         requires none { self.old.verify ≡ None }
-        ensures { OnOk result (Does S.attests L.elects self.old self.new (λ made. on_desk (with_verify request.now))) }
+        ensures { OnOk result (Does self.old self.new (λ made. on_desk (with_verify request.now))) }
     {
         match request {
             Verify::Ready(context, proposal) => self.ask_verify(context, proposal)?,
@@ -246,7 +258,7 @@ impl<S: Scheme + Drop, L: Elector + Drop> Planner<S, L> {
     // A proposal is given to verify, or a missing view sought, where no Verify is pending.
     #[tactic(auto, unfolding(crate::specs::Stands::doing_of, model_rules::specs::Pending::open_verify))]
     fn open_verify(&mut self) -> Result<(), AllocError>
-        ensures { OnOk result (Does S.attests L.elects self.old self.new (λ made. on_desk (open_verify made))) }
+        ensures { OnOk result (Does self.old self.new (λ made. on_desk (open_verify made))) }
     {
         if self.verify.is_some() {
             return Ok(());
@@ -260,7 +272,7 @@ impl<S: Scheme + Drop, L: Elector + Drop> Planner<S, L> {
     #[tactic(auto, unfolding(model_rules::specs::Pending::reconciled))]
     pub(crate) fn reconcile(&mut self, now: u64) -> Result<(), AllocError>
         requires clock { now < 2 ^ 63 }
-        ensures { OnOk result (Does S.attests L.elects self.old self.new (λ made. on_desk (reconciled made now))) }
+        ensures { OnOk result (Does self.old self.new (λ made. on_desk (reconciled made now))) }
     {
         self.drop_proposal()?;
         self.drop_verify()?;
@@ -274,7 +286,7 @@ impl<S: Scheme + Drop, L: Elector + Drop> Planner<S, L> {
     // Certify requests at or below the last final view are dropped.
     #[tactic(auto, unfolding(crate::specs::Stands::doing_of, model_rules::specs::Pending::drop_certify))]
     fn drop_certify(&mut self) -> Result<(), AllocError>
-        ensures { OnOk result (Does S.attests L.elects self.old self.new (λ made. on_desk drop_certify)) }
+        ensures { OnOk result (Does self.old self.new (λ made. on_desk drop_certify)) }
     {
         let finalized = self.state.last_finalized();
         drop_final(&mut self.dropped, &self.certify, finalized)?;
@@ -285,7 +297,8 @@ impl<S: Scheme + Drop, L: Elector + Drop> Planner<S, L> {
     // What is to be certified is given to certify.
     #[tactic(auto, unfolding(crate::specs::Stands::doing_of), using(crate::proofs::Arriving::arrived_rules))]
     fn ask_certify(&mut self, proposal: &Proposal) -> Result<(), AllocError>
-        ensures { OnOk result (Does S.attests L.elects self.old self.new (λ made. on_desk (λ desk. open_certify desk proposal.now))) }
+        ensures { OnOk result (Does self.old self.new
+            (λ made. on_desk (λ desk. open_certify desk proposal.now))) }
     {
         let next = self.next_number()?;
         self.out
@@ -302,7 +315,8 @@ impl<S: Scheme + Drop, L: Elector + Drop> Planner<S, L> {
 
     // Each is given to certify.
     fn ask_each(&mut self, proposals: &[Proposal]) -> Result<(), AllocError>
-        ensures { OnOk result (Does S.attests L.elects self.old self.new (λ made. on_desk (λ desk. fold open_certify desk proposals.now))) }
+        ensures { OnOk result (Does self.old self.new
+            (λ made. on_desk (λ desk. fold open_certify desk proposals.now))) }
     {
         for proposal in proposals {
             self.ask_certify(proposal)?;
@@ -312,7 +326,8 @@ impl<S: Scheme + Drop, L: Elector + Drop> Planner<S, L> {
 
     // The parents that are missing are sought.
     fn seek_parents(&mut self, fetches: &[CertificateFetch]) -> Result<(), AllocError>
-        ensures { OnOk result (Does S.attests L.elects self.old self.new (λ made. on_desk (λ desk. fold seek_parent desk fetches.now))) }
+        ensures { OnOk result (Does self.old self.new
+            (λ made. on_desk (λ desk. fold seek_parent desk fetches.now))) }
     {
         for fetch in fetches {
             self.seek_missing(Missing {
@@ -328,7 +343,7 @@ impl<S: Scheme + Drop, L: Elector + Drop> Planner<S, L> {
     // What can be certified is given to certify, and the parents that this lacks are sought.
     #[tactic(auto, unfolding(model_rules::specs::Pending::certifying))]
     fn certify(&mut self) -> Result<(), AllocError>
-        ensures { OnOk result (Does S.attests L.elects self.old self.new (λ made. on_desk (certifying made))) }
+        ensures { OnOk result (Does self.old self.new (λ made. on_desk (certifying made))) }
     {
         self.drop_certify()?;
         let (proposals, fetches) = self.certify_candidates()?;
@@ -341,7 +356,7 @@ impl<S: Scheme + Drop, L: Elector + Drop> Planner<S, L> {
     #[tactic(auto, unfolding(model_rules::specs::Pending::iterated))]
     pub(crate) fn iterate(&mut self, now: u64) -> Result<(), AllocError>
         requires clock { now < 2 ^ 63 }
-        ensures { OnOk result (Does S.attests L.elects self.old self.new (λ made. on_desk (iterated made now))) }
+        ensures { OnOk result (Does self.old self.new (λ made. on_desk (iterated made now))) }
     {
         self.reconcile(now)?;
         self.certify()?;
@@ -355,7 +370,8 @@ fn drop_final(
     certify: &[OpenRequest],
     finalized: View,
 ) -> Result<(), AllocError>
-    ensures { OnOk result (dropped.new.items ≡ fold (drop_final_number finalized) dropped.old.items (map opened_of certify.now)) }
+    ensures { OnOk result (dropped.new.items
+        ≡ fold (drop_final_number finalized) dropped.old.items (map opened_of certify.now)) }
 {
     for request in certify {
         if request.view <= finalized {

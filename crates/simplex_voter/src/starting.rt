@@ -16,7 +16,7 @@ use std::alloc::{AllocError, Global};
 impl<S: Scheme + Drop, L: Elector + Drop> Planner<S, L> {
     // The floor is told to the resolver and the reporter. [floor-before-journal]
     fn tell_floor(&mut self, floor: &Floor) -> Result<(), AllocError>
-        ensures { OnOk result (Does S.attests L.elects self.old self.new (λ made. tell_floor floor.now)) }
+        ensures { OnOk result (Does self.old self.new (λ made. tell_floor floor.now)) }
     {
         let Floor::Finalized(finalization) = floor else {
             return Ok(());
@@ -31,7 +31,7 @@ impl<S: Scheme + Drop, L: Elector + Drop> Planner<S, L> {
     // The floor is final.
     fn stand_on(&mut self, floor: &Floor, now: u64) -> Result<(), AllocError>
         requires clock { now < 2 ^ 63 }
-        ensures { OnOk result (Restores S.attests L.elects self.old self.new (λ made. stand_on made now floor.now)) }
+        ensures { OnOk result (Restores self.old self.new (λ made. stand_on made now floor.now)) }
     {
         let kept = floor.keep(self.alloc)?;
         self.set_floor(kept, now)?;
@@ -41,7 +41,7 @@ impl<S: Scheme + Drop, L: Elector + Drop> Planner<S, L> {
 
     // The reporter is told, if there is anything to tell.
     fn report_if(&mut self, activity: Option<Activity>) -> Result<(), AllocError>
-        ensures { OnOk result (Does S.attests L.elects self.old self.new (λ made. report_if activity)) }
+        ensures { OnOk result (Does self.old self.new (λ made. report_if activity)) }
     {
         if let Some(activity) = activity {
             self.report(activity)?;
@@ -51,7 +51,7 @@ impl<S: Scheme + Drop, L: Elector + Drop> Planner<S, L> {
 
     // The resolver is told of the certificate, if there is one.
     fn update_resolver(&mut self, certificate: Option<Certificate>) -> Result<(), AllocError>
-        ensures { OnOk result (Does S.attests L.elects self.old self.new (λ made. updated_if certificate)) }
+        ensures { OnOk result (Does self.old self.new (λ made. updated_if certificate)) }
     {
         if let Some(certificate) = certificate {
             self.hand(Handed::Resolver(resolver::MailboxMessage::Updated { certificate }))?;
@@ -61,7 +61,7 @@ impl<S: Scheme + Drop, L: Elector + Drop> Planner<S, L> {
 
     // A kept verdict that is taken goes to the resolver, and is reported where it is true.
     fn tell_verdict(&mut self, good: bool, taken: Option<Notarization>) -> Result<(), AllocError>
-        ensures { OnOk result (Does S.attests L.elects self.old self.new (λ made. replay_verdict good taken)) }
+        ensures { OnOk result (Does self.old self.new (λ made. replay_verdict good taken)) }
     {
         let Some(notarization) = taken else {
             return Ok(());
@@ -80,7 +80,8 @@ impl<S: Scheme + Drop, L: Elector + Drop> Planner<S, L> {
     // A kept verdict is known again.
     fn restore_verdict(&mut self, view: View, good: bool, now: u64) -> Result<(), AllocError>
         requires clock { now < 2 ^ 63 }
-        ensures { OnOk result (Does S.attests L.elects self.old self.new (λ made. restore_verdict made now view good)) }
+        ensures { OnOk result (Does self.old self.new
+            (λ made. restore_verdict made now view good)) }
     {
         let taken = self.certified(view, good, now)?;
         self.tell_verdict(good, taken)?;
@@ -90,7 +91,8 @@ impl<S: Scheme + Drop, L: Elector + Drop> Planner<S, L> {
     // A kept record that is no verdict is known again, own votes as own.
     fn restore_record(&mut self, artifact: &Artifact, now: u64) -> Result<(), AllocError>
         requires clock { now < 2 ^ 63 }
-        ensures { OnOk result (Restores S.attests L.elects self.old self.new (λ made. restore_record made now artifact.now)) }
+        ensures { OnOk result (Restores self.old self.new
+            (λ made. restore_record made now artifact.now)) }
     {
         let activity = activity_of(artifact, self.alloc)?;
         let certificate = certificate_in(artifact, self.alloc)?;
@@ -105,7 +107,8 @@ impl<S: Scheme + Drop, L: Elector + Drop> Planner<S, L> {
     // A kept record is known again. [first-record-counts]
     fn replay_record(&mut self, artifact: &Artifact, now: u64) -> Result<(), AllocError>
         requires clock { now < 2 ^ 63 }
-        ensures { OnOk result (Restores S.attests L.elects self.old self.new (λ made doing. replay_record made now doing artifact.now)) }
+        ensures { OnOk result (Restores self.old self.new
+            (λ made doing. replay_record made now doing artifact.now)) }
     {
         match verdict_in(artifact) {
             Some(verdict) => {
@@ -122,7 +125,8 @@ impl<S: Scheme + Drop, L: Elector + Drop> Planner<S, L> {
     // A kept record is known again, where it is above the floor's view.
     fn replay_above(&mut self, artifact: &Artifact, floor: View, now: u64) -> Result<(), AllocError>
         requires clock { now < 2 ^ 63 }
-        ensures { OnOk result (Restores S.attests L.elects self.old self.new (λ made doing. replay_above made now floor doing artifact.now)) }
+        ensures { OnOk result (Restores self.old self.new
+            (λ made doing. replay_above made now floor doing artifact.now)) }
     {
         if artifact.view() <= floor {
             return Ok(());
@@ -134,7 +138,8 @@ impl<S: Scheme + Drop, L: Elector + Drop> Planner<S, L> {
     // The records above the floor's view are known again, in order.
     fn replay_all(&mut self, records: &[Artifact], floor: View, now: u64) -> Result<(), AllocError>
         requires clock { now < 2 ^ 63 }
-        ensures { OnOk result (Restores S.attests L.elects self.old self.new (λ made doing. replay_all made now floor doing records.now)) }
+        ensures { OnOk result (Restores self.old self.new
+            (λ made doing. replay_all made now floor doing records.now)) }
     {
         for artifact in records {
             self.replay_above(artifact, floor, now)?;
@@ -144,7 +149,7 @@ impl<S: Scheme + Drop, L: Elector + Drop> Planner<S, L> {
 
     // The floor is kept.
     fn append_floor(&mut self, floor: &Floor) -> Result<(), AllocError>
-        ensures { OnOk result (Does S.attests L.elects self.old self.new (λ made. append_floor floor.now)) }
+        ensures { OnOk result (Does self.old self.new (λ made. append_floor floor.now)) }
     {
         let Floor::Finalized(finalization) = floor else {
             return Ok(());
@@ -157,7 +162,8 @@ impl<S: Scheme + Drop, L: Elector + Drop> Planner<S, L> {
 
     // The floor is kept, where it is not held.
     fn keep_floor(&mut self, floor: &Floor, is_held: bool) -> Result<(), AllocError>
-        ensures { OnOk result (Does S.attests L.elects self.old self.new (λ made doing. if is_held then doing else append_floor floor.now doing)) }
+        ensures { OnOk result (Does self.old self.new
+            (λ made doing. if is_held then doing else append_floor floor.now doing)) }
     {
         if is_held {
             return Ok(());
@@ -174,7 +180,8 @@ impl<S: Scheme + Drop, L: Elector + Drop> Planner<S, L> {
         now: u64,
     ) -> Result<(), AllocError>
         requires clock { now < 2 ^ 63 }
-        ensures { OnOk result ((made : Made) → Stands S.attests L.elects self.old made [] (begun blank_desk) → Stands S.attests L.elects self.new made [] (started made now floor.now records.now)) }
+        ensures { OnOk result ((made : Made) → Stands self.old made [] (begun blank_desk)
+            → Stands self.new made [] (started made now floor.now records.now)) }
     {
         let is_held = holds_floor(floor, records);
         self.stand_on(floor, now)?;

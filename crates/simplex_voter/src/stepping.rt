@@ -24,7 +24,7 @@ impl<S: Scheme + Drop, L: Elector + Drop> Planner<S, L> {
     /// Whether the clock has reached the deadline.
     #[tactic(auto, unfolding(crate::specs::Stands::doing_of))]
     pub(crate) fn is_due(&self, now: u64) -> bool
-        ensures { Knows S.attests L.elects self.now (λ made known. nat_le (deadline_of made known).0 now) result }
+        ensures { Knows self.now (λ made known. nat_le (deadline_of made known).0 now) result }
     {
         let deadline = self.state.next_timeout();
         deadline.0 <= now
@@ -33,7 +33,7 @@ impl<S: Scheme + Drop, L: Elector + Drop> Planner<S, L> {
     // The deadline, where the clock has reached it.
     fn take_deadline(&mut self, now: u64) -> Result<Option<Touched>, AllocError>
         requires clock { now < 2 ^ 63 }
-        ensures { IfOk result (Acts S.attests L.elects self.old self.new (λ made s. acted made now s inputs.Timer)) }
+        ensures { IfOk result (Acts self.old self.new (λ made s. acted made now s inputs.Timer)) }
     {
         if !self.is_due(now) {
             return Ok(None);
@@ -52,7 +52,10 @@ impl<S: Scheme + Drop, L: Elector + Drop> Planner<S, L> {
         requires clock { now < 2 ^ 63 }
         requires own { self.old.proposal ≡ Some pending.now }
         requires opened { is_open pending.now.state ≡ true }
-        ensures { IfOk result (Acts S.attests L.elects self.old self.new (λ made s. option_map (λ answer. act_on_proposal made now (pending_of pending.now) answer (begun s.desk)) (answer_to s.answers pending.now.number))) }
+        ensures { IfOk result (Acts self.old self.new
+            (λ made s. option_map
+            (λ answer. act_on_proposal made now (pending_of pending.now) answer
+            (begun s.desk)) (answer_to s.answers pending.now.number))) }
     {
         match &pending.arrival {
             None => Ok(None),
@@ -69,7 +72,8 @@ impl<S: Scheme + Drop, L: Elector + Drop> Planner<S, L> {
         pending: &PendingProposal,
         payload: &Digest,
     ) -> Result<Option<Touched>, AllocError>
-        ensures { IfOk result (Acts S.attests L.elects self.old self.new (λ made s. take_held_payload made s (pending_of pending.now) payload.now)) }
+        ensures { IfOk result (Acts self.old self.new
+            (λ made s. take_held_payload made s (pending_of pending.now) payload.now)) }
     {
         if !self.state.parent_certified(pending.context.parent) {
             return Ok(None);
@@ -86,7 +90,8 @@ impl<S: Scheme + Drop, L: Elector + Drop> Planner<S, L> {
     ) -> Result<Option<Touched>, AllocError>
         requires clock { now < 2 ^ 63 }
         requires own { self.old.proposal ≡ Some pending.now }
-        ensures { IfOk result (Acts S.attests L.elects self.old self.new (λ made s. take_proposal made now s (pending_of pending.now) pending.now.state)) }
+        ensures { IfOk result (Acts self.old self.new
+            (λ made s. take_proposal made now s (pending_of pending.now) pending.now.state)) }
     {
         match &pending.state {
             ProposalState::Preparing => {
@@ -109,7 +114,7 @@ impl<S: Scheme + Drop, L: Elector + Drop> Planner<S, L> {
     // The answer to the pending proposal request, or a held payload whose parent is certified.
     fn take_proposal(&mut self, now: u64) -> Result<Option<Touched>, AllocError>
         requires clock { now < 2 ^ 63 }
-        ensures { IfOk result (Acts S.attests L.elects self.old self.new (λ made s. acted made now s inputs.Propose)) }
+        ensures { IfOk result (Acts self.old self.new (λ made s. acted made now s inputs.Propose)) }
     {
         match self.proposal {
             None => Ok(None),
@@ -123,7 +128,7 @@ impl<S: Scheme + Drop, L: Elector + Drop> Planner<S, L> {
     // The answer of the open Verify.
     fn take_verify(&mut self, now: u64) -> Result<Option<Touched>, AllocError>
         requires clock { now < 2 ^ 63 }
-        ensures { IfOk result (Acts S.attests L.elects self.old self.new (λ made s. acted made now s inputs.Verify)) }
+        ensures { IfOk result (Acts self.old self.new (λ made s. acted made now s inputs.Verify)) }
     {
         match self.verify {
             None => Ok(None),
@@ -140,7 +145,7 @@ impl<S: Scheme + Drop, L: Elector + Drop> Planner<S, L> {
     // The open Certify that was answered first, and its answer.
     fn take_certify(&mut self, now: u64) -> Result<Option<Touched>, AllocError>
         requires clock { now < 2 ^ 63 }
-        ensures { IfOk result (Acts S.attests L.elects self.old self.new (λ made s. acted made now s inputs.Certify)) }
+        ensures { IfOk result (Acts self.old self.new (λ made s. acted made now s inputs.Certify)) }
     {
         match first_answered(&self.certify) {
             None => Ok(None),
@@ -157,7 +162,7 @@ impl<S: Scheme + Drop, L: Elector + Drop> Planner<S, L> {
     // What its source holds is taken; none where that is nothing. [early-end-skips-the-end]
     fn act(&mut self, input: VoterInput, now: u64) -> Result<Option<Touched>, AllocError>
         requires clock { now < 2 ^ 63 }
-        ensures { IfOk result (Acts S.attests L.elects self.old self.new (λ made s. acted made now s input)) }
+        ensures { IfOk result (Acts self.old self.new (λ made s. acted made now s input)) }
     {
         match input {
             VoterInput::Mail(message) => {
@@ -186,7 +191,7 @@ impl<S: Scheme + Drop, L: Elector + Drop> Planner<S, L> {
     /// All that a step does, before any stop. Whether its source held anything.
     pub(crate) fn plan(&mut self, input: VoterInput, now: u64) -> Result<bool, AllocError>
         requires clock { now < 2 ^ 63 }
-        ensures { IfOk result (Plans S.attests L.elects self.old self.new now input) }
+        ensures { IfOk result (Plans self.old self.new now input) }
     {
         let before = self.state.current_view();
         let found = self.act(input, now)?;

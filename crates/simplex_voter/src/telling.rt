@@ -23,8 +23,10 @@ use std::alloc::AllocError;
 #[tactic(auto, unfolding(crate::specs::Stands::doing_of, model_rules::specs::Calls::known_of))]
 impl<S: Scheme + Drop, L: Elector + Drop> Planner<S, L> {
     pub(crate) fn set_proposal(&mut self, proposal: &Proposal) -> Result<bool, AllocError>
-        ensures stands { OnOk result (Does S.attests L.elects self.old self.new (λ made. tell made (SetProposal proposal.now.round.view proposal.now))) }
-        ensures answer { IfOk result (Knows S.attests L.elects self.old (λ made known. records_proposal made known proposal.now)) }
+        ensures stands { OnOk result (Does self.old self.new
+            (λ made. tell made (SetProposal proposal.now.round.view proposal.now))) }
+        ensures answer { IfOk result (Knows self.old
+            (λ made known. records_proposal made known proposal.now)) }
     {
         let is_recorded = self.state.set_proposal(proposal.round.view, proposal)?;
         Ok(is_recorded)
@@ -35,8 +37,10 @@ impl<S: Scheme + Drop, L: Elector + Drop> Planner<S, L> {
         context: &Context,
         payload: Digest,
     ) -> Result<bool, AllocError>
-        ensures stands { OnOk result (Does S.attests L.elects self.old self.new (λ made. tell made (Proposed context.now payload))) }
-        ensures answer { IfOk result (Knows S.attests L.elects self.old (λ made known. records_answer made known context.now.round.view)) }
+        ensures stands { OnOk result (Does self.old self.new
+            (λ made. tell made (Proposed context.now payload))) }
+        ensures answer { IfOk result (Knows self.old
+            (λ made known. records_answer made known context.now.round.view)) }
     {
         let is_recorded = self.state.proposed(context, payload)?;
         Ok(is_recorded)
@@ -49,8 +53,9 @@ impl<S: Scheme + Drop, L: Elector + Drop> Planner<S, L> {
         now: u64,
     ) -> Result<Option<Notarization>, AllocError>
         requires clock { now < 2 ^ 63 }
-        ensures stands { OnOk result (Does S.attests L.elects self.old self.new (λ made. tell made (Certified view good now))) }
-        ensures answer { IfOk result (Knows S.attests L.elects self.old (λ made known. certified_answer known view)) }
+        ensures stands { OnOk result (Does self.old self.new
+            (λ made. tell made (Certified view good now))) }
+        ensures answer { IfOk result (Knows self.old (λ made known. certified_answer known view)) }
     {
         let taken = self.state.certified(view, good, now)?;
         Ok(taken)
@@ -62,8 +67,10 @@ impl<S: Scheme + Drop, L: Elector + Drop> Planner<S, L> {
         now: u64,
     ) -> Result<(bool, Option<Participant>), AllocError>
         requires clock { now < 2 ^ 63 }
-        ensures stands { OnOk result (Does S.attests L.elects self.old self.new (λ made. tell made (AddNotarization notarization now))) }
-        ensures answer { IfOk result (Knows S.attests L.elects self.old (λ made known. add_notarization_answer made known notarization)) }
+        ensures stands { OnOk result (Does self.old self.new
+            (λ made. tell made (AddNotarization notarization now))) }
+        ensures answer { IfOk result (Knows self.old
+            (λ made known. add_notarization_answer made known notarization)) }
     {
         let answer = self.state.add_notarization(notarization, now)?;
         Ok(answer)
@@ -75,8 +82,10 @@ impl<S: Scheme + Drop, L: Elector + Drop> Planner<S, L> {
         now: u64,
     ) -> Result<bool, AllocError>
         requires clock { now < 2 ^ 63 }
-        ensures stands { OnOk result (Does S.attests L.elects self.old self.new (λ made. tell made (AddNullification nullification now))) }
-        ensures answer { IfOk result (Knows S.attests L.elects self.old (λ made known. adds_nullification made known nullification)) }
+        ensures stands { OnOk result (Does self.old self.new
+            (λ made. tell made (AddNullification nullification now))) }
+        ensures answer { IfOk result (Knows self.old
+            (λ made known. adds_nullification made known nullification)) }
     {
         let is_added = self.state.add_nullification(nullification, now)?;
         Ok(is_added)
@@ -88,8 +97,10 @@ impl<S: Scheme + Drop, L: Elector + Drop> Planner<S, L> {
         now: u64,
     ) -> Result<(bool, Option<Participant>), AllocError>
         requires clock { now < 2 ^ 63 }
-        ensures stands { OnOk result (Does S.attests L.elects self.old self.new (λ made. tell made (AddFinalization finalization now))) }
-        ensures answer { IfOk result (Knows S.attests L.elects self.old (λ made known. add_finalization_answer made known finalization)) }
+        ensures stands { OnOk result (Does self.old self.new
+            (λ made. tell made (AddFinalization finalization now))) }
+        ensures answer { IfOk result (Knows self.old
+            (λ made known. add_finalization_answer made known finalization)) }
     {
         let answer = self.state.add_finalization(finalization, now)?;
         Ok(answer)
@@ -102,14 +113,15 @@ impl<S: Scheme + Drop, L: Elector + Drop> Planner<S, L> {
         now: u64,
     ) -> Result<(), AllocError>
         requires clock { now < 2 ^ 63 }
-        ensures { OnOk result (Does S.attests L.elects self.old self.new (λ made. tell made (TriggerTimeout view reason now))) }
+        ensures { OnOk result (Does self.old self.new
+            (λ made. tell made (TriggerTimeout view reason now))) }
     {
         self.state.trigger_timeout(view, reason, now)?;
         Ok(())
     }
 
     pub(crate) fn verified(&mut self, view: View) -> Result<(), AllocError>
-        ensures { OnOk result (Does S.attests L.elects self.old self.new (λ made. tell made (Verified view))) }
+        ensures { OnOk result (Does self.old self.new (λ made. tell made (Verified view))) }
     {
         self.state.verified(view)?;
         Ok(())
@@ -122,15 +134,17 @@ impl<S: Scheme + Drop, L: Elector + Drop> Planner<S, L> {
         now: u64,
     ) -> Result<(), AllocError>
         requires clock { now < 2 ^ 63 }
-        ensures { OnOk result (Does S.attests L.elects self.old self.new (λ made. tell made (VerificationFailed view reason now))) }
+        ensures { OnOk result (Does self.old self.new
+            (λ made. tell made (VerificationFailed view reason now))) }
     {
         self.state.verification_failed(view, reason, now)?;
         Ok(())
     }
 
     pub(crate) fn construct_notarize(&mut self, view: View) -> Result<Option<Notarize>, AllocError>
-        ensures stands { OnOk result (Does S.attests L.elects self.old self.new (λ made. tell made (ConstructNotarize view))) }
-        ensures answer { IfOk result (Knows S.attests L.elects self.old (λ made known. notarize_at made known view)) }
+        ensures stands { OnOk result (Does self.old self.new
+            (λ made. tell made (ConstructNotarize view))) }
+        ensures answer { IfOk result (Knows self.old (λ made known. notarize_at made known view)) }
     {
         let vote = self.state.construct_notarize(view)?;
         Ok(vote)
@@ -144,16 +158,19 @@ impl<S: Scheme + Drop, L: Elector + Drop> Planner<S, L> {
         now: u64,
     ) -> Option<(bool, Nullify)>
         requires clock { now < 2 ^ 63 }
-        requires current { Answers S.attests L.elects self.old.state (λ made known. current_of made known) view }
-        ensures stands { Does S.attests L.elects self.old self.new (λ made. tell made (ConstructNullify view reason now)) }
-        ensures answer { Knows S.attests L.elects self.old (λ made known. construct_nullify_answer made known view) result }
+        requires current { Answers self.old.state (λ made known. current_of made known) view }
+        ensures stands { Does self.old self.new
+            (λ made. tell made (ConstructNullify view reason now)) }
+        ensures answer { Knows self.old
+            (λ made known. construct_nullify_answer made known view) result }
     {
         self.state.construct_nullify(view, reason, now)
     }
 
     pub(crate) fn construct_finalize(&mut self, view: View) -> Result<Option<Finalize>, AllocError>
-        ensures stands { OnOk result (Does S.attests L.elects self.old self.new (λ made. tell made (ConstructFinalize view))) }
-        ensures answer { IfOk result (Knows S.attests L.elects self.old (λ made known. finalize_at made known view)) }
+        ensures stands { OnOk result (Does self.old self.new
+            (λ made. tell made (ConstructFinalize view))) }
+        ensures answer { IfOk result (Knows self.old (λ made known. finalize_at made known view)) }
     {
         let vote = self.state.construct_finalize(view)?;
         Ok(vote)
@@ -163,8 +180,10 @@ impl<S: Scheme + Drop, L: Elector + Drop> Planner<S, L> {
         &mut self,
         view: View,
     ) -> Result<Option<Notarization>, AllocError>
-        ensures stands { OnOk result (Does S.attests L.elects self.old self.new (λ made. tell made (BroadcastNotarization view))) }
-        ensures answer { IfOk result (Knows S.attests L.elects self.old (λ made known. unsent_notarization known view)) }
+        ensures stands { OnOk result (Does self.old self.new
+            (λ made. tell made (BroadcastNotarization view))) }
+        ensures answer { IfOk result (Knows self.old
+            (λ made known. unsent_notarization known view)) }
     {
         let unsent = self.state.broadcast_notarization(view)?;
         Ok(unsent)
@@ -174,8 +193,10 @@ impl<S: Scheme + Drop, L: Elector + Drop> Planner<S, L> {
         &mut self,
         view: View,
     ) -> Result<Option<Nullification>, AllocError>
-        ensures stands { OnOk result (Does S.attests L.elects self.old self.new (λ made. tell made (BroadcastNullification view))) }
-        ensures answer { IfOk result (Knows S.attests L.elects self.old (λ made known. unsent_nullification known view)) }
+        ensures stands { OnOk result (Does self.old self.new
+            (λ made. tell made (BroadcastNullification view))) }
+        ensures answer { IfOk result (Knows self.old
+            (λ made known. unsent_nullification known view)) }
     {
         let unsent = self.state.broadcast_nullification(view)?;
         Ok(unsent)
@@ -185,16 +206,18 @@ impl<S: Scheme + Drop, L: Elector + Drop> Planner<S, L> {
         &mut self,
         view: View,
     ) -> Result<Option<Finalization>, AllocError>
-        ensures stands { OnOk result (Does S.attests L.elects self.old self.new (λ made. tell made (BroadcastFinalization view))) }
-        ensures answer { IfOk result (Knows S.attests L.elects self.old (λ made known. unsent_finalization known view)) }
+        ensures stands { OnOk result (Does self.old self.new
+            (λ made. tell made (BroadcastFinalization view))) }
+        ensures answer { IfOk result (Knows self.old
+            (λ made known. unsent_finalization known view)) }
     {
         let unsent = self.state.broadcast_finalization(view)?;
         Ok(unsent)
     }
 
     pub(crate) fn try_propose(&mut self) -> Result<Option<ProposalRequest>, AllocError>
-        ensures stands { OnOk result (Does S.attests L.elects self.old self.new (λ made. tell made TryPropose)) }
-        ensures answer { IfOk result (Knows S.attests L.elects self.old (λ made known. proposal_request made known)) }
+        ensures stands { OnOk result (Does self.old self.new (λ made. tell made TryPropose)) }
+        ensures answer { IfOk result (Knows self.old (λ made known. proposal_request made known)) }
         ensures same { self.new.proposal ≡ self.old.proposal }
     {
         let request = self.state.try_propose()?;
@@ -202,8 +225,8 @@ impl<S: Scheme + Drop, L: Elector + Drop> Planner<S, L> {
     }
 
     pub(crate) fn try_verify(&mut self) -> Result<Verify, AllocError>
-        ensures stands { OnOk result (Does S.attests L.elects self.old self.new (λ made. tell made TryVerify)) }
-        ensures answer { IfOk result (Knows S.attests L.elects self.old (λ made known. verify_request made known)) }
+        ensures stands { OnOk result (Does self.old self.new (λ made. tell made TryVerify)) }
+        ensures answer { IfOk result (Knows self.old (λ made known. verify_request made known)) }
         ensures same { self.new.verify ≡ self.old.verify }
     {
         let request = self.state.try_verify()?;
@@ -213,17 +236,20 @@ impl<S: Scheme + Drop, L: Elector + Drop> Planner<S, L> {
     pub(crate) fn certify_candidates(
         &mut self,
     ) -> Result<(Vec<Proposal>, Vec<CertificateFetch>), AllocError>
-        ensures stands { OnOk result (Does S.attests L.elects self.old self.new (λ made. tell made CertifyCandidates)) }
-        ensures requests { IfOk result (λ found. Knows S.attests L.elects self.old (λ made known. certify_requests known) found.0.items) }
-        ensures fetches { IfOk result (λ found. Knows S.attests L.elects self.old (λ made known. parent_fetches known) found.1.items) }
+        ensures stands { OnOk result (Does self.old self.new
+            (λ made. tell made CertifyCandidates)) }
+        ensures requests { IfOk result (λ found. Knows self.old
+            (λ made known. certify_requests known) found.0.items) }
+        ensures fetches { IfOk result (λ found. Knows self.old
+            (λ made known. parent_fetches known) found.1.items) }
     {
         let found = self.state.certify_candidates()?;
         Ok(found)
     }
 
     pub(crate) fn tell_prune(&mut self) -> Option<View>
-        ensures stands { Does S.attests L.elects self.old self.new (λ made. tell made Prune) }
-        ensures answer { Knows S.attests L.elects self.old (λ made known. prune_answer made known) result }
+        ensures stands { Does self.old self.new (λ made. tell made Prune) }
+        ensures answer { Knows self.old (λ made known. prune_answer made known) result }
     {
         self.state.prune()
     }
@@ -231,7 +257,8 @@ impl<S: Scheme + Drop, L: Elector + Drop> Planner<S, L> {
     // The state stands on the floor.
     pub(crate) fn set_floor(&mut self, floor: Floor, now: u64) -> Result<(), AllocError>
         requires clock { now < 2 ^ 63 }
-        ensures { OnOk result (Restores S.attests L.elects self.old self.new (λ made. tell made (SetFloor floor now))) }
+        ensures { OnOk result (Restores self.old self.new
+            (λ made. tell made (SetFloor floor now))) }
     {
         self.state.set_floor(floor, now)?;
         Ok(())
@@ -244,8 +271,12 @@ impl<S: Scheme + Drop, L: Elector + Drop> Planner<S, L> {
         now: u64,
     ) -> Result<Option<Participant>, AllocError>
         requires clock { now < 2 ^ 63 }
-        ensures stands { OnOk result (Restores S.attests L.elects self.old self.new (λ made. tell made (Replay artifact now))) }
-        ensures answer { IfOk result (λ leader. (made : Made) (answers : List (ℕ × Answer)) (doing : Doing) → Stands S.attests L.elects self.old made answers doing → IsWhole doing.desk.known → leader ≡ replay_answer made doing.desk.known artifact) }
+        ensures stands { OnOk result (Restores self.old self.new
+            (λ made. tell made (Replay artifact now))) }
+        ensures answer { IfOk result
+            (λ leader. (made : Made) (answers : List (ℕ × Answer)) (doing : Doing)
+            → Stands self.old made answers doing → IsWhole doing.desk.known
+            → leader ≡ replay_answer made doing.desk.known artifact) }
     {
         let leader = self.state.replay(artifact, now)?;
         Ok(leader)

@@ -16,7 +16,7 @@ impl<S: Scheme + Drop, L: Elector + Drop> Planner<S, L> {
     /// The number of the oldest open request of this kind that has no answer.
     #[tactic(auto, unfolding(crate::specs::Unanswered::unanswered))]
     pub(crate) fn unanswered(&self, kind: AskKind) -> Option<u64>
-        ensures { Says S.attests L.elects self.now (λ made s. unanswered s kind) result }
+        ensures { Says self.now (λ made s. unanswered s kind) result }
     {
         match kind {
             AskKind::Prepare => waiting_prepare(&self.proposal),

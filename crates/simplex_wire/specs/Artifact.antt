@@ -36,15 +36,23 @@ artifact_spelling (artifacts.Finalization c) = 6 ∷ finalization.spelling c
 abbrev pub artifact_behind : Left → ℕ → Left → Result (Artifact × Left) DecodeError
 artifact_behind start zero left = notarize.reading left >>= λ v. Ok (artifacts.Notarize v.0, v.1)
 artifact_behind start (suc zero) left = notarization.reading left >>= λ c. Ok (artifacts.Notarization c.0, c.1)
-artifact_behind start (suc (suc zero)) left = certification.reading left >>= λ p. Ok (artifacts.Certification p.0.0 p.0.1, p.1)
+artifact_behind start (suc (suc zero)) left =
+    certification.reading left >>= λ p. Ok (artifacts.Certification p.0.0 p.0.1, p.1)
 artifact_behind start (suc (suc (suc zero))) left = nullify.reading left >>= λ v. Ok (artifacts.Nullify v.0, v.1)
-artifact_behind start (suc (suc (suc (suc zero)))) left = nullification.reading left >>= λ c. Ok (artifacts.Nullification c.0, c.1)
-artifact_behind start (suc (suc (suc (suc (suc zero))))) left = finalize.reading left >>= λ v. Ok (artifacts.Finalize v.0, v.1)
-artifact_behind start (suc (suc (suc (suc (suc (suc zero)))))) left = finalization.reading left >>= λ c. Ok (artifacts.Finalization c.0, c.1)
+artifact_behind start (suc (suc (suc (suc zero)))) left =
+    nullification.reading left >>= λ c. Ok (artifacts.Nullification c.0, c.1)
+artifact_behind start (suc (suc (suc (suc (suc zero))))) left =
+    finalize.reading left >>= λ v. Ok (artifacts.Finalize v.0, v.1)
+artifact_behind start (suc (suc (suc (suc (suc (suc zero)))))) left =
+    finalization.reading left >>= λ c. Ok (artifacts.Finalization c.0, c.1)
 artifact_behind start (suc (suc (suc (suc (suc (suc (suc _))))))) left = Err (fault_at Tag start)
 
 unfoldable pub artifact : Format Artifact
-artifact = record { spelling = artifact_spelling; reading = λ left. byte.reading left >>= λ tag. artifact_behind left tag.0 tag.1 }
+artifact = record {
+  spelling = artifact_spelling;
+  reading = λ left. byte.reading left
+      >>= λ tag. artifact_behind left tag.0 tag.1;
+}
 
 abbrev pub FitsArtifact : Artifact → Type 0
 FitsArtifact (artifacts.Notarize v) = FitsNotarize v

@@ -16,7 +16,8 @@ is_certified verifies n attestations =
 -- what assembling these attestations of n members gives, where a certificate can be recovered or not
 abbrev pub assembled : Bool → ℕ → List Attestation → Result (List Attestation) AssemblyError
 assembled recovers n attestations =
-    if nat_lt (length attestations) (quorum_of n) then Err NotEnough else if recovers then Ok attestations else Err RecoveryFailed
+    if nat_lt (length attestations) (quorum_of n) then Err NotEnough
+    else if recovers then Ok attestations else Err RecoveryFailed
 
 -- what was answered is this, unless memory ran out
 abbrev pub IsAssembled : {A : Type 0} → Result A AssemblyError → Result A AssemblyError → Type 0

@@ -44,7 +44,8 @@ seen_as to from f = record {
 abbrev pub raw : ℕ → Format (List ℕ)
 raw n = record {
   spelling = λ bytes. bytes;
-  reading = λ left. if nat_lt (length left.bytes) n then Err (fault_at Short left) else Ok (take n left.bytes, record { end = left.end; bytes = drop n left.bytes });
+  reading = λ left. if nat_lt (length left.bytes) n then Err (fault_at Short left)
+      else Ok (take n left.bytes, record { end = left.end; bytes = drop n left.bytes });
 }
 
 abbrev pub byte_of : Left → List ℕ → Result (ℕ × Left) DecodeError
@@ -66,7 +67,8 @@ GivesUnlessMemory after (Err Memory) read = Unit {0}
 GivesUnlessMemory after (Err (Fault cause place)) read = read ≡ Err (Fault cause place)
 
 -- the same of a function that gives a list as a Vec
-abbrev pub GivesItemsUnlessMemory : {A Y : Type 0} → Y → Result (Vec A) DecodeError → Result (List A × Y) DecodeError → Type 0
+abbrev pub GivesItemsUnlessMemory : {A Y : Type 0} → Y → Result (Vec A) DecodeError
+    → Result (List A × Y) DecodeError → Type 0
 GivesItemsUnlessMemory after (Ok x) read = read ≡ Ok (x.items, after)
 GivesItemsUnlessMemory after (Err Memory) read = Unit {0}
 GivesItemsUnlessMemory after (Err (Fault cause place)) read = read ≡ Err (Fault cause place)
@@ -88,3 +90,10 @@ abbrev pub IsUnlessMemory : {A : Type 0} → Result A DecodeError → Result A D
 IsUnlessMemory (Ok x) answer = answer ≡ Ok x
 IsUnlessMemory (Err Memory) answer = Unit {0}
 IsUnlessMemory (Err (Fault cause place)) answer = answer ≡ Err (Fault cause place)
+
+module _ {A : Type 0} where
+  -- of the values that fit, no spelling of one begins another's
+  abbrev pub NoneBeginsAnother : (A → Type 0) → Format A → Type 0
+  NoneBeginsAnother Fits format =
+      (one other : A) (more : List ℕ) → Fits one → Fits other
+      → format.spelling other ≡ format.spelling one ++ more → (one ≡ other) × (more ≡ [])

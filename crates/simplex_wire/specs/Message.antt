@@ -23,19 +23,24 @@ unfoldable pub round : Format Round
 round = seen_as (λ p. record { epoch = p.0; view = p.1 }) (λ r. (r.epoch, r.view)) (both number64 number64)
 
 unfoldable pub proposal : Format Proposal
-proposal = seen_as (λ p. record { round = p.0; parent = p.1.0; payload = p.1.1 }) (λ p. (p.round, (p.parent, p.payload))) (both round (both number64 (raw 32)))
+proposal = seen_as (λ p. record { round = p.0; parent = p.1.0; payload = p.1.1 })
+    (λ p. (p.round, (p.parent, p.payload))) (both round (both number64 (raw 32)))
 
 unfoldable pub attestation : Format Attestation
-attestation = seen_as (λ p. record { signer = p.0; signature = p.1 }) (λ a. (a.signer, a.signature)) (both number32 (raw 32))
+attestation =
+    seen_as (λ p. record { signer = p.0; signature = p.1 }) (λ a. (a.signer, a.signature)) (both number32 (raw 32))
 
 unfoldable pub notarize : Format Notarize
-notarize = seen_as (λ p. record { proposal = p.0; attestation = p.1 }) (λ v. (v.proposal, v.attestation)) (both proposal attestation)
+notarize = seen_as (λ p. record { proposal = p.0; attestation = p.1 })
+    (λ v. (v.proposal, v.attestation)) (both proposal attestation)
 
 unfoldable pub nullify : Format Nullify
-nullify = seen_as (λ p. record { round = p.0; attestation = p.1 }) (λ v. (v.round, v.attestation)) (both round attestation)
+nullify =
+    seen_as (λ p. record { round = p.0; attestation = p.1 }) (λ v. (v.round, v.attestation)) (both round attestation)
 
 unfoldable pub finalize : Format Finalize
-finalize = seen_as (λ p. record { proposal = p.0; attestation = p.1 }) (λ v. (v.proposal, v.attestation)) (both proposal attestation)
+finalize = seen_as (λ p. record { proposal = p.0; attestation = p.1 })
+    (λ v. (v.proposal, v.attestation)) (both proposal attestation)
 
 abbrev pub vote_spelling : Vote → List ℕ
 vote_spelling (votes.Notarize v) = 0 ∷ notarize.spelling v
@@ -60,7 +65,8 @@ attestation_from least left = do
   signer ← number32.reading left
   if nat_lt signer.0 least
       then Err (fault_at Order left)
-      else ((raw 32).reading signer.1 >>= λ signature. Ok (record { signer = signer.0; signature = signature.0 }, signature.1))
+      else ((raw 32).reading signer.1
+      >>= λ signature. Ok (record { signer = signer.0; signature = signature.0 }, signature.1))
 
 -- so many of them
 unfoldable pub attestations_from : ℕ → ℕ → Left → Result (List Attestation × Left) DecodeError
@@ -79,13 +85,16 @@ signatures = record {
 -- ---- certificates
 
 unfoldable pub notarization : Format Notarization
-notarization = seen_as (λ p. record { proposal = p.0; certificate = p.1 }) (λ c. (c.proposal, c.certificate)) (both proposal signatures)
+notarization = seen_as (λ p. record { proposal = p.0; certificate = p.1 })
+    (λ c. (c.proposal, c.certificate)) (both proposal signatures)
 
 unfoldable pub nullification : Format Nullification
-nullification = seen_as (λ p. record { round = p.0; certificate = p.1 }) (λ c. (c.round, c.certificate)) (both round signatures)
+nullification =
+    seen_as (λ p. record { round = p.0; certificate = p.1 }) (λ c. (c.round, c.certificate)) (both round signatures)
 
 unfoldable pub finalization : Format Finalization
-finalization = seen_as (λ p. record { proposal = p.0; certificate = p.1 }) (λ c. (c.proposal, c.certificate)) (both proposal signatures)
+finalization = seen_as (λ p. record { proposal = p.0; certificate = p.1 })
+    (λ c. (c.proposal, c.certificate)) (both proposal signatures)
 
 abbrev pub certificate_spelling : Certificate → List ℕ
 certificate_spelling (certificates.Notarization c) = 0 ∷ notarization.spelling c
@@ -96,8 +105,13 @@ certificate_spelling (certificates.Finalization c) = 2 ∷ finalization.spelling
 abbrev pub certificate_behind : Left → ℕ → Left → Result (Certificate × Left) DecodeError
 certificate_behind start zero left = notarization.reading left >>= λ c. Ok (certificates.Notarization c.0, c.1)
 certificate_behind start (suc zero) left = nullification.reading left >>= λ c. Ok (certificates.Nullification c.0, c.1)
-certificate_behind start (suc (suc zero)) left = finalization.reading left >>= λ c. Ok (certificates.Finalization c.0, c.1)
+certificate_behind start (suc (suc zero)) left =
+    finalization.reading left >>= λ c. Ok (certificates.Finalization c.0, c.1)
 certificate_behind start (suc (suc (suc _))) left = Err (fault_at Tag start)
 
 unfoldable pub certificate : Format Certificate
-certificate = record { spelling = certificate_spelling; reading = λ left. byte.reading left >>= λ tag. certificate_behind left tag.0 tag.1 }
+certificate = record {
+  spelling = certificate_spelling;
+  reading = λ left. byte.reading left
+      >>= λ tag. certificate_behind left tag.0 tag.1;
+}

@@ -25,7 +25,8 @@ number_from place most [] = Err (Fault Short place)
 number_from place most (b ∷ rest) =
     if nat_lt b 128
     then (if nat_lt most b then Err (Fault LongNumber place) else Ok (b, rest))
-    else (if nat_lt most 128 then Err (Fault LongNumber place) else number_from place (most / 128) rest >>= with_low place b)
+    else (if nat_lt most 128 then Err (Fault LongNumber place)
+    else number_from place (most / 128) rest >>= with_low place b)
 
 -- whether each place of seven bits below the first of this bound is full, as in 2 ^ 64 - 1
 abbrev pub IsFull : ℕ → ℕ → Type 0
@@ -39,7 +40,8 @@ IsLimit most = (k : ℕ) × (IsFull k most × (k ≤ 9))
 abbrev pub number : ℕ → Format ℕ
 number most = record {
   spelling = varint;
-  reading = λ left. number_from (left.end - length left.bytes) most left.bytes >>= λ n. Ok (n.0, record { end = left.end; bytes = n.1 });
+  reading = λ left. number_from (left.end - length left.bytes) most left.bytes
+      >>= λ n. Ok (n.0, record { end = left.end; bytes = n.1 });
 }
 
 abbrev pub number32 : Format ℕ

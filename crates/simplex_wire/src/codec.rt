@@ -1,6 +1,6 @@
 //! The messages as bytes: `encode` and `decode`.
-ghost use Rattle.std.specs.Prelude.{◌≡◌, ◌<◌, ◌≤◌, ◌^◌, ◌++◌, [], List, ℕ, IfOk, Ok, Err, length};
-ghost use Rattle.simplex_wire.specs.Format.{whole, IsUnlessMemory};
+ghost use Rattle.std.specs.Prelude.{◌≡◌, ◌<◌, ◌≤◌, ◌^◌, List, ℕ, IfOk, Ok, Err, length};
+ghost use Rattle.simplex_wire.specs.Format.{whole, IsUnlessMemory, NoneBeginsAnother};
 ghost use Rattle.simplex_wire.specs.Fits.{FitsVote, FitsCertificate};
 ghost use Rattle.simplex_wire.specs.Message.{vote, certificate};
 ghost use Rattle.simplex_wire.specs.Artifact.{artifact, FitsArtifact};
@@ -88,9 +88,11 @@ impl Certificate {
     /// The certificate that the bytes spell, all of the bytes.
     pub fn decode(alloc: Global, bytes: &[u8]) -> Result<Certificate, DecodeError>
         // What is read is spelled so.
-        ensures found { IfOk result (λ it. FitsCertificate it × (bytes.now ≡ certificate.spelling it)) }
+        ensures found { IfOk result (λ it. FitsCertificate it
+            × (bytes.now ≡ certificate.spelling it)) }
         // What is spelled so is read, unless memory runs out.
-        ensures only { (it : Certificate) → FitsCertificate it → bytes.now ≡ certificate.spelling it → IsUnlessMemory result (Ok it) }
+        ensures only { (it : Certificate) → FitsCertificate it
+            → bytes.now ≡ certificate.spelling it → IsUnlessMemory result (Ok it) }
         // Which fault it is, and where.
         ensures exact { IsUnlessMemory result (whole certificate bytes.now) }
     {
@@ -126,7 +128,8 @@ impl Artifact {
         // What is read is spelled so.
         ensures found { IfOk result (λ it. FitsArtifact it × (bytes.now ≡ artifact.spelling it)) }
         // What is spelled so is read, unless memory runs out.
-        ensures only { (it : Artifact) → FitsArtifact it → bytes.now ≡ artifact.spelling it → IsUnlessMemory result (Ok it) }
+        ensures only { (it : Artifact) → FitsArtifact it → bytes.now ≡ artifact.spelling it
+            → IsUnlessMemory result (Ok it) }
         // Which fault it is, and where.
         ensures exact { IsUnlessMemory result (whole artifact bytes.now) }
     {
@@ -151,7 +154,8 @@ impl ResolverMessage {
     pub fn encode(&self, alloc: Global) -> Result<Vec<u8>, AllocError>
         ensures spelled { IfOk result (λ bytes. bytes.items ≡ resolver_message.spelling self.now) }
         // It is read again, where a response has fewer than 2^32 bytes.
-        ensures again { IfOk result (λ bytes. response_length self.now < 2 ^ 32 → whole resolver_message bytes.items ≡ Ok self.now) }
+        ensures again { IfOk result (λ bytes. response_length self.now < 2 ^ 32
+            → whole resolver_message bytes.items ≡ Ok self.now) }
     {
         let mut out = Vec::new(alloc);
         self.push(&mut out)?;
@@ -161,9 +165,11 @@ impl ResolverMessage {
     /// The message that the bytes spell, all of the bytes.
     pub fn decode(alloc: Global, bytes: &[u8]) -> Result<ResolverMessage, DecodeError>
         // What is read is spelled so.
-        ensures found { IfOk result (λ it. FitsResolverMessage it × (bytes.now ≡ resolver_message.spelling it)) }
+        ensures found { IfOk result (λ it. FitsResolverMessage it
+            × (bytes.now ≡ resolver_message.spelling it)) }
         // What is spelled so is read, unless memory runs out.
-        ensures only { (it : ResolverMessage) → FitsResolverMessage it → bytes.now ≡ resolver_message.spelling it → IsUnlessMemory result (Ok it) }
+        ensures only { (it : ResolverMessage) → FitsResolverMessage it
+            → bytes.now ≡ resolver_message.spelling it → IsUnlessMemory result (Ok it) }
         // Which fault it is, and where.
         ensures exact { IsUnlessMemory result (whole resolver_message bytes.now) }
     {
@@ -173,26 +179,28 @@ impl ResolverMessage {
 
 /// No spelling of a vote begins another.
 pub fn no_vote_begins_another()
-    ensures { (one other : Vote) (more : List ℕ) → FitsVote one → FitsVote other → vote.spelling other ≡ vote.spelling one ++ more → (one ≡ other) × (more ≡ []) }
+    ensures { NoneBeginsAnother FitsVote vote }
 {}
 
 /// No spelling of a certificate begins another.
 pub fn no_certificate_begins_another()
-    ensures { (one other : Certificate) (more : List ℕ) → FitsCertificate one → FitsCertificate other → certificate.spelling other ≡ certificate.spelling one ++ more → (one ≡ other) × (more ≡ []) }
+    ensures { NoneBeginsAnother FitsCertificate certificate }
 {}
 
 /// No spelling of a journal record begins another.
 pub fn no_artifact_begins_another()
-    ensures { (one other : Artifact) (more : List ℕ) → FitsArtifact one → FitsArtifact other → artifact.spelling other ≡ artifact.spelling one ++ more → (one ≡ other) × (more ≡ []) }
+    ensures { NoneBeginsAnother FitsArtifact artifact }
 {}
 
 /// No spelling of a resolver message begins another.
 pub fn no_resolver_message_begins_another()
-    ensures { (one other : ResolverMessage) (more : List ℕ) → FitsResolverMessage one → FitsResolverMessage other → resolver_message.spelling other ≡ resolver_message.spelling one ++ more → (one ≡ other) × (more ≡ []) }
+    ensures { NoneBeginsAnother FitsResolverMessage resolver_message }
 {}
 
 /// What is written of a response of 2^32 bytes or more is not read: its length is a number that is too large,
 /// at byte 9.
 pub fn no_long_response_is_read()
-    ensures { (id : ℕ) (bytes : List ℕ) → id < 2 ^ 64 → 2 ^ 32 ≤ length bytes → whole resolver_message (resolver_message.spelling (record { id = id; body = Response bytes })) ≡ Err (Fault LongNumber 9) }
+    ensures { (id : ℕ) (bytes : List ℕ) → id < 2 ^ 64 → 2 ^ 32 ≤ length bytes → whole resolver_message
+        (resolver_message.spelling (record { id = id; body = Response bytes }))
+        ≡ Err (Fault LongNumber 9) }
 {}

@@ -106,7 +106,8 @@ impl<'a> Reader<'a> {
     /// [one-spelling]
     #[tactic(auto, unfolding(crate::specs::Number::number_from))]
     fn short_number(&mut self) -> Option<u64>
-        ensures read { IfSome result (λ n. (place most : ℕ) → 2 ^ 14 ≤ most → number_from place most self.old.bytes ≡ Ok (n, self.new.bytes)) }
+        ensures read { IfSome result (λ n. (place most : ℕ) → 2 ^ 14 ≤ most
+            → number_from place most self.old.bytes ≡ Ok (n, self.new.bytes)) }
         ensures bound { IfSome result (λ n. n < 2 ^ 14) }
         ensures end { self.new.end ≡ self.old.end }
         ensures none { result ≡ None → self.new ≡ self.old }

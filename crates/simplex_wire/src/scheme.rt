@@ -80,7 +80,8 @@ pub trait Scheme {
         attestations: &[Attestation],
     ) -> Result<Signatures, AssemblyError>
         requires { IsSignatures attestations.now }
-        ensures { IsAssembled result (assembled (recovers self.now) (members self.now) attestations.now) };
+        ensures { IsAssembled result (assembled (recovers self.now)
+            (members self.now) attestations.now) };
 
     /// Whether an attestation proves to others who signed.
     fn is_attributable() -> bool
@@ -89,7 +90,8 @@ pub trait Scheme {
     /// Whether a quorum of members signed the subject, each once and with an attestation that verifies.
     #[tactic(auto, unfolding(crate::specs::Certified::is_certified))]
     final fn verify_certificate(&self, subject: &Subject, certificate: &Signatures) -> bool
-        ensures { result ≡ is_certified (verifies self.now subject.now) (members self.now) certificate.now }
+        ensures { result ≡ is_certified (verifies self.now subject.now)
+            (members self.now) certificate.now }
     {
         let n = self.participants();
         let attestations = certificate.as_slice();
@@ -115,7 +117,8 @@ pub trait Scheme {
     ghost signs_as_me: { (s : Self) (subject : Subject) → IfSome (attests s subject) (λ a. member s ≡ Some a.signer) };
 
     // an attestation that verifies is a member's
-    ghost signer_is_below: { (s : Self) (subject : Subject) (a : Attestation) → verifies s subject a ≡ true → a.signer < members s };
+    ghost signer_is_below: { (s : Self) (subject : Subject) (a : Attestation)
+        → verifies s subject a ≡ true → a.signer < members s };
 }
 
 /// Whether each signer is one of the `n` members and signed the subject.
@@ -125,12 +128,16 @@ fn all_verify<S: Scheme>(
     n: u32,
     attestations: &[Attestation],
 ) -> bool
-    ensures { result ≡ list_all (λ a. nat_lt a.signer n && S.verifies scheme.now subject.now a) attestations.now }
+    ensures { result ≡ list_all (λ a. nat_lt a.signer n
+        && S.verifies scheme.now subject.now a) attestations.now }
 {
     attestations.iter().all(|a| a.signer.0 < n && scheme.verify_attestation(subject, a))
 }
 
 /// By every scheme, attestations of a quorum that each verify make a certificate that verifies.
 pub fn a_verifying_quorum_certifies<S: Scheme>()
-    ensures { (scheme : S) (subject : Subject) (list : List Attestation) → IsSignatures list → quorum_of (S.members scheme) ≤ length list → AllPass (S.verifies scheme subject) list → IsTrue (is_certified (S.verifies scheme subject) (S.members scheme) list) }
+    ensures { (scheme : S) (subject : Subject) (list : List Attestation)
+        → IsSignatures list → quorum_of (S.members scheme) ≤ length list
+        → AllPass (S.verifies scheme subject) list
+        → IsTrue (is_certified (S.verifies scheme subject) (S.members scheme) list) }
 {}

@@ -19,7 +19,8 @@ use std::alloc::{AllocError, Global};
 impl Notarize {
     /// The scheme's vote, if it attests it.
     pub fn sign<S: Scheme>(scheme: &S, proposal: Proposal) -> Option<Notarize>
-        ensures { result ≡ option_map (λ a. record { proposal = proposal; attestation = a }) (S.attests scheme.now (Subject.Notarize proposal)) }
+        ensures { result ≡ option_map (λ a. record { proposal = proposal; attestation = a })
+            (S.attests scheme.now (Subject.Notarize proposal)) }
     {
         let lent = &proposal;
         let attestation = scheme.sign(&Subject::Notarize(*lent))?;
@@ -31,7 +32,8 @@ impl Notarize {
 
     /// Whether the signer signed this.
     pub fn verify<S: Scheme>(&self, scheme: &S) -> bool
-        ensures { result ≡ S.verifies scheme.now (Subject.Notarize self.now.proposal) self.now.attestation }
+        ensures { result ≡ S.verifies scheme.now
+            (Subject.Notarize self.now.proposal) self.now.attestation }
     {
         scheme.verify_attestation(&Subject::Notarize(self.proposal), &self.attestation)
     }
@@ -40,7 +42,8 @@ impl Notarize {
 impl Nullify {
     /// The scheme's vote, if it attests it.
     pub fn sign<S: Scheme>(scheme: &S, round: Round) -> Option<Nullify>
-        ensures { result ≡ option_map (λ a. record { round = round; attestation = a }) (S.attests scheme.now (Subject.Nullify round)) }
+        ensures { result ≡ option_map (λ a. record { round = round; attestation = a })
+            (S.attests scheme.now (Subject.Nullify round)) }
     {
         let lent = &round;
         let attestation = scheme.sign(&Subject::Nullify(*lent))?;
@@ -49,7 +52,8 @@ impl Nullify {
 
     /// Whether the signer signed this.
     pub fn verify<S: Scheme>(&self, scheme: &S) -> bool
-        ensures { result ≡ S.verifies scheme.now (Subject.Nullify self.now.round) self.now.attestation }
+        ensures { result ≡ S.verifies scheme.now
+            (Subject.Nullify self.now.round) self.now.attestation }
     {
         scheme.verify_attestation(&Subject::Nullify(self.round), &self.attestation)
     }
@@ -58,7 +62,8 @@ impl Nullify {
 impl Finalize {
     /// The scheme's vote, if it attests it.
     pub fn sign<S: Scheme>(scheme: &S, proposal: Proposal) -> Option<Finalize>
-        ensures { result ≡ option_map (λ a. record { proposal = proposal; attestation = a }) (S.attests scheme.now (Subject.Finalize proposal)) }
+        ensures { result ≡ option_map (λ a. record { proposal = proposal; attestation = a })
+            (S.attests scheme.now (Subject.Finalize proposal)) }
     {
         let lent = &proposal;
         let attestation = scheme.sign(&Subject::Finalize(*lent))?;
@@ -70,7 +75,8 @@ impl Finalize {
 
     /// Whether the signer signed this.
     pub fn verify<S: Scheme>(&self, scheme: &S) -> bool
-        ensures { result ≡ S.verifies scheme.now (Subject.Finalize self.now.proposal) self.now.attestation }
+        ensures { result ≡ S.verifies scheme.now
+            (Subject.Finalize self.now.proposal) self.now.attestation }
     {
         scheme.verify_attestation(&Subject::Finalize(self.proposal), &self.attestation)
     }
@@ -79,7 +85,8 @@ impl Finalize {
 impl Vote {
     /// Whether the signer signed this.
     pub fn verify<S: Scheme>(&self, scheme: &S) -> bool
-        ensures { result ≡ S.verifies scheme.now (vote_subject self.now) (vote_attestation self.now) }
+        ensures { result ≡ S.verifies scheme.now (vote_subject self.now)
+            (vote_attestation self.now) }
     {
         match self {
             Vote::Notarize(vote) => vote.verify(scheme),
@@ -145,7 +152,9 @@ impl Notarization {
         requires one { (proposal : Proposal) × All (λ v. v.proposal ≡ proposal) votes.now }
         requires signers { IsSignatures (map (λ v. v.attestation) votes.now) }
         ensures { (proposal : Proposal) → All (λ v. v.proposal ≡ proposal) votes.now
-            → IsAssembled result (notarization_of proposal (assembled (S.recovers scheme.now) (S.members scheme.now) (map (λ v. v.attestation) votes.now))) }
+            → IsAssembled result (notarization_of proposal
+            (assembled (S.recovers scheme.now) (S.members scheme.now)
+            (map (λ v. v.attestation) votes.now))) }
     {
         let attestations = attestations_of(alloc, votes)?;
         let certificate = scheme.assemble(alloc, &attestations)?;
@@ -157,7 +166,8 @@ impl Notarization {
 
     /// Whether a quorum signed this.
     pub fn verify<S: Scheme>(&self, scheme: &S) -> bool
-        ensures { result ≡ is_certified (S.verifies scheme.now (Subject.Notarize self.now.proposal)) (S.members scheme.now) self.now.certificate }
+        ensures { result ≡ is_certified (S.verifies scheme.now (Subject.Notarize self.now.proposal))
+            (S.members scheme.now) self.now.certificate }
     {
         scheme.verify_certificate(&Subject::Notarize(self.proposal), &self.certificate)
     }
@@ -175,7 +185,9 @@ impl Nullification {
         requires one { (round : Round) × All (λ v. v.round ≡ round) votes.now }
         requires signers { IsSignatures (map (λ v. v.attestation) votes.now) }
         ensures { (round : Round) → All (λ v. v.round ≡ round) votes.now
-            → IsAssembled result (nullification_of round (assembled (S.recovers scheme.now) (S.members scheme.now) (map (λ v. v.attestation) votes.now))) }
+            → IsAssembled result (nullification_of round
+            (assembled (S.recovers scheme.now) (S.members scheme.now)
+            (map (λ v. v.attestation) votes.now))) }
     {
         let attestations = attestations_of(alloc, votes)?;
         let certificate = scheme.assemble(alloc, &attestations)?;
@@ -187,7 +199,8 @@ impl Nullification {
 
     /// Whether a quorum signed this.
     pub fn verify<S: Scheme>(&self, scheme: &S) -> bool
-        ensures { result ≡ is_certified (S.verifies scheme.now (Subject.Nullify self.now.round)) (S.members scheme.now) self.now.certificate }
+        ensures { result ≡ is_certified (S.verifies scheme.now (Subject.Nullify self.now.round))
+            (S.members scheme.now) self.now.certificate }
     {
         scheme.verify_certificate(&Subject::Nullify(self.round), &self.certificate)
     }
@@ -205,7 +218,9 @@ impl Finalization {
         requires one { (proposal : Proposal) × All (λ v. v.proposal ≡ proposal) votes.now }
         requires signers { IsSignatures (map (λ v. v.attestation) votes.now) }
         ensures { (proposal : Proposal) → All (λ v. v.proposal ≡ proposal) votes.now
-            → IsAssembled result (finalization_of proposal (assembled (S.recovers scheme.now) (S.members scheme.now) (map (λ v. v.attestation) votes.now))) }
+            → IsAssembled result (finalization_of proposal
+            (assembled (S.recovers scheme.now) (S.members scheme.now)
+            (map (λ v. v.attestation) votes.now))) }
     {
         let attestations = attestations_of(alloc, votes)?;
         let certificate = scheme.assemble(alloc, &attestations)?;
@@ -217,7 +232,8 @@ impl Finalization {
 
     /// Whether a quorum signed this.
     pub fn verify<S: Scheme>(&self, scheme: &S) -> bool
-        ensures { result ≡ is_certified (S.verifies scheme.now (Subject.Finalize self.now.proposal)) (S.members scheme.now) self.now.certificate }
+        ensures { result ≡ is_certified (S.verifies scheme.now (Subject.Finalize self.now.proposal))
+            (S.members scheme.now) self.now.certificate }
     {
         scheme.verify_certificate(&Subject::Finalize(self.proposal), &self.certificate)
     }
@@ -226,7 +242,8 @@ impl Finalization {
 impl Certificate {
     /// Whether a quorum signed this.
     pub fn verify<S: Scheme>(&self, scheme: &S) -> bool
-        ensures { result ≡ is_certified (S.verifies scheme.now (certificate_subject self.now)) (S.members scheme.now) (certificate_signatures self.now) }
+        ensures { result ≡ is_certified (S.verifies scheme.now (certificate_subject self.now))
+            (S.members scheme.now) (certificate_signatures self.now) }
     {
         match self {
             Certificate::Notarization(it) => it.verify(scheme),

@@ -62,7 +62,8 @@ fn push_proposal(out: &mut Vec<u8>, written: &Proposal) -> Result<(), AllocError
 impl Attestation {
     #[tactic(auto, unfolding(crate::specs::Message::attestation))]
     fn push(&self, out: &mut Vec<u8>) -> Result<(), AllocError>
-        ensures spelled { OnOk result (out.new.items ≡ out.old.items ++ attestation.spelling self.now) }
+        ensures spelled { OnOk result (out.new.items
+            ≡ out.old.items ++ attestation.spelling self.now) }
         ensures fits { OnOk result (FitsAttestation self.now) }
     {
         push_number(out, u64::from(self.signer.0))?;
@@ -73,7 +74,8 @@ impl Attestation {
 impl Notarize {
     #[tactic(auto, unfolding(crate::specs::Message::notarize))]
     fn push(&self, out: &mut Vec<u8>) -> Result<(), AllocError>
-        ensures spelled { OnOk result (out.new.items ≡ out.old.items ++ notarize.spelling self.now) }
+        ensures spelled { OnOk result (out.new.items
+            ≡ out.old.items ++ notarize.spelling self.now) }
         ensures fits { OnOk result (FitsNotarize self.now) }
     {
         push_proposal(out, &self.proposal)?;
@@ -95,7 +97,8 @@ impl Nullify {
 impl Finalize {
     #[tactic(auto, unfolding(crate::specs::Message::finalize))]
     fn push(&self, out: &mut Vec<u8>) -> Result<(), AllocError>
-        ensures spelled { OnOk result (out.new.items ≡ out.old.items ++ finalize.spelling self.now) }
+        ensures spelled { OnOk result (out.new.items
+            ≡ out.old.items ++ finalize.spelling self.now) }
         ensures fits { OnOk result (FitsFinalize self.now) }
     {
         push_proposal(out, &self.proposal)?;
@@ -127,7 +130,8 @@ impl Vote {
 }
 
 fn push_attestations(out: &mut Vec<u8>, attestations: &[Attestation]) -> Result<(), AllocError>
-    ensures spelled { OnOk result (out.new.items ≡ out.old.items ++ flat_map attestation.spelling attestations.now) }
+    ensures spelled { OnOk result (out.new.items
+        ≡ out.old.items ++ flat_map attestation.spelling attestations.now) }
     ensures fits { OnOk result (AllByRecursion FitsAttestation attestations.now) }
 {
     for attestation in attestations {
@@ -139,7 +143,8 @@ fn push_attestations(out: &mut Vec<u8>, attestations: &[Attestation]) -> Result<
 impl Signatures {
     #[tactic(auto, unfolding(crate::specs::Message::signatures))]
     fn push(&self, out: &mut Vec<u8>) -> Result<(), AllocError>
-        ensures spelled { OnOk result (out.new.items ≡ out.old.items ++ signatures.spelling self.now) }
+        ensures spelled { OnOk result (out.new.items
+            ≡ out.old.items ++ signatures.spelling self.now) }
         ensures fits { OnOk result (FitsSignatures self.now) }
     {
         let attestations = self.as_slice();
@@ -152,7 +157,8 @@ impl Signatures {
 impl Notarization {
     #[tactic(auto, unfolding(crate::specs::Message::notarization))]
     fn push(&self, out: &mut Vec<u8>) -> Result<(), AllocError>
-        ensures spelled { OnOk result (out.new.items ≡ out.old.items ++ notarization.spelling self.now) }
+        ensures spelled { OnOk result (out.new.items
+            ≡ out.old.items ++ notarization.spelling self.now) }
         ensures fits { OnOk result (FitsNotarization self.now) }
     {
         push_proposal(out, &self.proposal)?;
@@ -163,7 +169,8 @@ impl Notarization {
 impl Nullification {
     #[tactic(auto, unfolding(crate::specs::Message::nullification))]
     fn push(&self, out: &mut Vec<u8>) -> Result<(), AllocError>
-        ensures spelled { OnOk result (out.new.items ≡ out.old.items ++ nullification.spelling self.now) }
+        ensures spelled { OnOk result (out.new.items
+            ≡ out.old.items ++ nullification.spelling self.now) }
         ensures fits { OnOk result (FitsNullification self.now) }
     {
         push_round(out, &self.round)?;
@@ -174,7 +181,8 @@ impl Nullification {
 impl Finalization {
     #[tactic(auto, unfolding(crate::specs::Message::finalization))]
     fn push(&self, out: &mut Vec<u8>) -> Result<(), AllocError>
-        ensures spelled { OnOk result (out.new.items ≡ out.old.items ++ finalization.spelling self.now) }
+        ensures spelled { OnOk result (out.new.items
+            ≡ out.old.items ++ finalization.spelling self.now) }
         ensures fits { OnOk result (FitsFinalization self.now) }
     {
         push_proposal(out, &self.proposal)?;
@@ -185,7 +193,8 @@ impl Finalization {
 impl Certificate {
     #[tactic(auto, unfolding(crate::specs::Message::certificate))]
     pub(crate) fn push(&self, out: &mut Vec<u8>) -> Result<(), AllocError>
-        ensures spelled { OnOk result (out.new.items ≡ out.old.items ++ certificate.spelling self.now) }
+        ensures spelled { OnOk result (out.new.items
+            ≡ out.old.items ++ certificate.spelling self.now) }
         ensures fits { OnOk result (FitsCertificate self.now) }
     {
         match self {
@@ -208,7 +217,8 @@ impl Certificate {
 impl Artifact {
     #[tactic(auto, unfolding(crate::specs::Artifact::artifact, crate::specs::Artifact::certification, crate::specs::Artifact::flag))]
     pub(crate) fn push(&self, out: &mut Vec<u8>) -> Result<(), AllocError>
-        ensures spelled { OnOk result (out.new.items ≡ out.old.items ++ artifact.spelling self.now) }
+        ensures spelled { OnOk result (out.new.items
+            ≡ out.old.items ++ artifact.spelling self.now) }
         ensures fits { OnOk result (FitsArtifact self.now) }
     {
         match self {
@@ -284,7 +294,8 @@ impl ResolverBody {
 impl ResolverMessage {
     #[tactic(auto, unfolding(crate::specs::ResolverMessage::resolver_message))]
     pub(crate) fn push(&self, out: &mut Vec<u8>) -> Result<(), AllocError>
-        ensures spelled { OnOk result (out.new.items ≡ out.old.items ++ resolver_message.spelling self.now) }
+        ensures spelled { OnOk result (out.new.items
+            ≡ out.old.items ++ resolver_message.spelling self.now) }
         ensures fits { OnOk result ((self.now.id < 2 ^ 64) × FitsNumbers self.now.body) }
     {
         push_wide(out, self.id)?;

@@ -10,7 +10,8 @@ use std::alloc::{AllocError, Global};
 
 // `{NAME:HEX}`.
 fn with_payload(alloc: Global, name: &str, payload: &Digest) -> Result<String, AllocError>
-    ensures { IfOk result (λ text. string_bytes text ≡ events.one_member name.now (text_of_hex payload.now)) }
+    ensures { IfOk result (λ text. string_bytes text
+        ≡ events.one_member name.now (text_of_hex payload.now)) }
 {
     let payload = hex_text(alloc, payload.0.as_slice())?;
     let payload = payload.as_str();

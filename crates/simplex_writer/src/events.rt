@@ -21,7 +21,8 @@ fn spelled(alloc: Global, floor: &Finalization) -> Result<String, AllocError>
 }
 
 fn floor_text(alloc: Global, floor: Option<&Finalization>) -> Result<String, AllocError>
-    ensures { IfOk result (λ text. string_bytes text ≡ events.floor_text (option_map (λ f. f.now) floor.entry)) }
+    ensures { IfOk result (λ text. string_bytes text
+        ≡ events.floor_text (option_map (λ f. f.now) floor.entry)) }
 {
     match floor {
         None => String::from_str(alloc, "null"),
@@ -45,7 +46,8 @@ fn start_text(
     floor: Option<&Finalization>,
     stop: &Stop,
 ) -> Result<String, AllocError>
-    ensures { IfOk result (λ text. string_bytes text ≡ events.start_text node.now (option_map (λ f. f.now) floor.entry) stop.now) }
+    ensures { IfOk result (λ text. string_bytes text
+        ≡ events.start_text node.now (option_map (λ f. f.now) floor.entry) stop.now) }
 {
     let node = node.written(alloc)?;
     let node = node.as_str();
@@ -95,7 +97,8 @@ fn answer_object(
     request: &str,
     answer: &str,
 ) -> Result<String, AllocError>
-    ensures { IfOk result (λ text. string_bytes text ≡ events.answer_object node.now request.now answer.now) }
+    ensures { IfOk result (λ text. string_bytes text
+        ≡ events.answer_object node.now request.now answer.now) }
 {
     format!(in alloc;
         "{{\"do\":\"answer\",\"node\":{node},\"request\":{request},\"answer\":{answer}}}"
@@ -108,7 +111,8 @@ fn answered_text(
     request: &Ref,
     answer: &Answer,
 ) -> Result<String, AllocError>
-    ensures { IfOk result (λ text. string_bytes text ≡ events.answered_text node.now request.now answer.now) }
+    ensures { IfOk result (λ text. string_bytes text
+        ≡ events.answered_text node.now request.now answer.now) }
 {
     let node = node.written(alloc)?;
     let request = ref_text(alloc, request)?;
@@ -132,7 +136,8 @@ fn inject_object(
     to: &str,
     bytes: &str,
 ) -> Result<String, AllocError>
-    ensures { IfOk result (λ text. string_bytes text ≡ events.inject_object member channel.now to.now bytes.now) }
+    ensures { IfOk result (λ text. string_bytes text
+        ≡ events.inject_object member channel.now to.now bytes.now) }
 {
     format!(in alloc;
         "{{\"do\":\"inject\",\"member\":{member},\"channel\":\"{channel}\",\"to\":{to},\"bytes\":{bytes}}}"
@@ -146,7 +151,8 @@ fn inject_text(
     to: &[Node],
     bytes: &[u8],
 ) -> Result<String, AllocError>
-    ensures { IfOk result (λ text. string_bytes text ≡ events.inject_text member channel to.now bytes.now) }
+    ensures { IfOk result (λ text. string_bytes text
+        ≡ events.inject_text member channel to.now bytes.now) }
 {
     let to = written_list(alloc, ",", to)?;
     let bytes = hex_text(alloc, bytes)?;

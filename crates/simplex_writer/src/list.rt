@@ -21,7 +21,8 @@ pub(crate) fn push_list<T: Written>(
     mark: &str,
     items: &[T],
 ) -> Result<(), AllocError>
-    ensures { OnOk result (string_bytes text.new ≡ string_bytes text.old ++ list_text T.text_of mark.now items.now) }
+    ensures { OnOk result (string_bytes text.new
+        ≡ string_bytes text.old ++ list_text T.text_of mark.now items.now) }
 {
     text.push_str("[")?;
     if let [first, others @ ..] = items {
@@ -38,7 +39,8 @@ fn push_others<T: Written>(
     mark: &str,
     others: &[T],
 ) -> Result<(), AllocError>
-    ensures { OnOk result (string_bytes text.new ≡ string_bytes text.old ++ others_text T.text_of mark.now others.now) }
+    ensures { OnOk result (string_bytes text.new
+        ≡ string_bytes text.old ++ others_text T.text_of mark.now others.now) }
 {
     let mut rest = others;
     while let [item, after @ ..] = rest {

@@ -17,10 +17,13 @@ pub fn two_records(
     first: &Artifact,
     second: &Artifact,
 ) -> Result<DiskJournal<MemoryDisk>, JournalError>
-    ensures sections { IfOk result (λ journal. sections_kept (λ disk. file_in disk.kept) journal ≡ record { number = 1; synced = first.now ∷ []; pending = second.now ∷ [] } ∷ []) }
+    ensures sections { IfOk result (λ journal. sections_kept (λ disk. file_in disk.kept) journal
+        ≡ record { number = 1; synced = first.now ∷ []; pending = second.now ∷ [] } ∷ []) }
     // There are calls that may be all that were made of the disk, and at each moment of the last append a crash leaves the first record.
     ensures met { IfOk result (λ journal. (before : List Call)
-        × Then (IsOf (λ disk. IsLeftBy disk.kept) journal) (Always (LeavesJournal (record { number = 1; synced = first.now ∷ []; pending = [] } ∷ []) None before) before) Any) }
+        × Then (IsOf (λ disk. IsLeftBy disk.kept) journal) (Always (LeavesJournal
+        (record { number = 1; synced = first.now ∷ []; pending = [] }
+        ∷ []) None before) before) Any) }
 {
     let disk = MemoryDisk::new(alloc, Vec::new(alloc));
     disk.may_be_settled();

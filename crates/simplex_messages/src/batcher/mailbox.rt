@@ -44,7 +44,8 @@ impl<P: Post<Message>> Mailbox<P> {
         finalized: View,
         forwardable_proposal: Option<Proposal>,
     ) -> Result<Feedback, AllocError>
-        ensures put { IfOk result (λ feedback. P.puts self.old (messages.Update current leader finalized forwardable_proposal) feedback self.new) }
+        ensures put { IfOk result (λ feedback. P.puts self.old
+            (messages.Update current leader finalized forwardable_proposal) feedback self.new) }
         ensures err { OnErr result (self.new ≡ self.old) }
     {
         self.post.enqueue(Message::Update {
@@ -57,7 +58,8 @@ impl<P: Post<Message>> Mailbox<P> {
 
     /// The voter made a vote.
     pub fn constructed(&mut self, vote: Vote) -> Result<Feedback, AllocError>
-        ensures put { IfOk result (λ feedback. P.puts self.old (messages.Constructed vote) feedback self.new) }
+        ensures put { IfOk result
+            (λ feedback. P.puts self.old (messages.Constructed vote) feedback self.new) }
         ensures err { OnErr result (self.new ≡ self.old) }
     {
         self.post.enqueue(Message::Constructed(vote))

@@ -122,7 +122,8 @@ fn is_outdated(place: &Option<Message>, vote: &Vote) -> bool
 
 /// Drops the votes that an update to this current and this finalized view makes needless.
 fn keep_needed(rest: &mut VecDeque<Message>, current: View, finalized: View)
-    ensures { rest.new.items ≡ filter (λ queued. not (outdates_message current finalized queued)) rest.old.items }
+    ensures { rest.new.items
+        ≡ filter (λ queued. not (outdates_message current finalized queued)) rest.old.items }
 {
     rest.retain(|queued| !queued.is_outdated_at(current, finalized));
 }
@@ -130,7 +131,8 @@ fn keep_needed(rest: &mut VecDeque<Message>, current: View, finalized: View)
 /// Whether a vote of this one's view and kind is queued.
 #[tactic(auto, using(crate::proofs::Halves::any_of_both))]
 fn has_one_for(rest: &VecDeque<Message>, vote: &Vote) -> bool
-    ensures { result ≡ list_any (λ queued. stands_for_batcher queued (messages.Constructed vote.now)) rest.now.items }
+    ensures { result ≡ list_any
+        (λ queued. stands_for_batcher queued (messages.Constructed vote.now)) rest.now.items }
 {
     // Two slices are gone through faster than a queue.
     let (front, back) = rest.as_slices();
@@ -139,7 +141,8 @@ fn has_one_for(rest: &VecDeque<Message>, vote: &Vote) -> bool
 
 /// Whether one of them is a vote of this one's view and kind.
 fn is_one_for(queued: &[Message], vote: &Vote) -> bool
-    ensures { result ≡ list_any (λ queued. stands_for_batcher queued (messages.Constructed vote.now)) queued.now }
+    ensures { result ≡ list_any
+        (λ queued. stands_for_batcher queued (messages.Constructed vote.now)) queued.now }
 {
     queued.iter().any(|queued| queued.stands_for(vote))
 }

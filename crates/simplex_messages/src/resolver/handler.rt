@@ -44,7 +44,8 @@ impl<P: Post<HandlerMessage>> Handler<P> {
         bytes: Bytes,
         asks: Sequence<Ask>,
     ) -> Result<Feedback, AllocError>
-        ensures put { IfOk result (λ feedback. P.puts self.old (messages.Deliver id view bytes asks true) feedback self.new) }
+        ensures put { IfOk result (λ feedback. P.puts self.old
+            (messages.Deliver id view bytes asks true) feedback self.new) }
         ensures err { OnErr result (self.new ≡ self.old) }
     {
         self.post.enqueue(HandlerMessage::Deliver {
@@ -58,7 +59,8 @@ impl<P: Post<HandlerMessage>> Handler<P> {
 
     /// A peer asks for the view.
     pub fn produce(&mut self, id: u64, view: View) -> Result<Feedback, AllocError>
-        ensures put { IfOk result (λ feedback. P.puts self.old (messages.Produce id view) feedback self.new) }
+        ensures put { IfOk result
+            (λ feedback. P.puts self.old (messages.Produce id view) feedback self.new) }
         ensures err { OnErr result (self.new ≡ self.old) }
     {
         self.post.enqueue(HandlerMessage::Produce { id, view })

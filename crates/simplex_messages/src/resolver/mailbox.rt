@@ -38,7 +38,8 @@ impl<P: Post<MailboxMessage>> Mailbox<P> {
 
     /// The voter knows a certificate.
     pub fn updated(&mut self, certificate: Certificate) -> Result<Feedback, AllocError>
-        ensures put { IfOk result (λ feedback. P.puts self.old (messages.Updated certificate) feedback self.new) }
+        ensures put { IfOk result
+            (λ feedback. P.puts self.old (messages.Updated certificate) feedback self.new) }
         ensures err { OnErr result (self.new ≡ self.old) }
     {
         self.post.enqueue(MailboxMessage::Updated { certificate })
@@ -50,7 +51,8 @@ impl<P: Post<MailboxMessage>> Mailbox<P> {
         notarization: Notarization,
         success: bool,
     ) -> Result<Feedback, AllocError>
-        ensures put { IfOk result (λ feedback. P.puts self.old (messages.Certified notarization success) feedback self.new) }
+        ensures put { IfOk result (λ feedback. P.puts self.old
+            (messages.Certified notarization success) feedback self.new) }
         ensures err { OnErr result (self.new ≡ self.old) }
     {
         self.post.enqueue(MailboxMessage::Certified {
@@ -68,7 +70,8 @@ impl<P: Post<MailboxMessage>> Mailbox<P> {
         kind: Kind,
         target: Option<Participant>,
     ) -> Result<Feedback, AllocError>
-        ensures put { IfOk result (λ feedback. P.puts self.old (messages.Resolve proposal view kind target) feedback self.new) }
+        ensures put { IfOk result (λ feedback. P.puts self.old
+            (messages.Resolve proposal view kind target) feedback self.new) }
         ensures err { OnErr result (self.new ≡ self.old) }
     {
         self.post.enqueue(MailboxMessage::Resolve {
@@ -81,7 +84,8 @@ impl<P: Post<MailboxMessage>> Mailbox<P> {
 
     /// The voter's journal was read.
     pub fn replayed(&mut self) -> Result<Feedback, AllocError>
-        ensures put { IfOk result (λ feedback. P.puts self.old messages.Replayed feedback self.new) }
+        ensures put { IfOk result
+            (λ feedback. P.puts self.old messages.Replayed feedback self.new) }
         ensures err { OnErr result (self.new ≡ self.old) }
     {
         self.post.enqueue(MailboxMessage::Replayed)

@@ -38,7 +38,8 @@ impl<P: Post<Message>> Mailbox<P> {
 
     /// The leader proposed.
     pub fn proposal(&mut self, proposal: Proposal) -> Result<Feedback, AllocError>
-        ensures put { IfOk result (λ feedback. P.puts self.old (messages.Proposal proposal) feedback self.new) }
+        ensures put { IfOk result
+            (λ feedback. P.puts self.old (messages.Proposal proposal) feedback self.new) }
         ensures err { OnErr result (self.new ≡ self.old) }
     {
         self.post.enqueue(Message::Proposal { proposal })
@@ -46,7 +47,8 @@ impl<P: Post<Message>> Mailbox<P> {
 
     /// A view is to be given up.
     pub fn timeout(&mut self, round: Round, reason: TimeoutReason) -> Result<Feedback, AllocError>
-        ensures put { IfOk result (λ feedback. P.puts self.old (messages.Timeout round reason) feedback self.new) }
+        ensures put { IfOk result
+            (λ feedback. P.puts self.old (messages.Timeout round reason) feedback self.new) }
         ensures err { OnErr result (self.new ≡ self.old) }
     {
         self.post.enqueue(Message::Timeout { round, reason })
@@ -54,7 +56,8 @@ impl<P: Post<Message>> Mailbox<P> {
 
     /// A certificate that verifies was recovered.
     pub fn recovered(&mut self, certificate: Certificate) -> Result<Feedback, AllocError>
-        ensures put { IfOk result (λ feedback. P.puts self.old (messages.Verified certificate) feedback self.new) }
+        ensures put { IfOk result
+            (λ feedback. P.puts self.old (messages.Verified certificate) feedback self.new) }
         ensures err { OnErr result (self.new ≡ self.old) }
     {
         self.post.enqueue(Message::Verified { certificate })

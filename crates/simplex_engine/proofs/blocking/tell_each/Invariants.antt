@@ -5,5 +5,5 @@ use Rattle.simplex_engine.proofs.blocking.tell_each.Given as goal
 
 abbrev pub invariant-loop-member : goal.invariant-loop-member
 invariant-loop-member g l =
-    (made : Made) (past : List Given) → StandsFor g.S.Scheme.verifies g.S.Scheme.members g.S.Scheme.member l.fn.resolver made past
-    → StandsFor g.S.Scheme.verifies g.S.Scheme.members g.S.Scheme.member l.resolver made (reverse (map (λ member. Blocked member) (take l.member-index l.members)) ++ past)
+    (made : Made) (past : List Given) → StandsFor l.fn.resolver made past
+    → StandsFor l.resolver made (reverse (map (λ member. Blocked member) (take l.member-index l.members)) ++ past)

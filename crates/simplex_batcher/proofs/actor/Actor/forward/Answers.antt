@@ -12,7 +12,7 @@ returns g c = λ dirty made doing s.
     let at : Some c.in-Some-get.round.now ≡ option_map round_of (doing.standing.rounds c.in-Some.proposal.round.view) =
     c.in-Some-get.ensures ∙ s.stands.round_is c.in-Some.proposal.round.view in
     elim (doing.standing.rounds c.in-Some.proposal.round.view) as (λ o. doing.standing.rounds c.in-Some.proposal.round.view ≡ o
-    → Stands g.S.Scheme.verifies g.S.Scheme.recovers g.S.Scheme.members g.S.Scheme.member c.args.self.now c.relay.new.work dirty made (forwarding made c.args.leader c.args.proposal.now doing)) [
+    → Stands c.args.self.now c.relay.new.work dirty made (forwarding made c.args.leader c.args.proposal.now doing)) [
       | None ↦ λ is. absurd (let bad : Some c.in-Some-get.round.now ≡ None = at ∙ ap (option_map round_of) is in cc)
       | Some h ↦ λ is.
           let round : c.in-Some-get.round.now ≡ round_of h = same-some _ _ (at ∙ ap (option_map round_of) is) in

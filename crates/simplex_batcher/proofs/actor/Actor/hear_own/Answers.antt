@@ -18,7 +18,7 @@ returns g c = λ made doing s.
     let reports : c.accept_vote.new.out.reports ≡ (heard (known_in round) c.args.vote).reports = c.in_ok-accepted.ensures.reports round here in
     let blocks : c.accept_vote.new.out.blocks ≡ (heard (known_in round) c.args.vote).blocks = c.in_ok-accepted.ensures.blocks round here in
     rw (← c.view-view.ensures) (record {
-      stands = moved _ _ _ _ c.make_round.new.self made (put c.view-view.result round doing.standing) c.accept_vote.new.self (set c.view-view.result (called (AcceptVote c.args.vote) round) doing.standing.rounds) at c.in_ok-accepted.ensures.current taken;
+      stands = moved c.make_round.new.self made (put c.view-view.result round doing.standing) c.accept_vote.new.self (set c.view-view.result (called (AcceptVote c.args.vote) round) doing.standing.rounds) at c.in_ok-accepted.ensures.current taken;
       does = c.in_ok-publish.ensures ∙ rw (s.does, reports, blocks) refl;
       marks = c.in_ok-mark.ensures ∙ rw (s.marks, c.in_ok-accepted.ensures.answer round here) refl;
     })

@@ -6,5 +6,5 @@ use Rattle.simplex_batcher.proofs.actor.Actor.lead_each.Given as goal
 
 abbrev pub invariant-loop-view : goal.invariant-loop-view
 invariant-loop-view g l =
-    (made : Made) (standing : Standing) → IsAt g.S.Scheme.verifies g.S.Scheme.recovers g.S.Scheme.members g.S.Scheme.member l.fn.self made standing
-    → Led (IsAt g.S.Scheme.verifies g.S.Scheme.recovers g.S.Scheme.members g.S.Scheme.member l.self made) made standing l.views (drop l.view-index l.views)
+    (made : Made) (standing : Standing) → IsAt l.fn.self made standing
+    → Led (IsAt l.self made) made standing l.views (drop l.view-index l.views)

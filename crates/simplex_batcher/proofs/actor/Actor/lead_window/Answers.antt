@@ -9,4 +9,4 @@ pub returns-clause-stands : goal.returns-clause-stands
 returns-clause-stands g c = λ made standing s.
     let views : c.deref.result.now ≡ window_views made standing = c.deref.ensures.value ∙ c.in_ok-views.ensures made standing s in
     let all : with_leads made c.deref.result.now standing ≡ with_window made standing = ap (λ xs. with_leads made xs standing) views ∙ window-is made standing in
-    subst (λ (now : Standing). IsAt g.S.Scheme.verifies g.S.Scheme.recovers g.S.Scheme.members g.S.Scheme.member c.lead_each.new.self made now) all (c.lead_each.ensures made standing s)
+    subst (λ (now : Standing). IsAt c.lead_each.new.self made now) all (c.lead_each.ensures made standing s)

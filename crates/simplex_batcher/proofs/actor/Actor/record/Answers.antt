@@ -15,7 +15,7 @@ returns g c = λ made doing s.
     let here = at-set (round_at c.make_round.new.self.rounds) doing.standing.rounds c.view-view.result round at.round_is in
     let taken = taken-set (round_at c.make_round.new.self.rounds) (round_at c.record_certificate.new.self) doing.standing.rounds c.view-view.result (RecordCertificate c.args.certificate.now) round at.round_is c.in_ok-is_marked.ensures.stands in
     rw (← c.view-view.ensures) (record {
-      stands = moved _ _ _ _ c.make_round.new.self made (put c.view-view.result round doing.standing) c.record_certificate.new.self (set c.view-view.result (called (RecordCertificate c.args.certificate.now) round) doing.standing.rounds) at c.in_ok-is_marked.ensures.current taken;
+      stands = moved c.make_round.new.self made (put c.view-view.result round doing.standing) c.record_certificate.new.self (set c.view-view.result (called (RecordCertificate c.args.certificate.now) round) doing.standing.rounds) at c.in_ok-is_marked.ensures.current taken;
       does = s.does;
       marks = c.in_ok-mark.ensures ∙ rw (s.marks, c.in_ok-is_marked.ensures.answer round here) refl;
     })

@@ -19,7 +19,7 @@ returns-then-not-admits g c = λ dirty made doing s.
     let after : nat_le c.args.view doing.standing.finalized ≡ false = grind (arith, common_steps, nat_tests, c.le.ensures, c.if-le.false, s.stands.finalized_is) in
     let far = sym (c.admits.ensures made doing.standing s.stands) ∙ c.if-not-admits.true in
     rw (work-far made c.args.view doing after far) (
-    held-stands _ _ _ _ c.args.self.now made doing (forwarded_at made c.args.view doing) c.args.view c.forward_at.new.self c.forward_at.new.work dirty s.stands s.marks c.in_ok-forward_at.ensures.current c.in_ok-forward_at.ensures.others
+    held-stands c.args.self.now made doing (forwarded_at made c.args.view doing) c.args.view c.forward_at.new.self c.forward_at.new.work dirty s.stands s.marks c.in_ok-forward_at.ensures.current c.in_ok-forward_at.ensures.others
     (c.in_ok-forward_at.ensures.works made (c.number-me.ensures made doing.standing s.stands) doing doing
     (holds-start (round_at c.args.self.now.rounds c.args.view) c.args.work.now c.args.view doing (s.stands.round_is c.args.view) s.does)))
 
@@ -29,6 +29,6 @@ returns g c = λ dirty made doing s.
     let after : nat_le c.args.view doing.standing.finalized ≡ false = grind (arith, common_steps, nat_tests, c.le.ensures, c.if-le.false, s.stands.finalized_is) in
     let near = sym (c.admits.ensures made doing.standing s.stands) ∙ c.if-not-admits.false in
     rw (work-near made c.args.view doing after near) (
-    held-stands _ _ _ _ c.args.self.now made doing (worked_near made c.args.view doing) c.args.view c.work_at.new.self c.work_at.new.work dirty s.stands s.marks c.in_ok-work_at.ensures.current c.in_ok-work_at.ensures.others
+    held-stands c.args.self.now made doing (worked_near made c.args.view doing) c.args.view c.work_at.new.self c.work_at.new.work dirty s.stands s.marks c.in_ok-work_at.ensures.current c.in_ok-work_at.ensures.others
     (c.in_ok-work_at.ensures.works made (c.number-me.ensures made doing.standing s.stands) (ap (λ (m : Made). m.scheme) s.stands.made_is) doing doing
     (holds-start (round_at c.args.self.now.rounds c.args.view) c.args.work.now c.args.view doing (s.stands.round_is c.args.view) s.does)))

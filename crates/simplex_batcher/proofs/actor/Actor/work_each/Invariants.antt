@@ -7,5 +7,5 @@ use Rattle.simplex_batcher.proofs.actor.Actor.work_each.Given as goal
 abbrev pub invariant-loop-view : goal.invariant-loop-view
 invariant-loop-view g l =
     (dirty : List ℕ) (made : Made) (doing : Doing)
-    → Stands g.S.Scheme.verifies g.S.Scheme.recovers g.S.Scheme.members g.S.Scheme.member l.fn.self l.fn.work dirty made doing
-    → Done (Stands g.S.Scheme.verifies g.S.Scheme.recovers g.S.Scheme.members g.S.Scheme.member l.self l.work dirty made) made doing l.views (drop l.view-index l.views)
+    → Stands l.fn.self l.fn.work dirty made doing
+    → Done (Stands l.self l.work dirty made) made doing l.views (drop l.view-index l.views)

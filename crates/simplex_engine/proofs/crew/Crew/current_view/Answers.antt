@@ -3,4 +3,4 @@ use Rattle.simplex_engine.proofs.crew.Crew.current_view.Goals as goal
 
 pub returns : goal.returns
 returns g c = λ told parts h.
-    rw (← h.voter.place) (either-answers told c.args.self.now _ _ c.current_view.ensures.told c.current_view.ensures.over _ _ h.voter.stands)
+    rw (← h.voter.place) (either-answers told c.args.self.now _ _ c.current_view.ensures _ _ h.voter.stands)

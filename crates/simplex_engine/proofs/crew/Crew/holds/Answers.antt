@@ -8,16 +8,16 @@ pub returns-in-Voter : goal.returns-in-Voter
 returns-in-Voter g c = rw c.in-Voter.is (λ told. voter-holds told c.args.self.now _ c.args.now c.is_empty-in-Voter.ensures)
 
 pub returns-in-Timer : goal.returns-in-Timer
-returns-in-Timer g c = rw c.in-Timer.is (λ told. timer-holds told c.args.self.now _ c.args.now (c.holds.ensures.told, c.holds.ensures.over))
+returns-in-Timer g c = rw c.in-Timer.is (λ told. timer-holds told c.args.self.now _ c.args.now c.holds.ensures)
 
 pub returns-in-Propose : goal.returns-in-Propose
-returns-in-Propose g c = rw c.in-Propose.is (λ told. propose-holds told c.args.self.now _ c.args.now (c.holds-in-Propose.ensures.told, c.holds-in-Propose.ensures.over))
+returns-in-Propose g c = rw c.in-Propose.is (λ told. propose-holds told c.args.self.now _ c.args.now c.holds-in-Propose.ensures)
 
 pub returns-in-Verify : goal.returns-in-Verify
-returns-in-Verify g c = rw c.in-Verify.is (λ told. verify-holds told c.args.self.now _ c.args.now (c.holds-in-Verify.ensures.told, c.holds-in-Verify.ensures.over))
+returns-in-Verify g c = rw c.in-Verify.is (λ told. verify-holds told c.args.self.now _ c.args.now c.holds-in-Verify.ensures)
 
 pub returns-in-Certify : goal.returns-in-Certify
-returns-in-Certify g c = rw c.in-Certify.is (λ told. certify-holds told c.args.self.now _ c.args.now (c.holds-in-Certify.ensures.told, c.holds-in-Certify.ensures.over))
+returns-in-Certify g c = rw c.in-Certify.is (λ told. certify-holds told c.args.self.now _ c.args.now c.holds-in-Certify.ensures)
 
 pub returns-in-Resolver : goal.returns-in-Resolver
 returns-in-Resolver g c = rw c.in-Resolver.is (λ told. resolver-holds told c.args.self.now _ c.args.now c.is_empty-in-Resolver.ensures)

@@ -20,12 +20,12 @@ returns-clause-stands g c = λ made h.
     let out = c.start.new.out in
     let parts : Parts = first_parts made now in
     rw (more-begun made now stop (start_given (made.voter now) [] now stop) (start-quiet _ _ _ _))
-    (rw (← (c.in_ok-outcome.ensures.gives _ h.voter).1) (rw c.as_slice.ensures at (c.in_ok-tell_blocks.ensures.works true (record parts {
+    (rw (← (c.in_ok-outcome.ensures.does.gives _ h.voter).1) (rw c.as_slice.ensures at (c.in_ok-tell_blocks.ensures.works true (record parts {
       given = Started now stop ∷ [];
       to_batcher = all_enqueued batcher_handled parts.to_batcher (filter_map for_batcher out.handed);
       to_resolver = all_enqueued resolver_handled parts.to_resolver (filter_map for_resolver out.handed);
     }) (record {
-      voter = record { given = Started now stop ∷ []; stands = c.in_ok-outcome.ensures.stands _ h.voter; place = refl };
+      voter = record { given = Started now stop ∷ []; stands = c.in_ok-outcome.ensures.does.stands _ h.voter; place = refl };
       batcher = h.batcher;
       resolver = h.resolver;
       to_batcher = rw (ap (λ (boxes : Boxes). boxes.batcher) h.boxes) at (c.posted_are_enqueued.ensures _ _ _ c.in_ok-outcome.ensures.batcher);
@@ -36,12 +36,12 @@ returns-clause-stands g c = λ made h.
 
 pub returns-clause-gives : goal.returns-clause-gives
 unfolding begun
-returns-clause-gives g c = λ made h. c.in_ok-outcome.ensures.gives _ h.voter
+returns-clause-gives g c = λ made h. c.in_ok-outcome.ensures.does.gives _ h.voter
 
 pub returns-clause-over : goal.returns-clause-over
 unfolding CrewStands begun
 returns-clause-over g c =
-    let o = c.in_ok-outcome.ensures.over in
+    let o = c.in_ok-outcome.ensures.does.over in
     let now = c.args.now in
     let out = c.start.new.out in
     record {
@@ -68,4 +68,4 @@ returns-clause-over g c =
     }
 
 pub returns-clause-faults : goal.returns-clause-faults
-returns-clause-faults g c = rw c.in_ok-tell_blocks.ensures.voter c.in_ok-outcome.ensures.faults
+returns-clause-faults g c = rw c.in_ok-tell_blocks.ensures.voter c.in_ok-outcome.ensures.does.faults

@@ -3,14 +3,12 @@ use Rattle.simplex_engine.proofs.Polls.{takes-certify, gives-certify, taken-cert
 use Rattle.simplex_engine.proofs.PollsOver.{fares-certify}
 use Rattle.simplex_engine.proofs.crew.Crew.step_on_certify.Goals as goal
 
-pub returns-clause-stands : goal.returns-clause-stands
-returns-clause-stands g c = takes-certify _ _ _ _ _ _ c.in_ok-given.ensures.stands c.in_ok-given.ensures.gives
-
-pub returns-clause-gives : goal.returns-clause-gives
-returns-clause-gives g c = gives-certify _ _ _ _ _ c.in_ok-given.ensures.gives
-
-pub returns-clause-taken : goal.returns-clause-taken
-returns-clause-taken g c = taken-certify _ _ _ _ _ _ c.in_ok-given.ensures.gives (c.in_ok-given.ensures.taken true)
-
-pub returns-clause-over : goal.returns-clause-over
-returns-clause-over g c = fares-certify c.in_ok-given.ensures.over (c.in_ok-given.ensures.taken false)
+pub returns : goal.returns
+returns g c =
+    record {
+      stands = takes-certify _ _ _ _ _ _ c.in_ok-given.ensures.stands c.in_ok-given.ensures.gives;
+      gives = gives-certify _ _ _ _ _ c.in_ok-given.ensures.gives;
+      taken = taken-certify _ _ _ _ _ _ c.in_ok-given.ensures.gives (c.in_ok-given.ensures.taken true);
+      over = fares-certify c.in_ok-given.ensures.over (c.in_ok-given.ensures.taken false);
+      faults = c.in_ok-given.ensures.faults;
+    }

@@ -17,7 +17,7 @@ returns-clause-stands g c = λ parts h.
     }) (record {
       voter = record {
         given = Stepped c.args.input c.args.now c.args.stop.now ∷ h.voter.given;
-        stands = c.in_ok-outcome.ensures.stands _ _ h.voter.stands;
+        stands = c.in_ok-outcome.ensures.does.stands _ _ h.voter.stands;
         place = place-more _ _ _ _ h.voter.place;
       };
       batcher = h.batcher;
@@ -31,11 +31,11 @@ returns-clause-stands g c = λ parts h.
 pub returns-clause-gives : goal.returns-clause-gives
 returns-clause-gives g c = λ parts h.
     rw (← step-at parts.voter h.voter.given parts.given c.args.input c.args.now c.args.stop.now h.voter.place)
-    (c.in_ok-outcome.ensures.gives _ _ h.voter.stands)
+    (c.in_ok-outcome.ensures.does.gives _ _ h.voter.stands)
 
 pub returns-clause-over : goal.returns-clause-over
 returns-clause-over g c =
-    let o = c.in_ok-outcome.ensures.over in
+    let o = c.in_ok-outcome.ensures.does.over in
     let out = c.step.new.out in
     record {
       turned = o.turned;
@@ -65,4 +65,4 @@ returns-clause-over g c =
     }
 
 pub returns-clause-faults : goal.returns-clause-faults
-returns-clause-faults g c = rw c.in_ok-tell_blocks.ensures.voter c.in_ok-outcome.ensures.faults
+returns-clause-faults g c = rw c.in_ok-tell_blocks.ensures.voter c.in_ok-outcome.ensures.does.faults

@@ -1,15 +1,11 @@
-use Rattle.std.proofs.Common.{true, false}
-use Rattle.simplex_engine.specs.Stands.{StandsFor, StandsOver}
-use Rattle.simplex_engine.proofs.Stages.{running-view, running-started, stopped-started, waiting-idle, waiting-idle-over}
+use Rattle.std.proofs.Common.{false}
+use Rattle.simplex_engine.specs.Stands.{StandsOver}
+use Rattle.simplex_engine.proofs.Stages.{running-view, running-started, stopped-started, waiting-idle-over}
 use Rattle.simplex_engine.proofs.engine.Engine.current_view.Goals as goal
 
 pub returns-in-Running-clause-running : goal.returns-in-Running-clause-running
-unfolding StandsFor
-returns-in-Running-clause-running g c = λ made past h _. running-view true c.args.self.now _ _ c.in-Running.is c.current_view.ensures made past h
-
-pub returns-in-Running-clause-running_over : goal.returns-in-Running-clause-running_over
 unfolding StandsOver
-returns-in-Running-clause-running_over g c = λ made past h _. running-view false c.args.self.now _ _ c.in-Running.is c.current_view.ensures made past h
+returns-in-Running-clause-running g c = λ made past h _. running-view false c.args.self.now _ _ c.in-Running.is c.current_view.ensures made past h
 
 pub returns-in-Running-clause-waiting : goal.returns-in-Running-clause-waiting
 unfolding StandsOver
@@ -20,7 +16,4 @@ unfolding StandsOver
 returns-in-Stopped-clause-waiting g c = λ made h. absurd (stopped-started false c.args.self.now _ made c.in-Stopped.is h)
 
 pub returns-in-Waiting-clause-running : goal.returns-in-Waiting-clause-running
-returns-in-Waiting-clause-running g c = λ made past h r. absurd (waiting-idle c.args.self.now _ made past c.in-Waiting.is h r)
-
-pub returns-in-Waiting-clause-running_over : goal.returns-in-Waiting-clause-running_over
-returns-in-Waiting-clause-running_over g c = λ made past h r. absurd (waiting-idle-over c.args.self.now _ made past c.in-Waiting.is h r)
+returns-in-Waiting-clause-running g c = λ made past h r. absurd (waiting-idle-over c.args.self.now _ made past c.in-Waiting.is h r)

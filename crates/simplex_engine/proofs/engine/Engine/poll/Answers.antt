@@ -1,26 +1,16 @@
 use Rattle.std.proofs.Common.{◌∙◌, true, false}
 use Rattle.simplex_engine.specs.Stands.{StandsFor, StandsOver}
 use Rattle.simplex_engine.proofs.Settling.{settles-in}
-use Rattle.simplex_engine.proofs.Stages.{poll-stands, poll-gives, poll-accepted, poll-refused, poll-stays, poll-keeps, poll-fails, poll-alive, poll-over, poll-faults, poll-stops, waiting-refuses, stopped-refuses}
+use Rattle.simplex_engine.proofs.Stages.{does-stands, does-gives, does-taken, does-over, does-faults, poll-stands, poll-gives, poll-accepted, poll-refused, poll-stays, poll-keeps, poll-fails, poll-alive, poll-over, poll-faults, poll-stops, waiting-refuses, stopped-refuses}
 use Rattle.simplex_engine.proofs.engine.Engine.poll.Goals as goal
 
 pub returns-clause-stands : goal.returns-clause-stands
 returns-clause-stands g c =
-    poll-stands _ _ _ _ c.poll-result.result _ _ c.in-Running.is (c.settle.ensures ∙ settles-in _ c.poll-result.result) c.poll-result.ensures.stands c.poll-result.ensures.gives
+    poll-stands _ _ _ _ c.poll-result.result _ _ c.in-Running.is (c.settle.ensures ∙ settles-in _ c.poll-result.result) (does-stands _ _ _ _ _ c.poll-result.result c.poll-result.ensures.does) (does-gives _ _ _ _ _ c.poll-result.result c.poll-result.ensures.does)
 
 pub returns-clause-gives : goal.returns-clause-gives
 returns-clause-gives g c =
-    poll-gives _ _ c.poll-result.result _ _ c.in-Running.is c.poll-result.ensures.gives c.poll-result.ensures.taken
-
-pub returns-clause-accepted : goal.returns-clause-accepted
-unfolding StandsFor
-returns-clause-accepted g c =
-    poll-accepted true c.args.self.now _ c.poll-result.result _ c.in-Running.is c.poll-result.ensures.accepted
-
-pub returns-clause-refused : goal.returns-clause-refused
-unfolding StandsFor
-returns-clause-refused g c =
-    poll-refused true c.args.self.now _ _ c.poll-result.result _ c.in-Running.is c.poll-result.ensures.refused
+    poll-gives _ _ c.poll-result.result _ _ c.in-Running.is (does-gives _ _ _ _ _ c.poll-result.result c.poll-result.ensures.does) (does-taken _ _ _ _ _ c.poll-result.result c.poll-result.ensures.does)
 
 pub returns-clause-stays : goal.returns-clause-stays
 unfolding StandsFor
@@ -36,23 +26,23 @@ returns-clause-alive g c = poll-alive c.settle.new.self _ c.poll-result.result (
 
 pub returns-clause-over : goal.returns-clause-over
 returns-clause-over g c =
-    poll-over _ _ _ _ c.poll-result.result _ _ _ c.in-Running.is (c.settle.ensures ∙ settles-in _ c.poll-result.result) c.poll-result.ensures.over
+    poll-over _ _ _ _ c.poll-result.result _ _ _ c.in-Running.is (c.settle.ensures ∙ settles-in _ c.poll-result.result) (does-over _ _ _ _ _ c.poll-result.result c.poll-result.ensures.does)
 
 pub returns-clause-faults : goal.returns-clause-faults
 returns-clause-faults g c =
-    poll-faults c.args.self.now c.settle.new.self _ _ c.poll-result.result c.in-Running.is (c.settle.ensures ∙ settles-in _ c.poll-result.result) c.poll-result.ensures.faults
+    poll-faults c.args.self.now c.settle.new.self _ _ c.poll-result.result c.in-Running.is (c.settle.ensures ∙ settles-in _ c.poll-result.result) (does-faults _ _ _ _ _ c.poll-result.result c.poll-result.ensures.does)
 
 pub returns-clause-stops : goal.returns-clause-stops
 returns-clause-stops g c = poll-stops c.settle.new.self _ c.poll-result.result (c.settle.ensures ∙ settles-in _ c.poll-result.result)
 
-pub returns-clause-accepted_over : goal.returns-clause-accepted_over
+pub returns-clause-accepted : goal.returns-clause-accepted
 unfolding StandsOver
-returns-clause-accepted_over g c =
+returns-clause-accepted g c =
     poll-accepted false c.args.self.now _ c.poll-result.result _ c.in-Running.is c.poll-result.ensures.accepted
 
-pub returns-clause-refused_over : goal.returns-clause-refused_over
+pub returns-clause-refused : goal.returns-clause-refused
 unfolding StandsOver
-returns-clause-refused_over g c =
+returns-clause-refused g c =
     poll-refused false c.args.self.now _ _ c.poll-result.result _ c.in-Running.is c.poll-result.ensures.refused
 
 pub returns-clause-stays_over : goal.returns-clause-stays_over
@@ -65,17 +55,9 @@ returns-clause-journal g c =
     poll-keeps c.args.self.now c.settle.new.self _ _ c.poll-result.result _ c.in-Running.is (c.settle.ensures ∙ settles-in _ c.poll-result.result) c.poll-result.ensures.refused
 
 pub returns-in-Waiting-clause-refused : goal.returns-in-Waiting-clause-refused
-unfolding StandsFor
-returns-in-Waiting-clause-refused g c = λ _. waiting-refuses true c.args.self.now _ c.args.input c.in-Waiting.is
-
-pub returns-in-Waiting-clause-refused_over : goal.returns-in-Waiting-clause-refused_over
 unfolding StandsOver
-returns-in-Waiting-clause-refused_over g c = λ _. waiting-refuses false c.args.self.now _ c.args.input c.in-Waiting.is
+returns-in-Waiting-clause-refused g c = λ _. waiting-refuses false c.args.self.now _ c.args.input c.in-Waiting.is
 
 pub returns-in-Stopped-clause-refused : goal.returns-in-Stopped-clause-refused
-unfolding StandsFor
-returns-in-Stopped-clause-refused g c = λ _. stopped-refuses true c.args.self.now _ c.args.input c.in-Stopped.is
-
-pub returns-in-Stopped-clause-refused_over : goal.returns-in-Stopped-clause-refused_over
 unfolding StandsOver
-returns-in-Stopped-clause-refused_over g c = λ _. stopped-refuses false c.args.self.now _ c.args.input c.in-Stopped.is
+returns-in-Stopped-clause-refused g c = λ _. stopped-refuses false c.args.self.now _ c.args.input c.in-Stopped.is

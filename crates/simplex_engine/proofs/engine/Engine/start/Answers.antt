@@ -1,6 +1,6 @@
 use Rattle.std.proofs.Common.{◌∙◌, sym, true, false}
 use Rattle.model_steps.specs.Engine.{begun}
-use Rattle.simplex_engine.specs.Stands.{StandsFor, StandsOver}
+use Rattle.simplex_engine.specs.Stands.{StandsOver}
 use Rattle.simplex_engine.proofs.Stages.{start-stands, start-gives, start-over, start-faults, settled-stops, running-started}
 use Rattle.simplex_engine.proofs.engine.Engine.start.Goals as goal
 
@@ -28,9 +28,5 @@ pub returns-in_ok-outcome-in-Waiting-clause-stops : goal.returns-in_ok-outcome-i
 returns-in_ok-outcome-in-Waiting-clause-stops g c = rw c.stage_after.ensures (settled-stops _ _)
 
 pub returns-in-Running-clause-refused : goal.returns-in-Running-clause-refused
-unfolding StandsFor
-returns-in-Running-clause-refused g c = λ made h. absurd (running-started true c.args.self.now _ made (sym c.replace.ensures.value ∙ c.in-Running.is) h)
-
-pub returns-in-Running-clause-refused_over : goal.returns-in-Running-clause-refused_over
 unfolding StandsOver
-returns-in-Running-clause-refused_over g c = λ made h. absurd (running-started false c.args.self.now _ made (sym c.replace.ensures.value ∙ c.in-Running.is) h)
+returns-in-Running-clause-refused g c = λ made h. absurd (running-started false c.args.self.now _ made (sym c.replace.ensures.value ∙ c.in-Running.is) h)

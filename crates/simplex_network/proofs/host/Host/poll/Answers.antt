@@ -1,9 +1,10 @@
+use Rattle.simplex_engine.proofs.Told.{answered-told}
 use Rattle.simplex_network.proofs.OneHost.{host-polled, host-gives, host-refuses, host-stays}
 use Rattle.simplex_network.proofs.host.Host.poll.Goals as goal
 
 pub returns-clause-gives : goal.returns-clause-gives
 returns-clause-gives c =
-    λ setup member life stand. host-gives setup member _ _ _ _ _ _ _ c.in-Ok.ensures.accepted c.in-Ok.ensures.gives life (rw c.in-Running.is at stand)
+    λ setup member life stand. host-gives setup member _ _ _ _ _ _ _ (answered-told _ _ _ c.in-Ok.ensures.accepted) c.in-Ok.ensures.gives life (rw c.in-Running.is at stand)
 
 pub returns-clause-stands : goal.returns-clause-stands
 returns-clause-stands c =
@@ -12,7 +13,7 @@ returns-clause-stands c =
 
 pub returns-in-Err-clause-refused : goal.returns-in-Err-clause-refused
 returns-in-Err-clause-refused c =
-    λ whole setup member life stand. host-refuses setup member _ _ _ (c.in-Err.ensures.refused whole) life (rw c.in-Running.is at stand)
+    λ whole setup member life stand. host-refuses setup member _ _ _ (answered-told _ _ _ (c.in-Err.ensures.refused whole)) life (rw c.in-Running.is at stand)
 
 pub returns-in-Err-clause-stays : goal.returns-in-Err-clause-stays
 returns-in-Err-clause-stays c =

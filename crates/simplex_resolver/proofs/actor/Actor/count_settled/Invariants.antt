@@ -6,5 +6,5 @@ use Rattle.simplex_resolver.proofs.actor.Actor.count_settled.Given as goal
 abbrev pub invariant-loop-ask : goal.invariant-loop-ask
 invariant-loop-ask g l =
     (l.count ≤ l.ask-index)
-    × ((made : Made) (standing : Standing) → IsAt g.S.Scheme.verifies g.S.Scheme.members g.S.Scheme.member l.self made standing
+    × ((made : Made) (standing : Standing) → IsAt l.self made standing
     → l.count + settled_count made.term standing.held l.view (drop l.ask-index l.asks) ≡ settled_count made.term standing.held l.view l.asks)

@@ -7,5 +7,5 @@ use Rattle.simplex_resolver.proofs.actor.Actor.fetch_target.Goals as goal
 pub returns : goal.returns
 unfolding fetching
 returns g c = λ made doing s.
-    fetcher-moves g.S.Scheme.verifies g.S.Scheme.members g.S.Scheme.member c.args.self.now _ _ _ _ _ (fetched (of_target c.args.fetch c.args.target ∷ []) c.args.now) made doing s
+    fetcher-moves c.args.self.now _ _ _ _ _ (fetched (of_target c.args.fetch c.args.target ∷ []) c.args.now) made doing s
     c.in_ok-outs.ensures.fetcher c.in_ok-outs.ensures.outs (c.in_ok-mind_each.ensures made)

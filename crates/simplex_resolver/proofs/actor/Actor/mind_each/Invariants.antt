@@ -7,5 +7,5 @@ use Rattle.simplex_resolver.proofs.actor.Actor.mind_each.Given as goal
 abbrev pub invariant-loop-out : goal.invariant-loop-out
 invariant-loop-out g l =
     (made : Made) (doing : Doing)
-    → Stands g.S.Scheme.verifies g.S.Scheme.members g.S.Scheme.member l.fn.self l.fn.work made doing
-    → Minded (Stands g.S.Scheme.verifies g.S.Scheme.members g.S.Scheme.member l.self l.work made) doing l.fn.outs.items (into_iter_items l.out-iterator)
+    → Stands l.fn.self l.fn.work made doing
+    → Minded (Stands l.self l.work made) doing l.fn.outs.items (into_iter_items l.out-iterator)

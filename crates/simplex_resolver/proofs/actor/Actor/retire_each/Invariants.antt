@@ -7,5 +7,5 @@ use Rattle.simplex_resolver.proofs.actor.Actor.retire_each.Given as goal
 abbrev pub invariant-loop-retire : goal.invariant-loop-retire
 invariant-loop-retire g l =
     (made : Made) (doing : Doing)
-    → Stands g.S.Scheme.verifies g.S.Scheme.members g.S.Scheme.member l.fn.self l.fn.work made doing
-    → Retired (Stands g.S.Scheme.verifies g.S.Scheme.members g.S.Scheme.member l.self l.work made) doing l.retires (drop l.retire-index l.retires)
+    → Stands l.fn.self l.fn.work made doing
+    → Retired (Stands l.self l.work made) doing l.retires (drop l.retire-index l.retires)

@@ -7,5 +7,5 @@ pub returns : goal.returns
 unfolding repairing
 returns g c = λ made doing s.
     let held = c.in_ok-effects.ensures.stands made.term doing.standing.held s.stands.held_is in
-    let recorded = recorded-moves g.S.Scheme.verifies g.S.Scheme.members g.S.Scheme.member c.args.self.now _ _ (repair.Replayed) made doing s held in
+    let recorded = recorded-moves c.args.self.now _ _ (repair.Replayed) made doing s held in
     rw (c.in_ok-effects.ensures.effects made.term doing.standing.held s.stands.held_is) at (c.in_ok-follow.ensures made _ recorded)

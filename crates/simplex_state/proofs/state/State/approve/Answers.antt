@@ -8,7 +8,7 @@ pub returns : goal.returns
 unfolding learn_round
 returns g c = λ made known k none. (
     let put = c.in_ok-put_away.ensures.kept made known k in
-    keeps_good _ _ _ made known _ _ _ _ _ _ put c.in_ok-put_away.ensures.away (omega arith) none
+    keeps_good _ made known _ _ _ _ _ _ put c.in_ok-put_away.ensures.away (omega arith) none
     (grind (arith, common_steps, put.settings.term_length, c.next-next.ensures))
     (grind (arith, common_steps, c.published_in-self.ensures, c.next-next.ensures))
     (λ q low. grind (arith, common_steps, c.in_ok-put_round.ensures q))

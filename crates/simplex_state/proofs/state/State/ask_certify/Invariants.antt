@@ -7,8 +7,8 @@ use Rattle.simplex_state.proofs.state.State.ask_certify.Given as goal
 abbrev pub invariant-loop-left : goal.invariant-loop-left
 invariant-loop-left g l = record {
   within : l.left ≤ length l.proposals;
-  keeps : (made : Made) (known : List Fact) → Keeps g.S.Scheme.attests g.L.Elector.elects l.initial.self made known
-      → Keeps g.S.Scheme.attests g.L.Elector.elects l.self made (map (λ p. CertifyAsked (view_of p)) (drop l.left l.proposals) ++ known);
+  keeps : (made : Made) (known : List Fact) → Keeps l.initial.self made known
+      → Keeps l.self made (map (λ p. CertifyAsked (view_of p)) (drop l.left l.proposals) ++ known);
 }
 
 abbrev pub decreases-loop-left : goal.decreases-loop-left

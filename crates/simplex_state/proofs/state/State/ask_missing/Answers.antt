@@ -6,4 +6,4 @@ use Rattle.simplex_state.proofs.state.State.ask_missing.Goals as goal
 
 pub returns : goal.returns
 returns g c = on_ok_weaker c.ask.result (λ did. λ made known k.
-    keeps_missing _ _ _ made known c.args.proposal c.args.view c.args.kind _ k (λ q u other. grind (arith, common_steps, did q u other))) c.ask.ensures
+    keeps_missing _ made known c.args.proposal c.args.view c.args.kind _ k (λ q u other. grind (arith, common_steps, did q u other))) c.ask.ensures

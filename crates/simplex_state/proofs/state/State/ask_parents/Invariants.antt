@@ -8,8 +8,8 @@ use Rattle.simplex_state.proofs.state.State.ask_parents.Given as goal
 abbrev pub invariant-loop-left : goal.invariant-loop-left
 invariant-loop-left g l = record {
   within : l.left ≤ length l.fetches;
-  keeps : (made : Made) (known : List Fact) → Keeps g.S.Scheme.attests g.L.Elector.elects l.initial.self made known
-      → Keeps g.S.Scheme.attests g.L.Elector.elects l.self made (map (λ (f : CertificateFetch). ParentAsked f.proposal) (drop l.left l.fetches) ++ known);
+  keeps : (made : Made) (known : List Fact) → Keeps l.initial.self made known
+      → Keeps l.self made (map (λ (f : CertificateFetch). ParentAsked f.proposal) (drop l.left l.fetches) ++ known);
 }
 
 abbrev pub decreases-loop-left : goal.decreases-loop-left

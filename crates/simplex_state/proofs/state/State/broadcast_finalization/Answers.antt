@@ -12,8 +12,8 @@ use Rattle.simplex_state.proofs.state.State.broadcast_finalization.Goals as goal
 pub returns-clause-stands : goal.returns-clause-stands
 unfolding StandsFor facts_of
 returns-clause-stands g c = λ made calls s.
-    takes_facts _ _ _ made calls _ (Broadcast kinds.Finalization c.args.view ∷ [])
+    takes_facts _ made calls _ (Broadcast kinds.Finalization c.args.view ∷ [])
     (grind (arith, common_steps, s.unsent_finalizations c.args.view))
-    (keeps_sent_finalization _ _ _ made (known_of made calls) c.args.view _ s
+    (keeps_sent_finalization _ made (known_of made calls) c.args.view _ s
     (unsent_is_known_finalization (known_of made calls) c.args.view (grind (arith, common_steps, s.unsent_finalizations c.args.view)))
     (λ q. grind (arith, common_steps, c.mark_sent.ensures q)))

@@ -9,8 +9,8 @@ use Rattle.simplex_state.proofs.state.State.candidates.Given as goal
 
 abbrev pub invariant-loop-view : goal.invariant-loop-view
 invariant-loop-view g l = record {
-  proposals : (made : Made) (calls : List Call) → StandsFor g.S.Scheme.attests g.L.Elector.elects l.self made calls
+  proposals : (made : Made) (calls : List Call) → StandsFor l.self made calls
       → l.proposals.items ++ filter_map (certify_at (known_of made calls)) l.view-iterator ≡ filter_map (certify_at (known_of made calls)) l.self.waiting.keys;
-  fetches : (made : Made) (calls : List Call) → StandsFor g.S.Scheme.attests g.L.Elector.elects l.self made calls
+  fetches : (made : Made) (calls : List Call) → StandsFor l.self made calls
       → l.fetches.items ++ filter_map (fetch_at (known_of made calls)) l.view-iterator ≡ filter_map (fetch_at (known_of made calls)) l.self.waiting.keys;
 }

@@ -9,7 +9,7 @@ pub returns-clause-stands : goal.returns-clause-stands
 unfolding StandsFor
 returns-clause-stands g c = λ made calls s.
     (let before = c.drop_settled.ensures made calls s in
-    takes_facts _ _ _ made calls _ _
+    takes_facts _ made calls _ _
     (asked_is made (known_of made calls) _ _
     (c.deref.ensures.value ∙ c.in_ok-proposals.ensures.proposals made calls before)
     (c.deref-2.ensures.value ∙ c.in_ok-proposals.ensures.fetches made calls before))

@@ -11,7 +11,7 @@ use Rattle.simplex_state.proofs.state.State.construct_finalize.Goals as goal
 pub returns-clause-stands : goal.returns-clause-stands
 unfolding StandsFor facts_of
 returns-clause-stands g c = λ made calls s.
-    takes_facts _ _ _ made calls _ (Voted (votes.Finalize c.in-Some.vote) ∷ [])
+    takes_facts _ made calls _ (Voted (votes.Finalize c.in-Some.vote) ∷ [])
     (grind (arith, common_steps, c.finalize_at.ensures made calls s))
     (c.in_ok-vote_final.ensures made (known_of made calls) s
     (finalize_view made (known_of made calls) c.args.view c.in-Some.vote (grind (arith, c.finalize_at.ensures made calls s))))

@@ -11,7 +11,7 @@ use Rattle.simplex_state.proofs.state.State.construct_notarize.Goals as goal
 pub returns-clause-stands : goal.returns-clause-stands
 unfolding StandsFor facts_of
 returns-clause-stands g c = λ made calls s.
-    takes_facts _ _ _ made calls _ (Voted (votes.Notarize c.in-Some.vote) ∷ [])
+    takes_facts _ made calls _ (Voted (votes.Notarize c.in-Some.vote) ∷ [])
     (grind (arith, common_steps, c.notarize_at.ensures made calls s))
     (c.in_ok-vote_notarize.ensures made (known_of made calls) s
     (notarize_view made (known_of made calls) c.args.view c.in-Some.vote (grind (arith, c.notarize_at.ensures made calls s))))

@@ -10,6 +10,6 @@ pub returns-clause-stands : goal.returns-clause-stands
 unfolding StandsFor facts_of
 returns-clause-stands g c = λ made calls s. (
     let same = nullify_view made c.args.view c.in-Some.vote (grind (arith, c.nullify_at.ensures made calls s)) in
-    takes_facts _ _ _ made calls _ (nullify_facts (known_of made calls) c.in-Some.vote.round.view c.args.now c.in-Some.vote)
+    takes_facts _ made calls _ (nullify_facts (known_of made calls) c.in-Some.vote.round.view c.args.now c.in-Some.vote)
     (grind (arith, common_steps, c.nullify_at.ensures made calls s, same))
     (c.give_up.ensures made (known_of made calls) c.in-Some.vote s (same ∙ c.requires.current made calls s)))

@@ -12,6 +12,6 @@ use Rattle.simplex_state.proofs.state.State.drop_settled.Goals as goal
 pub returns : goal.returns
 unfolding StandsFor is_unjudged is_open round_of progress_of least_active
 returns g c = λ made calls s.
-    keeps_same _ _ _ made (known_of made calls) _ _ s
+    keeps_same _ made (known_of made calls) _ _ s
     (λ q low. refl)
     (λ q some waits. grind (arith, common_steps, some, waits, c.keep_open.ensures q, s.waiting q some waits, s.rounds q, s.progress, s.active))

@@ -9,7 +9,7 @@ use Rattle.simplex_state.proofs.state.State.first_admitted.Given as goal
 abbrev pub invariant-loop-parent : goal.invariant-loop-parent
 invariant-loop-parent g l =
     (l.self.progress.current ≤ l.view)
-    × ((made : Made) (calls : List Call) → StandsFor g.S.Scheme.attests g.L.Elector.elects l.self made calls
+    × ((made : Made) (calls : List Call) → StandsFor l.self made calls
     → (q : ℕ) → l.self.progress.current ≤ q → q ≤ l.view → may_propose made (known_of made calls) q ≡ false)
 
 abbrev pub decreases-loop-parent : goal.decreases-loop-parent

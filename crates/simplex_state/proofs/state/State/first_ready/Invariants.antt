@@ -11,7 +11,7 @@ use Rattle.simplex_state.proofs.state.State.first_ready.Given as goal
 abbrev pub invariant-loop-view : goal.invariant-loop-view
 invariant-loop-view g l =
     (l.fn.first ≤ l.from)
-    × ((made : Made) (calls : List Call) → StandsFor g.S.Scheme.attests g.L.Elector.elects l.self made calls → (progress_of made (known_of made calls)).pruned ≤ l.fn.first
+    × ((made : Made) (calls : List Call) → StandsFor l.self made calls → (progress_of made (known_of made calls)).pruned ≤ l.fn.first
     → find (λ view. wants_verify (known_of made calls) view && is_founded made (known_of made calls) view) (range_with_len l.from (l.limit + 1 - l.from))
     ≡ find (λ view. wants_verify (known_of made calls) view && is_founded made (known_of made calls) view) (range_with_len l.fn.first (l.limit + 1 - l.fn.first)))
 

@@ -5,7 +5,7 @@ use Rattle.simplex_state.proofs.state.State.forget.Goals as goal
 
 pub returns : goal.returns
 returns g c = λ made known k active ahead rises.
-    keeps_pruned _ _ _ made known c.args.least _ _ _ _ _ _ _ _ _ k active ahead rises
+    keeps_pruned _ made known c.args.least _ _ _ _ _ _ _ _ _ k active ahead rises
     (grind (arith, common_steps))
     (λ q le. grind (arith, c.drop_rounds.ensures q, le))
     (λ q le. grind (arith, c.remove_below.ensures.kept q, le))

@@ -13,7 +13,7 @@ returns-then-lt g c = λ made known k.
 pub returns : goal.returns
 unfolding finalization_of first_of
 returns g c = λ made known k.
-    keeps_sent_finalization _ _ _ made _ _ _
+    keeps_sent_finalization _ made _ _ _
     (c.in_ok-know_finalization.ensures made known k (grind (arith, common_steps, c.lt.ensures, c.if-lt.false, c.view-view.ensures, k.progress)))
     (grind (arith, common_steps))
     (λ q. grind (arith, common_steps, c.mark_sent.ensures q, c.view-view.ensures))

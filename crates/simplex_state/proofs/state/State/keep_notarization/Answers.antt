@@ -13,7 +13,7 @@ returns-then-lt g c = λ made known k.
 pub returns : goal.returns
 unfolding notarization_of first_of
 returns g c = λ made known k.
-    keeps_sent_notarization _ _ _ made _ _ _
+    keeps_sent_notarization _ made _ _ _
     (c.in_ok-know_notarization.ensures made known k (grind (arith, common_steps, c.lt.ensures, c.if-lt.false, c.view-view.ensures, k.progress)))
     (grind (arith, common_steps))
     (λ q. grind (arith, common_steps, c.mark_sent.ensures q, c.view-view.ensures))

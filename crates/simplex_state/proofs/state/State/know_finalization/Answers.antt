@@ -9,7 +9,7 @@ pub returns : goal.returns
 unfolding learn_round
 returns g c = on_ok_weaker c.hold.result (λ did. λ made known k active. (
     let put = c.in_ok-put_away.ensures.kept made known k in
-    keeps_finalization _ _ _ made known _ _ _ _ _ _ put c.in_ok-put_away.ensures.away (omega arith) active
+    keeps_finalization _ made known _ _ _ _ _ _ put c.in_ok-put_away.ensures.away (omega arith) active
     (grind (arith, common_steps, put.settings.term_length))
     (grind (arith, common_steps, c.published_in-self.ensures))
     (λ q low. grind (arith, common_steps, c.in_ok-put_round.ensures q))

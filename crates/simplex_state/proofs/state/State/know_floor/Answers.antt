@@ -10,5 +10,5 @@ use Rattle.simplex_state.proofs.state.State.know_floor.Goals as goal
 pub returns : goal.returns
 unfolding learn_round learn_progress
 returns g c = on_ok_weaker c.put_round.result (λ did. λ made known k.
-    keeps_record _ _ _ made known (FloorAt c.args.view c.args.payload.now) _ k refl refl (omega arith) refl
+    keeps_record _ made known (FloorAt c.args.view c.args.payload.now) _ k refl refl (omega arith) refl
     (λ q. grind (arith, common_steps, did q))) c.put_round.ensures

@@ -9,7 +9,7 @@ returns-then-wants_verify-clause-bounds g c = (omega (arith, c.loop-view.invaria
 
 pub returns-then-wants_verify-clause-least : goal.returns-then-wants_verify-clause-least
 returns-then-wants_verify-clause-least g c = λ made known k low.
-    wanting_here _ _ _ made known c.loop-view.from c.in-Some.view (c.args.limit + 1) k
+    wanting_here _ made known c.loop-view.from c.in-Some.view (c.args.limit + 1) k
     (omega (arith, low, c.loop-view.invariant.0))
     c.in-Some.ensures.bounds.0
     (omega (arith, c.in-Some.ensures.bounds.1))
@@ -19,7 +19,7 @@ returns-then-wants_verify-clause-least g c = λ made known k low.
 
 pub returns-then-eq-clause-least : goal.returns-then-eq-clause-least
 returns-then-eq-clause-least g c = λ made known k low.
-    wanting_end _ _ _ made known c.loop-view.from c.in-Some.view (c.args.limit + 1) k
+    wanting_end _ made known c.loop-view.from c.in-Some.view (c.args.limit + 1) k
     (omega (arith, low, c.loop-view.invariant.0))
     c.in-Some.ensures.bounds.0
     (grind (arith, common_steps, c.eq.ensures, c.if-eq.true))
@@ -39,7 +39,7 @@ loop-view-preserved g c = (
     let top : c.args.limit < 2 ^ 64 = search rules in (
       grind (arith, common_steps, c.loop-view.invariant.0, c.in-Some.ensures.bounds.0, c.in-Some.ensures.bounds.1, c.eq.ensures, c.if-eq.false, c.next-from.ensures, top),
       λ made known k low.
-          wanting_on _ _ _ made known c.loop-view.from c.in-Some.view c.next-from.result (c.args.limit + 1) k
+          wanting_on _ made known c.loop-view.from c.in-Some.view c.next-from.result (c.args.limit + 1) k
           (omega (arith, low, c.loop-view.invariant.0))
           c.in-Some.ensures.bounds.0
           (grind (arith, common_steps, c.in-Some.ensures.bounds.1, c.eq.ensures, c.if-eq.false, c.next-from.ensures, top))
@@ -50,7 +50,7 @@ loop-view-preserved g c = (
 
 pub returns-clause-least : goal.returns-clause-least
 returns-clause-least g c = λ made known k low.
-    wanting_out _ _ _ made known c.loop-view.from (c.args.limit + 1) k
+    wanting_out _ made known c.loop-view.from (c.args.limit + 1) k
     (omega (arith, low, c.loop-view.invariant.0))
     (λ q a b. c.in_default.ensures.none q a (omega (arith, b)))
     ∙ c.loop-view.invariant.1 made known k low

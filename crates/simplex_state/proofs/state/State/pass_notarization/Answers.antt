@@ -5,5 +5,5 @@ use Rattle.simplex_state.proofs.state.State.pass_notarization.Goals as goal
 
 pub returns : goal.returns
 returns g c = λ made known now stamp k past.
-    keeps_past_notarization _ _ _ made known c.args.notarization.now now _ k stamp past
+    keeps_past_notarization _ made known c.args.notarization.now now _ k stamp past
     (λ q. grind (arith, common_steps, c.mark_sent.ensures q, c.view-view.ensures))

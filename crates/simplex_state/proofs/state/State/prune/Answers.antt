@@ -13,7 +13,7 @@ pub returns-clause-stands : goal.returns-clause-stands
 unfolding StandsFor facts_of prune_answer progress_of least_active
 returns-clause-stands g c = λ made calls s. (
     let low : c.last_finalized-last.result < 2 ^ 64 = search rules in
-    takes_facts _ _ _ made calls _ (Pruned c.saturating_sub-least.result ∷ [])
+    takes_facts _ made calls _ (Pruned c.saturating_sub-least.result ∷ [])
     (grind (arith, common_steps, c.last_finalized-last.ensures made calls s, c.saturating_sub-least.ensures, s.settings.retention, c.le.ensures, c.if-le.false, s.progress))
     (c.forget.ensures made (known_of made calls) s
     (grind (arith, c.last_finalized-last.ensures made calls s, c.saturating_sub-least.ensures, s.settings.retention))
@@ -31,4 +31,4 @@ returns-then-le-clause-answer g c = λ made calls s. grind (arith, common_steps,
 pub returns-then-le-clause-stands : goal.returns-then-le-clause-stands
 unfolding StandsFor facts_of prune_answer progress_of least_active
 returns-then-le-clause-stands g c = λ made calls s.
-    takes_facts _ _ _ made calls _ [] (grind (arith, common_steps, c.last_finalized-last.ensures made calls s, c.saturating_sub-least.ensures, s.settings.retention, c.le.ensures, c.if-le.true, s.progress)) s
+    takes_facts _ made calls _ [] (grind (arith, common_steps, c.last_finalized-last.ensures made calls s, c.saturating_sub-least.ensures, s.settings.retention, c.le.ensures, c.if-le.true, s.progress)) s

@@ -13,7 +13,7 @@ pub returns : goal.returns
 unfolding StandsFor facts_of learn_round learn_progress
 returns g c = record {
   stands = λ made calls s.
-      takes_facts _ _ _ made calls _ _ refl
-      (keeps_record _ _ _ made (known_of made calls) (ProposalFreed c.args.view) _ s refl refl (omega arith) refl
+      takes_facts _ made calls _ _ refl
+      (keeps_record _ made (known_of made calls) (ProposalFreed c.args.view) _ s refl refl (omega arith) refl
       (λ q. grind (arith, common_steps, c.free_proposal.ensures q)));
 }

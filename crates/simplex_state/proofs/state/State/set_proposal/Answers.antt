@@ -9,7 +9,7 @@ use Rattle.simplex_state.proofs.state.State.set_proposal.Goals as goal
 pub returns-clause-stands : goal.returns-clause-stands
 unfolding StandsFor facts_of
 returns-clause-stands g c = λ made calls s.
-    takes_facts _ _ _ made calls _ (Taken c.args.proposal.now ∷ [])
+    takes_facts _ made calls _ (Taken c.args.proposal.now ∷ [])
     (grind (arith, common_steps, c.records_proposal.ensures made calls s))
     (c.in_ok-take.ensures made (known_of made calls) s
     (records_active made (known_of made calls) c.args.proposal.now (grind (arith, c.records_proposal.ensures made calls s)) s.active)

@@ -6,4 +6,4 @@ use Rattle.simplex_state.proofs.state.State.verification_failed.Goals as goal
 
 pub returns : goal.returns
 unfolding StandsFor facts_of
-returns g c = record { stands = λ made calls s. takes_facts _ _ _ made calls _ _ refl (c.in_ok-trigger.ensures made (known_of made calls) s) }
+returns g c = record { stands = λ made calls s. takes_facts _ made calls _ _ refl (c.in_ok-trigger.ensures made (known_of made calls) s) }

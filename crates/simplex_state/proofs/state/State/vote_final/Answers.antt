@@ -11,5 +11,5 @@ use Rattle.simplex_state.proofs.state.State.vote_final.Goals as goal
 pub returns : goal.returns
 unfolding learn_round learn_progress
 returns g c = on_ok_weaker c.put_round.result (λ did. λ made known k e.
-    keeps_record _ _ _ made known (Voted (votes.Finalize c.args.vote.now)) _ k refl refl (omega arith) refl
+    keeps_record _ made known (Voted (votes.Finalize c.args.vote.now)) _ k refl refl (omega arith) refl
     (λ q. grind (arith, common_steps, did q, e))) c.put_round.ensures

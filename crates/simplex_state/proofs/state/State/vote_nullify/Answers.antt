@@ -5,5 +5,5 @@ use Rattle.simplex_state.proofs.state.State.vote_nullify.Goals as goal
 
 pub returns : goal.returns
 returns g c = λ made known k e.
-    keeps_nullify _ _ _ made known c.args.vote.now _ k
+    keeps_nullify _ made known c.args.vote.now _ k
     (λ q. grind (arith, common_steps, c.in_ok-insert.ensures q, e))

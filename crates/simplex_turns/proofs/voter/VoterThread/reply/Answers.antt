@@ -9,17 +9,17 @@ use Rattle.simplex_turns.proofs.voter.VoterThread.reply.Goals as goal
 pub returns-in_err-request-clause-finds : goal.returns-in_err-request-clause-finds
 returns-in_err-request-clause-finds g c = λ told made place h.
     let is : c.unanswered.result ≡ unanswered (place_of made place.past).standing c.args.kind =
-    told-at told c.args.self.now (λ (made : VoterMade) (p : Place). unanswered p.standing c.args.kind) c.unanswered.result c.unanswered.ensures.told c.unanswered.ensures.over made place h in
+    told-at told c.args.self.now (λ (made : VoterMade) (p : Place). unanswered p.standing c.args.kind) c.unanswered.result c.unanswered.ensures made place h in
     let none : c.unanswered.result ≡ None = search rules in
     rw (replied-none made place c.args.kind c.args.answer (sym is ∙ none)) (search rules, h)
 
 pub returns-then-not-answer-clause-finds : goal.returns-then-not-answer-clause-finds
 returns-then-not-answer-clause-finds g c = λ told made place h.
     let is : c.unanswered.result ≡ unanswered (place_of made place.past).standing c.args.kind =
-    told-at told c.args.self.now (λ (made : VoterMade) (p : Place). unanswered p.standing c.args.kind) c.unanswered.result c.unanswered.ensures.told c.unanswered.ensures.over made place h in
+    told-at told c.args.self.now (λ (made : VoterMade) (p : Place). unanswered p.standing c.args.kind) c.unanswered.result c.unanswered.ensures made place h in
     let one : c.unanswered.result ≡ Some c.in_ok-request.request = search rules in
     let at : c.answer.result ≡ takes_answer (place_of made place.past).standing c.in_ok-request.request c.args.answer =
-    told-at told c.args.self.now (λ (made : VoterMade) (p : Place). takes_answer p.standing c.in_ok-request.request c.args.answer) c.answer.result c.answer.ensures.answer c.answer.ensures.answer_over made place h in
+    told-at told c.args.self.now (λ (made : VoterMade) (p : Place). takes_answer p.standing c.in_ok-request.request c.args.answer) c.answer.result c.answer.ensures.answer made place h in
     let refused : takes_answer (place_of made place.past).standing c.in_ok-request.request c.args.answer ≡ false = sym at ∙ search rules in
     rw (replied-refused made place c.args.kind c.args.answer c.in_ok-request.request (sym is ∙ one) refused) (
       refl,
@@ -30,10 +30,10 @@ returns-then-not-answer-clause-finds g c = λ told made place h.
 pub returns-clause-finds : goal.returns-clause-finds
 returns-clause-finds g c = λ told made place h.
     let is : c.unanswered.result ≡ unanswered (place_of made place.past).standing c.args.kind =
-    told-at told c.args.self.now (λ (made : VoterMade) (p : Place). unanswered p.standing c.args.kind) c.unanswered.result c.unanswered.ensures.told c.unanswered.ensures.over made place h in
+    told-at told c.args.self.now (λ (made : VoterMade) (p : Place). unanswered p.standing c.args.kind) c.unanswered.result c.unanswered.ensures made place h in
     let one : c.unanswered.result ≡ Some c.in_ok-request.request = search rules in
     let at : c.answer.result ≡ takes_answer (place_of made place.past).standing c.in_ok-request.request c.args.answer =
-    told-at told c.args.self.now (λ (made : VoterMade) (p : Place). takes_answer p.standing c.in_ok-request.request c.args.answer) c.answer.result c.answer.ensures.answer c.answer.ensures.answer_over made place h in
+    told-at told c.args.self.now (λ (made : VoterMade) (p : Place). takes_answer p.standing c.in_ok-request.request c.args.answer) c.answer.result c.answer.ensures.answer made place h in
     let taken : takes_answer (place_of made place.past).standing c.in_ok-request.request c.args.answer ≡ true = sym at ∙ search rules in
     rw (replied-taken made place c.args.kind c.args.answer c.in_ok-request.request (sym is ∙ one) taken) (
       ap Some c.taken_by.ensures,

@@ -1,10 +1,6 @@
-use Rattle.simplex_voter.specs.Actor.{StandsFor, StandsOver}
+use Rattle.simplex_voter.specs.Actor.{StandsOver}
 use Rattle.simplex_voter.proofs.actor.Actor.proposal_state.Goals as goal
 
-pub returns-clause-told : goal.returns-clause-told
-unfolding StandsFor
-returns-clause-told g c = λ made past s. c.proposal_state.ensures made.rules _ _ s.planner
-
-pub returns-clause-over : goal.returns-clause-over
+pub returns : goal.returns
 unfolding StandsOver
-returns-clause-over g c = λ made past s. c.proposal_state.ensures made.rules _ _ s.planner
+returns g c = λ made past s. c.proposal_state.ensures made.rules _ _ s.planner

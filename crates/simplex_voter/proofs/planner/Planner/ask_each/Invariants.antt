@@ -9,5 +9,5 @@ use Rattle.simplex_voter.proofs.planner.Planner.ask_each.Given as goal
 
 abbrev pub invariant-loop-proposal : goal.invariant-loop-proposal
 invariant-loop-proposal g l =
-    (made : Made) (answers : List (ℕ × Answer)) (doing : Doing) → Stands g.S.Scheme.attests g.L.Elector.elects l.fn.self made answers doing
-    → Folded open_certify (Stands g.S.Scheme.attests g.L.Elector.elects l.self made answers) doing l.proposals (drop l.proposal-index l.proposals)
+    (made : Made) (answers : List (ℕ × Answer)) (doing : Doing) → Stands l.fn.self made answers doing
+    → Folded open_certify (Stands l.self made answers) doing l.proposals (drop l.proposal-index l.proposals)

@@ -8,5 +8,5 @@ use Rattle.simplex_voter.proofs.planner.Planner.replay_all.Given as goal
 
 abbrev pub invariant-loop-artifact : goal.invariant-loop-artifact
 invariant-loop-artifact g l =
-    (made : Made) (answers : List (ℕ × Answer)) (doing : Doing) → Stands g.S.Scheme.attests g.L.Elector.elects l.fn.self made answers doing → IsWhole doing.desk.known
-    → Replaying (Stands g.S.Scheme.attests g.L.Elector.elects l.self made answers) made l.now l.floor doing l.records (drop l.artifact-index l.records)
+    (made : Made) (answers : List (ℕ × Answer)) (doing : Doing) → Stands l.fn.self made answers doing → IsWhole doing.desk.known
+    → Replaying (Stands l.self made answers) made l.now l.floor doing l.records (drop l.artifact-index l.records)

@@ -9,5 +9,5 @@ use Rattle.simplex_voter.proofs.planner.Planner.seek_parents.Given as goal
 
 abbrev pub invariant-loop-fetch : goal.invariant-loop-fetch
 invariant-loop-fetch g l =
-    (made : Made) (answers : List (ℕ × Answer)) (doing : Doing) → Stands g.S.Scheme.attests g.L.Elector.elects l.fn.self made answers doing
-    → Folded seek_parent (Stands g.S.Scheme.attests g.L.Elector.elects l.self made answers) doing l.fetches (drop l.fetch-index l.fetches)
+    (made : Made) (answers : List (ℕ × Answer)) (doing : Doing) → Stands l.fn.self made answers doing
+    → Folded seek_parent (Stands l.self made answers) doing l.fetches (drop l.fetch-index l.fetches)
