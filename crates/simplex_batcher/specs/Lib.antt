@@ -1,3 +1,4 @@
+pub mod Bound
 pub mod Activity
 pub mod Hearing
 pub mod Holding

@@ -1,5 +1,5 @@
 //! The batcher's actor.
-ghost use Rattle.std.specs.Prelude.{◌≡◌};
+ghost use Rattle.simplex_batcher.specs.Bound.{Knows};
 
 use crate::config::Config;
 use crate::rounds::Rounds;
@@ -22,5 +22,5 @@ pub struct Actor<S: Scheme> {
     pub(crate) seen: Seen,
     pub(crate) rounds: Rounds,
     // true of any: contracts read from an actor's type what its scheme does
-    ghost by_scheme: { (s : S) → S.members s ≡ S.members s },
+    ghost by_scheme: { Knows S.members },
 }

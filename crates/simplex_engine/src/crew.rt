@@ -1,5 +1,5 @@
 //! The actors at work, and the mail between them.
-ghost use Rattle.std.specs.Prelude.{◌≡◌};
+ghost use Rattle.simplex_state.specs.Bound.{Knows};
 
 use crate::boxes::Boxes;
 use simplex_journal::Journal;
@@ -24,7 +24,7 @@ pub struct Crew<S: Scheme, L: Elector, J: Journal> {
     /// The members that a call blocked since the start. Their packets are refused.
     pub blocked: BTreeSet<u32>,
     // true of any three: contracts read from a crew's type what its scheme, its elector and its journal do
-    ghost by_scheme: { (s : S) → S.members s ≡ S.members s },
-    ghost by_elector: { (l : L) → L.built_for l ≡ L.built_for l },
-    ghost by_journal: { (j : J) → J.fault_count j ≡ J.fault_count j },
+    ghost by_scheme: { Knows S.members },
+    ghost by_elector: { Knows L.built_for },
+    ghost by_journal: { Knows J.fault_count },
 }

@@ -1,5 +1,5 @@
 //! The resolver's actor.
-ghost use Rattle.std.specs.Prelude.{◌≡◌};
+ghost use Rattle.simplex_resolver.specs.Bound.{Knows};
 
 use crate::config::Config;
 use simplex_fetch::Fetcher;
@@ -23,5 +23,5 @@ pub struct Actor<S: Scheme> {
     /// The fetcher's messages to the resolver.
     pub(crate) handler: Mailbox<HandlerMessage>,
     // true of any: contracts read from an actor's type what its scheme does
-    ghost by_scheme: { (s : S) → S.members s ≡ S.members s },
+    ghost by_scheme: { Knows S.members },
 }

@@ -1,5 +1,5 @@
 //! What one member knows, and what it answers by the rules.
-ghost use Rattle.std.specs.Prelude.{◌≡◌};
+ghost use Rattle.simplex_state.specs.Bound.{Knows};
 
 use crate::held::Held;
 use crate::missing::Missing;
@@ -44,6 +44,6 @@ pub struct State<S: Scheme, L: Elector> {
     pub(crate) nullifications: BTreeMap<u64, Held<Nullification>>,
     pub(crate) finalizations: BTreeMap<u64, Held<Finalization>>,
     // true of any: contracts read from a state's type what its scheme and its elector do
-    ghost by_scheme: { (s : S) → S.members s ≡ S.members s },
-    ghost by_elector: { (l : L) → L.built_for l ≡ L.built_for l },
+    ghost by_scheme: { Knows S.members },
+    ghost by_elector: { Knows L.built_for },
 }

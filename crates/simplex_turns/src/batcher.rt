@@ -9,6 +9,7 @@ ghost use Rattle.model_steps.specs.Batcher.{step_out};
 ghost use Rattle.simplex_batcher.specs.Stands.{Takes, Answers};
 ghost use Rattle.simplex_turns.specs.Batching.{batcher_input, heard_on, AlsoBlocks};
 ghost use Rattle.simplex_turns.specs.Handing.{PutsBehind};
+ghost use Rattle.simplex_state.specs.Bound.{Knows};
 
 use crate::blocking::note_blocks;
 use crate::feed::Delivery;
@@ -42,7 +43,7 @@ pub struct BatcherThread<S: Scheme> {
     /// It puts messages into the voter's mailbox with this.
     pub voter: Pass<voter::Message>,
     // true of any: contracts read from a thread's type what its scheme does
-    ghost by_scheme: { (s : S) → S.members s ≡ S.members s },
+    ghost by_scheme: { Knows S.members },
 }
 
 impl<S: Scheme + Drop> BatcherThread<S> {

@@ -8,6 +8,7 @@ ghost use Rattle.model_resolver.specs.Views.{is_reached};
 ghost use Rattle.simplex_resolver.specs.Stands.{Takes, Answers};
 ghost use Rattle.simplex_turns.specs.Handing.{PutsBehind};
 ghost use Rattle.simplex_turns.specs.Resolving.{resolver_input, answered_on};
+ghost use Rattle.simplex_state.specs.Bound.{Knows};
 
 use crate::feed::Delivery;
 use crate::handing::put_all;
@@ -38,7 +39,7 @@ pub struct ResolverThread<S: Scheme> {
     /// It puts messages into the voter's mailbox with this.
     pub voter: Pass<voter::Message>,
     // true of any: contracts read from a thread's type what its scheme does
-    ghost by_scheme: { (s : S) → S.members s ≡ S.members s },
+    ghost by_scheme: { Knows S.members },
 }
 
 impl<S: Scheme + Drop> ResolverThread<S> {

@@ -1,6 +1,7 @@
 //! A voter on a thread of its own.
 ghost use Rattle.std.specs.Prelude.{◌≡◌, ◌<◌, ◌^◌, Bool, All, IfOk, Some, None};
 ghost use Rattle.simplex_turns.specs.Voting.{taken_by};
+ghost use Rattle.simplex_state.specs.Bound.{Knows};
 
 use crate::feed::FeedItem;
 use crate::handing::put_all;
@@ -36,9 +37,9 @@ pub struct VoterThread<S: Scheme, L: Elector, J: Journal> {
     /// It puts messages into the resolver's mailbox with this.
     pub resolver: Pass<MailboxMessage>,
     // true of any three: contracts read from a thread's type what its scheme, its elector and its journal do
-    ghost by_scheme: { (s : S) → S.members s ≡ S.members s },
-    ghost by_elector: { (l : L) → L.built_for l ≡ L.built_for l },
-    ghost by_journal: { (j : J) → J.fault_count j ≡ J.fault_count j },
+    ghost by_scheme: { Knows S.members },
+    ghost by_elector: { Knows L.built_for },
+    ghost by_journal: { Knows J.fault_count },
 }
 
 impl<S: Scheme + Drop, L: Elector + Drop, J: Journal + Drop> VoterThread<S, L, J> {

@@ -1,5 +1,5 @@
 //! The voter.
-ghost use Rattle.std.specs.Prelude.{◌≡◌};
+ghost use Rattle.simplex_state.specs.Bound.{Knows};
 
 use crate::planner::Planner;
 use simplex_journal::Journal;
@@ -15,5 +15,5 @@ pub struct Actor<S: Scheme, L: Elector, J: Journal> {
     pub(crate) floor: Floor,
     pub(crate) journal: J,
     // true of any: contracts read from an actor's type what its journal does
-    ghost by_journal: { (j : J) → J.fault_count j ≡ J.fault_count j },
+    ghost by_journal: { Knows J.fault_count },
 }

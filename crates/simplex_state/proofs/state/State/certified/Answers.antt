@@ -19,4 +19,4 @@ unfolding StandsFor facts_of judged
 returns-clause-stands g c = λ made calls s.
     takes_facts _ made calls _ ((if c.args.good then [] else triggered made (known_of made calls) c.args.view FailedCertification c.args.now) ++ Judged c.args.view c.args.good c.args.now ∷ [])
     (grind (arith, common_steps, c.takes_verdict.ensures made calls s))
-    (behind_one (Keeps _ _ _ made) _ _ _ (c.in_ok-judge.ensures made (known_of made calls) s (verdict_none (known_of made calls) c.args.view (grind (arith, c.takes_verdict.ensures made calls s)))))
+    (behind_one (Keeps _ made) _ _ _ (c.in_ok-judge.ensures made (known_of made calls) s (verdict_none (known_of made calls) c.args.view (grind (arith, c.takes_verdict.ensures made calls s)))))

@@ -13,4 +13,4 @@ returns-clause-stands g c = λ made calls s.
     (asked_is made (known_of made calls) _ _
     (c.deref.ensures.value ∙ c.in_ok-proposals.ensures.proposals made calls before)
     (c.deref-2.ensures.value ∙ c.in_ok-proposals.ensures.fetches made calls before))
-    (behind_both (Keeps _ _ _ made) _ _ (known_of made calls) (c.in_ok-ask_parents.ensures made _ (c.in_ok-ask_certify.ensures made (known_of made calls) before))))
+    (behind_both (Keeps _ made) _ _ (known_of made calls) (c.in_ok-ask_parents.ensures made _ (c.in_ok-ask_certify.ensures made (known_of made calls) before))))
