@@ -4,13 +4,14 @@
 ghost use Rattle.std.specs.Prelude.{◌≡◌, ◌++◌, ◌&&◌, ℕ, IfOk, OnOk, true};
 ghost use Rattle.model_run.specs.Life.{Running, clock_of, life_in};
 ghost use Rattle.model_run.specs.Kinds.{is_node, runs_engine};
+ghost use Rattle.simplex_engine.specs.Holding as holding;
 ghost use Rattle.simplex_generator.specs.Setup.{setup_of};
 ghost use Rattle.simplex_generator.specs.Generated as generated;
 ghost use Rattle.simplex_generator.specs.Stands.{Answers, AnswersAt, EngineAnswers};
 
 use crate::{ENGINE_NODES, Held, NODES, SOURCES};
 use simplex_network::{Network, NodeEngine};
-use simplex_transcript::Node;
+use simplex_transcript::{Node, StepSource};
 use std::alloc::{AllocError, Global};
 
 /// The sources that hold something, by node, then in order.
@@ -60,7 +61,7 @@ fn push_sources(
 {
     let mut rest = SOURCES.as_slice();
     while let [source, after @ ..] = rest {
-        if engine.holds(*source, now) {
+        if holds(engine, *source, now) {
             held.push(Held {
                 node,
                 source: *source,
@@ -69,6 +70,13 @@ fn push_sources(
         rest = after;
     }
     Ok(())
+}
+
+// Whether the source of the engine holds something.
+fn holds(engine: &NodeEngine, source: StepSource, now: u64) -> bool
+    ensures { EngineAnswers engine.now (λ made past. holding.holds made past source now) result }
+{
+    engine.holds(source, now)
 }
 
 /// The nodes that are given packets: those whose engine runs, and those that have none.

@@ -43,7 +43,6 @@ module _ {S L J : Type 0} {s : scheme.Ghosts S} {l : elector.Ghosts L} {j : jour
       → Answers actor rule answer → (made : VoterMade) (past : List Given) → VoterStands told actor made past → answer ≡ rule made past
   either-answers told actor rule answer over = λ made past stands. over made past (known-over told actor made past stands)
 
-module _ {S L J : Type 0} {s : scheme.Ghosts S} {l : elector.Ghosts L} {j : journal.Ghosts J} where
   -- ---- what is told of a voter
 
   -- what the actor answers by a rule that reads its place, it answers at the thread's place
