@@ -147,6 +147,7 @@ pub use Rattle.model_run.specs.SentVotes
 pub use Rattle.model_run.specs.Setting
 pub use Rattle.model_run.specs.Setups
 -- Of a voter's state.
+pub use Rattle.simplex_state.specs.Bound as StateBound
 pub use Rattle.simplex_state.specs.Floor as StateFloor
 pub use Rattle.simplex_state.specs.Ranges as StateRanges
 pub use Rattle.simplex_state.specs.Stands as StateStands
@@ -157,9 +158,11 @@ pub use Rattle.simplex_repair.specs.Stands as RepairStands
 pub use Rattle.simplex_fetch.specs.Index as FetchIndex
 pub use Rattle.simplex_fetch.specs.Laws as FetchLaws
 -- Of the resolver.
+pub use Rattle.simplex_resolver.specs.Bound as ResolverBound
 pub use Rattle.simplex_resolver.specs.Laws as ResolverLaws
 pub use Rattle.simplex_resolver.specs.Stands as ResolverStands
 -- Of the batcher.
+pub use Rattle.simplex_batcher.specs.Bound as BatcherBound
 pub use Rattle.simplex_batcher.specs.Stands as BatcherStands
 -- Of the voter.
 pub use Rattle.simplex_voter.specs.Actor
@@ -251,6 +254,7 @@ pub use Rattle.simplex_mocks.specs.Certifier
 pub use Rattle.simplex_mocks.specs.Conflicting
 pub use Rattle.simplex_mocks.specs.Drawing as MocksDrawing
 pub use Rattle.simplex_mocks.specs.Equivocating
+pub use Rattle.simplex_mocks.specs.Hearing
 pub use Rattle.simplex_mocks.specs.Queue as MocksQueue
 pub use Rattle.simplex_mocks.specs.Relay
 pub use Rattle.simplex_mocks.specs.Remembering
@@ -264,7 +268,9 @@ pub use Rattle.simplex_records.specs.Stands as RecordsStands
 pub use Rattle.simplex_network.specs.Answer
 pub use Rattle.simplex_network.specs.Lending
 pub use Rattle.simplex_network.specs.Stands
-pub use Rattle.simplex_network.specs.WholeRuns
+-- Of whole runs, one by one and by several workers.
+pub use Rattle.simplex_run.specs.WholeRuns
+pub use Rattle.simplex_par.specs.Steps as ParSteps
 -- Of inputs as JSON.
 pub use Rattle.simplex_form.specs.Events as FormEvents
 pub use Rattle.simplex_form.specs.Form as FormForm

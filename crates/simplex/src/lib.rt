@@ -72,14 +72,13 @@ pub use simplex_front as front;
 pub use simplex_generator as generated;
 pub use simplex_generator::gen_run;
 pub use simplex_io as io;
-pub use simplex_network::{
-    Network, NodeEngine, NodeJournal, Transcript, run_network, run_network_from,
-};
+pub use simplex_network::{Network, NodeEngine, NodeJournal};
 pub use simplex_par::{Gate, OpenGate, run_network_par};
 pub use simplex_program::{Command, Exit, LIMIT, MOST_STEPS, MOST_WORKERS, program};
 pub use simplex_report as report;
 pub use simplex_report::hand_reports;
 pub use simplex_round as round;
+pub use simplex_run::{Transcript, run_network, run_network_from};
 pub use simplex_state as state;
 pub use simplex_text as text;
 pub use simplex_threads as threads;

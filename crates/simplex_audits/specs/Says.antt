@@ -9,7 +9,7 @@ use Rattle.simplex_form.specs.Input.{json_of, input_of}
 use Rattle.simplex_text.specs.Refusals.{refusal_text}
 use Rattle.model_run.specs.Setting.{at_epoch_genesis}
 use Rattle.model_run.specs.Run.{Run}
-use Rattle.simplex_network.specs.WholeRuns.{WholeRunFrom}
+use Rattle.simplex_run.specs.WholeRuns.{WholeRunFrom}
 use Rattle.model_audit.specs.declared.record.Verdict.TheVariants.{Sound}
 use Rattle.model_audit.specs.Audit.{audited}
 use Rattle.model_audit.specs.Record.{record_of}

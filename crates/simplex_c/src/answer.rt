@@ -6,7 +6,7 @@ ghost use Rattle.simplex_c.specs.Answer.{Tells};
 
 use simplex_form::{Input, read_input};
 use simplex_io::LIMIT;
-use simplex_network::run_network;
+use simplex_run::run_network;
 use simplex_text::{printed_run, refusal_text};
 use simplex_transcript::{Event, RunError, Setup};
 use std::alloc::{AllocError, Global};

@@ -2,7 +2,7 @@
 ghost use Rattle.std.specs.Prelude.{◌≡◌, ◌-◌, IfOk, option_map, take};
 ghost use Rattle.simplex_drawing.specs.Before.{entries_of};
 
-use simplex_network::{Transcript, run_network};
+use simplex_run::{Transcript, run_network};
 use simplex_transcript::{Event, RunError, Setup};
 use std::alloc::{AllocError, Global};
 

@@ -14,7 +14,7 @@ use Rattle.model_run.specs.Setting.{Setting, setting_of}
 use Rattle.model_run.specs.Setups.{first_bad, is_within, most_members}
 use Rattle.law_log.specs.Logs.{logs_in}
 use Rattle.law_log.specs.Transcripts.{IsTranscript}
-use Rattle.simplex_network.specs.declared.run.Transcript.{Transcript}
+use Rattle.simplex_run.specs.declared.run.Transcript.{Transcript}
 use Rattle.law_run.specs.Complete.{IsOneEach}
 use Rattle.law_run.specs.Limits.{KeepsTheLimit}
 use Rattle.law_run.specs.OneChain.{ReportOneChain}
@@ -25,7 +25,7 @@ use Rattle.simplex_transcript.specs.declared.node.Node.{Node}
 use Rattle.model_log.specs.declared.entry.LogEntry.{LogEntry}
 use Rattle.simplex_network.specs.Answer as answers
 use Rattle.simplex_network.specs.Stands.{MadeBy}
-use Rattle.simplex_network.specs.WholeRuns.{WholeRunFrom}
+use Rattle.simplex_run.specs.WholeRuns.{WholeRunFrom}
 use Rattle.model_epochs.specs.declared.chain.EpochError.{EpochError}
 use Rattle.model_epochs.specs.declared.chain.EpochError.TheVariants.{WrongEpoch, Run, Open}
 use Rattle.model_epochs.specs.Chain.{closing_payload}

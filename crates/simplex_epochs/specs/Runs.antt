@@ -6,7 +6,7 @@ use Rattle.simplex_transcript.specs.declared.refusal.Refusal.{Refusal}
 use Rattle.model_run.specs.Run.{RunFrom}
 use Rattle.model_run.specs.Setting.{Setting, setting_of}
 use Rattle.law_log.specs.Logs.{logs_in}
-use Rattle.simplex_network.specs.WholeRuns.{WholeRunFrom}
+use Rattle.simplex_run.specs.WholeRuns.{WholeRunFrom}
 use Rattle.model_epochs.specs.declared.chain.EpochError.{EpochError}
 use Rattle.model_epochs.specs.declared.chain.EpochError.TheVariants as errors
 use Rattle.model_epochs.specs.Epochs.{Input, Ran, behind, cut_at}

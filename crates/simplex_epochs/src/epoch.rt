@@ -1,7 +1,7 @@
 //! What an epoch is given, and its run.
 use simplex_form::Input;
 use simplex_logs::NodeLog;
-use simplex_network::Transcript;
+use simplex_run::Transcript;
 use simplex_types::{Digest, Sequence};
 
 /// What an epoch is given: the setup of its members, and what happens.

@@ -9,14 +9,14 @@ ghost use Rattle.model_epochs.specs.declared.chain.EpochError.TheVariants as err
 ghost use Rattle.model_epochs.specs.Chain.{closing_payload};
 ghost use Rattle.model_epochs.specs.Epochs.{Epochs, Input, behind, cut_at, epochs_from, lists_of};
 ghost use Rattle.simplex_network.specs.Answer as answers;
-ghost use Rattle.simplex_network.specs.WholeRuns.{WholeRunFrom};
+ghost use Rattle.simplex_run.specs.WholeRuns.{WholeRunFrom};
 ghost use Rattle.simplex_epochs.specs.Runs.{AreEpochRuns, HasOneMore, IsEpochRun, WasRefused, given_of, inputs_of, is_memory, ran_of, rans_of};
 
 use crate::closing::{closing_payload, cut_logs, longest};
 use crate::epoch::{EpochInput, EpochRun};
 use model_epochs::EpochError;
 use simplex_logs::{NodeLog, logs};
-use simplex_network::{Transcript, run_network_from};
+use simplex_run::{Transcript, run_network_from};
 use simplex_transcript::{Refusal, RunError};
 use simplex_types::{Digest, Epoch, Sequence, genesis};
 use std::alloc::{AllocError, Global};

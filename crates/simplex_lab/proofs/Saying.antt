@@ -9,8 +9,8 @@ use Rattle.simplex_text.specs.Refusals.{refusal_text}
 use Rattle.simplex_writer.specs.Inputs.{input_text}
 use Rattle.model_run.specs.Setting.{at_epoch_genesis}
 use Rattle.model_run.specs.Run.{Run, run}
-use Rattle.simplex_network.specs.declared.run.Transcript.{Transcript}
-use Rattle.simplex_network.specs.WholeRuns.{WholeRunFrom}
+use Rattle.simplex_run.specs.declared.run.Transcript.{Transcript}
+use Rattle.simplex_run.specs.WholeRuns.{WholeRunFrom}
 use Rattle.simplex_simulator.specs.Going.{IsRunnable}
 use Rattle.simplex_drawing.specs.Before.{earlier, entries_of}
 use Rattle.simplex_lab.specs.Lines.{makes_as_written, read_makes_line}

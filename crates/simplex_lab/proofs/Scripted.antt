@@ -4,8 +4,8 @@ use Rattle.std.specs.Str.{IsUtf8}
 use Rattle.simplex_transcript.specs.declared.refusal.Refusal.{Refusal}
 use Rattle.model_run.specs.Setting.{at_epoch_genesis}
 use Rattle.model_run.specs.Run.{Run}
-use Rattle.simplex_network.specs.declared.run.Transcript.{Transcript}
-use Rattle.simplex_network.specs.WholeRuns.{WholeRunFrom}
+use Rattle.simplex_run.specs.declared.run.Transcript.{Transcript}
+use Rattle.simplex_run.specs.WholeRuns.{WholeRunFrom}
 use Rattle.simplex_script.specs.Scripts.{script_of}
 use Rattle.simplex_script.specs.declared.fault.BadLine.{BadLine}
 use Rattle.simplex_script.specs.declared.script.Script.{Script}

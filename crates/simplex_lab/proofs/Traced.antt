@@ -9,9 +9,9 @@ use Rattle.law_run.specs.Limits.{KeepsTheLimit}
 use Rattle.law_run.specs.OneChain.{ReportOneChain}
 use Rattle.law_run.specs.Safe.{RunsSafely}
 use Rattle.law_run.specs.Sayings.{Each}
-use Rattle.simplex_network.specs.declared.run.Transcript.{Transcript}
+use Rattle.simplex_run.specs.declared.run.Transcript.{Transcript}
 use Rattle.simplex_network.specs.Stands.{MadeBy}
-use Rattle.simplex_network.specs.WholeRuns.{WholeRunFrom}
+use Rattle.simplex_run.specs.WholeRuns.{WholeRunFrom}
 
 -- a whole run, as it was made
 pub made_whole : (setup : Setup) (events : List Event) (made : Transcript)

@@ -24,8 +24,8 @@ use Rattle.simplex_trace.specs.Trace.{deed_line, lines_of}
 use Rattle.simplex_writer.specs.Inputs.{input_text}
 use Rattle.model_run.specs.Setting.{at_epoch_genesis}
 use Rattle.model_run.specs.Run.{Run}
-use Rattle.simplex_network.specs.declared.run.Transcript.{Transcript}
-use Rattle.simplex_network.specs.WholeRuns.{WholeRunFrom}
+use Rattle.simplex_run.specs.declared.run.Transcript.{Transcript}
+use Rattle.simplex_run.specs.WholeRuns.{WholeRunFrom}
 use Rattle.simplex_simulator.specs.Going.{IsRunnable}
 use Rattle.simplex_script.specs.Scripts.{script_of}
 use Rattle.simplex_script.specs.declared.fault.BadLine.{BadLine}

@@ -7,7 +7,8 @@ ghost use Rattle.simplex_lab.specs.Opening as opening;
 
 use simplex_generator::{Requests, SOURCES, Unanswered};
 use simplex_names::{channel_word, source_word};
-use simplex_network::{Network, Transcript};
+use simplex_network::Network;
+use simplex_run::Transcript;
 use simplex_trace::{ask_text, node_text, ref_text, spaced};
 use simplex_transcript::{Entry, Event, Node, Packet, Ref, StepSource};
 use std::alloc::{AllocError, Global};

@@ -9,7 +9,7 @@ use crate::reason::LabReason;
 use crate::reasons::reason_line;
 use crate::told::Told;
 use simplex_front::Answer;
-use simplex_network::{Transcript, run_network};
+use simplex_run::{Transcript, run_network};
 use simplex_script::{BadLine, Script, fault_text, read_script};
 use simplex_scripts::{Compiled, compile, rewritten};
 use simplex_text::refusal_text;

@@ -8,7 +8,7 @@ use crate::reason::LabReason;
 use crate::told::Told;
 use simplex_form::{Input, read_input};
 use simplex_front::Answer;
-use simplex_network::run_network;
+use simplex_run::run_network;
 use simplex_shrinker::{Probe, shrink};
 use simplex_text::{printed_run, refusal_text};
 use simplex_transcript::{Event, RunError, Setup};

@@ -10,7 +10,7 @@ use crate::told::Told;
 use crate::words::Order;
 use simplex_form::{Input, read_input};
 use simplex_front::Answer;
-use simplex_network::{Transcript, run_network};
+use simplex_run::{Transcript, run_network};
 use simplex_simulator::simulate;
 use simplex_text::{printed_run, refusal_text};
 use simplex_transcript::{Event, RunError, Setup};

@@ -1,6 +1,6 @@
 //! What whole work made.
-use simplex_network::Transcript;
 use simplex_picture::Picture;
+use simplex_run::Transcript;
 use simplex_transcript::Event;
 use simplex_types::Sequence;
 

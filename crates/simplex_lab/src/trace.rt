@@ -2,7 +2,7 @@
 ghost use Rattle.std.specs.Prelude.{◌≡◌, Err, IfOk, option_map, string_bytes};
 ghost use Rattle.model_run.specs.Setting.{at_epoch_genesis};
 ghost use Rattle.model_run.specs.Run.{Run};
-ghost use Rattle.simplex_network.specs.WholeRuns.{WholeRunFrom};
+ghost use Rattle.simplex_run.specs.WholeRuns.{WholeRunFrom};
 ghost use Rattle.simplex_generator.specs.Unanswered.{node_in};
 ghost use Rattle.simplex_drawing.specs.Before.{earlier, entries_of};
 ghost use Rattle.simplex_lab.specs.declared.words.Word.TheVariants as asks;
@@ -16,7 +16,7 @@ use crate::told::Told;
 use simplex_drawing::{events_before, whole_run};
 use simplex_form::Input;
 use simplex_front::Answer;
-use simplex_network::{Transcript, run_network};
+use simplex_run::{Transcript, run_network};
 use simplex_text::refusal_text;
 use simplex_trace::{deed_line, lines};
 use simplex_transcript::{Event, Node, Refusal, RunError};

@@ -23,8 +23,8 @@ use Rattle.model_ledger.specs.Blocks.{is_sound}
 use Rattle.law_ledger.specs.Faults.{ledger_fault}
 use Rattle.law_ledger.specs.Lines.{lines_of}
 use Rattle.law_ledger.specs.Whole.{NoneIsMissing, IsLedgerOf}
-use Rattle.simplex_network.specs.declared.run.Transcript.{Transcript}
-use Rattle.simplex_network.specs.WholeRuns.{WholeRunFrom}
+use Rattle.simplex_run.specs.declared.run.Transcript.{Transcript}
+use Rattle.simplex_run.specs.WholeRuns.{WholeRunFrom}
 use Rattle.simplex_front.specs.declared.answer.Answer.{Answer}
 use Rattle.simplex_front.specs.declared.answer.Answer.TheVariants as answers
 use Rattle.simplex_front.specs.Answer.{IsAnswer}

@@ -14,8 +14,8 @@ use Rattle.model_ledger.specs.declared.transfer.LedgerError.{LedgerError}
 use Rattle.law_ledger.specs.Lines.{lines_of}
 use Rattle.law_ledger.specs.Faults.{ledger_fault}
 use Rattle.law_ledger.specs.Whole.{IsLedgerOf}
-use Rattle.simplex_network.specs.declared.run.Transcript.{Transcript}
-use Rattle.simplex_network.specs.WholeRuns.{WholeRunFrom}
+use Rattle.simplex_run.specs.declared.run.Transcript.{Transcript}
+use Rattle.simplex_run.specs.WholeRuns.{WholeRunFrom}
 use Rattle.simplex_ledgers.specs.declared.end.LedgerEnd.{LedgerEnd}
 use Rattle.simplex_ledgers.specs.declared.end.LedgerEnd.TheVariants as ends
 use Rattle.simplex_ledgers.specs.declared.form.LedgerInput.{LedgerInput}

@@ -17,9 +17,9 @@ use Rattle.law_run.specs.Sayings.{Each}
 use Rattle.law_log.specs.Lines.{lines_of}
 use Rattle.law_log.specs.Logs.{logs_in}
 use Rattle.law_log.specs.Transcripts.{AreLogsOf, IsTranscript}
-use Rattle.simplex_network.specs.declared.run.Transcript.{Transcript}
+use Rattle.simplex_run.specs.declared.run.Transcript.{Transcript}
 use Rattle.simplex_network.specs.Stands.{MadeBy}
-use Rattle.simplex_network.specs.WholeRuns.{WholeRunFrom}
+use Rattle.simplex_run.specs.WholeRuns.{WholeRunFrom}
 use Rattle.std.specs.Prelude.{string_bytes}
 use Rattle.std.specs.declared.alloc.AllocError.{AllocError}
 use Rattle.simplex_transcript.specs.declared.refusal.Refusal.{Refusal}

@@ -8,7 +8,7 @@ use Rattle.simplex_form.specs.Input.{input_of}
 use Rattle.simplex_text.specs.Refusals.{refusal_text}
 use Rattle.model_run.specs.Setting.{at_epoch_genesis}
 use Rattle.model_run.specs.Run.{Run}
-use Rattle.simplex_network.specs.WholeRuns.{WholeRunFrom}
+use Rattle.simplex_run.specs.WholeRuns.{WholeRunFrom}
 use Rattle.law_log.specs.Lines.{lines_of}
 use Rattle.law_log.specs.Transcripts.{AreLogsOf}
 use Rattle.simplex_logs.specs.declared.work.LogsDone.{LogsDone}

@@ -18,4 +18,3 @@ pub mod Lending
 pub mod Preparing
 pub mod Speaking
 pub mod Standing
-pub mod Runs

@@ -7,4 +7,3 @@ pub mod Parts
 pub mod Polls
 pub mod Stages
 pub mod Stands
-pub mod WholeRuns

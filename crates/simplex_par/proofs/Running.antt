@@ -15,7 +15,7 @@ use Rattle.model_run.proofs.Whole.{joined_join}
 use Rattle.simplex_network.specs.declared.network.Network.{Network}
 use Rattle.simplex_network.specs.Answer.{setup_refusal}
 use Rattle.simplex_network.specs.Lending.{Groups, MayLend}
-use Rattle.simplex_network.proofs.Runs.{Ran, setup-good}
+use Rattle.simplex_run.proofs.Runs.{Ran, setup-good}
 use Rattle.simplex_par.specs.Steps.{GroupMakes, GroupRefuses}
 
 run_on : (setting : Setting) (start : List Noted) (first rest : List Event) (before : List Noted) → run setting start first ≡ Ok before

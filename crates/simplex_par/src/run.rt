@@ -18,7 +18,8 @@ use law_run::{
 };
 use simplex_mailbox::Gate;
 use simplex_members::are_few;
-use simplex_network::{Network, Transcript};
+use simplex_network::Network;
+use simplex_run::Transcript;
 use simplex_transcript::{Event, Field, Refusal, RunError, Setup};
 use simplex_typed::entries_are_typed;
 use simplex_types::Sequence;

@@ -20,7 +20,7 @@ use Rattle.simplex_text.specs.Lines.{PrintedRun}
 use Rattle.simplex_generator.specs.Setup.{setup_of}
 use Rattle.simplex_generator.specs.Summary.{summary}
 use Rattle.simplex_generator.specs.Generated.{generated}
-use Rattle.simplex_network.specs.declared.run.Transcript.{Transcript}
+use Rattle.simplex_run.specs.declared.run.Transcript.{Transcript}
 use Rattle.simplex_network.specs.Stands.{MadeBy}
 use Rattle.simplex_program.specs.declared.exit.Exit.{Exit}
 use Rattle.simplex_program.specs.declared.exit.Exit.TheVariants as exits

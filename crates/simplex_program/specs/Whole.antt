@@ -5,8 +5,8 @@ use Rattle.simplex_transcript.specs.declared.setup.Setup.{Setup}
 use Rattle.simplex_form.specs.declared.input.Input.{Input}
 use Rattle.simplex_form.specs.Input.{input_of}
 use Rattle.model_run.specs.Setting.{at_epoch_genesis}
-use Rattle.simplex_network.specs.declared.run.Transcript.{Transcript}
-use Rattle.simplex_network.specs.WholeRuns.{WholeRunFrom}
+use Rattle.simplex_run.specs.declared.run.Transcript.{Transcript}
+use Rattle.simplex_run.specs.WholeRuns.{WholeRunFrom}
 use Rattle.simplex_program.specs.declared.exit.Exit.{Exit}
 use Rattle.simplex_program.specs.declared.exit.Exit.TheVariants as exits
 

@@ -2,7 +2,7 @@
 ghost use Rattle.std.specs.Prelude.{◌≡◌};
 ghost use Rattle.simplex_program.specs.Exit.{told, status_of};
 
-use simplex_network::Transcript;
+use simplex_run::Transcript;
 use simplex_transcript::RunError;
 
 /// How the program ends.

@@ -8,7 +8,7 @@ ghost use Rattle.simplex_form.specs.Input.{input_of};
 ghost use Rattle.simplex_text.specs.Lines.{PrintedRun};
 ghost use Rattle.simplex_io.specs.Io.{Adds, AddsPart, TakesAll, TakesOver, TakesWithin, Rose};
 ghost use Rattle.model_run.specs.Run.{Run};
-ghost use Rattle.simplex_network.specs.declared.run.Transcript.{Transcript};
+ghost use Rattle.simplex_run.specs.declared.run.Transcript.{Transcript};
 ghost use Rattle.simplex_program.specs.declared.exit.Exit.{Exit};
 ghost use Rattle.simplex_program.specs.Exit as endings;
 ghost use Rattle.simplex_program.specs.Exit.{Ending, told, text_of};

@@ -10,8 +10,8 @@ ghost use Rattle.law_run.specs.Sayings.{Each};
 ghost use Rattle.simplex_network.specs.Answer.{is_memory};
 ghost use Rattle.simplex_network.specs.Stands.{MadeBy};
 
-use simplex_network::{Transcript, run_network};
 use simplex_par::{OpenGate, run_network_par};
+use simplex_run::{Transcript, run_network};
 use simplex_transcript::{Event, Refusal, Setup};
 use std::alloc::Global;
 use std::thread::Threads;

@@ -2,8 +2,8 @@
 use simplex_audits::audit_program;
 use simplex_generator::gen_run;
 use simplex_logs::log_program;
-use simplex_network::run_network;
 use simplex_program::{Exit, program};
+use simplex_run::run_network;
 use simplex_transcript::{Event, Node, Ref, RunError, Setup};
 use simplex_writer::write_input;
 use std::alloc::{AllocError, Global};

@@ -9,7 +9,7 @@ use model_audit::{AuditEntry, Verdict};
 use simplex_audit::record_of;
 use simplex_form::{Input, InputFault, read_run};
 use simplex_judge::audit;
-use simplex_network::run_network;
+use simplex_run::run_network;
 use std::alloc::{AllocError, Global};
 use test_support::{Script, Told};
 

@@ -3,7 +3,7 @@
 use super::checker::{Group, assert_sound, last_final};
 use super::world::{Answers, World, start, stopped};
 use simplex_messages::{Outcome, Stop};
-use simplex_network::run_network;
+use simplex_run::run_network;
 use simplex_transcript::{Event, MemberKind, Node, Setup};
 use simplex_types::{Keep, View};
 use std::alloc::{AllocError, Global};

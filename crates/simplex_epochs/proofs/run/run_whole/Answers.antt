@@ -1,7 +1,7 @@
 use Rattle.std.proofs.Common.{◌≡◌, List, subst, rules}
 use Rattle.simplex_transcript.specs.declared.event.Event.{Event}
 use Rattle.model_run.specs.Setting.{setting_of}
-use Rattle.simplex_network.specs.WholeRuns.{WholeRunFrom}
+use Rattle.simplex_run.specs.WholeRuns.{WholeRunFrom}
 use Rattle.simplex_epochs.proofs.Epochs.{made_whole}
 use Rattle.simplex_epochs.proofs.run.run_whole.Goals as goal
 

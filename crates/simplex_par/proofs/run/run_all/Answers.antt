@@ -1,6 +1,6 @@
 use Rattle.std.proofs.Common.{ℕ, take, drop, refl, ap, arith, length-drop}
 use Rattle.model_run.specs.Setting.{at_epoch_genesis}
-use Rattle.simplex_network.proofs.Runs.{ran-none, ran-more, ran-ends, ran-done, ran-network}
+use Rattle.simplex_run.proofs.Runs.{ran-none, ran-more, ran-ends, ran-done, ran-network}
 use Rattle.simplex_par.proofs.Running.{size-is, cut-within, cut-may, cut-all, ran-group, ran-group-ends}
 use Rattle.simplex_par.proofs.run.run_all.Goals as goal
 

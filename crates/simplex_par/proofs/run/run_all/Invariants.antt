@@ -1,6 +1,6 @@
 use Rattle.std.proofs.Common.{◌≤◌, ◌-◌, drop, length}
 use Rattle.model_run.specs.Setting.{at_epoch_genesis}
-use Rattle.simplex_network.proofs.Runs.{Ran}
+use Rattle.simplex_run.proofs.Runs.{Ran}
 use Rattle.simplex_par.proofs.run.run_all.Given as goal
 
 abbrev pub invariant-loop-next : goal.invariant-loop-next

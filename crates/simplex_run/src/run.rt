@@ -12,16 +12,15 @@ ghost use Rattle.law_run.specs.Safe.{RunsSafely};
 ghost use Rattle.simplex_network.specs.Answer.{is_memory};
 ghost use Rattle.simplex_network.specs.Stands.{MadeBy};
 
-use crate::network::Network;
-use crate::nodes::genesis_at;
 use law_run::{
     payloads_keep_the_limit, possible_events_run, runs_are_possible, runs_are_safe,
     runs_have_one_entry_each, transcripts_report_one_chain,
 };
 use simplex_members::are_few;
+use simplex_network::Network;
 use simplex_transcript::{Entry, Event, Field, Refusal, RunError, Setup};
 use simplex_typed::entries_are_typed;
-use simplex_types::{Digest, Sequence};
+use simplex_types::{Digest, Epoch, Sequence, genesis};
 use std::alloc::Global;
 
 /// The entries of a run, one for each event, and the network on which it was made. [transcripts]
@@ -59,7 +58,7 @@ pub fn run_network(alloc: Global, setup: &Setup, events: &[Event]) -> Result<Tra
     ensures possible { IfOk result
         (λ transcript. IsPossible (at_epoch_genesis setup.now) events.now) }
 {
-    run_network_from(alloc, setup, genesis_at(setup.epoch), events)
+    run_network_from(alloc, setup, genesis(Epoch(setup.epoch)), events)
 }
 
 /// The same, where the payload of view 0 is this digest.

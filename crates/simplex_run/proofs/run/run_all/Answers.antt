@@ -1,6 +1,6 @@
 use Rattle.std.proofs.Common.{arith}
-use Rattle.simplex_network.proofs.Runs.{ran-none, ran-more, ran-ends, ran-done, ran-network}
-use Rattle.simplex_network.proofs.run.run_all.Goals as goal
+use Rattle.simplex_run.proofs.Runs.{ran-none, ran-more, ran-ends, ran-done, ran-network}
+use Rattle.simplex_run.proofs.run.run_all.Goals as goal
 
 pub loop-event-init : goal.loop-event-init
 loop-event-init c = rw c.new-entries.ensures (ran-none _ _ _ c.in-Ok.ensures.stands)

@@ -8,7 +8,7 @@ use Rattle.law_run.specs.Limits.{KeepsTheLimit}
 use Rattle.law_run.specs.OneChain.{ReportOneChain}
 use Rattle.law_run.specs.Safe.{RunsSafely}
 use Rattle.law_run.specs.Sayings.{Each}
-use Rattle.simplex_network.specs.declared.run.Transcript.{Transcript}
+use Rattle.simplex_run.specs.declared.run.Transcript.{Transcript}
 use Rattle.simplex_network.specs.Stands.{MadeBy}
 
 -- The run of the events has the transcript's entries, one for each event, and its network, and it is safe: each

@@ -7,7 +7,7 @@ use Rattle.model_run.specs.Setting.{Setting, setting_of}
 use Rattle.model_run.specs.Run.{RunFrom}
 use Rattle.law_run.specs.Complete.{HasRun}
 use Rattle.simplex_network.specs.Answer.{is_memory}
-use Rattle.simplex_network.proofs.run.run_network_from.Goals as goal
+use Rattle.simplex_run.proofs.run.run_network_from.Goals as goal
 
 -- what follows from two facts of the same transcript
 both : {A E : Type 0} (r : Result A E) (P Q R : A → Type 0) → ((a : A) → P a → Q a → R a) → IfOk r P → IfOk r Q → IfOk r R
