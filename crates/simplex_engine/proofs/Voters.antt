@@ -24,6 +24,12 @@ module _ {S L J : Type 0} {s : scheme.Ghosts S} {l : elector.Ghosts L} {j : jour
       → voter.Answers crew.voter rule answer → (made : VoterMade) (past : List Given) → VoterStands told crew.voter made past → answer ≡ rule made past
   either-answers told crew rule answer over = λ made past stands. over made past (known-over told crew.voter made past stands)
 
+  -- what the crew's voter answers by a rule that reads its place
+  pub voter-tells : {R : Type 0} (told : Bool) (crew : Crew S L J s l j) (rule : Place → R) (answer : R)
+      → voter.Answers crew.voter (λ made past. rule (place_of made past)) answer → TellsAs told crew (λ parts. rule (place_of parts.voter parts.given)) answer
+  voter-tells told crew rule answer answers = λ parts h.
+      rw (← h.voter.place) (either-answers told crew (λ made past. rule (place_of made past)) answer answers _ _ h.voter.stands)
+
   -- what the journal of a crew holds
   pub crew-sections : (crew : Crew S L J s l j) → TellsAs false crew (λ parts. (place_of parts.voter parts.given).sections) (j.sections (voter.journal_of crew.voter))
   crew-sections crew = λ parts h. held-over _ _ _ h.voter.stands ∙ ap (λ (place : Place). place.sections) h.voter.place
