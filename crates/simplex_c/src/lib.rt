@@ -21,7 +21,9 @@ const NO_MEMORY: u8 = 7;
 /// there is no memory nothing is written, and `size` is 0.
 #[unsafe(no_mangle)]
 pub extern "C" fn simplex_run(alloc: Global, input: &[u8], text: &mut [u8], size: &mut usize) -> u8
-    ensures answers { ((result ≡ (told_of input.now).status) × (size.new ≡ length (told_of input.now).text) × (text.new ≡ filled text.old (told_of input.now).text))
+    ensures answers { ((result ≡ (told_of input.now).status)
+        × (size.new ≡ length (told_of input.now).text)
+        × (text.new ≡ filled text.old (told_of input.now).text))
         ⊎ ((result ≡ 7) × (size.new ≡ 0) × (text.new ≡ text.old)) }
 {
     match answer_to(alloc, input) {

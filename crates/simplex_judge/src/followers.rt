@@ -90,7 +90,9 @@ impl Followers {
         entry: &AuditEntry,
     ) -> Result<bool, AllocError>
         requires few { length setup.now.members < 2 ^ 32 }
-        ensures { IfOk result (λ stored. (setting : Setting) (before : List Noted) → setting.setup ≡ setup.now → FollowersStand self.now.seats.items setting before
+        ensures { IfOk result (λ stored. (setting : Setting) (before : List Noted)
+            → setting.setup ≡ setup.now
+            → FollowersStand self.now.seats.items setting before
             → is_allowed setting before event.now ≡ true
             → stored ≡ audit.if_honest setting (node_named event.now)
             (audit.stores_first setting before (rebuilt_entry entry.now))) }
