@@ -9,6 +9,7 @@ ghost use Rattle.law_run.specs.Fitting.{IsTyped};
 ghost use Rattle.law_run.specs.Limits.{KeepsTheLimit};
 ghost use Rattle.law_run.specs.OneChain.{ReportOneChain};
 ghost use Rattle.law_run.specs.Safe.{RunsSafely};
+ghost use Rattle.simplex_types.specs.Genesis.{genesis_of};
 ghost use Rattle.simplex_network.specs.Answer.{is_memory};
 ghost use Rattle.simplex_network.specs.Stands.{MadeBy};
 
@@ -58,7 +59,14 @@ pub fn run_network(alloc: Global, setup: &Setup, events: &[Event]) -> Result<Tra
     ensures possible { IfOk result
         (λ transcript. IsPossible (at_epoch_genesis setup.now) events.now) }
 {
-    run_network_from(alloc, setup, genesis(Epoch(setup.epoch)), events)
+    run_network_from(alloc, setup, genesis_at(setup.epoch), events)
+}
+
+// The genesis digest of the epoch of this number.
+fn genesis_at(epoch: u64) -> Digest
+    ensures { result ≡ genesis_of epoch }
+{
+    genesis(Epoch(epoch))
 }
 
 /// The same, where the payload of view 0 is this digest.
