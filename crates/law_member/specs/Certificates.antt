@@ -31,8 +31,8 @@ BringsNew standing (input.Vote sender bytes) certificate = ⊥
 BringsNew standing (input.Mail message) certificate = ⊥
 
 -- the signature is that of a vote on the subject, which was accepted and verifies
-pub record IsVoteOn (made : Made) (accepted : Vote
-    → Type 0) (subject : Subject) (attestation : Attestation) : Type 0 where
+pub record IsVoteOn (made : Made)
+    (accepted : Vote → Type 0) (subject : Subject) (attestation : Attestation) : Type 0 where
   pub vote : Vote
   pub signature : vote_attestation vote ≡ attestation
   pub on : vote_subject vote ≡ subject
@@ -45,8 +45,8 @@ pub record IsMadeOfVotes (made : Made) (accepted : Vote → Type 0) (certificate
   pub each : All (IsVoteOn made accepted (certificate_subject certificate)) (certificate_signatures certificate)
 
 -- it verifies, and is new or made of votes
-pub record IsFoundedCertificate (made : Made) (accepted : Vote
-    → Type 0) (is_new : Certificate → Type 0) (certificate : Certificate) : Type 0 where
+pub record IsFoundedCertificate (made : Made)
+    (accepted : Vote → Type 0) (is_new : Certificate → Type 0) (certificate : Certificate) : Type 0 where
   pub verifies : is_certified (made.scheme.verifies (certificate_subject certificate)) made.members
       (certificate_signatures certificate) ≡ true
   pub source : is_new certificate ⊎ IsMadeOfVotes made accepted certificate

@@ -302,7 +302,7 @@ module _ {S L J : Type 0} {s : scheme.Ghosts S} {l : elector.Ghosts L} {j : jour
   abbrev pub StaysOver : Engine S L J s l j → Engine S L J s l j → Type 0
   StaysOver old new = (made : EngineMade) (past : List Did) → StandsOver old made past → StandsOver new made past
 
-  -- whatever history the engine stands for, the answer is the rule's
+  -- whatever history the engine stands for over any journal, the answer is the rule's
   abbrev pub Answers : {R : Type 0} → Engine S L J s l j → (EngineMade → List Did → R) → R → Type 0
   Answers engine rule answer = (made : EngineMade) (past : List Did) → StandsOver engine made past → answer ≡ rule made past
 
