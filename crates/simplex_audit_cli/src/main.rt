@@ -18,7 +18,7 @@ fn main(rt: HostRuntime) -> ExitCode {
         Ok(words) => {
             let mut source = ReaderSource::new(rt.alloc(), rt.reader());
             let mut sink = WriterSink::new(io::writer(&rt));
-            audit_program(rt.alloc(), &words, &mut source, &mut sink)
+            audit_program(rt.alloc(), &words, &mut source, &mut sink).without_work()
         }
     };
     say_fault(&rt, "simplex_audit_cli", &exit);

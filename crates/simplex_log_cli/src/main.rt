@@ -19,7 +19,7 @@ fn main(rt: HostRuntime) -> ExitCode {
         Err(AllocError) => Exit::Memory,
         Ok(words) => {
             let mut sink = WriterSink::new(io::writer(&rt));
-            log_program(rt.alloc(), &words, &mut source, &mut sink)
+            log_program(rt.alloc(), &words, &mut source, &mut sink).without_work()
         }
     };
     if let Exit::BadInput { place } = &exit {

@@ -18,6 +18,14 @@ use std::alloc::AllocError;
 use std::process::ExitCode;
 use std::{io, mem};
 
+/// What is left to do at the end of the process: a fault to say, the place of what is wrong with the input, and the status.
+#[derive(Clone, Copy)]
+struct Ending {
+    fault: Option<&'static str>,
+    place: Option<u64>,
+    status: u8,
+}
+
 /// What is said of an exit that tells nothing on standard output.
 fn fault(exit: &Exit) -> Option<&'static str>
     ensures { IsSome result ↔ IsFault (told exit.now) }
@@ -34,28 +42,44 @@ fn fault(exit: &Exit) -> Option<&'static str>
     }
 }
 
+/// The place at which the input is not of the form.
+fn wrong_place(exit: &Exit) -> Option<u64> {
+    match exit {
+        Exit::BadInput { place } => Some(*place),
+        _ => None,
+    }
+}
+
+/// What an exit leaves to do. The process ends behind it, and its memory with it: a run's entries need not be let go one by one.
+fn ending_of(exit: Exit) -> Ending {
+    let ending = Ending {
+        fault: fault(&exit),
+        place: wrong_place(&exit),
+        status: exit.status(),
+    };
+    mem::forget(exit);
+    ending
+}
+
 /// Says the fault, if there was one. Where standard error fails too, the status alone tells it.
-fn tell(rt: &impl Eprint, exit: &Exit) {
-    if let Some(fault) = fault(exit) {
+fn tell(rt: &impl Eprint, ending: &Ending) {
+    if let Some(fault) = ending.fault {
         let _told = eprintln!(rt; "simplex_net: {fault}");
     }
 }
 
 fn main(rt: HostRuntime) -> ExitCode {
     let mut source = KeptSource::new(rt.alloc(), ReaderSource::new(rt.alloc(), rt.reader()));
-    let exit = match words_of(&rt) {
-        Err(AllocError) => Exit::Memory,
+    let ending = match words_of(&rt) {
+        Err(AllocError) => ending_of(Exit::Memory),
         Ok(words) => {
             let mut sink = WriterSink::new(io::writer(&rt));
-            program(&rt, rt.alloc(), &words, &mut source, &mut sink)
+            ending_of(program(&rt, rt.alloc(), &words, &mut source, &mut sink))
         }
     };
-    if let Exit::BadInput { place } = &exit {
-        say_why(&rt, "simplex_net", *place, &source);
+    if let Some(place) = ending.place {
+        say_why(&rt, "simplex_net", place, &source);
     }
-    tell(&rt, &exit);
-    let status = exit.status();
-    // The process ends here, and its memory with it: a run's entries need not be let go one by one.
-    mem::forget(exit);
-    ExitCode::from(status)
+    tell(&rt, &ending);
+    ExitCode::from(ending.status)
 }

@@ -1,14 +1,12 @@
 //! A member alone: a view's list of ten events, stopped before each of its nineteen calls, with each of its ten journal calls
 //! failing, and started again.
 use super::checker::{Group, assert_sound, last_final};
-use super::world::{Answers, World, start, step, stopped};
+use super::world::{Answers, World, assert_run, start, step, stopped};
 use simplex_messages::{Outcome, Stop};
-use simplex_run::run_network;
 use simplex_transcript::{Event, MemberKind, Node, Ref, Setup, StepSource};
 use simplex_types::{Answer, Digest, View};
 use std::alloc::{AllocError, Global};
 use std::process::Abort;
-use std::test::Fail;
 
 const NODE: Node = Node { member: 0, half: 0 };
 
@@ -77,9 +75,11 @@ const SOURCES: [StepSource; 9] = [
 ];
 
 /// The view up to the event of this number, which is made with this stop.
-fn until(alloc: Global, number: u64, stop: Stop) -> Result<World, Fail> {
-    let mut world = World::new(alloc, &setup(alloc, 16)?, ANSWERS)?;
-    for (place, event) in (1u64..).zip(view(alloc)?) {
+fn until(rt: &impl Abort, alloc: Global, number: u64, stop: Stop) -> World {
+    let setup = setup(alloc, 16).expect(rt, "memory");
+    let events = view(alloc).expect(rt, "memory");
+    let mut world = World::new(rt, alloc, &setup, ANSWERS);
+    for (place, event) in (1u64..).zip(events) {
         if place > number {
             break;
         }
@@ -88,55 +88,44 @@ fn until(alloc: Global, number: u64, stop: Stop) -> Result<World, Fail> {
         } else {
             event
         };
-        if !world.make(event)? {
-            return Err("an event that is made".into());
-        }
+        let is_made = world.make(rt, event);
+        assert!(rt; is_made, "event {place} is made");
     }
     world.forget(alloc);
-    Ok(world)
+    world
 }
 
 /// The member starts at genesis, is answered, and steps until it is idle.
-fn starts_again(rt: &impl Abort, world: &mut World, case: &str) -> Result<(), Fail> {
-    assert!(rt; world.make(start(NODE, None))?, "{case}: it starts");
-    world.settle(200)?;
+fn starts_again(rt: &impl Abort, world: &mut World, case: &str) {
+    let starts = world.make(rt, start(NODE, None));
+    assert!(rt; starts, "{case}: it starts");
+    world.settle(rt, 200);
     for source in SOURCES {
-        assert!(rt; world.make(step(NODE, source))?, "{case}: it steps");
-        let last = world.entries.last().ok_or("an entry")?;
+        let steps = world.make(rt, step(NODE, source));
+        assert!(rt; steps, "{case}: it steps");
+        let last = world.entries.last().expect(rt, "an entry");
         assert!(rt; last.outcome == Outcome::Idle, "{case}: {source:?} is idle");
     }
-    Ok(())
 }
 
 /// What stands at the end is sound, and is the run of the events. Whether view 2 is final; else none is: the member has its
 /// notarize of view 1 in the journal, did not send it, and waits for the view's end.
-fn assert_end(rt: &impl Abort, alloc: Global, world: &World, case: &str) -> Result<bool, Fail> {
-    assert_sound(rt, alloc, case, GROUP, &[NODE], world.entries.as_slice())?;
+fn assert_end(rt: &impl Abort, alloc: Global, world: &World, case: &str) -> bool {
+    assert_sound(rt, alloc, case, GROUP, &[NODE], world.entries.as_slice());
     let last = last_final(world.entries.as_slice(), NODE).map(|it| it.proposal.round.view);
     assert!(rt; last.is_none() || last == Some(View(2)), "{case}: {last:?}");
-    let transcript = run_network(alloc, &setup(alloc, 16)?, world.happened.as_slice())
-        .ok()
-        .ok_or("a whole run")?;
-    assert!(rt;
-        transcript.entries.as_slice() == world.entries.as_slice(),
-        "{case}"
-    );
-    Ok(last.is_some())
+    let setup = setup(alloc, 16).expect(rt, "memory");
+    assert_run(rt, alloc, case, &setup, world);
+    last.is_some()
 }
 
 /// The event of this number is made with this stop, which ends it so, and the member starts again. Whether view 2 is final then.
-fn stops(
-    rt: &impl Abort,
-    alloc: Global,
-    number: u64,
-    stop: Stop,
-    wanted: Outcome,
-) -> Result<bool, Fail> {
-    let case = format!(in alloc; "event {number}, {stop:?}")?;
-    let mut world = until(alloc, number, stop)?;
-    let broken = world.entries.last().ok_or("an entry")?;
+fn stops(rt: &impl Abort, alloc: Global, number: u64, stop: Stop, wanted: Outcome) -> bool {
+    let case = format!(in alloc; "event {number}, {stop:?}").expect(rt, "memory");
+    let mut world = until(rt, alloc, number, stop);
+    let broken = world.entries.last().expect(rt, "an entry");
     assert_eq!(rt; broken.outcome, wanted, "{case}");
-    starts_again(rt, &mut world, &case)?;
+    starts_again(rt, &mut world, &case);
     assert_end(rt, alloc, &world, &case)
 }
 
@@ -148,35 +137,33 @@ fn count(cases: &mut u64, finals: &mut u64, is_final: bool) {
 }
 
 #[test]
-fn a_stop_before_each_call(rt: HostRuntime) -> Result<(), Fail> {
+fn a_stop_before_each_call(rt: HostRuntime) {
     let alloc = rt.alloc();
     let (mut cases, mut finals) = (0u64, 0u64);
     for (number, calls) in CALLS {
         for call in 1..=calls {
             for keep in 0..=2u64 {
                 let stop = Stop::Cut { call, keep };
-                let is_final = stops(&rt, alloc, number, stop, Outcome::Cut)?;
+                let is_final = stops(&rt, alloc, number, stop, Outcome::Cut);
                 count(&mut cases, &mut finals, is_final);
             }
         }
     }
     assert_eq!(rt; (cases, finals), (57, 45));
-    Ok(())
 }
 
 #[test]
-fn each_call_of_the_journal_fails(rt: HostRuntime) -> Result<(), Fail> {
+fn each_call_of_the_journal_fails(rt: HostRuntime) {
     let alloc = rt.alloc();
     let (mut cases, mut finals) = (0u64, 0u64);
     for (number, calls) in JOURNAL_CALLS {
         for call in 1..=calls {
             for keep in 0..=2u64 {
                 let stop = Stop::Fail { call, keep };
-                let is_final = stops(&rt, alloc, number, stop, Outcome::Journal)?;
+                let is_final = stops(&rt, alloc, number, stop, Outcome::Journal);
                 count(&mut cases, &mut finals, is_final);
             }
         }
     }
     assert_eq!(rt; (cases, finals), (30, 24));
-    Ok(())
 }

@@ -6,7 +6,6 @@ use simplex_types::{
 };
 use std::alloc::Global;
 use std::process::Abort;
-use std::test::Fail;
 
 /// What the checker is told of the setup.
 #[derive(Clone, Copy)]
@@ -50,38 +49,32 @@ fn conflict(term: u64, a: &Subject, b: &Subject) -> bool {
 }
 
 /// What the certificates that the entries add or report, and that verify, are on.
-fn certified(alloc: Global, group: Group, entries: &[Entry]) -> Result<Vec<Subject>, Fail> {
-    if group.members == 0 {
-        return Err("a member".into());
-    }
+fn certified(rt: &impl Abort, alloc: Global, group: Group, entries: &[Entry]) -> Vec<Subject> {
     let mut found = Vec::new(alloc);
-    let scheme = Keyed::new(alloc, group.key_base, group.members, None)?;
+    assert!(rt; group.members > 0, "a member");
+    let scheme = Keyed::new(alloc, group.key_base, group.members, None).expect(rt, "memory");
     for entry in entries {
         for certificate in entry.added.as_slice() {
             if certificate.verify(&scheme) {
-                found.push(certificate.subject())?;
+                found.push(certificate.subject()).expect(rt, "memory");
             }
         }
         for call in entry.calls.as_slice() {
             if let Call::Report(Activity::Finalization(it)) = call {
                 if it.verify(&scheme) {
-                    found.push(Subject::Finalize(it.proposal))?;
+                    found
+                        .push(Subject::Finalize(it.proposal))
+                        .expect(rt, "memory");
                 }
             }
         }
     }
-    Ok(found)
+    found
 }
 
 /// No two certificates that verify conflict.
-fn assert_agree(
-    rt: &impl Abort,
-    alloc: Global,
-    case: &str,
-    group: Group,
-    entries: &[Entry],
-) -> Result<(), Fail> {
-    let found = certified(alloc, group, entries)?;
+fn assert_agree(rt: &impl Abort, alloc: Global, case: &str, group: Group, entries: &[Entry]) {
+    let found = certified(rt, alloc, group, entries);
     for (place, a) in found.iter().enumerate() {
         for b in found.iter().skip(place) {
             assert!(rt;
@@ -90,7 +83,6 @@ fn assert_agree(
             );
         }
     }
-    Ok(())
 }
 
 /// The vote that a call sends, if it sends one.
@@ -152,7 +144,7 @@ fn assert_votes(
     term: u64,
     node: Node,
     entries: &[Entry],
-) -> Result<(), Fail> {
+) {
     let mut made: Vec<&Call> = Vec::new(alloc);
     let mut sent: Vec<Vote> = Vec::new(alloc);
     let of_node = |entry: &&Entry| entry.who == Some(node);
@@ -171,12 +163,11 @@ fn assert_votes(
                         "{case}: {a:?} and {b:?} are of one member"
                     );
                 }
-                sent.push(vote)?;
+                sent.push(vote).expect(rt, "memory");
             }
-            made.push(call)?;
+            made.push(call).expect(rt, "memory");
         }
     }
-    Ok(())
 }
 
 /// Whether no honest member sends votes on both.
@@ -200,12 +191,11 @@ pub(super) fn assert_sound(
     group: Group,
     honest: &[Node],
     entries: &[Entry],
-) -> Result<(), Fail> {
-    assert_agree(rt, alloc, case, group, entries)?;
+) {
+    assert_agree(rt, alloc, case, group, entries);
     for node in honest {
-        assert_votes(rt, alloc, case, group.term, *node, entries)?;
+        assert_votes(rt, alloc, case, group.term, *node, entries);
     }
-    Ok(())
 }
 
 /// The last finalization that the node reported.

@@ -1,14 +1,12 @@
 //! Four members in terms of three views, with a lookahead of one: one of them stops before each of its calls, and starts again at
 //! what it reported last.
 use super::checker::{Group, assert_sound, last_final};
-use super::world::{Answers, World, start, stopped};
+use super::world::{Answers, World, assert_run, start, stopped};
 use simplex_messages::{Outcome, Stop};
-use simplex_run::run_network;
 use simplex_transcript::{Event, MemberKind, Node, Setup};
 use simplex_types::{Keep, View};
 use std::alloc::{AllocError, Global};
 use std::process::Abort;
-use std::test::Fail;
 
 const HONEST: [Node; 3] = [
     Node { member: 0, half: 0 },
@@ -48,12 +46,13 @@ fn setup(alloc: Global) -> Result<Setup, AllocError> {
 }
 
 /// The honest members start.
-fn started(alloc: Global) -> Result<World, Fail> {
-    let mut world = World::new(alloc, &setup(alloc)?, ANSWERS)?;
+fn started(rt: &impl Abort, alloc: Global) -> World {
+    let setup = setup(alloc).expect(rt, "memory");
+    let mut world = World::new(rt, alloc, &setup, ANSWERS);
     for node in HONEST {
-        let _made = world.make(start(node, None))?;
+        let _made = world.make(rt, start(node, None));
     }
-    Ok(world)
+    world
 }
 
 /// Whether the event is a start or a step of the member that stops.
@@ -80,51 +79,44 @@ fn calls_of(alloc: Global, world: &World) -> Result<Vec<(usize, u64)>, AllocErro
 }
 
 /// The run up to the event at this place, which is made with this stop.
-fn until(alloc: Global, place: usize, stop: Stop) -> Result<World, Fail> {
-    let mut world = started(alloc)?;
+fn until(rt: &impl Abort, alloc: Global, place: usize, stop: Stop) -> World {
+    let mut world = started(rt, alloc);
+    let mut is_stopped = false;
     for _ in 0..MOST {
-        let event = world.next().ok_or("an event that waits")?;
+        let event = world.next().expect(rt, "an event that waits");
         if world.happened.len() == place && may_stop(&event) {
-            let made = world.make(stopped(event, stop))?;
-            return if made {
-                Ok(world)
-            } else {
-                Err("an event that is made".into())
-            };
+            is_stopped = world.make(rt, stopped(event, stop));
+            break;
         }
-        let _made = world.make(event)?;
+        let _made = world.make(rt, event);
     }
-    Err("an event that stops".into())
+    assert!(rt; is_stopped, "the event at {place} is made, and stops");
+    world
 }
 
 /// The event at this place is made with this stop, and the member starts at what it reported last.
-fn stops(rt: &impl Abort, alloc: Global, place: usize, stop: Stop) -> Result<(), Fail> {
-    let case = format!(in alloc; "place {place}, {stop:?}")?;
-    let mut world = until(alloc, place, stop)?;
-    let broken = world.entries.last().ok_or("an entry")?;
+fn stops(rt: &impl Abort, alloc: Global, place: usize, stop: Stop) {
+    let case = format!(in alloc; "place {place}, {stop:?}").expect(rt, "memory");
+    let mut world = until(rt, alloc, place, stop);
+    let broken = world.entries.last().expect(rt, "an entry");
     assert_eq!(rt; broken.outcome, Outcome::Cut, "{case}");
     let floor = match last_final(world.entries.as_slice(), STOPPING) {
-        Some(it) => Some(it.keep(alloc)?),
+        Some(it) => Some(it.keep(alloc).expect(rt, "memory")),
         None => None,
     };
-    assert!(rt; world.make(start(STOPPING, floor))?, "{case}: it starts");
-    world.settle(MOST)?;
-    assert_sound(rt, alloc, &case, GROUP, &HONEST, world.entries.as_slice())?;
-    let transcript = run_network(alloc, &setup(alloc)?, world.happened.as_slice())
-        .ok()
-        .ok_or("a whole run")?;
-    assert!(rt;
-        transcript.entries.as_slice() == world.entries.as_slice(),
-        "{case}"
-    );
-    Ok(())
+    let starts = world.make(rt, start(STOPPING, floor));
+    assert!(rt; starts, "{case}: it starts");
+    world.settle(rt, MOST);
+    assert_sound(rt, alloc, &case, GROUP, &HONEST, world.entries.as_slice());
+    let setup = setup(alloc).expect(rt, "memory");
+    assert_run(rt, alloc, &case, &setup, &world);
 }
 
 #[test]
-fn one_of_four_stops_before_each_of_its_calls(rt: HostRuntime) -> Result<(), Fail> {
+fn one_of_four_stops_before_each_of_its_calls(rt: HostRuntime) {
     let alloc = rt.alloc();
-    let mut whole = started(alloc)?;
-    whole.settle(MOST)?;
+    let mut whole = started(&rt, alloc);
+    whole.settle(&rt, MOST);
     assert_sound(
         &rt,
         alloc,
@@ -132,17 +124,18 @@ fn one_of_four_stops_before_each_of_its_calls(rt: HostRuntime) -> Result<(), Fai
         GROUP,
         &HONEST,
         whole.entries.as_slice(),
-    )?;
+    );
     assert!(rt; last_final(whole.entries.as_slice(), STOPPING).is_some());
+    let places = calls_of(alloc, &whole).expect(&rt, "memory");
+    drop(whole);
     let mut cases = 0u64;
-    for (place, calls) in calls_of(alloc, &whole)? {
+    for (place, calls) in places {
         for call in 1..=calls {
             for keep in 0..=2u64 {
-                stops(&rt, alloc, place, Stop::Cut { call, keep })?;
+                stops(&rt, alloc, place, Stop::Cut { call, keep });
                 cases = cases.saturating_add(1);
             }
         }
     }
     assert!(rt; cases >= 60, "{cases} cases");
-    Ok(())
 }

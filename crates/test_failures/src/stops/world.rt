@@ -2,11 +2,12 @@
 use model_rules::Asked;
 use simplex_messages::{Handed, Stop};
 use simplex_network::Network;
+use simplex_run::run_network;
 use simplex_transcript::{Entry, Event, Node, Ref, Setup, StepSource};
 use simplex_types::{Answer, Digest, Finalization, View};
 use std::alloc::{AllocError, Global};
 use std::collections::VecDeque;
-use std::test::Fail;
+use std::process::Abort;
 
 /// What an application answers: this payload, and true, and up to which view.
 #[derive(Clone, Copy)]
@@ -88,24 +89,24 @@ impl Answers {
 }
 
 impl World {
-    pub(super) fn new(alloc: Global, setup: &Setup, answers: Answers) -> Result<World, Fail> {
-        Ok(World {
+    pub(super) fn new(rt: &impl Abort, alloc: Global, setup: &Setup, answers: Answers) -> World {
+        World {
             answers,
-            network: Network::new(alloc, setup).ok().ok_or("a network")?,
+            network: Network::new(alloc, setup).expect(rt, "a network"),
             waiting: VecDeque::new(alloc),
             happened: Vec::new(alloc),
             entries: Vec::new(alloc),
-        })
+        }
     }
 
     /// Makes an event, and has what comes of it wait. Whether it was made, and not refused.
-    pub(super) fn make(&mut self, event: Event) -> Result<bool, Fail> {
+    pub(super) fn make(&mut self, rt: &impl Abort, event: Event) -> bool {
         let Ok(entry) = self.network.apply(&event) else {
-            return Ok(false);
+            return false;
         };
-        self.follow(&entry)?;
-        self.note(event, entry)?;
-        Ok(true)
+        self.follow(&entry).expect(rt, "memory");
+        self.note(event, entry).expect(rt, "memory");
+        true
     }
 
     fn note(&mut self, event: Event, entry: Entry) -> Result<(), AllocError> {
@@ -125,14 +126,13 @@ impl World {
     }
 
     /// Makes what waits, and so many events at most. What nobody waits for any more is refused, and does not happen.
-    pub(super) fn settle(&mut self, most: u64) -> Result<(), Fail> {
+    pub(super) fn settle(&mut self, rt: &impl Abort, most: u64) {
         for _ in 0..most {
             let Some(event) = self.waiting.pop_front() else {
-                return Ok(());
+                return;
             };
-            let _made = self.make(event)?;
+            let _made = self.make(rt, event);
         }
-        Ok(())
     }
 
     /// What comes of an event: requests are answered, messages taken, packets delivered.
@@ -182,4 +182,12 @@ impl World {
         }
         Ok(())
     }
+}
+
+/// What happened in the world is the run of its events.
+pub(super) fn assert_run(rt: &impl Abort, alloc: Global, case: &str, setup: &Setup, world: &World) {
+    let transcript = run_network(alloc, setup, world.happened.as_slice()).expect(rt, "a whole run");
+    let is_run = transcript.entries.as_slice() == world.entries.as_slice();
+    drop(transcript);
+    assert!(rt; is_run, "{case}");
 }
