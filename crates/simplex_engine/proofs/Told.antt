@@ -1,5 +1,5 @@
 -- What is known over a journal that tells that no call of it will fail is known over any.
-use Rattle.std.proofs.Common.{◌≡◌, ℕ, List, Bool, true, false, Option, refl, sym, subst}
+use Rattle.std.proofs.Common.{◌≡◌, List, Bool, true, false, refl, sym, subst}
 use Rattle.simplex_wire.specs.declared.scheme.Scheme as scheme
 use Rattle.simplex_types.specs.declared.elector.Elector as elector
 use Rattle.simplex_journal.specs.declared.journal.Journal as journal

@@ -49,7 +49,17 @@ impl<S: Scheme + Drop, L: Elector + Drop, J: Journal + Drop> Crew<S, L, J> {
                 channel,
                 bytes,
             } => Ok(self.deliver(sender, channel, bytes, now, out)?),
-            Input::Step(source) => Ok(self.step(source, now, stop, out)?),
+            Input::Step(source) => match source {
+                StepSource::Batcher => Ok(self.step_on_batcher_mail(now, stop, out)?),
+                StepSource::Voter => Ok(self.step_on_voter_mail(now, stop, out)?),
+                StepSource::Timer => Ok(self.step_on_timer(now, stop, out)?),
+                StepSource::Propose => Ok(self.step_on_proposal(now, stop, out)?),
+                StepSource::Verify => Ok(self.step_on_verify(now, stop, out)?),
+                StepSource::Certify => Ok(self.step_on_certify(now, stop, out)?),
+                StepSource::Resolver => Ok(self.step_on_resolver_mail(now, stop, out)?),
+                StepSource::Handler => Ok(self.step_on_handler_mail(now, stop, out)?),
+                StepSource::Fetch => Ok(self.step_on_fetcher(now, stop, out)?),
+            },
             Input::Answer { request, answer } => {
                 let given = self.reply(request, answer)?;
                 Ok(given)
@@ -181,32 +191,6 @@ impl<S: Scheme + Drop, L: Elector + Drop, J: Journal + Drop> Crew<S, L, J> {
             Ok(polled(Outcome::Done, None))
         } else {
             Err(PollError::NotPending)
-        }
-    }
-
-    /// A step on what the source holds.
-    fn step(
-        &mut self,
-        source: StepSource,
-        now: u64,
-        stop: &Stop,
-        out: &mut StepOut,
-    ) -> Result<Polled, AllocError>
-        requires clock { now < 2 ^ 63 }
-        requires empty { out.old ≡ no_out }
-        ensures { IfOk result (λ given. CrewDoes self.old self.new stop.now
-            (λ turned made past. stepped made past source now turned) given out.new) }
-    {
-        match source {
-            StepSource::Batcher => self.step_on_batcher_mail(now, stop, out),
-            StepSource::Voter => self.step_on_voter_mail(now, stop, out),
-            StepSource::Timer => self.step_on_timer(now, stop, out),
-            StepSource::Propose => self.step_on_proposal(now, stop, out),
-            StepSource::Verify => self.step_on_verify(now, stop, out),
-            StepSource::Certify => self.step_on_certify(now, stop, out),
-            StepSource::Resolver => self.step_on_resolver_mail(now, stop, out),
-            StepSource::Handler => self.step_on_handler_mail(now, stop, out),
-            StepSource::Fetch => self.step_on_fetcher(now, stop, out),
         }
     }
 

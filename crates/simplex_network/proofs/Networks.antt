@@ -69,6 +69,21 @@ network-same old new setting before same_setup same_genesis same_failed same_clo
       senders = s.senders;
     }
 
+-- a network whose hosts go on as before
+pub hosts-rest : (old new : Network) (setting : Setting) (before : List Noted) → new.setup ≡ old.setup → new.genesis ≡ old.genesis → new.failed ≡ old.failed → new.clock ≡ old.clock
+    → new.records ≡ old.records → ((setup : Setup) (parts : Node → Part) → HostsStand setup old.hosts.list.items parts → HostsStand setup new.hosts.list.items parts)
+    → Keeps old setting before → Keeps new setting before
+hosts-rest old new setting before same_setup same_genesis same_failed same_clock same_records stays s =
+    record {
+      given = same_setup ∙ s.given;
+      genesis = same_genesis ∙ s.genesis;
+      alive = same_failed ∙ s.alive;
+      clock = same_clock ∙ s.clock;
+      hosts = rw same_setup (stays old.setup (part_in setting before) s.hosts);
+      records = rw same_records s.records;
+      senders = s.senders;
+    }
+
 -- a network of which no event was made
 pub network-new : (network : Network) (setting : Setting) → network.setup ≡ setting.setup → network.genesis ≡ setting.genesis → network.failed ≡ false → network.clock ≡ 0
     → HostsStand setting.setup network.hosts.list.items (first_part setting.setup) → RecordsStand network.records setting.setup [] → Keeps network setting []

@@ -33,10 +33,9 @@ use Rattle.simplex_network.specs.declared.host.Host.{Host}
 use Rattle.simplex_network.specs.declared.host.Host.TheVariants as hosts
 use Rattle.simplex_network.specs.declared.network.Network.{Network}
 use Rattle.simplex_network.specs.declared.status.Status.{Status}
-use Rattle.simplex_network.specs.declared.task.Given.{Given}
 use Rattle.simplex_network.specs.NodeEngine.{NodeEngine, EngineStands, JournalStands}
 use Rattle.simplex_network.specs.Parts.{Part, Lives, Hears, changed, part_in, found_in}
-use Rattle.simplex_network.specs.Polls.{IsInput, tested_of, on_poll, noted_start}
+use Rattle.simplex_network.specs.Polls.{tested_of, noted_start}
 
 -- a host at a node of this member does this. One that is away is at a node that is stopped, with nothing
 unfoldable pub HostStands : Setup → ℕ → Host → Part → Type 0
@@ -222,26 +221,6 @@ StartGives network node floor stop entry =
     (setting : Setting) (before : List Noted) (life : Life) → Keeps network setting before
     → LivesAs setting before node life
     → entry ≡ (noted_start setting before node floor stop life).entry
-
--- and of what a node's engine is given
-abbrev pub PollAdds : Network → Network → Node → Given → Type 0
-PollAdds old new node given =
-    (setting : Setting) (before : List Noted) (event : Event) (noted : Noted) (life : Life) → Keeps old setting before
-    → LivesAs setting before node life → IsInput event node
-    → on_poll setting.setup before event node given.input given.stop given.outside life ≡ Ok noted
-    → Keeps new setting (noted ∷ before)
-
-abbrev pub PollGives : Network → Node → Given → Entry → Type 0
-PollGives network node given entry =
-    (setting : Setting) (before : List Noted) (event : Event) (life : Life) → Keeps network setting before
-    → LivesAs setting before node life
-    → entered (on_poll setting.setup before event node given.input given.stop given.outside life) ≡ Ok entry
-
-abbrev pub PollDenies : Network → Node → Given → RunError → Type 0
-PollDenies network node given error =
-    (setting : Setting) (before : List Noted) (event : Event) (life : Life) → Keeps network setting before
-    → LivesAs setting before node life
-    → on_poll setting.setup before event node given.input given.stop given.outside life ≡ Err error
 
 -- of an event that steps a node of a faulty member without an engine
 abbrev pub FaultyAdds : Network → Network → Node → Event → Type 0

@@ -13,7 +13,7 @@ ghost use Rattle.simplex_engine.specs.Config.{first_bad};
 ghost use Rattle.simplex_engine.specs.Polled.{is_memory};
 ghost use Rattle.simplex_members.specs.NodeEngine.{made_with};
 ghost use Rattle.simplex_records.specs.Seats.{seat_of, node_at};
-ghost use Rattle.simplex_network.specs.Parts.{Part, Lives, Hears, goes_on, status_in, refusal_in, after_poll, IsPolled, IsStarted, after_start, changed, first_part};
+ghost use Rattle.simplex_network.specs.Parts.{Part, Lives, Hears, goes_on, status_in, IsStarted, after_start, changed, first_part};
 ghost use Rattle.model_run.specs.Kinds.{is_of_kind};
 ghost use Rattle.law_run.specs.EventForging.{is_impersonator};
 ghost use Rattle.simplex_network.specs.Stands.{HostsStand, HostStands, OfPartAt, OfLifeAt, LivesOnAt, HasSeat, EngineOf};
@@ -23,7 +23,7 @@ use crate::host::{Host, NodeEngine};
 use crate::journal::new_journal;
 use crate::status::Status;
 use model_faults::Sent;
-use simplex_engine::{Input, PollError, Polled};
+use simplex_engine::PollError;
 use simplex_members::{FaultyMember, NodeConfig, has_engine};
 use simplex_messages::{Outcome, StepOut, Stop};
 use simplex_records::seat_of;
@@ -72,36 +72,13 @@ impl Hosts {
         self.list[seat_of(node)].status()
     }
 
-    /// Gives an input to a node's engine.
-    pub(crate) fn poll(
-        &mut self,
-        alloc: Global,
-        node: Node,
-        input: Input,
-        now: u64,
-        stop: &Stop,
-        out: &mut StepOut,
-    ) -> Result<Polled, PollError>
-        requires seat { HasSeat self.old.list.items node }
-        requires clock { now < 2 ^ 63 }
-        requires empty { out.old ≡ no_out }
-        ensures count { length self.new.list.items ≡ length self.old.list.items }
-        ensures gives { IfOk result (λ polled. OfLifeAt self.old.list.items node
-            (λ life. IsPolled life input now stop.now polled.outcome polled.taken out.new)) }
-        ensures stands { IfOk result (λ _. LivesOnAt self.old.list.items self.new.list.items node
-            (after_poll input now stop.now)) }
-        ensures refused { IfErr result (λ error. is_memory error ≡ false
-            → OfLifeAt self.old.list.items node (λ life. refusal_in life input ≡ Some error)) }
-        ensures stays { IfErr result (λ error. is_memory error ≡ false
-            → (setup : setups.Setup) (parts : nodes.Node → Part)
-            → HostsStand setup self.old.list.items parts
-            → HostsStand setup self.new.list.items parts) }
+    /// Where a node sits in the list, and that it does.
+    pub(crate) fn seat(&self, node: Node) -> usize
+        requires { HasSeat self.now.list.items node }
+        ensures seat { result ≡ seat_of node }
+        ensures has { HasSeat self.now.list.items node }
     {
-        let at = seat_of(node);
-        match self.list[at].poll(alloc, input, now, stop, out) {
-            Ok(polled) => Ok(polled),
-            Err(error) => Err(error),
-        }
+        seat_of(node)
     }
 
     /// Lends the host of a node, which is away then. [lent-host]

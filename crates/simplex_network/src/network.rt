@@ -56,7 +56,7 @@ impl Network {
     ghost use Rattle.simplex_network.specs.Stages.{is_made, is_failed_at};
     ghost use Rattle.simplex_network.specs.Lending.{KeepsBut, Prepares, Bars, Readies, Refrains, FindsAmong, IsDone, MayLend, Groups, Lends, Returns, Declines, BackAdds, BackGives, BackRests};
     ghost use Rattle.simplex_network.specs.Answer.{is_memory, is_failed, wants_memory, setup_refusal, IsRefused};
-    ghost use Rattle.simplex_network.specs.Stands.{Keeps, StandsFor, has_failed, ShowsEngine, Shows, Grows, Adds, Enters, Gives, Refuses, Denies, Stays, Rests, HostStands, StartAdds, StartGives, FaultyAdds, FaultyGives, FaultyDenies, FaultyRests, HaltAdds, IdleAdds, BlankGives, PollAdds, PollGives, PollDenies, Finds, Exists};
+    ghost use Rattle.simplex_network.specs.Stands.{Keeps, StandsFor, has_failed, ShowsEngine, Shows, Grows, Adds, Enters, Gives, Refuses, Denies, Stays, Rests, HostStands, StartAdds, StartGives, FaultyAdds, FaultyGives, FaultyDenies, FaultyRests, HaltAdds, IdleAdds, BlankGives, Finds, Exists};
 
     /// A network of stopped nodes, whose clock is 0. The payload of view 0 is the epoch's genesis digest.
     pub fn new(alloc: Global, setup: &Setup) -> Result<Network, RunError>
@@ -318,17 +318,34 @@ impl Network {
             Ok(status) => status,
             Err(error) => return Err(error),
         };
-        match status {
-            Status::Stopped => Err(RunError::NotRunning),
-            Status::Faulty => self.act_without_engine(node, event),
-            Status::Running(view) => {
-                let given = match self.given(node, view, event) {
-                    Ok(given) => given,
-                    Err(error) => return Err(error),
-                };
-                self.poll(node, given)
-            }
-        }
+        let view = match status {
+            Status::Stopped => return Err(RunError::NotRunning),
+            Status::Faulty => return self.act_without_engine(node, event),
+            Status::Running(view) => view,
+        };
+        let given = match self.given(node, view, event) {
+            Ok(given) => given,
+            Err(error) => return Err(error),
+        };
+        let Given {
+            input,
+            stop,
+            outside,
+        } = given;
+        let mut out = StepOut::new(self.alloc);
+        let at = self.hosts.seat(node);
+        let host = &mut self.hosts.list[at];
+        let polled = match host.poll(self.alloc, input, self.clock, &stop, &mut out) {
+            Ok(polled) => polled,
+            Err(error) => return Err(run_error(error)),
+        };
+        let made = Made {
+            polled,
+            out,
+            outside,
+        };
+        let entry = enter(self.alloc, &self.setup, &mut self.records, node, made)?;
+        Ok(entry)
     }
 
     // The same of a node of a faulty member without an engine, which only hears. [faulty-always-runs]
@@ -564,39 +581,6 @@ impl Network {
         } else {
             Err(RunError::NoMember)
         }
-    }
-
-    // Lets a node's engine make a step.
-    fn poll(&mut self, node: Node, given: Given) -> Result<Entry, RunError>
-        requires { Exists self.old node }
-        ensures stands { IfOk result (λ _. PollAdds self.old self.new node given) }
-        ensures entry { IfOk result (λ entry. PollGives self.old node given entry) }
-        ensures reason { IfErr result (λ error. is_memory error ≡ false
-            → PollDenies self.old node given error) }
-        ensures stays { IfErr result (λ error. is_memory error ≡ false → Rests self.old self.new) }
-        ensures alive { self.new.failed ≡ self.old.failed }
-        ensures unfailed { IfErr result (λ error. is_failed error ≡ false) }
-    {
-        let Given {
-            input,
-            stop,
-            outside,
-        } = given;
-        let mut out = StepOut::new(self.alloc);
-        let polled = match self
-            .hosts
-            .poll(self.alloc, node, input, self.clock, &stop, &mut out)
-        {
-            Ok(polled) => polled,
-            Err(error) => return Err(run_error(error)),
-        };
-        let made = Made {
-            polled,
-            out,
-            outside,
-        };
-        let entry = enter(self.alloc, &self.setup, &mut self.records, node, made)?;
-        Ok(entry)
     }
 
     // Lends the host of a node, which is at this stage of a step.

@@ -1,5 +1,5 @@
 -- What is known where a planner stands for a doing.
-use Rattle.std.proofs.Common.{◌≡◌, ℕ, List, Option, ap}
+use Rattle.std.proofs.Common.{◌≡◌, ℕ, List, ap}
 use Rattle.simplex_values.specs.declared.answer.Answer.{Answer}
 use Rattle.model_rules.specs.Known.{Made}
 use Rattle.model_rules.specs.Calls.{known_of}

@@ -123,7 +123,7 @@ module _ {S L J : Type 0} {s : schemes.Ghosts S} {l : electors.Ghosts L} {j : jo
   TakesOver old new given =
       (made : VoterMade) (past : List Given) → StandsOver old made past → StandsOver new made (given ∷ past)
 
-  -- whatever history the voter stands for, the answer is the rule's at it
+  -- whatever history the voter stands for over any journal, the answer is the rule's at it
   abbrev pub Answers : {R : Type 0} → Actor S L J s l j → (VoterMade → List Given → R) → R → Type 0
   Answers actor rule answer =
       (made : VoterMade) (past : List Given) → StandsOver actor made past → answer ≡ rule made past

@@ -112,7 +112,12 @@ impl<S: Scheme + Drop, L: Elector + Drop, J: Journal + Drop> Actor<S, L, J> {
         ensures resolver { OnOk result (Posted R.puts resolver.old
             (filter_map for_resolver out.new.handed) resolver.new) }
     {
-        let outcome = self.make_step(input, now, stop, out)?;
+        let is_held = self.planner.plan(input, now)?;
+        if !is_held {
+            return Ok(Outcome::Idle);
+        }
+        let planned = self.planner.take_out();
+        let outcome = settle(&mut self.journal, self.alloc, planned, stop, out)?;
         post_all(self.alloc, out.handed.as_slice(), batcher, resolver)?;
         Ok(outcome)
     }
@@ -137,28 +142,6 @@ impl<S: Scheme + Drop, L: Elector + Drop, J: Journal + Drop> Actor<S, L, J> {
         let planned = self.planner.take_out();
         let later = past_reading(stop);
         let outcome = settle(&mut self.journal, self.alloc, planned, &later, out)?;
-        Ok(outcome)
-    }
-
-    // A step, but for the messages that it hands on.
-    fn make_step(
-        &mut self,
-        input: VoterInput,
-        now: u64,
-        stop: &Stop,
-        out: &mut StepOut,
-    ) -> Result<Outcome, AllocError>
-        requires clock { now < 2 ^ 63 }
-        requires empty { out.old ≡ no_out }
-        ensures { IfOk result
-            (λ outcome. DoesStep self.old self.new input now stop.now outcome out.new) }
-    {
-        let is_held = self.planner.plan(input, now)?;
-        if !is_held {
-            return Ok(Outcome::Idle);
-        }
-        let planned = self.planner.take_out();
-        let outcome = settle(&mut self.journal, self.alloc, planned, stop, out)?;
         Ok(outcome)
     }
 

@@ -16,9 +16,41 @@ returns-in_ok-deliver-in-Deliver-clause-does g c =
       faults = c.in_ok-deliver-in-Deliver.ensures.faults;
     })
 
-pub returns-in_ok-step-in-Step-clause-does : goal.returns-in_ok-step-in-Step-clause-does
+pub returns-in_ok-step_on_batcher_mail-in-Batcher-clause-does : goal.returns-in_ok-step_on_batcher_mail-in-Batcher-clause-does
 unfolding polled
-returns-in_ok-step-in-Step-clause-does g c = rw c.in-Step.is c.in_ok-step-in-Step.ensures
+returns-in_ok-step_on_batcher_mail-in-Batcher-clause-does g c = rw (c.in-Step.is, c.in-Batcher.is) c.in_ok-step_on_batcher_mail-in-Batcher.ensures
+
+pub returns-in_ok-step_on_voter_mail-in-Voter-clause-does : goal.returns-in_ok-step_on_voter_mail-in-Voter-clause-does
+unfolding polled
+returns-in_ok-step_on_voter_mail-in-Voter-clause-does g c = rw (c.in-Step.is, c.in-Voter.is) c.in_ok-step_on_voter_mail-in-Voter.ensures
+
+pub returns-in_ok-step_on_timer-in-Timer-clause-does : goal.returns-in_ok-step_on_timer-in-Timer-clause-does
+unfolding polled
+returns-in_ok-step_on_timer-in-Timer-clause-does g c = rw (c.in-Step.is, c.in-Timer.is) c.in_ok-step_on_timer-in-Timer.ensures
+
+pub returns-in_ok-step_on_proposal-in-Propose-clause-does : goal.returns-in_ok-step_on_proposal-in-Propose-clause-does
+unfolding polled
+returns-in_ok-step_on_proposal-in-Propose-clause-does g c = rw (c.in-Step.is, c.in-Propose.is) c.in_ok-step_on_proposal-in-Propose.ensures
+
+pub returns-in_ok-step_on_verify-in-Verify-clause-does : goal.returns-in_ok-step_on_verify-in-Verify-clause-does
+unfolding polled
+returns-in_ok-step_on_verify-in-Verify-clause-does g c = rw (c.in-Step.is, c.in-Verify.is) c.in_ok-step_on_verify-in-Verify.ensures
+
+pub returns-in_ok-step_on_certify-in-Certify-clause-does : goal.returns-in_ok-step_on_certify-in-Certify-clause-does
+unfolding polled
+returns-in_ok-step_on_certify-in-Certify-clause-does g c = rw (c.in-Step.is, c.in-Certify.is) c.in_ok-step_on_certify-in-Certify.ensures
+
+pub returns-in_ok-step_on_resolver_mail-in-Resolver-clause-does : goal.returns-in_ok-step_on_resolver_mail-in-Resolver-clause-does
+unfolding polled
+returns-in_ok-step_on_resolver_mail-in-Resolver-clause-does g c = rw (c.in-Step.is, c.in-Resolver.is) c.in_ok-step_on_resolver_mail-in-Resolver.ensures
+
+pub returns-in_ok-step_on_handler_mail-in-Handler-clause-does : goal.returns-in_ok-step_on_handler_mail-in-Handler-clause-does
+unfolding polled
+returns-in_ok-step_on_handler_mail-in-Handler-clause-does g c = rw (c.in-Step.is, c.in-Handler.is) c.in_ok-step_on_handler_mail-in-Handler.ensures
+
+pub returns-in_ok-step_on_fetcher-in-Fetch-clause-does : goal.returns-in_ok-step_on_fetcher-in-Fetch-clause-does
+unfolding polled
+returns-in_ok-step_on_fetcher-in-Fetch-clause-does g c = rw (c.in-Step.is, c.in-Fetch.is) c.in_ok-step_on_fetcher-in-Fetch.ensures
 
 pub returns-in_ok-given-in-Answer-clause-does : goal.returns-in_ok-given-in-Answer-clause-does
 unfolding polled taken_inside inside
