@@ -1,17 +1,17 @@
-//! The Simplex engine as one dependency: the public names of all the crates below, in the modules in which the ported crate
+//! The Simplex engine as one dependency: the public names of the crates that it names, in the modules in which the ported crate
 //! has them.
 //!
 //! | I want to | Call | Example |
 //! |---|---|---|
 //! | run members under a list of events, and rest a promise on the run | [`Setup::usual`], [`run_network`] | `crates/example_run` |
 //! | look at the network between two events | [`Network::new`], [`Network::apply`] | `crates/test_failures` |
-//! | run the same by several threads, or from another genesis digest | [`run_network_par`], [`run_network_from`] | `crates/test_threads` |
+//! | run the same by several threads, or from another genesis digest | [`run_network_par`], [`run_network_from`] | `crates/test_threads`; `crates/simplex_epochs` |
 //! | step the engine of one member | [`Engine::new`], [`Engine::start`], [`Engine::poll`] | `crates/test_parts`, its part `engine` |
 //! | let its actors run on threads | [`threads::start_threads`] | `crates/test_threads` |
 //! | keep its journal in files, on a disk of one's own | [`journal::DiskJournal`], over a [`journal::Disk`] | `crates/example_disk` |
 //! | propose, verify and certify by an application | [`Network::apply`], answering what an [`Entry`] asked; or [`mocks::application`] | `crates/example_application` |
 //! | be told what a member reports | [`types::Reporter`], [`hand_reports`], [`mocks::reporter`] | `crates/test_values`, its part `recording` |
-//! | try members that break the rules | [`mocks`], [`twins`], [`MemberKind`] | `crates/test_failures` |
+//! | try members that break the rules | [`mocks`], [`twins`], [`MemberKind`] | `crates/test_failures`; `crates/test_values`, its part `twins` |
 //! | read an input, and print its run | [`form::read_run`], [`text::printed_run`], or both by [`program`] | `crates/simplex_net` |
 //! | keep the finalized log, or get those of a run | [`log::FinalizedLog`], [`log::logs`], [`log::log_program`] | `crates/simplex_log_cli` |
 //! | apply the blocks of a log to accounts | [`ledger::Ledger`], [`ledger::ledger_program`] | `crates/simplex_ledger_cli` |

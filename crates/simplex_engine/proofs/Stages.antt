@@ -176,6 +176,16 @@ module _ {S L J : Type 0} {s : scheme.Ghosts S} {l : elector.Ghosts L} {j : jour
   poll-keeps old new before after (Err errors.Failed) input e f refuses = absurd refuses
   poll-keeps old new before after (Err errors.Stopped) input e f refuses = absurd refuses
 
+  pub poll-still : (old new : Engine S L J s l j) (before after : Crew S L J s l j) (result : Result Polled PollError) (input : Input)
+      → old.stage ≡ stages.Running before → new.stage ≡ settled_with after result
+      → IfErr result (CrewRefuses before after input)
+      → IfErr result (λ error. is_memory error ≡ false → has_stopped new ≡ has_stopped old)
+  poll-still old new before after (Ok given) input e f refuses = tt
+  poll-still old new before after (Err errors.NotPending) input e f refuses = λ _. rw (e, f) refl
+  poll-still old new before after (Err errors.Memory) input e f refuses = λ m. absurd (false≢true (sym m))
+  poll-still old new before after (Err errors.Failed) input e f refuses = absurd refuses
+  poll-still old new before after (Err errors.Stopped) input e f refuses = absurd refuses
+
   pub poll-fails : (old new : Engine S L J s l j) (before after : Crew S L J s l j) (result : Result Polled PollError) (input : Input)
       → old.stage ≡ stages.Running before → new.stage ≡ settled_with after result
       → IfErr result (CrewRefuses before after input)

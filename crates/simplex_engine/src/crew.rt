@@ -23,7 +23,7 @@ pub struct Crew<S: Scheme, L: Elector, J: Journal> {
     pub boxes: Boxes,
     /// The members that a call blocked since the start. Their packets are refused.
     pub blocked: BTreeSet<u32>,
-    // true of any three: contracts read from a crew's type what its scheme, its elector and its journal do
+    // true of any three: contracts read from a crew's type what its scheme, its elector and its journal do [types-know-what-they-do]
     ghost by_scheme: { Knows S.members },
     ghost by_elector: { Knows L.built_for },
     ghost by_journal: { Knows J.fault_count },

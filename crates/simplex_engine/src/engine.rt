@@ -41,7 +41,7 @@ pub struct Engine<S: Scheme, L: Elector, J: Journal> {
     stage: Stage<S, L, J>,
 }
 
-// By hand, so that who holds an engine at given types lets it go by one call.
+// By hand, so that who holds an engine at given types lets it go by one call. [dropped-by-a-call]
 impl<S: Scheme + Drop, L: Elector + Drop, J: Journal + Drop> Drop for Engine<S, L, J> {
     fn drop(self) {
         let Engine {
@@ -199,6 +199,8 @@ impl<S: Scheme + Drop, L: Elector + Drop, J: Journal + Drop> Engine<S, L, J> {
             (λ given. FaultsAt given.outcome (faults_of self.old) (faults_of self.new)) }
         ensures stops { IfOk result (λ given. has_stopped self.new ≡ not (is_whole given.outcome)) }
         ensures stopped { has_stopped self.old ≡ true → result ≡ Err PollError.Stopped }
+        ensures still { IfErr result (λ error. is_memory error ≡ false
+            → has_stopped self.new ≡ has_stopped self.old) }
         ensures accepted { IfOk result (λ _. Answers self.old
             (λ made past. refusal_of made past input) None) }
         ensures refused { IfErr result (λ error. is_memory error ≡ false

@@ -83,7 +83,7 @@ impl Network {
         Ok(network)
     }
 
-    /// Makes an event, or refuses it and stays as it is. Behind want of memory it refuses all.
+    /// Makes an event, or refuses it and stays as it is. Behind want of memory it refuses all. [many-frames]
     #[tactic(auto, unfolding(crate::specs::Stands::has_failed), using(crate::proofs::Standing::standing))]
     pub fn apply(&mut self, event: &Event) -> Result<Entry, RunError>
         ensures stands { IfOk result (λ entry. Grows self.old self.new event.now entry) }

@@ -14,6 +14,6 @@ pub struct Actor<S: Scheme, L: Elector, J: Journal> {
     pub(crate) planner: Planner<S, L>,
     pub(crate) floor: Floor,
     pub(crate) journal: J,
-    // true of any: contracts read from an actor's type what its journal does
+    // true of any: contracts read from an actor's type what its journal does [types-know-what-they-do]
     ghost by_journal: { Knows J.fault_count },
 }

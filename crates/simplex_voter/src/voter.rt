@@ -157,6 +157,12 @@ impl<S: Scheme + Drop, L: Elector + Drop, J: Journal + Drop> Actor<S, L, J> {
         self.planner.answer(request, answer)
     }
 
+    /// What is known of a voter over a journal that tells that no call of it will fail is known of it over any.
+    pub fn stands_over(&self)
+        ensures { (made : VoterMade) (past : List Given) → StandsFor self.now made past
+            → StandsOver self.now made past }
+    {}
+
     /// Where the pending proposal stands, if there is one.
     #[tactic(auto, unfolding(crate::specs::Actor::StandsOver))]
     pub fn proposal_state(&self) -> Option<ProposalState>

@@ -147,7 +147,7 @@ enum Command {
     Vote(Participant, Participant, u64, Subject),
     /// `certificate 0 notarization 1 aa`: a packet of the member with the certificate, which all members signed.
     Certificate(Participant, Subject),
-    /// `active 1 at 1100`: whether the member was seen for 100 milliseconds.
+    /// `active 1 at 1100`: whether it was seen in the last 100 milliseconds, or too few members were to tell.
     Active(Participant, u64),
 }
 

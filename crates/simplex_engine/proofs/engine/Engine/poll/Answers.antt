@@ -1,7 +1,7 @@
 use Rattle.std.proofs.Common.{◌∙◌, true, false}
 use Rattle.simplex_engine.specs.Stands.{StandsFor, StandsOver}
 use Rattle.simplex_engine.proofs.Settling.{settles-in}
-use Rattle.simplex_engine.proofs.Stages.{does-stands, does-gives, does-taken, does-over, does-faults, poll-stands, poll-gives, poll-accepted, poll-refused, poll-stays, poll-keeps, poll-fails, poll-alive, poll-over, poll-faults, poll-stops, waiting-refuses, stopped-refuses}
+use Rattle.simplex_engine.proofs.Stages.{does-stands, does-gives, does-taken, does-over, does-faults, poll-stands, poll-gives, poll-accepted, poll-refused, poll-stays, poll-keeps, poll-still, poll-fails, poll-alive, poll-over, poll-faults, poll-stops, waiting-refuses, stopped-refuses}
 use Rattle.simplex_engine.proofs.engine.Engine.poll.Goals as goal
 
 pub returns-clause-stands : goal.returns-clause-stands
@@ -53,6 +53,10 @@ returns-clause-stays_over g c =
 pub returns-clause-journal : goal.returns-clause-journal
 returns-clause-journal g c =
     poll-keeps c.args.self.now c.settle.new.self _ _ c.poll-result.result _ c.in-Running.is (c.settle.ensures ∙ settles-in _ c.poll-result.result) c.poll-result.ensures.refused
+
+pub returns-clause-still : goal.returns-clause-still
+returns-clause-still g c =
+    poll-still c.args.self.now c.settle.new.self _ _ c.poll-result.result _ c.in-Running.is (c.settle.ensures ∙ settles-in _ c.poll-result.result) c.poll-result.ensures.refused
 
 pub returns-in-Waiting-clause-refused : goal.returns-in-Waiting-clause-refused
 unfolding StandsOver
