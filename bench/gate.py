@@ -3,6 +3,10 @@
 
     bench/gate.py --anew          the whole gate from nothing, as the table of docs/GATE.md is made
     bench/gate.py [WORD..]        `rt ci` with these words; what an earlier run passed is not done again, and costs nothing
+    bench/gate.py --join TABLE LOG [TABLE LOG]..
+                                  one table of a run that was stopped and gone on with, by what each of its parts wrote to standard
+                                  output and standard error: of a proof the last part counts that proved the crate, of tests and
+                                  wrong bodies the dearest
 
 The gate's log tells no times. So while the gate runs, this looks five times a second at the processor time of each of its
 processes, as Linux tells it in /proc, and adds it to the crate that the process was started for: to its proof, its tests, or
@@ -11,6 +15,7 @@ go to standard error.
 """
 import collections
 import os
+import re
 import signal
 import subprocess
 import sys
@@ -94,7 +99,39 @@ def table(seconds):
     yield f"Besides, {seconds[None, None] / 60:.1f} minutes for `rt` itself and for the programs and tests that it ran."
 
 
+def rows(path):
+    """The seconds of a table, by crate and kind."""
+    found = collections.Counter()
+    with open(path) as file:
+        for line in file:
+            cells = [it.strip() for it in line.strip().strip("|").split("|")]
+            if len(cells) == 5 and cells[0].startswith("`"):
+                found.update({(cells[0].strip("`"), kind): int(it or 0) for kind, it in zip(KINDS, cells[1:])})
+            elif line.startswith("Besides, "):
+                found[None, None] = 60 * float(line.split()[1])
+    return found
+
+
+def joined(parts):
+    """The seconds of a run by its parts, the first one first."""
+    seconds = collections.Counter()
+    for path, log in parts:
+        with open(log, errors="replace") as file:
+            proved = set(re.findall(r"^rt: (\w+) proved$", file.read(), re.M))
+        for (crate, kind), it in rows(path).items():
+            if crate is None:
+                seconds[crate, kind] += it
+            elif kind != "proof":
+                seconds[crate, kind] = max(seconds[crate, kind], it)
+            elif crate in proved or not seconds[crate, kind]:
+                seconds[crate, kind] = it
+    return seconds
+
+
 def main():
+    if sys.argv[1:2] == ["--join"]:
+        print("\n".join(table(joined(list(zip(sys.argv[2::2], sys.argv[3::2]))))))
+        return
     top = os.path.dirname(os.path.dirname(os.path.abspath(__file__)))
     gate = subprocess.Popen(["rt", "ci", *sys.argv[1:]], cwd=top, stdout=sys.stderr, start_new_session=True)
     clock = Clock(gate.pid)
