@@ -1,7 +1,7 @@
 #!/usr/bin/env bash
-# Draws the runs of docs/TOUR.md anew, as docs/pictures/NAME.svg, or those of the inputs that are named, as pictures/NAME.svg: by the
-# program that rt ci or rt run proved and built; where there is none by that of make fast, which is not proved; and where there is
-# none of these by rt try, which proves nothing and takes some minutes. A refused run is drawn as far as it went.
+# Draws the runs of README.md and docs/TOUR.md anew, as docs/pictures/NAME.svg, or those of the inputs that are named, as
+# pictures/NAME.svg: by the program that rt ci or rt run proved and built; where there is none by that of make fast, which is not proved;
+# and where there is none of these by rt try, which proves nothing and takes some minutes. A refused run is drawn as far as it went.
 # Usage: pictures.sh [INPUT.json..]
 set -euo pipefail
 here=$(cd "$(dirname "$0")" && pwd)
@@ -10,7 +10,7 @@ inputs=("$@")
 to=$here/pictures
 if [[ $# -eq 0 ]]; then
     to=$here/docs/pictures
-    for name in happy-path-of-four lost-proposal-is-nullified leader-crashes-behind-its-stored-vote \
+    for name in four-members-finalize-over-a-crash happy-path-of-four lost-proposal-is-nullified leader-crashes-behind-its-stored-vote \
         restarted-member-votes-once restart-at-a-floor-of-another equivocator-is-told-on member-behind-fetches \
         twins-do-not-split; do
         inputs+=("$here/examples/$name.json")
