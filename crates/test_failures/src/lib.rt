@@ -1,7 +1,9 @@
 //! Tests of what no script can bring about: reads and writes that fail, streams that are cut, steps that stop before each of their calls,
-//! runs that a number makes, a ledger of a million transfers, and what has a second rendering.
+//! runs that a number makes, a ledger of a million transfers, applications of closures, and what has a second rendering.
 #![tactic(auto)]
 
+#[cfg(test)]
+mod applications;
 #[cfg(test)]
 mod faulty;
 #[cfg(test)]

@@ -6,7 +6,6 @@
 //! It owes nothing but that it is safe and ends.
 #![tactic(auto)]
 
-mod application;
 mod audit;
 mod certificates;
 mod epochs;

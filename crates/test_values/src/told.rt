@@ -1,5 +1,4 @@
 //! A script of a part with what came out.
-use crate::application::Applications;
 use crate::audit::play_audit;
 use crate::epochs::Epochs;
 use crate::form::play_form;
@@ -31,7 +30,6 @@ pub(crate) fn told(alloc: Global, script: &Script) -> Result<Told, AllocError> {
     told.line(first.as_str())?;
     let words = words_in(alloc, first.as_str())?;
     match words.as_slice() {
-        ["application"] => play(&mut Applications::new(alloc), script, &mut told)?,
         ["audit"] => play_audit(script, &mut told)?,
         ["bytes"] => wire::run(script, &mut told)?,
         ["epochs", "closed", "at", height] => play_epochs(height, script, &mut told)?,
