@@ -8,7 +8,7 @@ ghost use Rattle.simplex_messages.specs.Step.{no_out};
 ghost use Rattle.model_steps.specs.VoterLife.{place_of};
 ghost use Rattle.model_steps.specs.Engine.{EngineMade, Did, begun, runs, is_whole, is_blocked, sections_of, voter_in, voter_past};
 ghost use Rattle.simplex_engine.specs.Config.{engine_made, first_bad, Refused};
-ghost use Rattle.simplex_engine.specs.Holding.{holds};
+ghost use Rattle.simplex_engine.specs.Holding.{holds, next_deadline};
 ghost use Rattle.simplex_engine.specs.Polled.{polled, refusal_of, is_memory};
 ghost use Rattle.simplex_voter.specs.Turned.{FaultsAt};
 ghost use Rattle.simplex_engine.specs.Stands.{StandsFor, Takes, Stays, Gives, Starts, GivesFirst, FailsAfter, has_begun, has_failed};
@@ -394,6 +394,20 @@ impl<S: Scheme + Drop, L: Elector + Drop, J: Journal + Drop> Engine<S, L, J> {
             Stage::Stopped(_) => false,
             Stage::Waiting(_) => false,
             Stage::Failed => false,
+        }
+    }
+
+    /// The clock from which on a step of the timer or of the fetcher holds something, in milliseconds: before it no clock
+    /// alone makes the engine do anything. None of an engine that does not run.
+    #[tactic(auto, unfolding(crate::specs::Stands::StandsOver, crate::specs::Holding::next_deadline, model_steps::specs::Engine::runs))]
+    pub fn next_deadline(&self) -> Option<u64>
+        ensures { Answers self.now (λ made past. next_deadline made past) result }
+    {
+        match &self.stage {
+            Stage::Running(crew) => Some(crew.next_deadline()),
+            Stage::Stopped(_) => None,
+            Stage::Waiting(_) => None,
+            Stage::Failed => None,
         }
     }
 }

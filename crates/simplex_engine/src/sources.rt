@@ -1,8 +1,11 @@
 //! What the sources of a crew's steps hold.
 #![tactic(auto, unfolding(crate::specs::Stands::CrewStands))]
 
-ghost use Rattle.std.specs.Prelude.{Bool};
-ghost use Rattle.simplex_engine.specs.Holding.{holds};
+ghost use Rattle.std.specs.Prelude.{◌≡◌, Bool, Some};
+ghost use Rattle.model_resolver.specs.Views.{least_of};
+ghost use Rattle.model_resolver.specs.Resolver.{deadline_after};
+ghost use Rattle.model_steps.specs.Engine.{resolver_past};
+ghost use Rattle.simplex_engine.specs.Holding.{holds, voter_deadline};
 ghost use Rattle.simplex_engine.specs.Stands.{CrewAnswersAs};
 
 use crate::crew::Crew;
@@ -29,5 +32,23 @@ impl<S: Scheme + Drop, L: Elector + Drop, J: Journal + Drop> Crew<S, L, J> {
             StepSource::Handler => self.resolver.holds_handler(),
             StepSource::Fetch => self.is_fetch_due(now),
         }
+    }
+    /// When a step of the timer or of the fetcher is due next.
+    pub(crate) fn next_deadline(&self) -> u64
+        ensures { (told : Bool) → CrewAnswersAs told self.now
+            (λ made past. least_of (Some (voter_deadline made past))
+            (deadline_after made.resolver (resolver_past past))) (Some result) }
+    {
+        earliest(self.voter.next_deadline(), self.resolver.next_deadline())
+    }
+}
+
+/// The earlier of the two, where there is another one.
+fn earliest(deadline: u64, other: Option<u64>) -> u64
+    ensures { least_of (Some deadline) other ≡ Some result }
+{
+    match other {
+        None => deadline,
+        Some(other) => deadline.min(other),
     }
 }

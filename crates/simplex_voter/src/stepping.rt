@@ -21,13 +21,20 @@ use std::alloc::AllocError;
 type Touched = Option<View>;
 
 impl<S: Scheme + Drop, L: Elector + Drop> Planner<S, L> {
-    /// Whether the clock has reached the deadline.
+    /// When the step of the timer is due.
     #[tactic(auto, unfolding(crate::specs::Stands::doing_of))]
+    pub(crate) fn next_deadline(&self) -> u64
+        ensures { Knows self.now (λ made known. (deadline_of made known).0) result }
+    {
+        let (deadline, _) = self.state.next_timeout();
+        deadline
+    }
+
+    /// Whether the clock has reached the deadline.
     pub(crate) fn is_due(&self, now: u64) -> bool
         ensures { Knows self.now (λ made known. nat_le (deadline_of made known).0 now) result }
     {
-        let deadline = self.state.next_timeout();
-        deadline.0 <= now
+        self.next_deadline() <= now
     }
 
     // The deadline, where the clock has reached it.

@@ -3,6 +3,7 @@ ghost use Rattle.std.specs.Prelude.{◌≡◌, ◌<◌, ◌^◌, List, [], Some,
 ghost use Rattle.std.specs.List.{filter_map};
 ghost use Rattle.std.specs.Option.{is_some, option_map};
 ghost use Rattle.model_rules.specs.Views.{current_of};
+ghost use Rattle.model_rules.specs.Deadline.{deadline_of};
 ghost use Rattle.simplex_journal.specs.Order.{no_order};
 ghost use Rattle.simplex_mailbox.specs.Post.{Posted};
 ghost use Rattle.simplex_messages.specs.Step.{no_out};
@@ -170,6 +171,15 @@ impl<S: Scheme + Drop, L: Elector + Drop, J: Journal + Drop> Actor<S, L, J> {
             (λ p. p.state) (place_of made past).standing.desk.proposal) result }
     {
         self.planner.proposal_state()
+    }
+
+    /// When a step of the timer is due: the clock at which [`Actor::holds`] of it turns true. Milliseconds.
+    #[tactic(auto, unfolding(crate::specs::Actor::StandsOver))]
+    pub fn next_deadline(&self) -> u64
+        ensures { Answers self.now
+            (λ made past. (deadline_of made.rules (place_of made past).standing.desk.known).0) result }
+    {
+        self.planner.next_deadline()
     }
 
     /// Whether the source holds anything.
