@@ -1,25 +1,19 @@
 #!/bin/bash
-# Times the works of bench_base (wire, mailbox, journal) and bench_parts (fetch, round, state, repair), by the proved program and by plain
-# Rust, and that of bench_shared (shared) by both too. Run it from anywhere, after `rt run` in the program's crate:
-# bench/run.sh wire|mailbox|journal|shared|fetch|round|state|repair [TIMES].
+# Times the works of crates/bench (wire, mailbox, journal, fetch, round, state, repair, shared), by the proved program and by plain Rust. Run
+# it from anywhere, after `rt run` in crates/bench: bench/run.sh wire|mailbox|journal|shared|fetch|round|state|repair [TIMES].
 set -euo pipefail
 cd "$(dirname "$0")"
 what=${1:-}
 case $what in
-wire | mailbox | journal) program=bench_base ;;
-fetch | round | state | repair) program=bench_parts ;;
-shared) program=bench_shared ;;
+wire | mailbox | journal | fetch | round | state | repair | shared) ;;
 *)
     echo "usage: bench/run.sh wire|mailbox|journal|shared|fetch|round|state|repair [TIMES]"
     exit 2
     ;;
 esac
-proved=../crates/$program/out/$program
-if [ ! -d "../crates/$program" ]; then
-    echo "run.sh: there is no program for $what in the repository: crates/$program is missing"
-    exit 1
-elif [ ! -x "$proved" ]; then
-    echo "run.sh: the program is not built. Do so by: cd crates/$program && rt run"
+proved=../crates/bench/out/bench
+if [ ! -x "$proved" ]; then
+    echo "run.sh: the program is not built. Do so by: cd crates/bench && rt run"
     exit 1
 fi
 
@@ -47,10 +41,10 @@ built=$CARGO_TARGET_DIR/release/bench_$what
 calls() {
     python3 - "$@" <<'P'
 import subprocess, sys, time
-program, threads, times = sys.argv[1:]
+times, threads, *words = sys.argv[1:]
 def run(n):
     start = time.monotonic()
-    subprocess.run([program, threads, str(n)], stdout=subprocess.DEVNULL, check=True)
+    subprocess.run([*words, threads, str(n)], stdout=subprocess.DEVNULL, check=True)
     return time.monotonic() - start
 best = min(run(times) for _ in range(5)) - min(run(0) for _ in range(5))
 print(f"{2 * int(threads) * int(times) / best:.0f}")
@@ -61,8 +55,8 @@ if [ "$what" = shared ]; then
     times=${2:-500000}
     printf '%-14s %12s %12s\n' 'calls a second' 'proved' 'plain Rust'
     for threads in 1 2 4; do
-        printf '%-14s %12s %12s\n' "$threads threads" "$(calls "$proved" $threads $((times / threads)))" \
-            "$(calls "$CARGO_TARGET_DIR/plain" $threads $((times / threads)))"
+        printf '%-14s %12s %12s\n' "$threads threads" "$(calls $((times / threads)) $threads "$proved" shared pass)" \
+            "$(calls $((times / threads)) $threads "$CARGO_TARGET_DIR/plain")"
     done
     exit
 fi

@@ -1,4 +1,4 @@
-//! The same work as `bench_base wire`, in plain Rust: encodes, decodes and verifies a certificate of SIZE members.
+//! The same work as `bench wire`, in plain Rust: encodes, decodes and verifies a certificate of SIZE members.
 //! `bench_wire WORK SIZE TIMES`, where WORK is `encode`, `decode`, `verify` or `all`.
 
 mod wire;

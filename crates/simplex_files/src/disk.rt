@@ -1,5 +1,5 @@
 //! A disk in a folder.
-ghost use Rattle.std.specs.Prelude.{◌≡◌, ◌≤◌, ◌×◌, List, None, IfOk, IsErrOf};
+ghost use Rattle.std.specs.Prelude.{◌≡◌, ◌≤◌, List, None, IfOk, IsErrOf};
 ghost use Rattle.simplex_journal.specs.Faults.{Rose};
 ghost use Rattle.simplex_disk.specs.Answers.{Counts};
 ghost use Rattle.simplex_disk.specs.Calls.{Call};

@@ -1,4 +1,4 @@
-//! The same work as `bench_parts fetch`, in plain Rust: calls of a fetcher with many open views.
+//! The same work as `bench fetch`, in plain Rust: calls of a fetcher with many open views.
 //! `bench_fetch WORK VIEWS TIMES`, where WORK is `ask`, `answer`, `serve`, `expire`, `sweep` or `all`.
 
 use std::collections::{BTreeMap, BTreeSet};

@@ -1,4 +1,4 @@
-//! The same work as `bench_base journal`, in plain Rust: a journal in segment files, over a disk in memory.
+//! The same work as `bench journal`, in plain Rust: a journal in segment files, over a disk in memory.
 //! `bench_journal WORK SIZE TIMES`, where WORK is `sections`, `replays` or `all`.
 
 use std::collections::BTreeMap;

@@ -1,4 +1,4 @@
-//! The same work as `bench_base mailbox`, in plain Rust: messages pass through a voter's mailbox of capacity 16 that holds SIZE
+//! The same work as `bench mailbox`, in plain Rust: messages pass through a voter's mailbox of capacity 16 that holds SIZE
 //! others. `bench_mailbox WORK SIZE TIMES`, where WORK is `pass` or `all`.
 
 use std::collections::VecDeque;

@@ -1,4 +1,4 @@
-//! The same work as `bench_parts repair`, in plain Rust: a repair state that is given nullifications, far ahead and one by
+//! The same work as `bench repair`, in plain Rust: a repair state that is given nullifications, far ahead and one by
 //! one. `bench_repair WORK TERMS TIMES`, where WORK is `jump`, `fill` or `all`.
 
 // Of a certificate only the bytes are used here.

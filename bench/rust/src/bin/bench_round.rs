@@ -1,4 +1,4 @@
-//! The same work as `bench_parts round`, in plain Rust: rounds that are given all votes and make their certificates.
+//! The same work as `bench round`, in plain Rust: rounds that are given all votes and make their certificates.
 //! `bench_round WORK MEMBERS TIMES`, where WORK is `take`, `make` or `all`.
 
 // Of its certificates only the signatures are used here.

@@ -1,4 +1,4 @@
-//! The same work as crates/bench_shared, in plain Rust: a mailbox of capacity 16, with the list of its calls, behind a
+//! The same work as `bench shared pass`, in plain Rust: a mailbox of capacity 16, with the list of its calls, behind a
 //! mutex. `bench_shared THREADS TIMES`, where each thread puts a letter and takes one so many times.
 
 use std::collections::VecDeque;

@@ -1,4 +1,4 @@
-//! The same work as `bench_parts state`, in plain Rust: one member's state, view after view.
+//! The same work as `bench state`, in plain Rust: one member's state, view after view.
 //! `bench_state WORK 5 TURNS`, where WORK is `final`, `given_up` or `all`, and 5 is how many views a term has.
 
 // Of its certificates only the parts are used here.

@@ -1,14 +1,19 @@
-//! The parts of which the actors are made, again and again: `bench_parts PART WORK SIZE TIMES`. Each work prints how much came
-//! out of it, and no times, which `bench/run.sh` takes; `all` stands for each part, and for each work of a part.
+//! What the engine is made of, again and again: `bench PART WORK SIZE TIMES`. Each work prints how much came out of it, and no times, which
+//! `bench/run.sh` takes; `all` stands for each part, and for each work of a part.
 //!
+//! - `wire encode`, `wire decode`, `wire verify`: a notarization that SIZE members signed, 127 at most.
+//! - `mailbox pass`: a message comes into a voter's mailbox of capacity 16 that holds SIZE others, and one goes.
+//! - `journal sections`: a section of SIZE records is appended and synced, and those before the last two are pruned, in segment
+//!   files over a disk in memory. `journal replays`: one such section is read.
 //! - `fetch`: calls of a fetcher with SIZE open views. `ask` asks for one more view and settles it, `answer` hears an answer and
 //!   judges it, `serve` hears a request and serves it, `expire` lets a millisecond pass, `sweep` retires what reaches all views.
 //! - `round`: rounds of SIZE members. `take` gives them all votes, `make` lets them make their certificates too.
 //! - `state`: a member's state, with SIZE views to a term. `final` takes a view to its finalization, `given_up` then gives one up.
 //! - `ledger`: a ledger of 65,536 accounts. `extend` applies SIZE blocks of a thousand transfers.
-//! - `log`: a finalized log that is told of SIZE certificates of a chain. `rise` tells it finalizations from the first view up, `fall`
+//! - `log`: a finalized log that hears of SIZE certificates of a chain. `rise` gives it finalizations from the first view up, `fall`
 //!   the last view's and then the links below it, `wait` finalizations above a link that never comes.
 //! - `repair`: a repair state with SIZE terms. `jump` gives it a nullification that many terms ahead, `fill` one of those before.
+//! - `shared pass`: SIZE threads share a mailbox of capacity 16. Each puts a letter and takes one, TIMES times.
 //!
 //! It may assume nothing of its words, and owes nothing but that it is safe and ends.
 #![tactic(auto)]
@@ -16,19 +21,32 @@
 ghost use Rattle.std.specs.Prelude.{◌<◌};
 
 mod fetch;
+mod journal;
 mod ledger;
 mod log;
+mod mailbox;
 mod repair;
 mod round;
+mod shared;
 mod state;
+mod wire;
 
+use anyhow::{Context, Result, bail};
 use std::alloc::{AllocError, Global};
-use std::io::{ErrorKind, Print};
-use std::{env, io};
+use std::env;
+use std::io::Print;
+use std::sync::Wait;
+use std::thread::Threads;
 
 /// What is done again and again.
 #[derive(Clone, Copy)]
 enum Work {
+    Encode,
+    Decode,
+    Verify,
+    Pass,
+    Sections,
+    Replays,
     Fetch(fetch::Work),
     Ledger,
     Log(log::Work),
@@ -38,8 +56,14 @@ enum Work {
     Fill,
 }
 
-/// Each part's works.
-const WORKS: [(&str, &str, Work); 15] = [
+/// Each part's works, but for those of threads.
+const WORKS: [(&str, &str, Work); 21] = [
+    ("wire", "encode", Work::Encode),
+    ("wire", "decode", Work::Decode),
+    ("wire", "verify", Work::Verify),
+    ("mailbox", "pass", Work::Pass),
+    ("journal", "sections", Work::Sections),
+    ("journal", "replays", Work::Replays),
     ("fetch", "ask", Work::Fetch(fetch::Work::Ask)),
     ("fetch", "answer", Work::Fetch(fetch::Work::Answer)),
     ("fetch", "serve", Work::Fetch(fetch::Work::Serve)),
@@ -62,6 +86,12 @@ fn done(alloc: Global, work: Work, size: u32, times: u32) -> Result<u64, AllocEr
     requires { 0 < size }
 {
     match work {
+        Work::Encode => wire::encode(alloc, size, times),
+        Work::Decode => wire::decode(alloc, size, times),
+        Work::Verify => wire::verify(alloc, size, times),
+        Work::Pass => mailbox::pass(alloc, size, times),
+        Work::Sections => journal::sections(alloc, size, times),
+        Work::Replays => journal::replays(alloc, size, times),
         Work::Fetch(work) => fetch::turns(alloc, work, size, times),
         Work::Ledger => ledger::turns(alloc, size, times),
         Work::Log(work) => log::turns(alloc, work, size, times),
@@ -77,6 +107,7 @@ fn names(word: &str, name: &str) -> bool {
     word == name || word == "all"
 }
 
+/// Each work that the words name, but for those of threads.
 fn run(
     rt: &impl Print,
     alloc: Global,
@@ -84,7 +115,7 @@ fn run(
     work: &str,
     size: u32,
     times: u32,
-) -> io::Result<()> {
+) -> Result<()> {
     let size = size.max(1);
     for (of, name, it) in WORKS {
         if names(part, of) && names(work, name) {
@@ -95,17 +126,33 @@ fn run(
     Ok(())
 }
 
-fn number(word: &str) -> io::Result<u32> {
-    word.parse::<u32>()
-        .map_err(|_| io::Error::from(ErrorKind::InvalidInput))
+/// The work of threads, where the words name it.
+fn share<R: Print + Threads + Wait + Sync>(
+    rt: &R,
+    alloc: Global,
+    part: &str,
+    work: &str,
+    threads: u32,
+    times: u32,
+) -> Result<()> {
+    if names(part, "shared") && names(work, "pass") {
+        let calls = shared::calls(rt, alloc, threads, times)?;
+        println!(rt; "shared pass {threads} {times} {calls}")?;
+    }
+    Ok(())
 }
 
-fn main(rt: HostRuntime) -> io::Result<()> {
-    let words: Vec<String> = env::args(&rt)?.collect(rt.alloc())?;
-    match words.as_slice() {
-        [_, part, work, size, times] => {
-            run(&rt, rt.alloc(), part, work, number(size)?, number(times)?)
-        }
-        _ => Err(io::Error::from(ErrorKind::InvalidInput)),
-    }
+fn number(word: &str) -> Result<u32> {
+    word.parse::<u32>().context("not a number")
+}
+
+fn main(rt: HostRuntime) -> Result<()> {
+    let alloc = rt.alloc();
+    let words: Vec<String> = env::args(&rt)?.collect(alloc)?;
+    let [_, part, work, size, times] = words.as_slice() else {
+        bail!("words: PART WORK SIZE TIMES");
+    };
+    let (size, times) = (number(size)?, number(times)?);
+    run(&rt, alloc, part, work, size, times)?;
+    share(&rt, alloc, part, work, size, times)
 }

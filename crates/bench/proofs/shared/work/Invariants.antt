@@ -1,5 +1,5 @@
 use Rattle.std.proofs.Common.{◌≡◌}
-use Rattle.bench_shared.proofs.work.Given as goal
+use Rattle.bench.proofs.shared.work.Given as goal
 
 abbrev pub invariant-loop-number : goal.invariant-loop-number
 invariant-loop-number g l = l.pass.mailbox ≡ l.mailbox
