@@ -1,29 +1,31 @@
-# example: runs the program on the worked example of the README, unproved. try, trace, draw: the same on the input in INPUT, or what
-# each of its events did, a line an event, or a picture of it; with what is wrong, where it is not of the form. script: the script in
-# INPUT (docs/SCRIPTS.md), with what came out. fast: builds unproved/simplex_net and unproved/simplex_lab without a proof, which the
-# targets above and pictures take while they are newer than the code. build: proves and builds the program. test: the whole gate.
-# wrong-bodies: tries the wrong bodies that the gate leaves out, of all crates or of those in CRATE. pictures: draws the runs of
-# README.md and docs/TOUR.md into docs/pictures/, by the proved program where there is one, else unproved, and says so.
-.PHONY: example try trace draw script fast build test wrong-bodies pictures
+# example       runs simplex_net on the worked example of README.md
+# try, trace    the same on the input in INPUT; or a line for each of its events, with what is wrong where the input is refused
+# script        plays the script in INPUT (docs/SCRIPTS.md) and prints it with what came out
+# fast          builds simplex_net, simplex_lab_cli and simplex_audit_cli into unproved/, which the targets above do by themselves
+# check         builds every program without a proof, and runs all tests, stored sessions and examples: minutes, and proves nothing
+# build         proves and builds simplex_net
+# test          the gate: proves everything, tries the wrong bodies, runs everything (docs/GATE.md says what it costs)
+# wrong-bodies  tries the wrong bodies that the gate leaves out, of all crates or of those in CRATE: hours
+.PHONY: example try trace script fast check build test wrong-bodies
 need = $(if $(INPUT),,$(error the input is missing: make $@ INPUT=my.json))
 example:
-	@./unproved.sh run simplex_net run < crates/simplex_net/stdin
+	@tools/unproved.py run simplex_net run < crates/simplex_net/stdin
 
 try:
-	$(need)@./unproved.sh run simplex_net run < $(INPUT) || { status=$$?; \
-		echo "Of a refused run, make trace INPUT=$(INPUT) tells why, and what was open." >&2; exit $$status; }
+	$(need)@tools/unproved.py run simplex_net run < $(INPUT) || { status=$$?; \
+		echo "make trace INPUT=$(INPUT) says why a run was refused, and what was open." >&2; exit $$status; }
 
 trace:
-	$(need)@./unproved.sh run simplex_lab trace < $(INPUT)
-
-draw:
-	$(need)@./unproved.sh run simplex_lab draw < $(INPUT)
+	$(need)@tools/unproved.py run simplex_lab_cli trace < $(INPUT)
 
 script:
-	$(need)@./unproved.sh run simplex_lab script < $(INPUT)
+	$(need)@tools/unproved.py run simplex_lab_cli script < $(INPUT)
 
 fast:
-	@./unproved.sh build
+	@tools/unproved.py build
+
+check:
+	@tools/check.py
 
 build:
 	@cd crates/simplex_net && rt run -- run < stdin
@@ -33,7 +35,4 @@ test:
 	.ci/run
 
 wrong-bodies:
-	./wrong-bodies.sh $(CRATE)
-
-pictures:
-	@./pictures.sh
+	@tools/wrong-bodies.sh $(CRATE)

@@ -1,7 +1,7 @@
 #!/usr/bin/env python3
-"""Finds what `simplex` does not hand on: a definition that a clause of one of its public calls names, and a law of any crate.
+"""Finds what `simplex` does not re-export: a definition that a clause of one of its public calls names, and a law of any crate.
 
-It reads the text alone: which items crates/simplex/src hands on, where each is declared, which names its clauses and ghost members
+It reads the text alone: which items crates/simplex/src re-exports, where each is declared, which names its clauses and ghost members
 use, and from which file of specs/ these come. Definitions of std and of the kit's crates, and types (`specs.declared`), come by
 themselves. A law is a public function without parameters; cases that are computed are none. With --list it prints which calls
 name each file of definitions."""
@@ -9,7 +9,7 @@ import pathlib
 import re
 import sys
 
-ROOT = pathlib.Path(__file__).resolve().parent
+ROOT = pathlib.Path(__file__).resolve().parent.parent
 CRATES = ROOT / "crates"
 OURS = {path.name for path in CRATES.iterdir() if (path / "src").is_dir()}
 # Files whose functions are computed cases, and no laws; and a crate that has nothing else.
@@ -52,7 +52,7 @@ def parts(names):
 
 
 def uses(text):
-    """The paths that `pub use` lines hand on, each with the name under which."""
+    """The paths that `pub use` lines re-export, each with the name under which."""
     found = []
     for match in re.finditer(r"\bpub use ([^;]+);", text):
         line = " ".join(match.group(1).split())
@@ -80,7 +80,7 @@ def module_file(crate, path):
 
 
 def handed_on(crate, path=()):
-    """The items that a module hands on, each as its crate, its file and its name."""
+    """The items that a module re-exports, each as its crate, its file and its name."""
     file = module_file(crate, list(path))
     if file is None:
         return set()
@@ -117,7 +117,7 @@ def resolved(crate, path, used):
 
 
 def declared(crate, path, name):
-    """Where the item of this name is declared that the module declares or hands on."""
+    """Where the item of this name is declared that the module declares or re-exports."""
     file = module_file(crate, list(path))
     if file is None:
         return set()
@@ -227,7 +227,7 @@ def named(crate, file, name):
 
 
 def laws():
-    """The laws that the crates hand on, as their crate and their name."""
+    """The laws that the crates re-export, as their crate and their name."""
     found = set()
     for crate in OURS - {CASE_CRATE, "simplex"}:
         if crate.startswith(("test_", "bench_", "example_")) or not root_of(crate).exists():
@@ -256,7 +256,7 @@ def main():
     for crate, name in lost:
         print(f"reexports: {name} of {crate} is a law, and crates/simplex/src does not hand it on")
     if not missing and not lost:
-        print(f"reexports: {len(wanted)} files of definitions are named, and these and all laws are handed on")
+        print(f"reexports: {len(wanted)} files of definitions are named, and these and all laws are re-exported")
     return bool(missing or lost)
 
 

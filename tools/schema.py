@@ -1,14 +1,14 @@
 #!/usr/bin/env python3
 """Compares docs/input.schema.json with the stored examples of `simplex_net`: an input that the program reads is to be of the schema,
 and one that it answers with status 3 is not. The schema has the ranges of single members too, so an input that is refused as
-`BadSetup` may be of it or not. Needs the package jsonschema. Usage: schema.py [FOLDER..], by default examples."""
+`BadSetup` may be of it or not. Needs the package jsonschema. Usage: schema.py [FOLDER..], by default examples/net."""
 import json
 import pathlib
 import sys
 
 import jsonschema
 
-ROOT = pathlib.Path(__file__).resolve().parent
+ROOT = pathlib.Path(__file__).resolve().parent.parent
 
 
 def status_of(path):
@@ -17,20 +17,13 @@ def status_of(path):
     return int(file.read_text()) if file.exists() else 0
 
 
-def is_run(path):
-    """Whether the input is one of `simplex_net`: another program, which may read more members, is named beside it."""
-    return not path.with_suffix(".program").exists()
-
-
 def main():
     schema = json.loads((ROOT / "docs" / "input.schema.json").read_text())
     jsonschema.Draft202012Validator.check_schema(schema)
     validator = jsonschema.Draft202012Validator(schema)
     seen, wrong = 0, 0
-    for folder in sys.argv[1:] or [ROOT / "examples"]:
+    for folder in sys.argv[1:] or [ROOT / "examples" / "net"]:
         for path in sorted(pathlib.Path(folder).glob("*.json")):
-            if not is_run(path):
-                continue
             status = status_of(path)
             try:
                 fault = next(iter(validator.iter_errors(json.loads(path.read_text()))), None)

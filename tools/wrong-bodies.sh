@@ -1,16 +1,16 @@
 #!/usr/bin/env bash
-# Tries the wrong bodies that the gate leaves out: in a scratch copy of the repository, docs/wrong-bodies/CRATE/*.edit stand in
+# Tries the wrong bodies that the gate leaves out: in a scratch copy of the repository, wrong-bodies/CRATE/*.edit stand in
 # must-fail/ of their crate, beside those of the gate, and `rt must-fail CRATE` sees whether each is refused.
-# Usage: wrong-bodies.sh [CRATE..]. Where no crate is named, it is each that has any there.
+# Usage: tools/wrong-bodies.sh [CRATE..]. Where no crate is named, it is each that has any there.
 set -uo pipefail
-here=$(cd "$(dirname "$0")" && pwd)
-edits=$here/docs/wrong-bodies
+here=$(cd "$(dirname "$0")/.." && pwd)
+edits=$here/wrong-bodies
 crates=("$@")
 if [[ $# -eq 0 ]]; then
     mapfile -t crates < <(ls "$edits")
 fi
 for crate in "${crates[@]}"; do
-    [[ -d $edits/$crate ]] || { echo "wrong-bodies: there are none of $crate in docs/wrong-bodies"; exit 2; }
+    [[ -d $edits/$crate ]] || { echo "wrong-bodies: there are none of $crate in wrong-bodies"; exit 2; }
 done
 
 scratch=$(mktemp -d)
