@@ -2,4 +2,3 @@ pub mod Opened
 pub mod Traced
 pub mod Saying
 pub mod Scripted
-pub mod Pictured

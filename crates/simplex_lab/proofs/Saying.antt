@@ -12,8 +12,8 @@ use Rattle.model_run.specs.Run.{Run, run}
 use Rattle.simplex_run.specs.declared.run.Transcript.{Transcript}
 use Rattle.simplex_run.specs.WholeRuns.{WholeRunFrom}
 use Rattle.simplex_simulator.specs.Going.{IsRunnable}
-use Rattle.simplex_drawing.specs.Before.{earlier, entries_of}
 use Rattle.simplex_lab.specs.Lines.{makes_as_written, read_makes_line}
+use Rattle.simplex_lab.specs.Prefix.{earlier, entries_of}
 use Rattle.simplex_lab.specs.Refusals.{reason_line}
 use Rattle.simplex_lab.specs.declared.words.Order.{Order}
 use Rattle.simplex_lab.specs.Says.{IsMadeFor, IsRefusedBehind, IsShrunk, IsSimulated, IsUnread, simulated_text, unread_line}

@@ -13,9 +13,6 @@ use Rattle.simplex_lab.specs.declared.told.Told.TheVariants as tells
 abbrev pub help : List ℕ
 help = pieces (
     codes "trace                      tells what each event of an input did; of a refused run also why, and what was open then\n" ∷
-    codes "draw [--html] ..           draws the run as SVG, or as a page with a slider; a refused run as far as it went, with the reason\n" ∷
-    codes "    FROM TO                the events from one number to another; where none are named, those from 1 to 400\n" ∷
-    codes "    NODE ..                behind FROM TO: these nodes alone, as 0.0 3.0\n" ∷
     codes "simulate SEED STEPS ..     makes events for a setup without events, and tells what they report\n" ∷
     codes "    SEED                   0 to 18446744073709551615: what is drawn is drawn from it\n" ∷
     codes "    STEPS                  0 to 1048576 choices, of which each makes one event or none\n" ∷

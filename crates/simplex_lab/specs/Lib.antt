@@ -1,6 +1,7 @@
 pub mod About
 pub mod Lines
 pub mod Opening
+pub mod Prefix
 pub mod Reasons
 pub mod Refusals
 pub mod Says

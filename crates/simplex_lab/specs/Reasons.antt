@@ -5,7 +5,5 @@ use Rattle.simplex_lab.specs.declared.reason.LabReason.TheVariants as reasons
 
 abbrev pub status_of_reason : LabReason → ℕ
 status_of_reason (reasons.Refused refusal) = 1
-status_of_reason (reasons.DrawnBefore refusal picture) = 1
-status_of_reason (reasons.NoNode node) = 2
 status_of_reason (reasons.Unread place) = 8
 status_of_reason reasons.NotMade = 9

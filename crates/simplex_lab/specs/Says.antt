@@ -33,10 +33,8 @@ use Rattle.simplex_script.specs.declared.script.Script.{Script}
 use Rattle.simplex_scripts.specs.Playing.{compiled}
 use Rattle.simplex_scripts.specs.Rewriting.{rewritten}
 use Rattle.simplex_scripts.specs.declared.compiling.Compiled.{Compiled}
-use Rattle.simplex_drawing.specs.Before.{earlier, entries_of}
-use Rattle.simplex_drawing.specs.Drawings.{absent_line, drawn_of}
-use Rattle.simplex_drawing.specs.declared.drawing.Drawn.TheVariants as drawns
 use Rattle.simplex_lab.specs.Lines.{makes_as_written}
+use Rattle.simplex_lab.specs.Prefix.{earlier, entries_of}
 use Rattle.simplex_lab.specs.declared.reason.LabReason.{LabReason}
 use Rattle.simplex_lab.specs.declared.reason.LabReason.TheVariants as reasons
 use Rattle.simplex_lab.specs.declared.told.Told.{Told}
@@ -205,10 +203,9 @@ ScriptRefused bytes _ text = ⊥
 
 -- ---- each word
 
--- the whole work of a word on an input, and its text. How a picture is written is not said
+-- the whole work of a word on an input, and its text
 abbrev pub DoneOn : Word → Input → Told → List ℕ → Type 0
 DoneOn asks.Trace input (tells.Run done) text = IsTraced input done text
-DoneOn (asks.Draw wish) input (tells.Picture picture) text = drawn_of wish.cut input ≡ drawns.Whole picture
 DoneOn (asks.Simulate order) input (tells.Run done) text = IsSimulated order input done text
 DoneOn (asks.Shrink line) input (tells.Shrunk left) text = IsShrunk line input left text
 DoneOn _ input _ text = ⊥
@@ -216,12 +213,6 @@ DoneOn _ input _ text = ⊥
 -- why it ends before, and its text
 abbrev pub RefusedOn : Word → Input → LabReason → List ℕ → Type 0
 RefusedOn asks.Trace input (reasons.Refused refusal) text = IsRefused input refusal text
-RefusedOn (asks.Draw wish) input (reasons.Refused refusal) text =
-    (drawn_of wish.cut input ≡ drawns.Refused refusal) × (text ≡ refusal_text refusal)
-RefusedOn (asks.Draw wish) input (reasons.DrawnBefore refusal picture) text =
-    drawn_of wish.cut input ≡ drawns.Before refusal picture
-RefusedOn (asks.Draw wish) input (reasons.NoNode node) text =
-    (drawn_of wish.cut input ≡ drawns.NoNode node) × (text ≡ absent_line node)
 RefusedOn (asks.Simulate order) input (reasons.Refused refusal) text = IsRefusedBehind order input refusal text
 RefusedOn (asks.Simulate order) input (reasons.Unread place) text = IsUnread order input place text
 RefusedOn (asks.Shrink line) input reasons.NotMade text =

@@ -5,7 +5,6 @@ use Rattle.std.specs.Str.{bytes_eq}
 use Rattle.std.specs.declared.alloc.Global.{Global}
 use Rattle.simplex_simulator.specs.declared.plan.Chances.{Chances}
 use Rattle.simplex_names.specs.Numbers.{number_of}
-use Rattle.simplex_drawing.specs.Words.{wish_of}
 use Rattle.simplex_lab.specs.declared.words.Order.{Order}
 use Rattle.simplex_lab.specs.declared.words.TheConstants.{ALWAYS, MOST_STEPS}
 use Rattle.simplex_lab.specs.declared.words.Word.{Word}
@@ -89,10 +88,6 @@ abbrev pub trace_of : List (List ℕ) → Option Word
 trace_of [] = Some asks.Trace
 trace_of (word ∷ words) = None
 
--- --html FROM TO NODE .., or less of it
-abbrev pub draw_of : List (List ℕ) → Option Word
-draw_of words = option_map (λ wish. asks.Draw wish) (wish_of words)
-
 -- nothing, or --events
 abbrev pub script_of : List (List ℕ) → Option Word
 script_of [] = Some (asks.Script false)
@@ -108,7 +103,6 @@ begins_script (word ∷ words) = bytes_eq word (codes "script")
 abbrev pub asked_with : List ℕ → List (List ℕ) → Option Word
 asked_with word others =
     if bytes_eq word (codes "trace") then trace_of others else
-    if bytes_eq word (codes "draw") then draw_of others else
     if bytes_eq word (codes "simulate") then simulation_of others else
     if bytes_eq word (codes "shrink") then shrink_of others else
     if bytes_eq word (codes "script") then script_of others else
@@ -124,4 +118,4 @@ asked words = asked_by (map string_bytes words)
 -- what is said of other words
 abbrev pub usage : List ℕ
 usage =
-    codes "usage: trace | draw [--html] [FROM TO [NODE ..]] | simulate SEED STEPS [--drop P] [--repeat P] [--crash P] [--delay P] [--events] | shrink LINE | script [--events] | --help | --version\n"
+    codes "usage: trace | simulate SEED STEPS [--drop P] [--repeat P] [--crash P] [--delay P] [--events] | shrink LINE | script [--events] | --help | --version\n"

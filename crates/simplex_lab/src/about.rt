@@ -13,9 +13,6 @@ use simplex_io::{Sink, SinkError, write_text};
 
 const HELP: &str =
     "trace                      tells what each event of an input did; of a refused run also why, and what was open then
-draw [--html] ..           draws the run as SVG, or as a page with a slider; a refused run as far as it went, with the reason
-    FROM TO                the events from one number to another; where none are named, those from 1 to 400
-    NODE ..                behind FROM TO: these nodes alone, as 0.0 3.0
 simulate SEED STEPS ..     makes events for a setup without events, and tells what they report
     SEED                   0 to 18446744073709551615: what is drawn is drawn from it
     STEPS                  0 to 1048576 choices, of which each makes one event or none

@@ -1,10 +1,10 @@
-//! A laboratory: a run told line by line, or drawn, also where it is refused, runs that make their own events, and inputs that
+//! A laboratory: a run told line by line, also where it is refused, runs that make their own events, and inputs that
 //! are made shorter while something stays so.
 #![tactic(auto)]
 
 mod about;
-mod drawing;
 mod opening;
+mod prefix;
 mod reason;
 mod reasons;
 mod scripting;

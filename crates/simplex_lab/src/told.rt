@@ -1,5 +1,4 @@
 //! What whole work made.
-use simplex_picture::Picture;
 use simplex_run::Transcript;
 use simplex_transcript::Event;
 use simplex_types::Sequence;
@@ -9,8 +8,6 @@ use simplex_types::Sequence;
 pub enum Told {
     /// A run.
     Run(Transcript),
-    /// The picture of a run.
-    Picture(Picture),
     /// The events that are left.
     Shrunk(Sequence<Event>),
     /// Nothing but words on the program.

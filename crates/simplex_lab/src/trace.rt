@@ -4,16 +4,16 @@ ghost use Rattle.model_run.specs.Setting.{at_epoch_genesis};
 ghost use Rattle.model_run.specs.Run.{Run};
 ghost use Rattle.simplex_run.specs.WholeRuns.{WholeRunFrom};
 ghost use Rattle.simplex_generator.specs.Unanswered.{node_in};
-ghost use Rattle.simplex_drawing.specs.Before.{earlier, entries_of};
+ghost use Rattle.simplex_lab.specs.Prefix.{earlier, entries_of};
 ghost use Rattle.simplex_lab.specs.declared.words.Word.TheVariants as asks;
 ghost use Rattle.simplex_lab.specs.Says as says;
 ghost use Rattle.simplex_lab.specs.Says.{AnswersOn, TellsOpenIf, TellsRefusal, lines_if, node_at};
 
 use crate::opening::open_lines;
+use crate::prefix::{events_before, whole_run};
 use crate::reason::LabReason;
 use crate::reasons::reason_line;
 use crate::told::Told;
-use simplex_drawing::{events_before, whole_run};
 use simplex_form::Input;
 use simplex_front::Answer;
 use simplex_run::{Transcript, run_network};

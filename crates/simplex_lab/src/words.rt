@@ -2,7 +2,6 @@
 ghost use Rattle.std.specs.Prelude.{◌≡◌, ◌∷◌, ◌<◌, ◌≤◌, ◌^◌, ℕ, List, map, IfOk, string_bytes};
 ghost use Rattle.simplex_lab.specs.Words as said;
 
-use simplex_drawing::{Wish, wish_of};
 use simplex_names::number_of;
 use simplex_simulator::{Chances, Plan};
 use simplex_types::{Bytes, Sequence};
@@ -28,8 +27,6 @@ pub struct Order {
 pub enum Word {
     /// `trace`: a line on each event of the input.
     Trace,
-    /// `draw`, or `draw` with the part of the run that is drawn, and as what: a picture of the run of the input.
-    Draw(Wish),
     /// `simulate SEED STEPS OPTION ..`: events are made for the setup of the input.
     Simulate(Order),
     /// `shrink LINE`: events are left out while the run still makes the line.
@@ -202,16 +199,6 @@ fn trace_of(words: &[String]) -> Option<Word>
     }
 }
 
-// `--html FROM TO NODE ..`, or less of it.
-fn draw_of(alloc: Global, words: &[String]) -> Result<Option<Word>, AllocError>
-    ensures { IfOk result (λ word. word ≡ said.draw_of (map string_bytes words.now)) }
-{
-    match wish_of(alloc, words)? {
-        None => Ok(None),
-        Some(wish) => Ok(Some(Word::Draw(wish))),
-    }
-}
-
 // `--events`, and nothing behind it.
 fn shown_script(word: &String, after: &[String]) -> Option<Word>
     ensures { result ≡ said.script_of (string_bytes word.now ∷ map string_bytes after.now) }
@@ -242,7 +229,6 @@ fn word_with(alloc: Global, word: &String, others: &[String]) -> Result<Option<W
 {
     match word.as_str() {
         "trace" => Ok(trace_of(others)),
-        "draw" => draw_of(alloc, others),
         "simulate" => Ok(simulation_of(others)),
         "shrink" => shrink_of(alloc, others),
         "script" => Ok(script_of(others)),

@@ -13,7 +13,6 @@ ghost use Rattle.simplex_lab.specs.declared.words.Word.TheVariants as asks;
 ghost use Rattle.simplex_lab.specs.Says.{Answers, Does, Misreads, Refuses};
 
 use crate::about::{about, say};
-use crate::drawing::drawn;
 use crate::reason::LabReason;
 use crate::scripting::scripted;
 use crate::shrinking::shrunk;
@@ -21,7 +20,6 @@ use crate::simulating::simulated;
 use crate::told::Told;
 use crate::trace::trace;
 use crate::words::{Order, Word, word_of};
-use simplex_drawing::Wish;
 use simplex_form::read_input;
 use simplex_front::{Answer, Exit, Work, program};
 use simplex_io::{Sink, Source};
@@ -29,7 +27,7 @@ use simplex_types::Bytes;
 use std::alloc::{AllocError, Global};
 
 const USAGE: &str =
-    "usage: trace | draw [--html] [FROM TO [NODE ..]] | simulate SEED STEPS [--drop P] [--repeat P] [--crash P] [--delay P] [--events] | shrink LINE | script [--events] | --help | --version\n";
+    "usage: trace | simulate SEED STEPS [--drop P] [--repeat P] [--crash P] [--delay P] [--events] | shrink LINE | script [--events] | --help | --version\n";
 
 /// Does what the words ask for with an input.
 pub struct LabWork;
@@ -41,16 +39,6 @@ fn on_trace(alloc: Global, bytes: &[u8]) -> Result<Answer<Told, LabReason>, Allo
     match read_input(alloc, bytes)? {
         Err(place) => Ok(Answer::BadInput { place }),
         Ok(input) => trace(alloc, &input),
-    }
-}
-
-// The picture of an input's run.
-fn on_draw(alloc: Global, wish: &Wish, bytes: &[u8]) -> Result<Answer<Told, LabReason>, AllocError>
-    ensures { IfOk result (Answers (asks.Draw wish.now) bytes.now) }
-{
-    match read_input(alloc, bytes)? {
-        Err(place) => Ok(Answer::BadInput { place }),
-        Ok(input) => drawn(alloc, wish, &input),
     }
 }
 
@@ -109,7 +97,6 @@ impl Work<Word, Told, LabReason> for LabWork {
     ) -> Result<Answer<Told, LabReason>, AllocError> {
         match ask {
             Word::Trace => on_trace(alloc, &bytes),
-            Word::Draw(wish) => on_draw(alloc, &wish, &bytes),
             Word::Simulate(order) => on_simulation(alloc, &order, &bytes),
             Word::Shrink(line) => on_shrink(alloc, &line, &bytes),
             Word::Script { shows_events } => scripted(alloc, shows_events, &bytes),

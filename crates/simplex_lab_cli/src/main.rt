@@ -1,5 +1,4 @@
-//! The program: runs the events that standard input says, and writes what each of them did, or draws it:
-//! `simplex_lab_cli trace < input.json`, `simplex_lab_cli draw < input.json > picture.svg`.
+//! The program: runs the events that standard input says, and writes what each of them did: `simplex_lab_cli trace < input.json`.
 //!
 //! It hands the process to [`lab_program`] and decides nothing. Of an exit by a fault or want of memory, for which standard output
 //! stays as it is, it says on standard error which it was, and of an input or a script that is not of the form, what is wrong with it.

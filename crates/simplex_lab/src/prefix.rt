@@ -1,13 +1,13 @@
 //! What came before the event that a run refuses.
 ghost use Rattle.std.specs.Prelude.{◌≡◌, ◌-◌, IfOk, option_map, take};
-ghost use Rattle.simplex_drawing.specs.Before.{entries_of};
+ghost use Rattle.simplex_lab.specs.Prefix.{entries_of};
 
 use simplex_run::{Transcript, run_network};
 use simplex_transcript::{Event, RunError, Setup};
 use std::alloc::{AllocError, Global};
 
 /// The events before the one of this number, which is counted from 1; all, where there are not so many.
-pub fn events_before(events: &[Event], number: u64) -> &[Event]
+pub(crate) fn events_before(events: &[Event], number: u64) -> &[Event]
     ensures { result.now ≡ take (number - 1) events.now }
 {
     let before = events.len().min(number.saturating_sub(1) as usize);
@@ -15,8 +15,8 @@ pub fn events_before(events: &[Event], number: u64) -> &[Event]
 }
 
 /// The run of the events, if it is whole.
-#[tactic(auto, unfolding(crate::specs::Before::entries_of))]
-pub fn whole_run(
+#[tactic(auto, unfolding(crate::specs::Prefix::entries_of))]
+pub(crate) fn whole_run(
     alloc: Global,
     setup: &Setup,
     events: &[Event],

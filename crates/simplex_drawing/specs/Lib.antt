@@ -1,4 +1,0 @@
-pub mod Before
-pub mod Drawings
-pub mod Reasons
-pub mod Words
