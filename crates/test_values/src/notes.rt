@@ -40,14 +40,6 @@ fn note_text(alloc: Global, note: &Note) -> Result<String, AllocError> {
     format!(in alloc; "{kind} {writer}{left}")
 }
 
-/// Puts a note of each of the first writers, by any post.
-fn put_all<P: Post<Note>>(post: &mut P, writers: u64) -> Result<(), AllocError> {
-    for writer in 0..writers {
-        post.enqueue(Note::plain(writer))?;
-    }
-    Ok(())
-}
-
 impl Desk {
     fn put(&mut self, note: Note, told: &mut Told) -> Result<(), AllocError> {
         let feedback = self.mailbox.enqueue(note)?;
@@ -59,23 +51,6 @@ impl Desk {
             Some(note) => told.says(note_text(self.alloc, &note)?.as_str()),
             None => told.says("nothing"),
         }
-    }
-
-    /// Takes all notes, and tells how many there were of writers in their order from 0.
-    fn count(&mut self, told: &mut Told) -> Result<(), AllocError> {
-        let mut count = 0u64;
-        for writer in 0..u64::MAX {
-            if self.mailbox.recv() != Some(Note::plain(writer)) {
-                break;
-            }
-            count = count.saturating_add(1);
-        }
-        let rest = if self.mailbox.is_empty() {
-            "none is left"
-        } else {
-            "others are left"
-        };
-        told.says(format!(in self.alloc; "{count} in their order, {rest}")?.as_str())
     }
 
     /// Tells how many messages may be ready, and whether it is closed and empty.
@@ -99,12 +74,9 @@ impl Desk {
 #[derive(Clone, Copy)]
 enum Command {
     Put(Note),
-    /// A plain note of each of so many writers is put.
-    PutAll(u64),
     Take,
     /// The next note is copied.
     Next,
-    TakeAll,
     /// The writer leaves.
     Leave(u64),
     Close,
@@ -115,10 +87,8 @@ fn command_of(words: &[&str]) -> Option<Command> {
     match words {
         ["plain", writer] => Some(Command::Put(Note::plain(number(writer)?))),
         ["urgent", writer] => Some(Command::Put(Note::urgent(number(writer)?))),
-        ["plain", "of", writers, "writers"] => Some(Command::PutAll(number(writers)?)),
         ["take"] => Some(Command::Take),
         ["next"] => Some(Command::Next),
-        ["take", "all"] => Some(Command::TakeAll),
         ["leave", writer] => Some(Command::Leave(number(writer)?)),
         ["close"] => Some(Command::Close),
         ["state"] => Some(Command::State),
@@ -130,7 +100,6 @@ impl Desk {
     fn run(&mut self, command: Command, told: &mut Told) -> Result<(), AllocError> {
         match command {
             Command::Put(note) => self.put(note, told),
-            Command::PutAll(writers) => put_all(&mut self.mailbox, writers),
             Command::Take => {
                 let note = self.mailbox.recv();
                 self.tell(note, told)
@@ -139,7 +108,6 @@ impl Desk {
                 let note = self.mailbox.copy_front(self.alloc)?;
                 self.tell(note, told)
             }
-            Command::TakeAll => self.count(told),
             Command::Leave(writer) => {
                 self.mailbox.leave(writer);
                 Ok(())
