@@ -1,8 +1,10 @@
 //! Scripts about scripted rounds, in which a faulty member runs two engines: with whom each half talks, and who leads.
 ghost use Rattle.std.specs.Prelude.{◌<◌};
 
+mod every;
 mod rounds;
 
+use crate::twins::every::tell_scenarios;
 use crate::twins::rounds::{mask_of, members_text, target_word};
 use simplex_twins::{
     Elector, ElectorState, RoundScenario, Scenario, TwinsError, view_partitions, view_route,
@@ -210,6 +212,7 @@ impl Desk {
         match command {
             Command::Ask(question) => told.says(self.answer(question)?.as_str()),
             Command::Round(leader, first, second) => self.round(leader, first, second, told),
+            Command::All(n, rounds, limit) => tell_scenarios(n, rounds as usize, limit, told),
         }
     }
 }
@@ -235,6 +238,8 @@ enum Command {
     Ask(Question),
     /// A round is added: its leader, and its masks.
     Round(u32, u64, u64),
+    /// All scripts among so many members of so many rounds, at most so many.
+    All(u32, u64, u64),
 }
 
 fn question_of(words: &[&str]) -> Option<Question> {
@@ -259,6 +264,17 @@ fn command_of(words: &[&str]) -> Option<Command> {
             mask_of(first)?,
             mask_of(second)?,
         )),
+        [
+            "all",
+            "of",
+            n,
+            "members",
+            rounds,
+            "rounds",
+            "at",
+            "most",
+            limit,
+        ] => { Some(Command::All(member(n)?, number(rounds)?, number(limit)?)) }
         _ => Some(Command::Ask(question_of(words)?)),
     }
 }

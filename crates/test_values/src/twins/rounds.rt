@@ -1,4 +1,5 @@
 //! The words for rounds: masks as lists of places, and whom a message reaches.
+use simplex_twins::RoundScenario;
 use simplex_types::{Participant, SplitTarget};
 use std::alloc::{AllocError, Global};
 
@@ -16,6 +17,40 @@ pub(super) fn mask_of(word: &str) -> Option<u64> {
         mask |= 1 << place;
     }
     Some(mask)
+}
+
+/// Whether the mask has the place.
+fn has(mask: u64, place: usize) -> bool {
+    let mut rest = mask;
+    for _ in 0..place {
+        rest /= 2;
+    }
+    rest % 2 == 1
+}
+
+/// The places of a mask, each behind a comma; a dash for none.
+fn mask_text(alloc: Global, mask: u64) -> Result<String, AllocError> {
+    let mut text = String::new(alloc);
+    for place in 0..64usize {
+        if has(mask, place) {
+            if !text.is_empty() {
+                text.push_str(",")?;
+            }
+            text.push_str(format!(in alloc; "{place}")?.as_str())?;
+        }
+    }
+    if text.is_empty() {
+        text.push_str("-")?;
+    }
+    Ok(text)
+}
+
+/// The leader of a round, and its masks.
+pub(super) fn round_text(alloc: Global, round: &RoundScenario) -> Result<String, AllocError> {
+    let leader = round.leader();
+    let first = mask_text(alloc, round.primary())?;
+    let second = mask_text(alloc, round.secondary())?;
+    format!(in alloc; "{leader} {} {}", first.as_str(), second.as_str())
 }
 
 /// Members, each behind a space.
