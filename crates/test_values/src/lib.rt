@@ -8,7 +8,6 @@ mod form;
 mod journal;
 mod log;
 mod mocks;
-mod notes;
 mod plain;
 mod recording;
 mod report;
@@ -37,7 +36,6 @@ pub fn told(alloc: Global, script: &Script) -> Result<Option<Told>, AllocError> 
         ["journal"] => journal::run(script, &mut told)?,
         ["log"] => log::run(script, &mut told)?,
         ["mocks"] => play(&mut Mocks::new(alloc), script, &mut told)?,
-        ["notes", how @ ..] => notes::run(how, script, &mut told)?,
         ["recording"] => recording::run(script, &mut told)?,
         ["reporters"] => report::run(script, &mut told)?,
         ["scheme", how @ ..] => schemes::run(how, script, &mut told)?,
