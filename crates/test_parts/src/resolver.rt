@@ -5,7 +5,6 @@ mod telling;
 use crate::resolver::command::{Command, command_of};
 use crate::resolver::telling::tell;
 use simplex_mailbox::Mailbox;
-use simplex_messages::resolver::HandlerMessage;
 use simplex_messages::{ResolverInput, StepOut, voter};
 use simplex_resolver::{Actor, Config};
 use simplex_types::{Epoch, Keyed, Participant, TermLength, View};
@@ -13,41 +12,35 @@ use std::alloc::{AllocError, Global};
 use test_support::papers::{Paper, bytes_of};
 use test_support::{Part, Script, Told, member, number, play_made, timed};
 
-/// A resolver, the handler's message that was taken for a later step, and the time.
+/// A resolver, and the time.
 #[derive(Drop)]
 struct Desk {
     alloc: Global,
     actor: Actor<Keyed>,
-    taken: Option<HandlerMessage>,
     now: u64,
 }
 
-/// How many members there are, how many views a term has, and how many messages the handler's mailbox holds.
+/// How many members there are, and how many views a term has.
 #[derive(Clone, Copy)]
 struct Size {
     members: u32,
     length: TermLength,
-    room: u32,
 }
 
-/// `of N`, and where they are not 1 and 16, `terms of VIEWS` and `room MESSAGES`.
+/// `of N terms of VIEWS`
 fn size_of(words: &[&str]) -> Option<Size> {
-    let (members, length, room) = match words {
-        ["of", members] => (members, "1", "16"),
-        ["of", members, "terms", "of", length] => (members, *length, "16"),
-        ["of", members, "room", room] => (members, "1", *room),
-        _ => return None,
+    let ["of", members, "terms", "of", length] = words else {
+        return None;
     };
     Some(Size {
         members: member(members)?,
         length: TermLength::new(number(length)?)?,
-        room: member(room)?,
     })
 }
 
 /// Member 0's resolver. Peers have a second to answer, and a view waits a tenth of one behind an attempt that failed.
 fn desk_of(alloc: Global, size: Size) -> Result<Option<Desk>, AllocError> {
-    if size.members == 0 || size.room == 0 {
+    if size.members == 0 {
         return Ok(None);
     }
     let scheme = Keyed::new(alloc, 7, size.members, Some(Participant(0)))?;
@@ -55,7 +48,7 @@ fn desk_of(alloc: Global, size: Size) -> Result<Option<Desk>, AllocError> {
         scheme,
         epoch: Epoch(0),
         mailbox_size: 16,
-        handler_size: size.room,
+        handler_size: 16,
         fetch_timeout: 1000,
         fetch_retry_delay: 100,
         term_length: size.length,
@@ -63,7 +56,6 @@ fn desk_of(alloc: Global, size: Size) -> Result<Option<Desk>, AllocError> {
     Ok(Some(Desk {
         alloc,
         actor: Actor::new(alloc, config)?,
-        taken: None,
         now: 0,
     }))
 }
@@ -92,40 +84,12 @@ impl Desk {
         tell(&out, before, self.actor.next_deadline(), told)
     }
 
-    /// A step with the handler's message.
-    fn handle(
-        &mut self,
-        message: Option<HandlerMessage>,
-        told: &mut Told,
-    ) -> Result<(), AllocError> {
-        match message {
+    /// A step with the handler's first message.
+    fn handle(&mut self, told: &mut Told) -> Result<(), AllocError> {
+        match self.actor.take_handler() {
             None => told.says("nothing waits"),
             Some(message) => self.step(ResolverInput::Handler(message), told),
         }
-    }
-
-    /// Others block the member.
-    fn block(&mut self, member: u32, told: &mut Told) -> Result<(), AllocError> {
-        let before = self.actor.next_deadline();
-        self.actor.block(Participant(member))?;
-        if self.actor.is_blocked(Participant(member)) {
-            told.says("is blocked")?;
-        }
-        if before != self.actor.next_deadline() {
-            told.says("the deadline moves")?;
-        }
-        Ok(())
-    }
-
-    /// The handler's first message is taken for a later step.
-    fn take_one(&mut self, told: &mut Told) -> Result<(), AllocError> {
-        let is_held = self.actor.holds_handler();
-        self.taken = self.actor.take_handler();
-        told.says(match (is_held, self.taken.is_some()) {
-            (true, true) => "taken",
-            (false, false) => "nothing waits",
-            _ => "the mailbox does not tell what it holds",
-        })
     }
 
     /// Whether a certificate's bytes answer an ask for the view.
@@ -149,16 +113,7 @@ impl Part for Desk {
         match command_of(self.alloc, words)? {
             None => told.says("not a command"),
             Some(Command::Give(input)) => self.step(input, told),
-            Some(Command::Handle) => {
-                let message = self.actor.take_handler();
-                self.handle(message, told)
-            }
-            Some(Command::HandleTaken) => {
-                let message = self.taken.take();
-                self.handle(message, told)
-            }
-            Some(Command::Take) => self.take_one(told),
-            Some(Command::Block(member)) => self.block(member, told),
+            Some(Command::Handle) => self.handle(told),
             Some(Command::Judge(view, paper)) => self.judge(view, paper, told),
         }
     }

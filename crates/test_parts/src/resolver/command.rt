@@ -1,9 +1,9 @@
 //! What a line of a script about a resolver wants.
 use simplex_messages::ResolverInput;
 use simplex_messages::resolver::MailboxMessage;
-use simplex_types::{Bytes, Kind, Participant, ResolverBody, View};
+use simplex_types::{Bytes, Participant, ResolverBody, View};
 use std::alloc::{AllocError, Global};
-use test_support::papers::{Paper, bytes_of, certificate, message, noise, notarization};
+use test_support::papers::{Paper, bytes_of, certificate, message, notarization};
 use test_support::{member, number};
 
 /// What is done with a resolver.
@@ -13,12 +13,6 @@ pub(super) enum Command {
     Give(ResolverInput),
     /// A step with the handler's first message.
     Handle,
-    /// The handler's first message is taken for a later step.
-    Take,
-    /// A step with the message that was taken.
-    HandleTaken,
-    /// Others block the member.
-    Block(u32),
     /// Whether the certificate answers an ask for the view.
     Judge(u64, Paper),
 }
@@ -30,16 +24,10 @@ enum Given {
     Known(Paper),
     /// The application judged a view's notarization.
     Certified(u64, bool),
-    /// For the proposal of a view a certificate of another view is missing, which the target alone is asked for.
-    Missing(u64, u64, Kind, Option<u32>),
     /// A member answers the request of a number.
     Answer(u32, u64, Paper),
-    /// A member answers it by bytes that are no certificate.
-    Garbled(u32, u64),
-    Refusal(u32, u64),
     /// A member asks, under a number, for a view.
     Request(u32, u64, u64),
-    Noise(u32),
     Timer,
 }
 
@@ -48,39 +36,14 @@ fn paper_of(words: &[&str]) -> Option<Paper> {
         ["notarization", view] => Some(Paper::Notarized(number(view)?)),
         ["nullification", view] => Some(Paper::Nullified(number(view)?)),
         ["finalization", view] => Some(Paper::Finalized(number(view)?)),
-        ["nullification", view, "of", "another", "epoch"] => Some(Paper::Foreign(number(view)?)),
-        ["nullification", view, "of", "two", "signers"] => Some(Paper::Thin(number(view)?)),
         _ => None,
     }
-}
-
-fn kind_of(word: &str) -> Option<Kind> {
-    match word {
-        "nullification" => Some(Kind::Nullification),
-        "notarization" => Some(Kind::Notarization),
-        _ => None,
-    }
-}
-
-/// `KIND VIEW for PROPOSAL`, and maybe `of MEMBER`.
-fn missing_of(words: &[&str]) -> Option<Given> {
-    let (kind, view, proposal, target) = match words {
-        [kind, view, "for", proposal] => (kind, view, proposal, None),
-        [kind, view, "for", proposal, "of", target] => {
-            (kind, view, proposal, Some(member(target)?))
-        }
-        _ => return None,
-    };
-    Some(Given::Missing(number(proposal)?, number(view)?, kind_of(kind)?, target))
 }
 
 fn sent_of(who: u32, words: &[&str]) -> Option<Given> {
     match words {
         ["request", id, "for", view] => Some(Given::Request(who, number(id)?, number(view)?)),
-        ["answer", id, "noise"] => Some(Given::Garbled(who, number(id)?)),
         ["answer", id, paper @ ..] => Some(Given::Answer(who, number(id)?, paper_of(paper)?)),
-        ["refusal", id] => Some(Given::Refusal(who, number(id)?)),
-        ["noise"] => Some(Given::Noise(who)),
         _ => None,
     }
 }
@@ -91,7 +54,6 @@ fn given_of(words: &[&str]) -> Option<Given> {
         ["timer"] => Some(Given::Timer),
         ["certified", view] => Some(Given::Certified(number(view)?, true)),
         ["failed", view] => Some(Given::Certified(number(view)?, false)),
-        ["missing", words @ ..] => missing_of(words),
         ["from", who, words @ ..] => sent_of(member(who)?, words),
         ["known", words @ ..] => Some(Given::Known(paper_of(words)?)),
         _ => None,
@@ -129,12 +91,6 @@ fn mail(alloc: Global, given: Given) -> Result<MailboxMessage, AllocError> {
             notarization: notarization(alloc, view)?,
             success,
         }),
-        Given::Missing(proposal, view, kind, target) => Ok(MailboxMessage::Resolve {
-            proposal: View(proposal),
-            view: View(view),
-            kind,
-            target: target.map(|member| Participant(member)),
-        }),
         _ => Ok(MailboxMessage::Replayed),
     }
 }
@@ -142,13 +98,10 @@ fn mail(alloc: Global, given: Given) -> Result<MailboxMessage, AllocError> {
 fn input(alloc: Global, given: Given) -> Result<ResolverInput, AllocError> {
     match given {
         Given::Answer(sender, id, paper) => answered(alloc, sender, id, bytes_of(alloc, paper)?),
-        Given::Garbled(sender, id) => answered(alloc, sender, id, noise(alloc)?),
-        Given::Refusal(sender, id) => Ok(packet(sender, message(alloc, id, ResolverBody::Error)?)),
         Given::Request(sender, id, view) => {
             let bytes = message(alloc, id, ResolverBody::Request { view: View(view) })?;
             Ok(packet(sender, bytes))
         }
-        Given::Noise(sender) => Ok(packet(sender, noise(alloc)?)),
         Given::Timer => Ok(ResolverInput::Timer),
         voters => Ok(ResolverInput::Mail(mail(alloc, voters)?)),
     }
@@ -158,9 +111,6 @@ fn input(alloc: Global, given: Given) -> Result<ResolverInput, AllocError> {
 fn bare_of(words: &[&str]) -> Option<Command> {
     match words {
         ["handle"] => Some(Command::Handle),
-        ["take"] => Some(Command::Take),
-        ["handle", "taken"] => Some(Command::HandleTaken),
-        ["blocked", who] => Some(Command::Block(member(who)?)),
         ["does", paper @ .., "answer", view] => judge_of(view, paper),
         _ => None,
     }

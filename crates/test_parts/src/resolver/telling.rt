@@ -1,9 +1,9 @@
 //! What a resolver's step does, in words.
-use crate::fetcher::asks_text;
 use simplex_messages::resolver::HandlerMessage;
 use simplex_messages::{Call, Handed, StepOut, voter};
 use simplex_types::{
-    Certificate, CertificateKind, Channel, Participant, Recipients, ResolverBody, ResolverMessage,
+    Ask, Certificate, CertificateKind, Channel, Kind, Participant, Recipients, ResolverBody,
+    ResolverMessage, Until,
 };
 use std::alloc::{AllocError, Global};
 use test_support::Told;
@@ -54,6 +54,27 @@ fn call_text(alloc: Global, call: &Call) -> Result<String, AllocError> {
     }
 }
 
+fn ask_words(ask: &Ask) -> &'static str {
+    match (ask.kind, ask.until) {
+        (Kind::Nullification, Until::Floor) => "nullification until floor",
+        (Kind::Nullification, Until::Finalized) => "nullification until final",
+        (Kind::Notarization, Until::Floor) => "notarization until floor",
+        (Kind::Notarization, Until::Finalized) => "notarization until final",
+    }
+}
+
+/// What was asked for, in the order in which it was.
+fn asks_text(alloc: Global, asks: &[Ask]) -> Result<String, AllocError> {
+    let mut text = String::new(alloc);
+    for ask in asks {
+        if !text.is_empty() {
+            text.push_str(", ")?;
+        }
+        text.push_str(ask_words(ask))?;
+    }
+    Ok(text)
+}
+
 fn work_text(alloc: Global, message: &HandlerMessage) -> Result<String, AllocError> {
     match message {
         HandlerMessage::Deliver { id, view, asks, .. } => {
@@ -77,7 +98,7 @@ fn handed_text(alloc: Global, handed: &Handed) -> Result<String, AllocError> {
     }
 }
 
-/// Tells the calls, the messages, whether the application is asked, and the next deadline where it is another than before.
+/// Tells the calls, the messages, and the next deadline where it is another than before.
 pub(super) fn tell(
     out: &StepOut,
     before: Option<u64>,
@@ -85,7 +106,7 @@ pub(super) fn tell(
     told: &mut Told,
 ) -> Result<(), AllocError> {
     let alloc = told.alloc();
-    if out.calls.is_empty() && out.handed.is_empty() && out.asked.is_empty() && before == after {
+    if out.calls.is_empty() && out.handed.is_empty() && before == after {
         return told.says("nothing");
     }
     for call in out.calls.as_slice() {
@@ -93,9 +114,6 @@ pub(super) fn tell(
     }
     for handed in out.handed.as_slice() {
         told.says(handed_text(alloc, handed)?.as_str())?;
-    }
-    if !out.asked.is_empty() {
-        told.says("asks the application")?;
     }
     match after {
         _ if before == after => Ok(()),
