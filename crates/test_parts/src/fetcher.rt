@@ -5,8 +5,8 @@ ghost use Rattle.std.specs.Prelude.{◌<◌, ◌^◌};
 mod command;
 
 use crate::fetcher::command::{Command, command_of};
-use simplex_fetch::{Fetch, FetchConfig, Fetcher, Out};
-use simplex_types::{Ask, Participant, ResolverBody, ResolverMessage, View};
+use simplex_fetch::{FetchConfig, Fetcher, Out};
+use simplex_types::{Participant, ResolverBody, ResolverMessage};
 use std::alloc::{AllocError, Global};
 use test_support::{Part, Script, Told, member, play_made, timed};
 
@@ -45,19 +45,13 @@ pub(crate) fn run(words: &[&str], script: &Script, told: &mut Told) -> Result<()
     play_made(desk_of(told.alloc(), words), script, told)
 }
 
-fn asked(view: u64, ask: Ask) -> Fetch {
-    Fetch {
-        view: View(view),
-        ask,
-    }
-}
-
-/// What the fetcher wants: requests to members.
-fn out_text(alloc: Global, out: &Out) -> Result<String, AllocError> {
-    let Out::Send { to, bytes } = out else {
-        return String::from_str(alloc, "no request");
-    };
-    match ResolverMessage::decode(alloc, bytes.as_slice()) {
+/// A request to a member.
+pub(crate) fn request_text(
+    alloc: Global,
+    to: &Participant,
+    bytes: &[u8],
+) -> Result<String, AllocError> {
+    match ResolverMessage::decode(alloc, bytes) {
         Ok(
             ResolverMessage {
                 id,
@@ -65,6 +59,22 @@ fn out_text(alloc: Global, out: &Out) -> Result<String, AllocError> {
             },
         ) => format!(in alloc; "{to} is asked for view {view} as request {id}"),
         _ => format!(in alloc; "{to} gets no request"),
+    }
+}
+
+/// Tells the next deadline where it is another than before.
+pub(crate) fn tell_deadline(
+    before: Option<u64>,
+    after: Option<u64>,
+    told: &mut Told,
+) -> Result<(), AllocError> {
+    match after {
+        _ if before == after => Ok(()),
+        Some(time) => {
+            let text = format!(in told.alloc(); "due at {time}")?;
+            told.says(text.as_str())
+        }
+        None => told.says("nothing is due"),
     }
 }
 
@@ -80,13 +90,14 @@ fn tell(
         return told.says("nothing");
     }
     for out in outs {
-        told.says(out_text(alloc, out)?.as_str())?;
+        match out {
+            Out::Send { to, bytes } => {
+                told.says(request_text(alloc, to, bytes.as_slice())?.as_str())?;
+            }
+            _ => told.says("no request")?,
+        }
     }
-    match after {
-        _ if before == after => Ok(()),
-        Some(time) => told.says(format!(in alloc; "due at {time}")?.as_str()),
-        None => told.says("nothing is due"),
-    }
+    tell_deadline(before, after, told)
 }
 
 impl Desk {
@@ -96,15 +107,14 @@ impl Desk {
         requires ids { self.old.fetcher.next_id < 2 ^ 62 }
     {
         match command {
-            Command::Fetch(view, ask) => self.fetcher.fetch(self.alloc, asked(view, ask), self.now),
-            Command::Target(view, ask, member) => {
-                let fetch = asked(view, ask);
+            Command::Fetch(fetch) => self.fetcher.fetch(self.alloc, fetch, self.now),
+            Command::Target(fetch, target) => {
                 self.fetcher
-                    .fetch_targeted(self.alloc, fetch, Participant(member), self.now)
+                    .fetch_targeted(self.alloc, fetch, target, self.now)
             }
             Command::Expire => self.fetcher.expire(self.alloc, self.now),
             Command::Block(member) => {
-                self.fetcher.block(Participant(member))?;
+                self.fetcher.block(member)?;
                 Ok(Vec::new(self.alloc))
             }
         }

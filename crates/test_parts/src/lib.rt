@@ -9,7 +9,6 @@ mod mail;
 mod network;
 mod resolver;
 mod state;
-mod terms;
 mod told;
 mod verifier;
 

@@ -5,6 +5,7 @@ mod resolver;
 mod spelled;
 mod voter;
 
+pub(crate) use crate::mail::spelled::certificate_text;
 use crate::mail::spelled::{Spelled, read};
 use simplex_mailbox::{Mailbox, Policy};
 use simplex_messages::resolver::{HandlerMessage, MailboxMessage};

@@ -1,6 +1,5 @@
-//! What one member knows and votes, told line by line: `state 0 of 4 ahead 10` is that of member 0 of four, with terms of five views and
-//! work on ten views ahead.
-ghost use Rattle.std.specs.Prelude.{◌<◌, ◌≤◌, ◌^◌};
+//! What member 0 of four knows and votes, with terms of five views and work on ten views ahead, told line by line: `state 0 of 4 ahead 10`.
+ghost use Rattle.std.specs.Prelude.{◌<◌, ◌^◌};
 
 use simplex_state::{State, StateConfig};
 use simplex_types::elector::Config as _;
@@ -9,14 +8,11 @@ use simplex_types::{
     Signatures, Subject, TermLength, Terms, TimeoutReason, View, ViewDelta, Vote,
 };
 use std::alloc::{AllocError, Global};
-use test_support::reading::{certified, member, number, reason, view};
+use test_support::reading::{certified, number, reason, view};
 use test_support::telling::{Items, proposal_text, vote_text};
-use test_support::{Part, Script, Told, play};
+use test_support::{Part, Script, Told, play_made};
 
 type Member = State<Keyed, RoundRobinElector>;
-
-/// No view further ahead is worked on.
-const MOST_AHEAD: u64 = 4_294_967_296;
 
 /// A state, and the clock.
 #[derive(Drop)]
@@ -26,37 +22,18 @@ struct Table {
     clock: u64,
 }
 
-/// What the first line tells.
-#[derive(Clone, Copy)]
-struct First {
-    me: Participant,
-    members: u32,
-    ahead: u64,
-}
-
-fn first_of(words: &[&str]) -> Option<First> {
-    let ["state", me, "of", members, "ahead", ahead] = words else {
-        return None;
+fn made(alloc: Global) -> Result<Option<Member>, AllocError> {
+    let Some(length) = TermLength::new(5) else {
+        return Ok(None);
     };
-    Some(First {
-        me: member(me)?,
-        members: member(members)?.0,
-        ahead: number(ahead)?,
-    })
-}
-
-fn usual(alloc: Global, first: &First, length: TermLength) -> Result<Member, AllocError>
-    requires me { first.me < first.members }
-    requires limit { first.ahead ≤ 2 ^ 32 }
-{
     let terms = Terms {
         length,
-        lookahead: first.ahead,
+        lookahead: 10,
         stall_timeout: Some(5000),
     };
     let config = StateConfig {
-        scheme: Keyed::new(alloc, 7, first.members, Some(first.me))?,
-        elector: RoundRobin::new(terms).build(first.members),
+        scheme: Keyed::new(alloc, 7, 4, Some(Participant(0)))?,
+        elector: RoundRobin::new(terms).build(4),
         epoch: Epoch(0),
         view_retention: ViewDelta(10),
         leader_timeout: 1000,
@@ -66,35 +43,22 @@ fn usual(alloc: Global, first: &First, length: TermLength) -> Result<Member, All
         handoff: true,
         genesis: Digest([0; 32]),
     };
-    State::new(alloc, config, 100)
+    Ok(Some(State::new(alloc, config, 100)?))
 }
 
-/// The state, if there is such a member.
-fn made(alloc: Global, first: &First) -> Result<Option<Member>, AllocError> {
-    let Some(length) = TermLength::new(5) else {
-        return Ok(None);
-    };
-    if first.me.0 >= first.members || first.ahead > MOST_AHEAD {
-        return Ok(None);
-    }
-    Ok(Some(usual(alloc, first, length)?))
-}
-
-/// Tells the script of a state.
-pub(crate) fn tell(script: &Script, words: &[&str], told: &mut Told) -> Result<(), AllocError> {
-    let Some(first) = first_of(words) else {
-        return told.says("not a command");
-    };
+/// Plays a script whose first line is `state`, and these words.
+pub(crate) fn run(words: &[&str], script: &Script, told: &mut Told) -> Result<(), AllocError> {
     let alloc = told.alloc();
-    let Some(member) = made(alloc, &first)? else {
-        return told.says("not allowed: it is no member");
+    let member = match words {
+        ["0", "of", "4", "ahead", "10"] => made(alloc)?,
+        _ => None,
     };
-    let mut table = Table {
+    let made = member.map(|member| Table {
         alloc,
         member,
         clock: 100,
-    };
-    play(&mut table, script, told)
+    });
+    play_made(made, script, told)
 }
 
 /// What is done with a state, or asked of it.

@@ -1,5 +1,5 @@
 //! A script with what came out.
-use crate::{engine, fetcher, mail, network, resolver, state, terms, verifier};
+use crate::{engine, fetcher, mail, network, resolver, state, verifier};
 use std::alloc::{AllocError, Global};
 use test_support::{Script, Told, words_in};
 
@@ -12,8 +12,7 @@ fn tell_part(first: &str, script: &Script, told: &mut Told) -> Result<bool, Allo
         ["fetcher", how @ ..] => fetcher::run(how, script, told)?,
         ["mailbox", "of", how @ ..] => mail::run(how, script, told)?,
         ["resolver", how @ ..] => resolver::run(how, script, told)?,
-        ["state", ..] => state::tell(script, &words, told)?,
-        ["terms", ..] => terms::tell(script, &words, told)?,
+        ["state", how @ ..] => state::run(how, script, told)?,
         ["verifier", ..] => verifier::tell(script, &words, told)?,
         _ => return Ok(false),
     }

@@ -39,14 +39,6 @@ pub(super) struct Seat {
     asked: u64,
 }
 
-fn yes_of(word: &str) -> Option<bool> {
-    match word {
-        "yes" => Some(true),
-        "no" => Some(false),
-        _ => None,
-    }
-}
-
 /// What came of a step behind the words for it, where there are some.
 fn behind(alloc: Global, before: &str, items: &str) -> Result<String, AllocError> {
     if before.is_empty() {
@@ -270,10 +262,9 @@ fn deed_of(words: &[&str]) -> Option<Deed> {
             number(request)?,
             Answer::Payload(payload(byte)?),
         )),
-        ["verdict", request, word] => Some(Deed::Answer(
-            number(request)?,
-            Answer::Verdict(yes_of(word)?),
-        )),
+        ["verdict", request, "yes"] => {
+            Some(Deed::Answer(number(request)?, Answer::Verdict(true)))
+        }
         _ => None,
     }
 }

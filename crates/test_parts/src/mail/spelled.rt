@@ -51,7 +51,7 @@ pub(super) fn own() -> Attestation {
 }
 
 /// The kind and the view of a certificate.
-pub(super) fn certificate_text(
+pub(crate) fn certificate_text(
     alloc: Global,
     certificate: &Certificate,
 ) -> Result<String, AllocError> {
