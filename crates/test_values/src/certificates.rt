@@ -4,10 +4,10 @@ ghost use Rattle.std.specs.Prelude.{◌≡◌, ◌<◌, IfOk};
 use simplex_types::{
     Activity, AssemblyError, ConflictingFinalize, ConflictingNotarize, Digest, Epoch, Finalization,
     Finalize, Floor, Hidden, Keep, Keyed, Notarization, Notarize, Nullification, Nullify,
-    NullifyFinalize, Participant, Proposal, Round, Scheme, View, Vote,
+    NullifyFinalize, Participant, Proposal, Round, Scheme, View,
 };
 use std::alloc::{AllocError, Global};
-use test_support::{Part, Script, Told, member, play};
+use test_support::{Part, Script, Told, play};
 
 /// The base of the keys.
 const BASE: u64 = 1;
@@ -41,21 +41,12 @@ fn round_at(epoch: u64, view: u64) -> Round {
     }
 }
 
-fn proposal_at(view: u64, payload: u8) -> Proposal {
+/// A block of 3.300.
+fn block_of(payload: u8) -> Proposal {
     Proposal {
-        round: round_at(3, view),
+        round: round_at(3, 300),
         parent: View(299),
         payload: Digest([payload; 32]),
-    }
-}
-
-/// The block of 3.300, another block of that round, and one of the next.
-fn proposal_of(word: &str) -> Option<Proposal> {
-    match word {
-        "block" => Some(proposal_at(300, 17)),
-        "rival" => Some(proposal_at(300, 18)),
-        "later" => Some(proposal_at(301, 17)),
-        _ => None,
     }
 }
 
@@ -103,16 +94,6 @@ fn notarization(
         notarize(alloc, 2, about)?,
         notarize(alloc, 3, about)?,
     ];
-    Notarization::from_notarizes(alloc, scheme, &votes)
-}
-
-/// What would be the one by members 0 and 3.
-fn thin_notarization(
-    alloc: Global,
-    scheme: &Keyed,
-    about: &Proposal,
-) -> Result<Notarization, AssemblyError> {
-    let votes = [notarize(alloc, 0, about)?, notarize(alloc, 3, about)?];
     Notarization::from_notarizes(alloc, scheme, &votes)
 }
 
@@ -167,58 +148,6 @@ fn reported<S: Scheme>(
     )
 }
 
-/// Two votes of a member, or what shall be such.
-#[derive(Clone, Copy)]
-struct Pair {
-    first: u32,
-    second: u32,
-    about: Proposal,
-    other: Proposal,
-}
-
-/// `MEMBER BLOCK MEMBER BLOCK`.
-fn pair_of(words: &[&str]) -> Option<Pair> {
-    match words {
-        [first, about, second, other] => Some(Pair {
-            first: member(first)?,
-            second: member(second)?,
-            about: proposal_of(about)?,
-            other: proposal_of(other)?,
-        }),
-        _ => None,
-    }
-}
-
-fn two_notarizes(alloc: Global, pair: Pair) -> Result<ConflictingNotarize, AssemblyError> {
-    if pair.first >= MEMBERS || pair.second >= MEMBERS {
-        return Err(AssemblyError::RecoveryFailed);
-    }
-    Ok(ConflictingNotarize {
-        first: notarize(alloc, pair.first, &pair.about)?,
-        second: notarize(alloc, pair.second, &pair.other)?,
-    })
-}
-
-fn two_finalizes(alloc: Global, pair: Pair) -> Result<ConflictingFinalize, AssemblyError> {
-    if pair.first >= MEMBERS || pair.second >= MEMBERS {
-        return Err(AssemblyError::RecoveryFailed);
-    }
-    Ok(ConflictingFinalize {
-        first: finalize(alloc, pair.first, &pair.about)?,
-        second: finalize(alloc, pair.second, &pair.other)?,
-    })
-}
-
-fn both_ways(alloc: Global, pair: Pair) -> Result<NullifyFinalize, AssemblyError> {
-    if pair.first >= MEMBERS || pair.second >= MEMBERS {
-        return Err(AssemblyError::RecoveryFailed);
-    }
-    Ok(NullifyFinalize {
-        nullify: nullify(alloc, pair.first, &pair.about.round)?,
-        finalize: finalize(alloc, pair.second, &pair.other)?,
-    })
-}
-
 /// Whether evidence shows that its signer voted twice in its round, as it is and as it is reported.
 fn evidence_text(
     alloc: Global,
@@ -230,22 +159,34 @@ fn evidence_text(
     format!(in alloc; "against {signer} in {round}: {verifies}; {reported}")
 }
 
-fn notarizes_text(alloc: Global, scheme: &Keyed, pair: Pair) -> Result<String, AssemblyError> {
-    let it = two_notarizes(alloc, pair)?;
+/// Two notarizes of member 1 for two blocks.
+fn notarizes_text(alloc: Global, scheme: &Keyed) -> Result<String, AssemblyError> {
+    let it = ConflictingNotarize {
+        first: notarize(alloc, 1, &block_of(17))?,
+        second: notarize(alloc, 1, &block_of(18))?,
+    };
     let (signer, round, verifies) = (it.signer(), it.round(), it.verify(scheme));
     let reported = reported(alloc, scheme, &Activity::ConflictingNotarize(it))?;
     Ok(evidence_text(alloc, signer, round, verifies, reported.as_str())?)
 }
 
-fn finalizes_text(alloc: Global, scheme: &Keyed, pair: Pair) -> Result<String, AssemblyError> {
-    let it = two_finalizes(alloc, pair)?;
+/// Two finalizes of member 1 for two blocks.
+fn finalizes_text(alloc: Global, scheme: &Keyed) -> Result<String, AssemblyError> {
+    let it = ConflictingFinalize {
+        first: finalize(alloc, 1, &block_of(17))?,
+        second: finalize(alloc, 1, &block_of(18))?,
+    };
     let (signer, round, verifies) = (it.signer(), it.round(), it.verify(scheme));
     let reported = reported(alloc, scheme, &Activity::ConflictingFinalize(it))?;
     Ok(evidence_text(alloc, signer, round, verifies, reported.as_str())?)
 }
 
-fn both_ways_text(alloc: Global, scheme: &Keyed, pair: Pair) -> Result<String, AssemblyError> {
-    let it = both_ways(alloc, pair)?;
+/// A nullify and a finalize of member 1.
+fn both_ways_text(alloc: Global, scheme: &Keyed) -> Result<String, AssemblyError> {
+    let it = NullifyFinalize {
+        nullify: nullify(alloc, 1, &round_at(3, 300))?,
+        finalize: finalize(alloc, 1, &block_of(17))?,
+    };
     let (signer, round, verifies) = (it.signer(), it.round(), it.verify(scheme));
     let reported = reported(alloc, scheme, &Activity::NullifyFinalize(it))?;
     Ok(evidence_text(alloc, signer, round, verifies, reported.as_str())?)
@@ -298,49 +239,13 @@ fn finalization_text(
     )
 }
 
-/// A vote of member 1: the finalize has the signature of its notarize.
-fn vote_of(alloc: Global, word: &str) -> Result<Option<Vote>, AssemblyError> {
-    let about = proposal_at(300, 17);
-    let notarized = notarize(alloc, 1, &about)?;
-    Ok(match word {
-        "notarize" => Some(Vote::Notarize(notarized)),
-        "nullify" => Some(Vote::Nullify(nullify(alloc, 1, &about.round)?)),
-        "forged-finalize" => Some(Vote::Finalize(Finalize {
-            proposal: about,
-            attestation: notarized.attestation,
-        })),
-        _ => None,
-    })
-}
-
-fn activity_of(vote: &Vote) -> Activity {
-    match vote {
-        Vote::Notarize(vote) => Activity::Notarize(*vote),
-        Vote::Nullify(vote) => Activity::Nullify(*vote),
-        Vote::Finalize(vote) => Activity::Finalize(*vote),
-    }
-}
-
-fn vote_text(alloc: Global, scheme: &Hidden, word: &str) -> Result<String, AssemblyError> {
-    let Some(vote) = vote_of(alloc, word)? else {
-        return Ok(String::from_str(alloc, "not a command")?);
-    };
-    let verifies = vote.verify(scheme);
-    let reported = reported(alloc, scheme, &activity_of(&vote))?;
-    Ok(format!(in alloc; "verifies {verifies}; {}", reported.as_str())?)
-}
-
 impl Desk {
     /// A certificate of the block of 3.300 or of its round, by these members.
     fn certificate(&self, words: &[&str]) -> Result<String, AssemblyError> {
-        let (alloc, about) = (self.alloc, proposal_at(300, 17));
+        let (alloc, about) = (self.alloc, block_of(17));
         let text = match words {
             ["notarization", "by", "0", "2", "3"] => {
                 let made = notarization(alloc, &self.keyed, &about)?;
-                notarization_text(alloc, &self.keyed, &made)?
-            }
-            ["notarization", "by", "0", "3"] => {
-                let made = thin_notarization(alloc, &self.keyed, &about)?;
                 notarization_text(alloc, &self.keyed, &made)?
             }
             ["nullification", "by", "1", "2", "3"] => {
@@ -356,11 +261,17 @@ impl Desk {
         Ok(text)
     }
 
-    fn evidence(&self, kind: &str, pair: Pair) -> Result<String, AssemblyError> {
-        match kind {
-            "two-notarizes" => notarizes_text(self.alloc, &self.keyed, pair),
-            "two-finalizes" => finalizes_text(self.alloc, &self.keyed, pair),
-            "nullify-and-finalize" => both_ways_text(self.alloc, &self.keyed, pair),
+    fn evidence(&self, words: &[&str]) -> Result<String, AssemblyError> {
+        match words {
+            ["two-notarizes", "1", "block", "1", "rival"] => {
+                notarizes_text(self.alloc, &self.keyed)
+            }
+            ["two-finalizes", "1", "block", "1", "rival"] => {
+                finalizes_text(self.alloc, &self.keyed)
+            }
+            ["nullify-and-finalize", "1", "block", "1", "block"] => {
+                both_ways_text(self.alloc, &self.keyed)
+            }
             _ => Ok(String::from_str(self.alloc, "not a command")?),
         }
     }
@@ -369,11 +280,7 @@ impl Desk {
 impl Part for Desk {
     fn take(&mut self, words: &[&str], told: &mut Told) -> Result<(), AllocError> {
         let made = match words {
-            ["vote", word] => vote_text(self.alloc, &self.hidden, word),
-            ["evidence", kind, words @ ..] => match pair_of(words) {
-                Some(pair) => self.evidence(kind, pair),
-                None => return told.says("not a command"),
-            },
+            ["evidence", words @ ..] => self.evidence(words),
             _ => self.certificate(words),
         };
         told.says(or_why(self.alloc, made)?.as_str())

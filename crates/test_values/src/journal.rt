@@ -1,4 +1,4 @@
-//! Scripts about a journal in memory: what stands behind a stop, and behind a call that fails.
+//! Scripts about a journal in memory: what stands after a stop, and after a call that fails.
 use simplex_journal::{Journal, JournalError, MemoryJournal};
 use simplex_types::{Artifact, Epoch, Round, View};
 use std::alloc::{AllocError, Global};
@@ -15,12 +15,11 @@ enum Call {
     Replay,
 }
 
-/// A journal, and the calls that were made of it.
+/// A journal.
 #[derive(Drop)]
 struct Desk {
     alloc: Global,
     journal: MemoryJournal,
-    calls: Vec<Call>,
 }
 
 /// Plays a script whose first line is `journal`.
@@ -29,7 +28,6 @@ pub(crate) fn run(script: &Script, told: &mut Told) -> Result<(), AllocError> {
     let mut desk = Desk {
         alloc,
         journal: MemoryJournal::new(alloc),
-        calls: Vec::new(alloc),
     };
     play(&mut desk, script, told)
 }
@@ -49,18 +47,6 @@ fn call_of(words: &[&str]) -> Option<Call> {
         ["sync", section] => Some(Call::Sync(number(section)?)),
         ["prune", least] => Some(Call::Prune(number(least)?)),
         ["replay"] => Some(Call::Replay),
-        _ => None,
-    }
-}
-
-/// The call of this kind that is made for the time of this number.
-fn call_at(kind: &str, time: u64) -> Option<Call> {
-    match kind {
-        "append" => Some(Call::Append(2, time)),
-        "sync" => Some(Call::Sync(time)),
-        "sync-all" => Some(Call::SyncAll),
-        "prune" => Some(Call::Prune(time.saturating_add(2))),
-        "replay" => Some(Call::Replay),
         _ => None,
     }
 }
@@ -98,46 +84,6 @@ fn make<J: Journal>(journal: &mut J, alloc: Global, call: Call) -> Result<String
 }
 
 impl Desk {
-    /// A journal of which all calls were made that were made of this one.
-    fn another(&self) -> Result<MemoryJournal, AllocError> {
-        let mut journal = MemoryJournal::new(self.alloc);
-        for call in &self.calls {
-            drop(make(&mut journal, self.alloc, *call)?);
-        }
-        Ok(journal)
-    }
-
-    /// What calls of one kind, of which the last fails, and a stop leave.
-    fn left(&self, kind: &str, place: u64, keep: u64) -> Result<String, AllocError> {
-        let mut journal = self.another()?;
-        journal.fail_next(place, keep);
-        let mut answer = String::new(self.alloc);
-        for time in 1..=place {
-            if let Some(call) = call_at(kind, time) {
-                answer = make(&mut journal, self.alloc, call)?;
-            }
-        }
-        journal.crash(keep);
-        let records = make(&mut journal, self.alloc, Call::Replay)?;
-        let faults = journal.faults();
-        format!(in self.alloc;
-            "call {place}, keeping {keep}: {}, {}, faults {faults}",
-            answer.as_str(),
-            records.as_str()
-        )
-    }
-
-    /// Tells what is left where the first, the second or the third call of the kind fails, of which a part is done,
-    /// and a stop keeps as many pending records of a section.
-    fn tell_failures(&self, kind: &str, told: &mut Told) -> Result<(), AllocError> {
-        for place in 1..=3 {
-            for keep in 0..=2 {
-                told.says(self.left(kind, place, keep)?.as_str())?;
-            }
-        }
-        Ok(())
-    }
-
     /// The call of this number is to fail.
     fn fail(&mut self, place: Option<u64>, told: &mut Told) -> Result<(), AllocError> {
         match place {
@@ -150,7 +96,6 @@ impl Desk {
     }
 
     fn make(&mut self, call: Call, told: &mut Told) -> Result<(), AllocError> {
-        self.calls.push(call)?;
         told.says(make(&mut self.journal, self.alloc, call)?.as_str())
     }
 }
@@ -163,7 +108,6 @@ impl Part for Desk {
                 self.journal.fail_next(0, 0);
                 Ok(())
             }
-            ["each", "failure", "of", kind] => self.tell_failures(kind, told),
             ["stop"] => {
                 self.journal.crash(0);
                 Ok(())

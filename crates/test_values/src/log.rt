@@ -1,5 +1,5 @@
 //! Scripts about a finalized log: what it answers and holds as certificates of one member come.
-use crate::signed::{BASE, OTHER_BASE, block, finalization, keyed, notarization, nullification};
+use crate::signed::{BASE, block, finalization, keyed, notarization};
 use simplex_log::{FinalizedLog, LogEntry, LogError};
 use simplex_types::{Activity, Keyed, Proposal};
 use std::alloc::{AllocError, Global};
@@ -28,21 +28,17 @@ fn activity_of(
     kind: &str,
     proposal: Proposal,
 ) -> Result<Option<Activity>, AllocError> {
-    let view = proposal.round.view.0;
     Ok(Some(match kind {
         "notarization" => Activity::Notarization(notarization(alloc, BASE, proposal)?),
-        "forged-notarization" => Activity::Notarization(notarization(alloc, OTHER_BASE, proposal)?),
         "certification" => Activity::Certification(notarization(alloc, BASE, proposal)?),
         "finalization" => Activity::Finalization(finalization(alloc, BASE, proposal)?),
-        "nullification" => Activity::Nullification(nullification(alloc, BASE, view)?),
         _ => return Ok(None),
     }))
 }
 
-/// `VIEW`, or `VIEW on PARENT PAYLOAD`.
+/// `VIEW on PARENT PAYLOAD`.
 fn proposal_of(words: &[&str]) -> Option<Proposal> {
     match words {
-        [view] => Some(block(number(view)?, 0, payload("00")?)),
         [view, "on", parent, name] => {
             Some(block(number(view)?, number(parent)?, payload(name)?))
         }

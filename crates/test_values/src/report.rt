@@ -8,7 +8,7 @@ use simplex_report::{
 };
 use simplex_transcript::Entry;
 use simplex_types::{
-    Activity, Digest, Epoch, Feedback, Hidden, Keep, Keyed, Notarization, Notarize, Participant,
+    Activity, Digest, Epoch, Feedback, Hidden, Keyed, Notarization, Notarize, Participant,
     Proposal, Reporter, Round, Scheme, Sequence, Signatures, View,
 };
 use std::alloc::{AllocError, Global};
@@ -79,51 +79,29 @@ fn activity_of(alloc: Global, word: &str) -> Result<Option<Activity>, AllocError
 }
 
 /// What the reporter, which answers `Backoff`, is told of the activity.
-fn passing_text<S: Scheme + Drop>(
+fn passes<S: Scheme + Drop>(
     alloc: Global,
-    reporter: AttributableReporter<S, Counting>,
+    scheme: S,
+    verify: bool,
     activity: Activity,
 ) -> Result<String, AllocError> {
-    let mut reporter = reporter;
+    let inside = Counting::answering(Feedback::Backoff);
+    let mut reporter = AttributableReporter::new(scheme, inside, verify);
     let answer = reporter.report(activity)?;
     let told = reporter.reporter.told;
     format!(in alloc; "{answer:?}, told {told}")
 }
 
-/// The same of a reporter with this scheme, or of its copy.
-fn passes<S: Scheme + Keep + Drop>(
-    alloc: Global,
-    scheme: S,
-    verify: bool,
-    is_copy: bool,
-    activity: Activity,
-) -> Result<String, AllocError> {
-    let inside = Counting::answering(Feedback::Backoff);
-    let reporter = AttributableReporter::new(scheme, inside, verify);
-    if !is_copy {
-        return passing_text(alloc, reporter, activity);
-    }
-    let text = passing_text(alloc, reporter.keep(alloc)?, activity)?;
-    let told = reporter.reporter.told;
-    format!(in alloc; "{}; the copied was told {told}", text.as_str())
-}
-
 /// `SCHEME verifying|trusting WHAT`.
-fn shown(
-    alloc: Global,
-    scheme: &str,
-    verify: &str,
-    is_copy: bool,
-    what: &str,
-) -> Result<String, AllocError> {
+fn shown(alloc: Global, scheme: &str, verify: &str, what: &str) -> Result<String, AllocError> {
     let verify = verify == "verifying";
     let Some(activity) = activity_of(alloc, what)? else {
         return String::from_str(alloc, "not a command");
     };
     let inner = keyed(alloc, 1)?;
     match scheme {
-        "keyed" => passes(alloc, inner, verify, is_copy, activity),
-        "hidden" => passes(alloc, Hidden { inner }, verify, is_copy, activity),
+        "keyed" => passes(alloc, inner, verify, activity),
+        "hidden" => passes(alloc, Hidden { inner }, verify, activity),
         _ => String::from_str(alloc, "not a command"),
     }
 }
@@ -156,22 +134,6 @@ fn pair_text(
 fn both(alloc: Global, first: &str, second: &str) -> Result<String, AllocError> {
     let mut reporters = Reporters::new(alloc, pair_of(first, second));
     pair_text(alloc, &mut reporters)
-}
-
-/// A copy that is made behind one report answers to another, and the copied are told of no other.
-fn both_copied(alloc: Global, first: &str, second: &str) -> Result<String, AllocError> {
-    let mut reporters = Reporters::new(alloc, pair_of(first, second));
-    drop(pair_text(alloc, &mut reporters)?);
-    let mut copy = reporters.keep(alloc)?;
-    let text = pair_text(alloc, &mut copy)?;
-    let (first, second) = (
-        told_by(&reporters.pair.first),
-        told_by(&reporters.pair.second),
-    );
-    format!(in alloc;
-        "{}; the copied were told {first} and {second}",
-        text.as_str()
-    )
 }
 
 /// The call of a word: a report, or another that is none.
@@ -239,11 +201,9 @@ impl Part for Desk {
         let text = match words {
             ["combine", first, second] => combined(alloc, first, second)?,
             ["pair", first, second] => both(alloc, first, second)?,
-            ["copied", "pair", first, second] => both_copied(alloc, first, second)?,
-            ["copied", scheme, verify, what] => shown(alloc, scheme, verify, true, what)?,
             ["hand", words @ ..] => self.hand(words)?,
             ["longest", "payload", "of", n, "members"] => longest(alloc, n)?,
-            [scheme, verify, what] => shown(alloc, scheme, verify, false, what)?,
+            [scheme, verify, what] => shown(alloc, scheme, verify, what)?,
             _ => String::from_str(alloc, "not a command")?,
         };
         told.says(text.as_str())

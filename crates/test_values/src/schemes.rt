@@ -13,37 +13,32 @@ struct Desk<S: Drop> {
     scheme: S,
 }
 
-/// The base of the keys, how many members there are, and who signs, if anybody does.
+/// The base of the keys, how many members there are, and who signs.
 #[derive(Clone, Copy)]
 struct Setup {
     base: u64,
     n: u32,
-    me: Option<Participant>,
+    me: Participant,
 }
 
-/// `base BASE of N`, and maybe `member ME`.
+/// `base BASE of N member ME`.
 fn setup_of(words: &[&str]) -> Option<Setup> {
-    let (base, n, me) = match words {
-        ["base", base, "of", n] => (base, n, None),
-        ["base", base, "of", n, "member", me] => (base, n, Some(Participant(member(me)?))),
-        _ => return None,
-    };
-    Some(Setup {
-        base: number(base)?,
-        n: member(n)?,
-        me,
-    })
+    match words {
+        ["base", base, "of", n, "member", me] => Some(Setup {
+            base: number(base)?,
+            n: member(n)?,
+            me: Participant(member(me)?),
+        }),
+        _ => None,
+    }
 }
 
 fn keyed_of(alloc: Global, setup: Setup) -> Result<Option<Keyed>, AllocError> {
     let Setup { base, n, me } = setup;
-    if n == 0 {
-        return Ok(None);
-    }
-    match me {
-        None => Ok(Some(Keyed::new(alloc, base, n, None)?)),
-        Some(me) if me.0 < n => Ok(Some(Keyed::new(alloc, base, n, Some(me))?)),
-        Some(_) => Ok(None),
+    if me.0 < n {
+        Ok(Some(Keyed::new(alloc, base, n, Some(me))?))
+    } else {
+        Ok(None)
     }
 }
 

@@ -4,7 +4,7 @@ ghost use Rattle.std.specs.Prelude.{◌<◌};
 mod every;
 mod rounds;
 
-use crate::twins::every::{tell_every_round, tell_scenarios};
+use crate::twins::every::tell_scenarios;
 use crate::twins::rounds::{mask_of, members_text, target_word};
 use simplex_twins::{
     Elector, ElectorState, RoundScenario, Scenario, TwinsError, view_partitions, view_route,
@@ -196,15 +196,6 @@ impl Desk {
         }
     }
 
-    fn copy(&self) -> Result<&'static str, AllocError> {
-        let copy = self.scenario.keep(self.alloc)?;
-        Ok(if copy == self.scenario {
-            "the same"
-        } else {
-            "another"
-        })
-    }
-
     fn answer(&self, question: Question) -> Result<String, AllocError> {
         match question {
             Question::Halves(view) => self.halves(view),
@@ -221,8 +212,6 @@ impl Desk {
         match command {
             Command::Ask(question) => told.says(self.answer(question)?.as_str()),
             Command::Round(leader, first, second) => self.round(leader, first, second, told),
-            Command::Copy => told.says(self.copy()?),
-            Command::EveryRound(n) => tell_every_round(n, &self.members, told),
             Command::All(n, rounds, limit) => tell_scenarios(n, rounds as usize, limit, told),
         }
     }
@@ -249,10 +238,6 @@ enum Command {
     Ask(Question),
     /// A round is added: its leader, and its masks.
     Round(u32, u64, u64),
-    /// The script is copied.
-    Copy,
-    /// Every round among so many members.
-    EveryRound(u32),
     /// All scripts among so many members of so many rounds, at most so many.
     All(u32, u64, u64),
 }
@@ -279,8 +264,6 @@ fn command_of(words: &[&str]) -> Option<Command> {
             mask_of(first)?,
             mask_of(second)?,
         )),
-        ["copy"] => Some(Command::Copy),
-        ["every", "round", "of", n] => Some(Command::EveryRound(member(n)?)),
         [
             "all",
             "of",

@@ -2,8 +2,8 @@
 mod telling;
 
 use crate::wire::telling::{tell_certificate, tell_message, tell_record, tell_vote};
-use simplex_types::{Artifact, AssemblyError, Certificate, Keep, ResolverMessage, Vote};
-use simplex_wire::{DecodeCause, DecodeError};
+use simplex_types::{Artifact, Certificate, Keep, ResolverMessage, Vote};
+use simplex_wire::DecodeError;
 use std::alloc::{AllocError, Global};
 use test_support::{Part, Script, Told, bytes_in, play};
 
@@ -125,19 +125,11 @@ impl Desk {
         }
         Ok(())
     }
-
-    /// Tells the texts of the errors that no bytes have.
-    fn tell_others(&self, told: &mut Told) -> Result<(), AllocError> {
-        told.says(format!(in self.alloc; "{}", DecodeError::Memory)?.as_str())?;
-        told.says(format!(in self.alloc; "{}", AssemblyError::NotEnough)?.as_str())?;
-        told.says(format!(in self.alloc; "{}", DecodeCause::Rest)?.as_str())
-    }
 }
 
 impl Part for Desk {
     fn take(&mut self, words: &[&str], told: &mut Told) -> Result<(), AllocError> {
         let (is_cut, kind, words) = match words {
-            ["errors"] => return self.tell_others(told),
             ["cut", kind, words @ ..] => (true, *kind, words),
             [kind, words @ ..] => (false, *kind, words),
             [] => return told.says("not a command"),

@@ -1,33 +1,14 @@
 //! A relay, its inboxes, and what they give.
-use crate::naming::digest_name;
 use simplex_mocks::relay::{Inbox, Relay};
-use simplex_types::{Digest, Members, Participant, Recipients};
+use simplex_types::{Digest, Participant, Recipients};
 use std::alloc::{AllocError, Global};
-use test_support::Told;
+use test_support::{Told, payload_text};
 
 /// A relay with the inboxes that were registered.
 #[derive(Drop)]
 pub(super) struct Relays {
     relay: Relay,
     inboxes: Vec<Inbox>,
-}
-
-// Those that a word names: `all`, a member, or members with commas between them.
-fn recipients_of(alloc: Global, word: &str) -> Result<Option<Recipients>, AllocError> {
-    if word == "all" {
-        return Ok(Some(Recipients::All));
-    }
-    if let Ok(member) = word.parse::<u32>() {
-        return Ok(Some(Recipients::One(Participant(member))));
-    }
-    let mut members = Members::new(alloc);
-    for part in word.split(',') {
-        match part.parse::<u32>() {
-            Ok(member) => members.push(Participant(member))?,
-            Err(_) => return Ok(None),
-        }
-    }
-    Ok(Some(Recipients::Some(members)))
 }
 
 impl Relays {
@@ -50,15 +31,14 @@ impl Relays {
         Ok(())
     }
 
-    /// Member 0 relays the payload of this byte, whose contents are that byte three times.
-    pub(super) fn send(&mut self, to: &str, byte: &str, told: &mut Told) -> Result<(), AllocError> {
+    /// Member 0 relays to all the payload of this byte, whose contents are that byte three times.
+    pub(super) fn send(&mut self, byte: &str, told: &mut Told) -> Result<(), AllocError> {
         let alloc = told.alloc();
-        let (Some(to), Ok(byte)) = (recipients_of(alloc, to)?, byte.parse::<u8>()) else {
+        let Ok(byte) = byte.parse::<u8>() else {
             return told.says("not a command");
         };
         let payload = Digest([byte; 32]);
-        self.relay
-            .broadcast(alloc, Participant(0), &to, payload, &[byte; 3])
+        self.relay.broadcast(alloc, Participant(0), &Recipients::All, payload, &[byte; 3])
     }
 
     /// Tells what the inbox shows and gives, until it is empty.
@@ -81,7 +61,7 @@ impl Relays {
                 });
             };
             let same = shown == Some(payload);
-            let name = digest_name(alloc, &payload)?;
+            let name = payload_text(alloc, &payload)?;
             let contents = hex::encode(alloc, contents.as_slice())?;
             told.says(format!(in alloc; "{name} with {contents}, shown {same}")?.as_str())?;
         }

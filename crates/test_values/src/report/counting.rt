@@ -1,7 +1,7 @@
 //! Reporters that count, or keep, what they are told.
 ghost use Rattle.std.specs.Prelude.{◌≡◌, Ok};
 
-use simplex_types::{Activity, Feedback, Keep, Reporter};
+use simplex_types::{Activity, Feedback, Reporter};
 use std::alloc::{AllocError, Global};
 
 /// Answers always the same, and counts what it is told.
@@ -27,15 +27,6 @@ impl Reporter for Counting {
         drop(activity);
         self.told = self.told.saturating_add(1);
         Ok(self.answer)
-    }
-}
-
-impl Keep for Counting {
-    fn keep(&self, _alloc: Global) -> Result<Counting, AllocError> {
-        Ok(Counting {
-            answer: self.answer,
-            told: self.told,
-        })
     }
 }
 

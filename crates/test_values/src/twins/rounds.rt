@@ -20,7 +20,7 @@ pub(super) fn mask_of(word: &str) -> Option<u64> {
 }
 
 /// Whether the mask has the place.
-pub(super) fn has(mask: u64, place: usize) -> bool {
+fn has(mask: u64, place: usize) -> bool {
     let mut rest = mask;
     for _ in 0..place {
         rest /= 2;
