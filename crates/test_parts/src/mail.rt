@@ -1,12 +1,11 @@
 //! Scripts about a mailbox of an actor: what a full one drops, changes, and hands out first.
 mod batcher;
 mod handler;
-mod pairs;
 mod resolver;
 mod spelled;
 mod voter;
 
-use crate::mail::pairs::tell_pairs;
+pub(crate) use crate::mail::spelled::certificate_text;
 use crate::mail::spelled::{Spelled, read};
 use simplex_mailbox::{Mailbox, Policy};
 use simplex_messages::resolver::{HandlerMessage, MailboxMessage};
@@ -87,15 +86,11 @@ impl<M: Spelled + Policy + Drop> Desk<M> {
         Ok(true)
     }
 
-    /// Takes messages until there is none, or so many.
-    fn take_up_to(&mut self, count: u64, told: &mut Told) -> Result<(), AllocError> {
-        for taken in 0..count {
+    /// Takes messages until there is none.
+    fn take_all(&mut self, told: &mut Told) -> Result<(), AllocError> {
+        for _ in 0..MANY {
             if !self.take_one(told)? {
-                return if taken == 0 {
-                    told.says("nothing")
-                } else {
-                    Ok(())
-                };
+                return Ok(());
             }
         }
         Ok(())
@@ -116,9 +111,7 @@ impl<M: Spelled + Policy + Drop> Desk<M> {
 impl<M: Spelled + Policy + Drop> Part for Desk<M> {
     fn take(&mut self, words: &[&str], told: &mut Told) -> Result<(), AllocError> {
         match words {
-            ["take"] => self.take_up_to(1, told),
-            ["take", "all"] => self.take_up_to(MANY, told),
-            ["every", "pair"] => tell_pairs::<M>(told),
+            ["take", "all"] => self.take_all(told),
             ["leave", id] => self.leave(number(id), told),
             _ => match M::of(self.alloc, words) {
                 Some(message) => self.put(message, told),

@@ -1,79 +1,125 @@
-//! Scripts about a resolver: what it fetches, and what it serves.
-mod command;
+//! The resolver of member 0 of four, with terms of five views, told line by line: `resolver of 4 terms of 5`.
 mod telling;
 
-use crate::resolver::command::{Command, command_of};
 use crate::resolver::telling::tell;
 use simplex_mailbox::Mailbox;
-use simplex_messages::resolver::HandlerMessage;
+use simplex_messages::resolver::MailboxMessage;
 use simplex_messages::{ResolverInput, StepOut, voter};
 use simplex_resolver::{Actor, Config};
-use simplex_types::{Epoch, Keyed, Participant, TermLength, View};
+use simplex_types::{Epoch, Keyed, Participant, ResolverBody, TermLength, View};
 use std::alloc::{AllocError, Global};
-use test_support::papers::{Paper, bytes_of};
+use test_support::papers::{Paper, bytes_of, certificate, message, notarization};
 use test_support::{Part, Script, Told, member, number, play_made, timed};
 
-/// A resolver, the handler's message that was taken for a later step, and the time.
+/// A resolver, and the time.
 #[derive(Drop)]
 struct Desk {
     alloc: Global,
     actor: Actor<Keyed>,
-    taken: Option<HandlerMessage>,
     now: u64,
 }
 
-/// How many members there are, how many views a term has, and how many messages the handler's mailbox holds.
-#[derive(Clone, Copy)]
-struct Size {
-    members: u32,
-    length: TermLength,
-    room: u32,
-}
-
-/// `of N`, and where they are not 1 and 16, `terms of VIEWS` and `room MESSAGES`.
-fn size_of(words: &[&str]) -> Option<Size> {
-    let (members, length, room) = match words {
-        ["of", members] => (members, "1", "16"),
-        ["of", members, "terms", "of", length] => (members, *length, "16"),
-        ["of", members, "room", room] => (members, "1", *room),
-        _ => return None,
-    };
-    Some(Size {
-        members: member(members)?,
-        length: TermLength::new(number(length)?)?,
-        room: member(room)?,
-    })
-}
-
-/// Member 0's resolver. Peers have a second to answer, and a view waits a tenth of one behind an attempt that failed.
-fn desk_of(alloc: Global, size: Size) -> Result<Option<Desk>, AllocError> {
-    if size.members == 0 || size.room == 0 {
+/// Peers have a second to answer, and a view waits a tenth of one after an attempt that failed.
+fn desk_of(alloc: Global) -> Result<Option<Desk>, AllocError> {
+    let Some(term_length) = TermLength::new(5) else {
         return Ok(None);
-    }
-    let scheme = Keyed::new(alloc, 7, size.members, Some(Participant(0)))?;
+    };
     let config = Config {
-        scheme,
+        scheme: Keyed::new(alloc, 7, 4, Some(Participant(0)))?,
         epoch: Epoch(0),
         mailbox_size: 16,
-        handler_size: size.room,
+        handler_size: 16,
         fetch_timeout: 1000,
         fetch_retry_delay: 100,
-        term_length: size.length,
+        term_length,
     };
     Ok(Some(Desk {
         alloc,
         actor: Actor::new(alloc, config)?,
-        taken: None,
         now: 0,
     }))
 }
 
 /// Plays a script whose first line is `resolver`, and these words.
 pub(crate) fn run(words: &[&str], script: &Script, told: &mut Told) -> Result<(), AllocError> {
-    let Some(size) = size_of(words) else {
-        return told.says("not a command");
-    };
-    play_made(desk_of(told.alloc(), size)?, script, told)
+    match words {
+        ["of", "4", "terms", "of", "5"] => play_made(desk_of(told.alloc())?, script, told),
+        _ => told.says("not a command"),
+    }
+}
+
+/// What is done with a resolver, or asked of it.
+#[derive(Clone, Copy)]
+enum Command {
+    /// `replayed`: the voter read its journal.
+    Replayed,
+    /// `known nullification 4`: the voter knows the certificate.
+    Known(Paper),
+    /// `failed 5`: the application refused the notarization of the view.
+    Failed(u64),
+    /// `from 1 answer 2 nullification 4`: the member answers the request of this number.
+    Answer(u32, u64, Paper),
+    /// `timer`
+    Timer,
+    /// `handle`: a step with the handler's first message.
+    Handle,
+    /// `does nullification 4 answer 3`: whether the certificate answers an ask for the view.
+    Judge(u64, Paper),
+}
+
+fn paper_of(words: &[&str]) -> Option<Paper> {
+    match words {
+        ["notarization", view] => Some(Paper::Notarized(number(view)?)),
+        ["nullification", view] => Some(Paper::Nullified(number(view)?)),
+        _ => None,
+    }
+}
+
+/// What the words want, if they are a command.
+fn command_of(words: &[&str]) -> Option<Command> {
+    match words {
+        ["replayed"] => Some(Command::Replayed),
+        ["known", paper @ ..] => Some(Command::Known(paper_of(paper)?)),
+        ["failed", view] => Some(Command::Failed(number(view)?)),
+        ["from", who, "answer", id, paper @ ..] => {
+            Some(Command::Answer(member(who)?, number(id)?, paper_of(paper)?))
+        }
+        ["timer"] => Some(Command::Timer),
+        ["handle"] => Some(Command::Handle),
+        ["does", paper @ .., "answer", view] => {
+            Some(Command::Judge(number(view)?, paper_of(paper)?))
+        }
+        _ => None,
+    }
+}
+
+fn answered(
+    alloc: Global,
+    sender: u32,
+    id: u64,
+    paper: Paper,
+) -> Result<ResolverInput, AllocError> {
+    let bytes = bytes_of(alloc, paper)?;
+    Ok(ResolverInput::Packet {
+        sender: Participant(sender),
+        bytes: message(alloc, id, ResolverBody::Response { bytes })?,
+    })
+}
+
+/// What a step takes by the command.
+fn input(alloc: Global, command: Command) -> Result<ResolverInput, AllocError> {
+    match command {
+        Command::Known(paper) => Ok(ResolverInput::Mail(MailboxMessage::Updated {
+            certificate: certificate(alloc, paper)?,
+        })),
+        Command::Failed(view) => Ok(ResolverInput::Mail(MailboxMessage::Certified {
+            notarization: notarization(alloc, view)?,
+            success: false,
+        })),
+        Command::Answer(sender, id, paper) => answered(alloc, sender, id, paper),
+        Command::Replayed => Ok(ResolverInput::Mail(MailboxMessage::Replayed)),
+        _ => Ok(ResolverInput::Timer),
+    }
 }
 
 impl Desk {
@@ -92,40 +138,12 @@ impl Desk {
         tell(&out, before, self.actor.next_deadline(), told)
     }
 
-    /// A step with the handler's message.
-    fn handle(
-        &mut self,
-        message: Option<HandlerMessage>,
-        told: &mut Told,
-    ) -> Result<(), AllocError> {
-        match message {
+    /// A step with the handler's first message.
+    fn handle(&mut self, told: &mut Told) -> Result<(), AllocError> {
+        match self.actor.take_handler() {
             None => told.says("nothing waits"),
             Some(message) => self.step(ResolverInput::Handler(message), told),
         }
-    }
-
-    /// Others block the member.
-    fn block(&mut self, member: u32, told: &mut Told) -> Result<(), AllocError> {
-        let before = self.actor.next_deadline();
-        self.actor.block(Participant(member))?;
-        if self.actor.is_blocked(Participant(member)) {
-            told.says("is blocked")?;
-        }
-        if before != self.actor.next_deadline() {
-            told.says("the deadline moves")?;
-        }
-        Ok(())
-    }
-
-    /// The handler's first message is taken for a later step.
-    fn take_one(&mut self, told: &mut Told) -> Result<(), AllocError> {
-        let is_held = self.actor.holds_handler();
-        self.taken = self.actor.take_handler();
-        told.says(match (is_held, self.taken.is_some()) {
-            (true, true) => "taken",
-            (false, false) => "nothing waits",
-            _ => "the mailbox does not tell what it holds",
-        })
     }
 
     /// Whether a certificate's bytes answer an ask for the view.
@@ -146,20 +164,14 @@ impl Part for Desk {
             return told.says("not a command");
         };
         self.now = time;
-        match command_of(self.alloc, words)? {
+        match command_of(words) {
             None => told.says("not a command"),
-            Some(Command::Give(input)) => self.step(input, told),
-            Some(Command::Handle) => {
-                let message = self.actor.take_handler();
-                self.handle(message, told)
-            }
-            Some(Command::HandleTaken) => {
-                let message = self.taken.take();
-                self.handle(message, told)
-            }
-            Some(Command::Take) => self.take_one(told),
-            Some(Command::Block(member)) => self.block(member, told),
+            Some(Command::Handle) => self.handle(told),
             Some(Command::Judge(view, paper)) => self.judge(view, paper, told),
+            Some(command) => {
+                let input = input(self.alloc, command)?;
+                self.step(input, told)
+            }
         }
     }
 }

@@ -1,4 +1,4 @@
-//! What the tests of several crates share: certificates, messages, a journal that fails, a program over memory, and the text of scripts.
+//! What the tests of several crates share: certificates, messages, a program over memory, and the text of scripts.
 #![tactic(auto)]
 
 mod bytes;
@@ -11,8 +11,6 @@ pub mod reading;
 mod script;
 pub mod signing;
 pub mod telling;
-pub mod unsigned;
-mod untold;
 
 pub use bytes::{bytes_in, bytes_text};
 pub use desk::{Desk, desk_of, words_of};
@@ -21,4 +19,3 @@ pub use numbers::{member, payload_text, timed};
 pub use part::{Part, play, play_made, words_in};
 pub use reading::{number, payload};
 pub use script::{Script, Told, scripts};
-pub use untold::Untold;

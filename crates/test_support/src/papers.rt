@@ -2,9 +2,9 @@
 ghost use Rattle.std.specs.Prelude.{◌≡◌, ◌<◌, IfOk};
 
 use simplex_types::{
-    Attestation, Bytes, Certificate, Digest, Epoch, Finalization, Keyed, Notarization,
-    Nullification, Participant, Proposal, ResolverBody, ResolverMessage, Round, Scheme, Sequence,
-    Signatures, Subject, View,
+    Attestation, Bytes, Certificate, Digest, Epoch, Keyed, Notarization, Nullification,
+    Participant, Proposal, ResolverBody, ResolverMessage, Round, Scheme, Sequence, Signatures,
+    Subject, View,
 };
 use std::alloc::{AllocError, Global};
 
@@ -15,10 +15,6 @@ pub enum Paper {
     Notarized(u64),
     /// A nullification.
     Nullified(u64),
-    /// A finalization.
-    Finalized(u64),
-    /// A nullification of another epoch.
-    Foreign(u64),
     /// A nullification that only two signed.
     Thin(u64),
 }
@@ -56,17 +52,17 @@ fn two(alloc: Global, subject: &Subject) -> Result<Signatures, AllocError> {
     Ok(Signatures::new(attestations))
 }
 
-/// A round.
-pub fn round(epoch: u64, view: u64) -> Round {
+/// The round of the view, of epoch 0.
+fn round(view: u64) -> Round {
     Round {
-        epoch: Epoch(epoch),
+        epoch: Epoch(0),
         view: View(view),
     }
 }
 
 fn block(view: u64) -> Proposal {
     Proposal {
-        round: round(0, view),
+        round: round(view),
         parent: View(0),
         payload: Digest([9; 32]),
     }
@@ -80,24 +76,17 @@ pub fn notarization(alloc: Global, view: u64) -> Result<Notarization, AllocError
     })
 }
 
-fn finalization(alloc: Global, view: u64) -> Result<Finalization, AllocError> {
-    Ok(Finalization {
-        proposal: block(view),
-        certificate: three(alloc, &Subject::Finalize(block(view)))?,
-    })
-}
-
-fn nullification(alloc: Global, epoch: u64, view: u64) -> Result<Nullification, AllocError> {
+fn nullification(alloc: Global, view: u64) -> Result<Nullification, AllocError> {
     Ok(Nullification {
-        round: round(epoch, view),
-        certificate: three(alloc, &Subject::Nullify(round(epoch, view)))?,
+        round: round(view),
+        certificate: three(alloc, &Subject::Nullify(round(view)))?,
     })
 }
 
 fn thin(alloc: Global, view: u64) -> Result<Nullification, AllocError> {
     Ok(Nullification {
-        round: round(0, view),
-        certificate: two(alloc, &Subject::Nullify(round(0, view)))?,
+        round: round(view),
+        certificate: two(alloc, &Subject::Nullify(round(view)))?,
     })
 }
 
@@ -105,9 +94,7 @@ fn thin(alloc: Global, view: u64) -> Result<Nullification, AllocError> {
 pub fn certificate(alloc: Global, paper: Paper) -> Result<Certificate, AllocError> {
     match paper {
         Paper::Notarized(view) => Ok(Certificate::Notarization(notarization(alloc, view)?)),
-        Paper::Nullified(view) => Ok(Certificate::Nullification(nullification(alloc, 0, view)?)),
-        Paper::Finalized(view) => Ok(Certificate::Finalization(finalization(alloc, view)?)),
-        Paper::Foreign(view) => Ok(Certificate::Nullification(nullification(alloc, 1, view)?)),
+        Paper::Nullified(view) => Ok(Certificate::Nullification(nullification(alloc, view)?)),
         Paper::Thin(view) => Ok(Certificate::Nullification(thin(alloc, view)?)),
     }
 }

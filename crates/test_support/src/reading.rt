@@ -35,7 +35,7 @@ pub fn payload(word: &str) -> Option<Digest> {
 }
 
 /// The round of this view, of epoch 0.
-pub fn round(word: &str) -> Option<Round> {
+fn round(word: &str) -> Option<Round> {
     Some(Round {
         epoch: Epoch(0),
         view: view(word)?,
@@ -43,7 +43,7 @@ pub fn round(word: &str) -> Option<Round> {
 }
 
 /// The proposal of a view and a payload, `3 aa`, on genesis; or on another view, `3 aa on 2`.
-pub fn proposal(words: &[&str]) -> Option<Proposal> {
+fn proposal(words: &[&str]) -> Option<Proposal> {
     let (number, name, parent) = match words {
         [number, name] => (number, name, View(0)),
         [number, name, "on", parent] => (number, name, view(parent)?),
@@ -54,16 +54,6 @@ pub fn proposal(words: &[&str]) -> Option<Proposal> {
         parent,
         payload: payload(name)?,
     })
-}
-
-/// What a vote is for: `notarize 3 aa`, `nullify 3` or `finalize 3 aa`.
-pub fn subject(words: &[&str]) -> Option<Subject> {
-    match words {
-        ["notarize", what @ ..] => Some(Subject::Notarize(proposal(what)?)),
-        ["nullify", number] => Some(Subject::Nullify(round(number)?)),
-        ["finalize", what @ ..] => Some(Subject::Finalize(proposal(what)?)),
-        _ => None,
-    }
 }
 
 /// What a certificate is for: `notarization 3 aa`, `nullification 3` or `finalization 3 aa`.

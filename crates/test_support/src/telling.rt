@@ -1,9 +1,9 @@
-//! What came out, in words: votes, certificates and evidence with their views, payloads and signers.
-use simplex_types::{Activity, BlockCause};
-use simplex_values::{Digest, Participant, Proposal, TimeoutReason, View};
+//! What came out, in words: votes and records with their views, payloads and signers.
+use simplex_types::BlockCause;
+use simplex_values::{Digest, Participant, Proposal, View};
 use simplex_wire::{
-    Artifact, Attestation, Certificate, Finalization, Finalize, Notarization, Notarize,
-    Nullification, Nullify, Vote,
+    Artifact, Attestation, Finalization, Finalize, Notarization, Notarize, Nullification, Nullify,
+    Vote,
 };
 use std::alloc::{AllocError, Global};
 
@@ -36,11 +36,6 @@ impl Items {
         }
         self.text.as_str()
     }
-}
-
-/// Whether it is so, as a word.
-pub fn yes_or_no(holds: bool) -> &'static str {
-    if holds { "yes" } else { "no" }
 }
 
 /// The members, by their numbers.
@@ -146,15 +141,6 @@ pub fn vote_text(alloc: Global, vote: &Vote) -> Result<String, AllocError> {
     }
 }
 
-/// What a certificate is for, and who signed it.
-pub fn certificate_text(alloc: Global, certificate: &Certificate) -> Result<String, AllocError> {
-    match certificate {
-        Certificate::Notarization(it) => notarized(alloc, "notarization", it),
-        Certificate::Nullification(it) => nullified(alloc, it),
-        Certificate::Finalization(it) => finalized(alloc, it),
-    }
-}
-
 /// What a record of a journal is of.
 pub fn artifact_text(alloc: Global, artifact: &Artifact) -> Result<String, AllocError> {
     match artifact {
@@ -173,38 +159,6 @@ pub fn artifact_text(alloc: Global, artifact: &Artifact) -> Result<String, Alloc
     }
 }
 
-/// Two votes that contradict each other.
-fn against(alloc: Global, first: &Vote, second: &Vote) -> Result<String, AllocError> {
-    let first = vote_text(alloc, first)?;
-    let second = vote_text(alloc, second)?;
-    format!(in alloc; "{} against {}", first.as_str(), second.as_str())
-}
-
-/// What an engine reports.
-pub fn activity_text(alloc: Global, activity: &Activity) -> Result<String, AllocError> {
-    match activity {
-        Activity::Notarize(it) => notarize(alloc, it),
-        Activity::Notarization(it) => notarized(alloc, "notarization", it),
-        Activity::Certification(it) => notarized(alloc, "certification", it),
-        Activity::Nullify(it) => nullify(alloc, it),
-        Activity::Nullification(it) => nullified(alloc, it),
-        Activity::Finalize(it) => finalize(alloc, it),
-        Activity::Finalization(it) => finalized(alloc, it),
-        Activity::ConflictingNotarize(it) => {
-            let second = Vote::Notarize(it.second);
-            against(alloc, &Vote::Notarize(it.first), &second)
-        }
-        Activity::ConflictingFinalize(it) => {
-            let second = Vote::Finalize(it.second);
-            against(alloc, &Vote::Finalize(it.first), &second)
-        }
-        Activity::NullifyFinalize(it) => {
-            let finalize = Vote::Finalize(it.finalize);
-            against(alloc, &Vote::Nullify(it.nullify), &finalize)
-        }
-    }
-}
-
 /// Why a member is blocked.
 pub fn cause_text(cause: BlockCause) -> &'static str {
     match cause {
@@ -217,30 +171,5 @@ pub fn cause_text(cause: BlockCause) -> &'static str {
         BlockCause::InvalidSignature => "an invalid signature",
         BlockCause::LeaderConflict => "a contradicted proposal",
         BlockCause::InvalidResponse => "an invalid response",
-    }
-}
-
-/// Whom an engine blocks, and why.
-pub fn block_text(
-    alloc: Global,
-    member: Participant,
-    cause: BlockCause,
-) -> Result<String, AllocError> {
-    let cause = cause_text(cause);
-    format!(in alloc; "block {member} for {cause}")
-}
-
-/// Why a view expires.
-pub fn reason_text(reason: TimeoutReason) -> &'static str {
-    match reason {
-        TimeoutReason::LeaderTimeout => "leader timeout",
-        TimeoutReason::CertificationTimeout => "certification timeout",
-        TimeoutReason::StallTimeout => "stall timeout",
-        TimeoutReason::LeaderNullify => "leader nullify",
-        TimeoutReason::Inactivity => "inactivity",
-        TimeoutReason::MissingProposal => "missing proposal",
-        TimeoutReason::IgnoredProposal => "ignored proposal",
-        TimeoutReason::InvalidProposal => "invalid proposal",
-        TimeoutReason::FailedCertification => "failed certification",
     }
 }

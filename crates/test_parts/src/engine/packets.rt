@@ -6,7 +6,7 @@ use simplex_types::{
 };
 use std::alloc::{AllocError, Global};
 use test_support::papers::{self, Paper, message, noise};
-use test_support::reading::{member, number, payload, view};
+use test_support::reading::{member, number, payload};
 use test_support::signing::{KEYS, signed_vote};
 
 /// A packet that a line tells.
@@ -20,12 +20,8 @@ pub(super) enum Load {
     Vote(Participant, Subject),
     /// A notarize with a signature that is not the signer's.
     Forged(Participant, Subject),
-    /// A request of this number for the view.
-    Request(u64, View),
     /// An answer to the last request of the engine, with a certificate.
     Answer(Paper),
-    /// One to the request of this number.
-    AnswerTo(u64, Paper),
     /// An answer to it that says nothing.
     NoAnswer,
 }
@@ -50,8 +46,6 @@ fn paper(words: &[&str]) -> Option<Paper> {
     match words {
         ["notarization", view] => Some(Paper::Notarized(number(view)?)),
         ["nullification", view] => Some(Paper::Nullified(number(view)?)),
-        ["finalization", view] => Some(Paper::Finalized(number(view)?)),
-        ["nullification", view, "in", "epoch", "1"] => Some(Paper::Foreign(number(view)?)),
         ["nullification", view, "by", "two"] => Some(Paper::Thin(number(view)?)),
         _ => None,
     }
@@ -78,8 +72,6 @@ impl Load {
                 let subject = Subject::Finalize(proposal(0, payload(byte)?));
                 Some(Load::Vote(member(who)?, subject))
             }
-            ["request", id, "for", wanted] => Some(Load::Request(number(id)?, view(wanted)?)),
-            ["answer", "to", id, words @ ..] => Some(Load::AnswerTo(number(id)?, paper(words)?)),
             ["answer", "noise"] => Some(Load::NoAnswer),
             ["answer", words @ ..] => Some(Load::Answer(paper(words)?)),
             words => Some(Load::Paper(paper(words)?)),
@@ -130,9 +122,7 @@ pub(super) fn bytes_of(
                 None => noise(alloc),
             }
         }
-        Load::Request(id, view) => { message(alloc, id, ResolverBody::Request { view }) }
         Load::Answer(paper) => answer(alloc, asked, papers::bytes_of(alloc, paper)?),
-        Load::AnswerTo(id, paper) => answer(alloc, id, papers::bytes_of(alloc, paper)?),
         Load::NoAnswer => answer(alloc, asked, noise(alloc)?),
     }
 }

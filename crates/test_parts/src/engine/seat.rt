@@ -3,8 +3,8 @@ use crate::engine::bits;
 use crate::engine::packets::{Load, bytes_of};
 use crate::engine::setup::{Member, Setup};
 use crate::engine::words::{NOTHING, is_deadline, items, letter_of, letter_text, records_text};
-use simplex_engine::{Engine, Input, Polled};
-use simplex_journal::Journal;
+use simplex_engine::{Input, Polled};
+use simplex_journal::{Journal, MemoryJournal};
 use simplex_messages::{Outcome, StepOut, Stop};
 use simplex_names::{channel_of, source_of, source_word};
 use simplex_transcript::StepSource;
@@ -27,24 +27,16 @@ const NO_CLOCK: u64 = 1 << 63;
 
 /// A member of a script.
 #[derive(Drop)]
-pub(super) struct Seat<J: Journal + Drop> {
+pub(super) struct Seat {
     alloc: Global,
     setup: Setup,
     /// None once it was let go.
-    engine: Option<Member<J>>,
+    engine: Option<Member>,
     clock: u64,
     /// How many calls of the engine there were.
     number: u64,
     /// The number of its last request to a peer.
     asked: u64,
-}
-
-fn yes_of(word: &str) -> Option<bool> {
-    match word {
-        "yes" => Some(true),
-        "no" => Some(false),
-        _ => None,
-    }
 }
 
 /// What came of a step behind the words for it, where there are some.
@@ -58,13 +50,13 @@ fn behind(alloc: Global, before: &str, items: &str) -> Result<String, AllocError
     }
 }
 
-impl<J: Journal + Drop> Seat<J> {
+impl Seat {
     /// The member of an engine with this setup, if there is one.
     pub(super) fn new(
         alloc: Global,
         setup: Setup,
-        journal: J,
-    ) -> Result<Option<Seat<J>>, AllocError> {
+        journal: MemoryJournal,
+    ) -> Result<Option<Seat>, AllocError> {
         Ok(
             setup.engine(alloc, journal)?.map(|engine| Seat {
                 alloc,
@@ -180,7 +172,7 @@ impl<J: Journal + Drop> Seat<J> {
     }
 
     /// The journal of the engine, which is let go.
-    fn journal(&mut self) -> Option<J> {
+    fn journal(&mut self) -> Option<MemoryJournal> {
         let engine = self.engine.take()?;
         if engine.has_failed() {
             return None;
@@ -251,19 +243,6 @@ impl<J: Journal + Drop> Seat<J> {
     }
 }
 
-/// The view that a member alone makes final, behind its start.
-const VIEW: [&[&str]; 9] = [
-    &["payload", "0", "11"],
-    &["step", "propose"],
-    &["step", "batcher"],
-    &["step", "batcher"],
-    &["step", "voter"],
-    &["verdict", "1", "yes"],
-    &["step", "certify"],
-    &["step", "batcher"],
-    &["step", "voter"],
-];
-
 /// What a line tells that is an input of an engine.
 enum Deed {
     Hear(Participant, Channel, Load),
@@ -283,15 +262,14 @@ fn deed_of(words: &[&str]) -> Option<Deed> {
             number(request)?,
             Answer::Payload(payload(byte)?),
         )),
-        ["verdict", request, word] => Some(Deed::Answer(
-            number(request)?,
-            Answer::Verdict(yes_of(word)?),
-        )),
+        ["verdict", request, "yes"] => {
+            Some(Deed::Answer(number(request)?, Answer::Verdict(true)))
+        }
         _ => None,
     }
 }
 
-impl<J: Journal + Drop> Seat<J> {
+impl Seat {
     /// What the engine is given.
     fn input(&self, deed: Deed) -> Result<Input, AllocError> {
         match deed {
@@ -314,24 +292,6 @@ impl<J: Journal + Drop> Seat<J> {
         Ok(())
     }
 
-    fn is_running(&self) -> bool {
-        match &self.engine {
-            Some(engine) => engine.is_running(),
-            None => false,
-        }
-    }
-
-    /// Starts, and makes view 1 final as a member alone, as far as the engine runs.
-    fn finalizes(&mut self, told: &mut Told) -> Result<(), AllocError> {
-        self.start(told)?;
-        for words in VIEW {
-            if self.is_running() {
-                self.does(words, told)?;
-            }
-        }
-        Ok(())
-    }
-
     /// What engines that are just started do with a certificate of which a bit was changed.
     fn changes(&self, load: &[&str], told: &mut Told) -> Result<(), AllocError> {
         let Some(load) = Load::read(load) else {
@@ -350,11 +310,10 @@ impl<J: Journal + Drop> Seat<J> {
     }
 }
 
-impl<J: Journal + Drop> Part for Seat<J> {
+impl Part for Seat {
     fn take(&mut self, words: &[&str], told: &mut Told) -> Result<(), AllocError> {
         match words {
             ["start"] => self.start(told),
-            ["finalizes"] => self.finalizes(told),
             ["again"] => self.again(told),
             ["at", ms] => self.goes_to(ms, told),
             ["rest"] => self.rest(told),

@@ -1,17 +1,17 @@
 //! What an engine is made with.
 use simplex_engine::{Engine, EngineConfig};
-use simplex_journal::Journal;
+use simplex_journal::MemoryJournal;
 use simplex_types::elector::Config as _;
 use simplex_types::{
     Digest, Epoch, Floor, ForwardPolicy, Keyed, Participant, RoundRobin, RoundRobinElector,
-    SkipBudget, SkipPolicy, TermLength, Terms, ViewDelta,
+    SkipPolicy, TermLength, Terms, ViewDelta,
 };
 use std::alloc::{AllocError, Global};
 use test_support::reading::{member, number};
 use test_support::signing::KEYS;
 
-/// An engine over a journal of this type.
-pub(super) type Member<J> = Engine<Keyed, RoundRobinElector, J>;
+/// An engine over a journal in memory.
+pub(super) type Member = Engine<Keyed, RoundRobinElector, MemoryJournal>;
 
 /// A time that does not come.
 const NEVER: u64 = 1 << 40;
@@ -22,67 +22,29 @@ pub(crate) struct Setup {
     pub(super) me: Participant,
     pub(super) members: u32,
     term: u64,
-    mailbox: u32,
-    skip: SkipPolicy,
-    /// The call of a journal that fails untold.
-    pub(super) failing: Option<u64>,
 }
 
 impl Setup {
-    /// The setup with this item.
-    fn with(self, name: &str, value: u64) -> Option<Setup> {
-        match name {
-            "term" => Some(Setup {
-                term: value,
-                ..self
-            }),
-            "mailbox" => Some(Setup {
-                mailbox: u32::try_from(value).ok()?,
-                ..self
-            }),
-            "skip" => Some(Setup {
-                skip: SkipPolicy::Enabled {
-                    timeout: value,
-                    budget: SkipBudget::Participants,
-                },
-                ..self
-            }),
-            "journal-fails" => Some(Setup {
-                failing: Some(value),
-                ..self
-            }),
-            _ => None,
-        }
-    }
-
     /// The setup that the words of the first line tell.
     pub(crate) fn read(words: &[&str]) -> Option<Setup> {
-        let ["engine", me, "of", members, items @ ..] = words else {
-            return None;
+        let (me, members, term) = match words {
+            ["engine", me, "of", members] => (me, members, 1),
+            ["engine", me, "of", members, "term", term] => (me, members, number(term)?),
+            _ => return None,
         };
-        let mut setup = Setup {
+        Some(Setup {
             me: member(me)?,
             members: member(members)?.0,
-            term: 1,
-            mailbox: 16,
-            skip: SkipPolicy::Disabled,
-            failing: None,
-        };
-        for item in items.chunks(2) {
-            let [name, value] = item else {
-                return None;
-            };
-            setup = setup.with(name, number(value)?)?;
-        }
-        Some(setup)
+            term,
+        })
     }
 
     /// An engine that was not started, if there is one with this setup.
-    pub(super) fn engine<J: Journal + Drop>(
+    pub(super) fn engine(
         &self,
         alloc: Global,
-        journal: J,
-    ) -> Result<Option<Member<J>>, AllocError> {
+        journal: MemoryJournal,
+    ) -> Result<Option<Member>, AllocError> {
         let Some(length) = TermLength::new(self.term) else {
             return Ok(None);
         };
@@ -104,8 +66,8 @@ impl Setup {
             certification_timeout: NEVER,
             retry: NEVER,
             retention: ViewDelta(10),
-            skip: self.skip,
-            mailbox: self.mailbox,
+            skip: SkipPolicy::Disabled,
+            mailbox: 16,
             fetch_timeout: 1000,
             fetch_retry: 100,
             forward: ForwardPolicy::Disabled,

@@ -4,11 +4,10 @@ use simplex_messages::{Call, Outcome, StepOut, Stop};
 use simplex_trace::line;
 use simplex_transcript::{Entry, Event, Node, StepSource};
 use simplex_types::{
-    Artifact, Bytes, Certificate, Channel, Participant, Recipients, ResolverBody, ResolverMessage,
-    Sequence,
+    Artifact, Bytes, Channel, Participant, Recipients, ResolverBody, ResolverMessage, Sequence,
 };
 use std::alloc::{AllocError, Global};
-use test_support::telling::{Items, artifact_text, certificate_text};
+use test_support::telling::{Items, artifact_text};
 
 /// What is told where nothing came.
 pub(super) const NOTHING: &str = "nothing";
@@ -32,14 +31,6 @@ pub(super) fn letter_of(call: &Call) -> Option<Letter<'_>> {
     }
 }
 
-/// The certificate of these bytes.
-fn answered(alloc: Global, bytes: &Bytes) -> Result<String, AllocError> {
-    match Certificate::decode(alloc, bytes.as_slice()) {
-        Ok(certificate) => certificate_text(alloc, &certificate),
-        Err(_) => String::from_str(alloc, "bytes of no certificate"),
-    }
-}
-
 /// What the letter says.
 pub(super) fn letter_text(alloc: Global, letter: &Letter<'_>) -> Result<String, AllocError> {
     let Ok(ResolverMessage { id, body }) = ResolverMessage::decode(alloc, letter.bytes.as_slice())
@@ -51,11 +42,7 @@ pub(super) fn letter_text(alloc: Global, letter: &Letter<'_>) -> Result<String, 
         ResolverBody::Request { view } => {
             format!(in alloc; "to {to}: request {id} for view {view}")
         }
-        ResolverBody::Response { bytes } => {
-            let answer = answered(alloc, &bytes)?;
-            format!(in alloc; "to {to}: answer to {id}, {}", answer.as_str())
-        }
-        ResolverBody::Error => format!(in alloc; "to {to}: no answer to {id}"),
+        _ => format!(in alloc; "to {to}: no request"),
     }
 }
 

@@ -35,25 +35,10 @@ fn vote_of(kind: &str, view: u64) -> Option<Vote> {
 }
 
 impl Spelled for Message {
-    fn kinds() -> &'static [&'static str] {
-        &[
-            "notarize",
-            "nullify",
-            "finalize",
-            "update final-below 0",
-            "update final-below 1",
-            "update final-below 3",
-        ]
-    }
-
     fn of(_alloc: Global, words: &[&str]) -> Option<Message> {
         match words {
             ["update", current, "final", finalized] => {
                 Some(update(number(current)?, number(finalized)?))
-            }
-            ["update", current, "final-below", below] => {
-                let current = number(current)?;
-                Some(update(current, current.saturating_sub(number(below)?)))
             }
             [kind, view] => Some(Message::Constructed(vote_of(kind, number(view)?)?)),
             _ => None,

@@ -8,10 +8,6 @@ use std::alloc::{AllocError, Global};
 use test_support::number;
 
 impl Spelled for HandlerMessage {
-    fn kinds() -> &'static [&'static str] {
-        &["answer", "request"]
-    }
-
     fn of(alloc: Global, words: &[&str]) -> Option<HandlerMessage> {
         let [kind, id] = words else {
             return None;

@@ -44,22 +44,9 @@ fn missing_of(words: &[&str]) -> Option<MailboxMessage> {
 }
 
 impl Spelled for MailboxMessage {
-    fn kinds() -> &'static [&'static str] {
-        &[
-            "notarization",
-            "nullification",
-            "finalization",
-            "certified",
-            "failed",
-            "missing of 2",
-            "missing",
-            "replayed",
-        ]
-    }
-
     fn of(alloc: Global, words: &[&str]) -> Option<MailboxMessage> {
         match words {
-            ["replayed", ..] => Some(MailboxMessage::Replayed),
+            ["replayed"] => Some(MailboxMessage::Replayed),
             ["certified", view] => Some(certified(alloc, number(view)?, true)),
             ["failed", view] => Some(certified(alloc, number(view)?, false)),
             ["missing", words @ ..] => missing_of(words),

@@ -9,9 +9,6 @@ use test_support::words_in;
 
 /// A message of a mailbox, which words tell.
 pub(super) trait Spelled: PartialEq + Sized {
-    /// Messages of each kind: their words but for the view, which stands behind the first one.
-    fn kinds() -> &'static [&'static str];
-
     /// The message of these words, if there is one.
     fn of(alloc: Global, words: &[&str]) -> Option<Self>;
 
@@ -54,7 +51,7 @@ pub(super) fn own() -> Attestation {
 }
 
 /// The kind and the view of a certificate.
-pub(super) fn certificate_text(
+pub(crate) fn certificate_text(
     alloc: Global,
     certificate: &Certificate,
 ) -> Result<String, AllocError> {

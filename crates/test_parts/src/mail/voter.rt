@@ -41,17 +41,6 @@ pub(super) fn certificate_of(alloc: Global, kind: &str, view: u64) -> Option<Cer
 }
 
 impl Spelled for Message {
-    fn kinds() -> &'static [&'static str] {
-        &[
-            "proposal",
-            "inactivity",
-            "leader-nullify",
-            "notarization",
-            "nullification",
-            "finalization",
-        ]
-    }
-
     fn of(alloc: Global, words: &[&str]) -> Option<Message> {
         let [kind, view] = words else {
             return None;
