@@ -13,6 +13,7 @@ use std::rt::Files;
 const MOST_STEPS: u64 = 1 << 20;
 
 // What a life works on.
+#[derive(Drop)]
 struct Life<R: Files<File = File> + Drop> {
     alloc: Global,
     node: Node<NodeScheme, NodeElector, FolderJournal<R>>,

@@ -11,21 +11,21 @@ mod life;
 mod making;
 
 use crate::end::End;
+use simplex_front::words_of;
+use std::alloc::AllocError;
+use std::io;
 use std::process::ExitCode;
-use std::{env, io};
 
 const USAGE: &str = "usage: simplex_node_cli init ME FOLDER, or run ME FOLDER";
 
 fn main(rt: HostRuntime) -> ExitCode {
-    let alloc = rt.alloc();
-    let words: io::Result<Vec<String>> = env::args(&rt).and_then(|args| args.collect(alloc));
-    let done = match words {
-        Err(error) => Err(End::from(error)),
+    let done = match words_of(&rt) {
+        Err(AllocError) => Err(End::Memory),
         Ok(words) => match words.as_slice() {
-            [_, word, me, folder] if word.as_str() == "init" => {
+            [word, me, folder] if word.as_str() == "init" => {
                 life::init(&rt, me, folder, rt.reader())
             }
-            [_, word, me, folder] if word.as_str() == "run" => {
+            [word, me, folder] if word.as_str() == "run" => {
                 life::run(&rt, me, folder, rt.reader(), io::writer(&rt))
             }
             _ => Err(End::BadWords),
