@@ -7,10 +7,10 @@ use Rattle.simplex_messages.specs.declared.voter.VoterInput.TheVariants as input
 use Rattle.simplex_transcript.specs.declared.event.StepSource.{StepSource}
 use Rattle.simplex_transcript.specs.declared.event.StepSource.TheVariants as sources
 use Rattle.model_resolver.specs.Views.{is_reached, least_of}
-use Rattle.model_rules.specs.Deadline.{deadline_of}
 use Rattle.model_resolver.specs.Resolver.{holds_handled, deadline_after}
 use Rattle.model_steps.specs.Voter.{acted}
 use Rattle.model_steps.specs.VoterLife.{place_of}
+use Rattle.simplex_voter.specs.Stands.{due_at}
 use Rattle.model_steps.specs.Engine.{EngineMade, Did, batcher_mail, voter_mail, resolver_mail, voter_in, voter_past, resolver_past, runs}
 
 -- whether the voter has something to do with what such an input asks it to take
@@ -32,7 +32,7 @@ holds made past sources.Fetch now = is_reached now (deadline_after made.resolver
 
 -- the voter's deadline: when its current view expires, or its nullify is repeated
 abbrev pub voter_deadline : EngineMade → List Did → ℕ
-voter_deadline made past = (deadline_of (voter_in made past).rules (place_of (voter_in made past) (voter_past past)).standing.desk.known).0
+voter_deadline made past = due_at (voter_in made past).rules (place_of (voter_in made past) (voter_past past)).standing.desk.known
 
 -- the clock from which on a step of the timer or of the fetcher holds something; none of an engine that does not run
 unfoldable pub next_deadline : EngineMade → List Did → Option ℕ

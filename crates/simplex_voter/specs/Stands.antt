@@ -14,6 +14,7 @@ use Rattle.simplex_types.specs.declared.floor.Floor.{Floor}
 use Rattle.simplex_types.specs.declared.floor.Floor.TheVariants as floors
 use Rattle.simplex_messages.specs.declared.handed.Handed.TheVariants as handed
 use Rattle.simplex_messages.specs.declared.resolver.MailboxMessage.TheVariants as resolver
+use Rattle.model_rules.specs.Deadline.{deadline_of}
 use Rattle.model_rules.specs.Lists.{greatest_of}
 use Rattle.model_rules.specs.Known.{Made, Fact, view_of}
 use Rattle.model_rules.specs.Calls as state
@@ -103,6 +104,10 @@ verdict_in _ = None
 -- a kept record, where it is above the floor's view
 abbrev pub replay_above : Made → ℕ → ℕ → Doing → Artifact → Doing
 replay_above made now floor doing artifact = if nat_lt floor (artifact_round artifact).view then replay_record made now doing artifact else doing
+
+-- when the step of the timer is due, in milliseconds
+unfoldable pub due_at : Made → List Fact → ℕ
+due_at made known = (deadline_of made known).0
 
 -- the next step begins with nothing done
 abbrev pub rested : Doing → Doing

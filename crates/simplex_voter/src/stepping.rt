@@ -7,7 +7,7 @@ ghost use Rattle.model_steps.specs.Desk.{begun};
 ghost use Rattle.model_rules.specs.Pending.{is_open};
 ghost use Rattle.std.specs.Option.{option_map};
 ghost use Rattle.simplex_voter.specs.Arrivals.{is_before, least_of, pending_of};
-ghost use Rattle.simplex_voter.specs.Stands.{Acts, Knows, Plans, take_held_payload};
+ghost use Rattle.simplex_voter.specs.Stands.{Acts, Knows, Plans, due_at, take_held_payload};
 
 use crate::planner::Planner;
 use crate::request::{OpenRequest, PendingProposal};
@@ -22,19 +22,21 @@ type Touched = Option<View>;
 
 impl<S: Scheme + Drop, L: Elector + Drop> Planner<S, L> {
     /// When the step of the timer is due.
-    #[tactic(auto, unfolding(crate::specs::Stands::doing_of))]
+    #[tactic(auto, unfolding(crate::specs::Stands::doing_of, crate::specs::Stands::due_at))]
     pub(crate) fn next_deadline(&self) -> u64
-        ensures { Knows self.now (λ made known. (deadline_of made known).0) result }
+        ensures { Knows self.now (λ made known. due_at made known) result }
     {
         let (deadline, _) = self.state.next_timeout();
         deadline
     }
 
     /// Whether the clock has reached the deadline.
+    #[tactic(auto, unfolding(crate::specs::Stands::doing_of))]
     pub(crate) fn is_due(&self, now: u64) -> bool
         ensures { Knows self.now (λ made known. nat_le (deadline_of made known).0 now) result }
     {
-        self.next_deadline() <= now
+        let deadline = self.state.next_timeout();
+        deadline.0 <= now
     }
 
     // The deadline, where the clock has reached it.

@@ -3,7 +3,6 @@ ghost use Rattle.std.specs.Prelude.{◌≡◌, ◌<◌, ◌^◌, List, [], Some,
 ghost use Rattle.std.specs.List.{filter_map};
 ghost use Rattle.std.specs.Option.{is_some, option_map};
 ghost use Rattle.model_rules.specs.Views.{current_of};
-ghost use Rattle.model_rules.specs.Deadline.{deadline_of};
 ghost use Rattle.simplex_journal.specs.Order.{no_order};
 ghost use Rattle.simplex_mailbox.specs.Post.{Posted};
 ghost use Rattle.simplex_messages.specs.Step.{no_out};
@@ -12,6 +11,7 @@ ghost use Rattle.model_steps.specs.Engine.{for_batcher, for_resolver};
 ghost use Rattle.model_steps.specs.Voter.{takes_answer, acted};
 ghost use Rattle.model_steps.specs.VoterLife.{VoterMade, Given, Answered, place_of};
 ghost use Rattle.simplex_voter.specs.Actor.{DoesStart, DoesStep, state_config, voter_made, StandsFor, Takes, StandsOver, TakesOver, Answers, journal_of, next_answer};
+ghost use Rattle.simplex_voter.specs.Stands.{due_at};
 ghost use Rattle.simplex_voter.specs.Unanswered.{unanswered};
 
 use crate::actor::Actor;
@@ -177,7 +177,7 @@ impl<S: Scheme + Drop, L: Elector + Drop, J: Journal + Drop> Actor<S, L, J> {
     #[tactic(auto, unfolding(crate::specs::Actor::StandsOver))]
     pub fn next_deadline(&self) -> u64
         ensures { Answers self.now
-            (λ made past. (deadline_of made.rules (place_of made past).standing.desk.known).0) result }
+            (λ made past. due_at made.rules (place_of made past).standing.desk.known) result }
     {
         self.planner.next_deadline()
     }
