@@ -1139,7 +1139,7 @@ function viewerCommand(words, text, write) {
 if (typeof require !== 'undefined' && typeof module !== 'undefined' && require.main === module) {
     const fs = require('fs');
     try {
-        viewerCommand(process.argv.slice(2), fs.readFileSync(0, 'utf8'), (text) => fs.writeSync(1, text));
+        viewerCommand(process.argv.slice(2), fs.readFileSync(0, 'utf8'), (text) => process.stdout.write(text));
     } catch (fault) {
         console.error(`viewer: ${fault.message}`);
         process.exit(2);
