@@ -5,7 +5,7 @@ const fs = require('fs');
 const path = require('path');
 
 // What stands in a script element must not end it.
-const inScript = (text) => text.replace(/<\//g, '<\\/').replace(/<!--/g, '<\\!--');
+const inScript = (text) => text.replace(/<\/script/gi, '<\\/script');
 const asData = (text) => text.replace(/</g, '\\u003c');
 
 function pageOf(record) {
