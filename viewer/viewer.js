@@ -241,11 +241,18 @@ const Viewer = (() => {
 
     // ---- the run
 
-    // Whole numbers that JavaScript would round are kept as strings of digits.
-    function parsed(text) {
-        const great = /([:[,]\s*)(\d{16,})(?=\s*[,\]}])/g;
-        return JSON.parse(great.test(text) ? text.replace(great, '$1"$2"') : text);
+    const isGreat = (value) => typeof value === 'number' && value > Number.MAX_SAFE_INTEGER;
+
+    // Whether a number that a line tells may have been rounded as it was read.
+    function isRounded(record) {
+        const inEvent = (event) => isGreat(event.ms);
+        const inCall = (call) => isGreat(call.sync) || isGreat(call.prune) || (call.append && isGreat(call.append[0]));
+        const inEntry = (entry) => entry.calls.some(inCall) || entry.asked.some((it) => isGreat(it.round[1]));
+        return record.events.some(inEvent) || record.entries.some(inEntry);
     }
+
+    // Whole numbers that JavaScript would round are kept as strings of digits.
+    const exact = (text) => JSON.parse(text.replace(/([:[,]\s*)(\d{16,})(?=\s*[,\]}])/g, '$1"$2"'));
 
     const kindName = (kind) => (typeof kind === 'string' ? kind : Object.keys(kind)[0]).replace('_', '-');
     const WITH_ENGINE = new Set(['honest', 'corrupt', 'unrecovering', 'twin']);
@@ -290,8 +297,9 @@ const Viewer = (() => {
     // A run as a record tells it: what stands on which lane, what was taken, which view each node is in, and what was counted.
     class Run {
         constructor(text) {
-            const record = typeof text === 'string' ? parsed(text) : text;
+            let record = typeof text === 'string' ? JSON.parse(text) : text;
             this.count = checked(record);
+            if (typeof text === 'string' && isRounded(record)) record = exact(text);
             this.setup = record.setup;
             this.events = record.events;
             this.entries = record.entries;
@@ -1112,7 +1120,7 @@ ${key.text}
 `;
     }
 
-    return { Bytes, Run, Sheet, svg, legend, messageText, shortLine, signsOf, escaped, COLOURS, STYLE, SIGNS, LEGEND, MESSAGES, LEFT, messageOf, artifactOf, certificateOf, deedText, itemsOf, recordLine, nodeText, kindName, parsed, KINDS, CERTIFICATES };
+    return { Bytes, Run, Sheet, svg, legend, messageText, shortLine, signsOf, escaped, COLOURS, STYLE, SIGNS, LEGEND, MESSAGES, LEFT, messageOf, artifactOf, certificateOf, deedText, itemsOf, recordLine, nodeText, kindName, KINDS, CERTIFICATES };
 })();
 if (typeof module !== 'undefined') module.exports = Viewer;
 
