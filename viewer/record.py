@@ -6,6 +6,7 @@ Usage: record.py INPUT.json
 It is what `simplex_audit_cli record` writes, and in it `lines`, what `simplex_lab_cli trace` writes. Of a refused run it is the
 record of the events before the refused one, and `refused` has the lines on the refusal. The programs are those that the gate built,
 or else those of `unproved.sh build`, which are built where they are missing."""
+import functools
 import json
 import pathlib
 import subprocess
@@ -14,6 +15,7 @@ import sys
 ROOT = pathlib.Path(__file__).resolve().parent.parent
 
 
+@functools.lru_cache
 def program(name):
     """The program that is kept under this name, proved or not."""
     proved = ROOT / "crates" / f"{name}_cli" / "out" / f"{name}_cli"

@@ -200,23 +200,30 @@ const Viewer = (() => {
 
     // Whether the entry has the certification of this view among its records.
     const certifies = (entry, view) =>
-        entry.calls.some((call) => call.append && artifactOf(call.append[1])?.what === 'certification' && artifactOf(call.append[1]).view === view);
+        entry.calls.some((call) => {
+            const artifact = call.append ? artifactOf(call.append[1]) : null;
+            return artifact !== null && artifact.what === 'certification' && artifact.view === view;
+        });
 
-    // A record has a certification as its notarization: it is the one, where the same entry stores the verdict on the view.
-    function reportText(entry, hex) {
+    // A record has a certification as its notarization. It is the certification where the same entry stores the verdict on the view,
+    // or has reported the notarization before, as a start does with what it finds in its journal.
+    function reportText(entry, place) {
+        const hex = entry.calls[place].report;
         const certificate = certificateOf(hex);
         if (!certificate) return 'report unread';
-        const isVerdict = certificate.kind === 0 && certifies(entry, certificate.view);
+        const isVerdict = certificate.kind === 0
+            && (certifies(entry, certificate.view) || entry.calls.slice(0, place).some((call) => call.report === hex));
         return `report ${isVerdict ? 'certification' : certificate.what} ${certificate.view}`;
     }
 
-    function callText(entry, call) {
+    function callText(entry, place) {
+        const call = entry.calls[place];
         if (call === 'other') return 'other';
         if (call.append) return `append ${artifactOf(call.append[1])?.what ?? 'unread'} ${call.append[0]}`;
         if (call.sync !== undefined) return `sync ${call.sync}`;
         if (call.prune !== undefined) return `prune below ${call.prune}`;
         if (call.send) return `send ${call.send[0]}`;
-        return reportText(entry, call.report);
+        return reportText(entry, place);
     }
 
     const OUTCOMES = {
@@ -228,7 +235,7 @@ const Viewer = (() => {
 
     // What came of an event, item by item, but for messages in mailboxes, which a record leaves out.
     function itemsOf(entry) {
-        const items = entry.calls.map((call) => callText(entry, call));
+        const items = entry.calls.map((_, place) => callText(entry, place));
         entry.asked.forEach((asked, place) => items.push(`ask ${asked.kind} ${asked.round[1]} as ${entry.event}.${place}`));
         entry.packets.forEach((packet, place) =>
             items.push(`${packet.channel} ${entry.event}.${place} to${packet.to.map((node) => ' ' + nodeText(node)).join('')}`));
@@ -244,15 +251,52 @@ const Viewer = (() => {
     const isGreat = (value) => typeof value === 'number' && value > Number.MAX_SAFE_INTEGER;
 
     // Whether a number that a line tells may have been rounded as it was read.
-    function isRounded(record) {
-        const inEvent = (event) => isGreat(event.ms);
+    function isRounded(event, entry) {
         const inCall = (call) => isGreat(call.sync) || isGreat(call.prune) || (call.append && isGreat(call.append[0]));
-        const inEntry = (entry) => entry.calls.some(inCall) || entry.asked.some((it) => isGreat(it.round[1]));
-        return record.events.some(inEvent) || record.entries.some(inEntry);
+        return isGreat(event.ms) || entry.calls.some(inCall) || entry.asked.some((it) => isGreat(it.round[1]));
     }
 
     // Whole numbers that JavaScript would round are kept as strings of digits.
     const exact = (text) => JSON.parse(text.replace(/([:[,]\s*)(\d{16,})(?=\s*[,\]}])/g, '$1"$2"'));
+
+    // Entries that stay text until they are looked at: to make objects of all of a long record takes longer than all else.
+    class LateEntries {
+        constructor(text, starts, end) {
+            this.text = text;
+            this.starts = starts;
+            this.end = end;
+            this.length = starts.length;
+            this.kept = new Map();
+        }
+
+        at(place) {
+            let entry = this.kept.get(place);
+            if (!entry) {
+                const end = place + 1 < this.length ? this.starts[place + 1] - 1 : this.end;
+                entry = JSON.parse(this.text.slice(this.starts[place], end));
+                if (this.kept.size > 60) this.kept.clear();
+                this.kept.set(place, entry);
+            }
+            return entry;
+        }
+    }
+
+    const HEAD_OF_RECORD = '{"entries":[';
+    const HEAD_OF_ENTRY = '{"added":';
+
+    // A record as the program writes it, with its entries still text; null where it is written in another way.
+    function split(text) {
+        const first = HEAD_OF_RECORD.length;
+        const end = text.indexOf('],"events":[');
+        if (!text.startsWith(HEAD_OF_RECORD + HEAD_OF_ENTRY) || end < 0) return null;
+        const starts = [];
+        for (let at = first; at >= 0 && at < end; at = text.indexOf(HEAD_OF_ENTRY, at + 1)) starts.push(at);
+        try {
+            return { ...JSON.parse('{' + text.slice(end + 2)), entries: new LateEntries(text, starts, end) };
+        } catch {
+            return null;
+        }
+    }
 
     const kindName = (kind) => (typeof kind === 'string' ? kind : Object.keys(kind)[0]).replace('_', '-');
     const WITH_ENGINE = new Set(['honest', 'corrupt', 'unrecovering', 'twin']);
@@ -280,16 +324,13 @@ const Viewer = (() => {
         if (!isObject(record)) fault('the file is no JSON object');
         if (!isObject(record.setup) || !Array.isArray(record.setup.members)) fault('the record has no setup with members');
         if (!Array.isArray(record.events)) fault('the record has no list of events');
-        if (!Array.isArray(record.entries)) fault('this is an input and no record: simplex_audit_cli record makes its record (make view INPUT=FILE)');
-        const count = Math.min(record.events.length, record.entries.length);
-        for (let at = 0; at < count; at++) {
-            const entry = record.entries[at];
-            if (!isObject(record.events[at]) || !isObject(entry) || !Array.isArray(entry.calls) || !Array.isArray(entry.packets) || !Array.isArray(entry.asked)) {
-                fault(`event ${at + 1} or its entry is not of the form`);
-            }
+        if (!Array.isArray(record.entries) && !(record.entries instanceof LateEntries)) {
+            fault('this is an input and no record: simplex_audit_cli record makes its record (make view INPUT=FILE)');
         }
-        return count;
+        return Math.min(record.events.length, record.entries.length);
     }
+
+    const isEntry = (entry) => isObject(entry) && Array.isArray(entry.calls) && Array.isArray(entry.packets) && Array.isArray(entry.asked);
 
     const BLAME = /^report evidence (\w+) (\d+)$/;
     const BLOCK = /^block (\d+) for (.+)$/;
@@ -297,9 +338,32 @@ const Viewer = (() => {
     // A run as a record tells it: what stands on which lane, what was taken, which view each node is in, and what was counted.
     class Run {
         constructor(text) {
-            let record = typeof text === 'string' ? JSON.parse(text) : text;
+            const isText = typeof text === 'string';
+            const late = isText ? split(text) : null;
+            if (!late || !this.makes(late)) {
+                this.take(isText ? JSON.parse(text) : text);
+                this.tallyUp();
+            }
+            if (isText && this.rounded) {
+                this.take(exact(text));
+                this.tallyUp();
+            }
+        }
+
+        // Whether the record is one whose entries can be cut out of its text.
+        makes(late) {
+            try {
+                this.take(late);
+                this.tallyUp();
+                return true;
+            } catch (fault) {
+                if (fault instanceof SyntaxError) return false;
+                throw fault;
+            }
+        }
+
+        take(record) {
             this.count = checked(record);
-            if (typeof text === 'string' && isRounded(record)) record = exact(text);
             this.setup = record.setup;
             this.events = record.events;
             this.entries = record.entries;
@@ -309,11 +373,14 @@ const Viewer = (() => {
             this.laneOf = new Map(this.lanes.map((lane, place) => [lane.name, place]));
             this.letters = new Map();
             this.messages = new Map();
+            this.packets = new Map();
             this.lane = new Int16Array(this.count + 1).fill(-1);
             this.marks = new Uint8Array(this.count + 1);
             this.views = new Float64Array(this.count + 1);
+            this.tookEvent = new Int32Array(this.count + 1);
+            this.tookPlace = new Int32Array(this.count + 1);
             this.takers = new Map();
-            this.tallyUp();
+            this.rounded = false;
         }
 
         event(number) {
@@ -321,7 +388,11 @@ const Viewer = (() => {
         }
 
         entry(number) {
-            return this.entries[number - 1];
+            return this.entries.at(number - 1);
+        }
+
+        packetsOf(number) {
+            return this.packets.get(number) ?? [];
         }
 
         // The line on an event: that of `trace` where the file has it, else what the record tells.
@@ -335,7 +406,7 @@ const Viewer = (() => {
         }
 
         packet(event, place) {
-            return this.entry(event)?.packets[place];
+            return this.packets.get(event)?.[place];
         }
 
         message(event, place) {
@@ -407,9 +478,12 @@ const Viewer = (() => {
         tally(number, now, kept) {
             const event = this.event(number);
             const entry = this.entry(number);
+            if (!isObject(event) || !isEntry(entry)) fault(`event ${number} or its entry is not of the form`);
+            this.rounded ||= isRounded(event, entry);
+            if (entry.packets.length) this.packets.set(number, entry.packets);
             const lane = entry.who ? this.laneOf.get(nodeText(entry.who)) ?? -1 : -1;
             this.lane[number] = lane;
-            if (isObject(entry.took) && entry.took.packet) this.take(number, entry.took.packet);
+            if (isObject(entry.took) && entry.took.packet) this.tallyTaken(number, entry.took.packet);
             let view = lane < 0 ? 0 : now[lane];
             if (event.do === 'start' && lane >= 0) view = Math.max(1, kept[lane].synced);
             for (const call of entry.calls) view = this.tallyCall(number, call, view, lane, kept);
@@ -432,7 +506,8 @@ const Viewer = (() => {
             }
         }
 
-        take(number, at) {
+        tallyTaken(number, at) {
+            [this.tookEvent[number], this.tookPlace[number]] = at;
             const takers = this.takers.get(at[0]);
             if (takers) takers.push(number);
             else this.takers.set(at[0], [number]);
@@ -501,9 +576,9 @@ const Viewer = (() => {
 
         // The one who signed the vote that this event took: whom evidence is on.
         voterTaken(number) {
-            const took = this.entry(number).took;
-            if (!isObject(took) || !took.packet || !this.packet(...took.packet)) return null;
-            const message = this.message(...took.packet);
+            const at = [this.tookEvent[number], this.tookPlace[number]];
+            if (!this.packet(...at)) return null;
+            const message = this.message(...at);
             return message.signers.length === 1 ? message.signers[0] : null;
         }
 
@@ -706,7 +781,7 @@ const Viewer = (() => {
             this.head = options.head ?? HEAD;
             this.width = options.width ?? 850;
             const most = options.text === false ? this.width - LEFT - 10 : Math.max(this.width * 0.55, this.width - LEFT - 380);
-            this.pitch = options.pitch ?? Math.max(64, Math.min(118, Math.floor(most / Math.max(1, this.lanes.length))));
+            this.pitch = options.pitch ?? Math.max(72, Math.min(126, Math.floor(most / Math.max(1, this.lanes.length))));
             this.textAt = LEFT + this.pitch * this.lanes.length + 16;
             this.place();
             this.route();
@@ -731,10 +806,10 @@ const Viewer = (() => {
 
         // Whether the event sends or takes a packet of a kind that is wanted.
         hasKind(number) {
-            const entry = this.run.entry(number);
-            const took = entry.took;
-            if (isObject(took) && took.packet && this.run.packet(...took.packet) && this.kinds.has(this.run.message(...took.packet).what)) return true;
-            return entry.packets.some((_, at) => this.kinds.has(this.run.message(number, at).what));
+            const run = this.run;
+            const at = [run.tookEvent[number], run.tookPlace[number]];
+            if (run.packet(...at) && this.kinds.has(run.message(...at).what)) return true;
+            return run.packetsOf(number).some((_, place) => this.kinds.has(run.message(number, place).what));
         }
 
         place() {
@@ -776,10 +851,10 @@ const Viewer = (() => {
             const busy = this.lanes.map(() => []);
             for (let row = 0; row < this.rows.length; row++) {
                 const number = this.rows[row];
-                const entry = this.run.entry(number);
-                for (let at = 0; at < entry.packets.length; at++) this.routePacket(row, number, entry.packets[at], at, busy);
-                const took = entry.took;
-                if (isObject(took) && took.packet && (this.rowOf[took.packet[0]] ?? -1) < 0) this.routeFromOutside(row, took.packet);
+                const packets = this.run.packetsOf(number);
+                for (let at = 0; at < packets.length; at++) this.routePacket(row, number, packets[at], at, busy);
+                const from = this.run.tookEvent[number];
+                if (from > 0 && this.rowOf[from] < 0) this.routeFromOutside(row, [from, this.run.tookPlace[number]]);
             }
         }
 
@@ -808,7 +883,7 @@ const Viewer = (() => {
                 let isTaken = false;
                 let isDrawn = false;
                 for (const taker of takers ?? []) {
-                    if (run.lane[taker] !== lane || run.entry(taker).took.packet[1] !== at) continue;
+                    if (run.lane[taker] !== lane || run.tookPlace[taker] !== at) continue;
                     isTaken = true;
                     const end = this.rowOf[taker];
                     if (end < 0) continue;
@@ -961,18 +1036,26 @@ const Viewer = (() => {
             return `<g id="e${number}"><title>${escaped(run.line(number))}</title>${parts.join('')}</g>`;
         }
 
+        // The signs of an event, side by side, as wide as there is room before the arrows of the next lane.
         signs(number, left, y) {
+            const signs = signsOf(this.run, number);
+            if (!signs.length) return '';
+            const room = this.pitch - 44;
+            const wide = (sign) => (sign.shape ? 18 : 0) + (sign.text ? sign.text.length * 6.2 + 4 : 0);
+            const total = () => signs.reduce((sum, sign) => sum + wide(sign), 0);
+            for (const sign of signs) if (total() > room * 1.5 && sign.shape) sign.text = '';
+            const all = total();
+            const scale = Math.min(1, room / all);
             const parts = [];
-            let x = left;
-            for (const sign of signsOf(this.run, number)) {
-                const wide = sign.text ? textWidth(sign.text, 5.9) + 3 : 0;
-                const shape = sign.shape ? 18 : 0;
-                parts.push(`<rect class="l" data-label="${number}" x="${x - 8}" y="${y - 8}" width="${shape + wide}" height="16"/>`);
-                if (sign.shape) parts.push(`<g transform="translate(${x},${y})">${SIGNS[sign.shape]}${sign.inner ? `<text class="w" x="-1" y="3.5">${escaped(sign.inner)}</text>` : ''}</g>`);
-                if (sign.text) parts.push(`<text class="d" x="${x + shape - 8}" y="${y + 3.5}">${escaped(sign.text)}</text>`);
-                x += shape + wide + 2;
+            let x = 8;
+            for (const sign of signs) {
+                if (sign.shape) parts.push(`<g transform="translate(${x},0)">${SIGNS[sign.shape]}${sign.inner ? `<text class="w" x="-1" y="3.5">${escaped(sign.inner)}</text>` : ''}</g>`);
+                if (sign.text) parts.push(`<text class="d" x="${x + (sign.shape ? 10 : -6)}" y="3.5">${escaped(sign.text)}</text>`);
+                x += wide(sign);
             }
-            return parts.join('');
+            const back = `<rect class="l" data-label="${number}" x="${left - 8}" y="${y - 8}" width="${(all * scale).toFixed(1)}" height="16"/>`;
+            const moved = scale < 1 ? `translate(${left - 8},${y}) scale(${scale.toFixed(3)})` : `translate(${left - 8},${y})`;
+            return `${back}<g transform="${moved}">${parts.join('')}</g>`;
         }
 
         // The line of the event, in short: without its number, the mail, the syncs and the sends, whose packets stand there too.
@@ -1000,8 +1083,6 @@ const Viewer = (() => {
             return `${this.rows.length} of ${all} events, from top to bottom: those from ${this.first} to ${this.last}${views}${nodes}. The members and what is final are those of the whole run.`;
         }
     }
-
-    const textWidth = (text, letter) => text.length * letter;
 
     function shortLine(run, number) {
         const entry = run.entry(number);

@@ -53,7 +53,7 @@ function longRecord(count) {
             packets: entry.packets.map((packet) => ({ ...packet, bytes: moved(packet.bytes, by) })),
         });
     }
-    return JSON.stringify({ setup: record.setup, events, entries });
+    return JSON.stringify({ entries, events, setup: record.setup });
 }
 
 module.exports = { longRecord };

@@ -162,9 +162,7 @@ test('no arrow goes across a label', () => {
             if (/[lz]/.test(way)) continue;
             for (const segment of segments(way)) {
                 for (const box of boxes) {
-                    // The arrows of a lane stand beside its line, where a label of the lane before it may end.
-                    const inner = { x: box.x + 1, y: box.y, width: Math.min(box.width, 68) - 1, height: box.height };
-                    assert.ok(!crosses(segment, inner), `${name}: an arrow ${way} across a label of event ${box.event}`);
+                    assert.ok(!crosses(segment, box), `${name}: an arrow ${way} across a label of event ${box.event}`);
                     tried++;
                 }
             }
