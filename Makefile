@@ -1,10 +1,11 @@
-# example: runs the program on the worked example of the README, unproved. try, trace, draw: the same on the input in INPUT, or what
-# each of its events did, a line an event, or a picture of it; with what is wrong, where it is not of the form. script: the script in
-# INPUT (docs/SCRIPTS.md), with what came out. fast: builds unproved/simplex_net and unproved/simplex_lab without a proof, which the
-# targets above and pictures take while they are newer than the code. build: proves and builds the program. test: the whole gate.
-# wrong-bodies: tries the wrong bodies that the gate leaves out, of all crates or of those in CRATE. pictures: draws the runs of
-# README.md and docs/TOUR.md into docs/pictures/, by the proved program where there is one, else unproved, and says so.
-.PHONY: example try trace draw script fast build test wrong-bodies pictures
+# example: runs the program on the worked example of the README, unproved. try, trace: the same on the input in INPUT, or what each of
+# its events did, a line an event; with what is wrong, where it is not of the form. view: writes pictures/NAME.html, a page that shows
+# the run of the input in INPUT event by event. script: the script in INPUT (docs/SCRIPTS.md), with what came out. fast: builds
+# unproved/simplex_net, unproved/simplex_lab and unproved/simplex_audit without a proof, which the targets above, pictures and
+# viewer-test take while they are newer than the code. build: proves and builds the program. test: the whole gate. wrong-bodies: tries
+# the wrong bodies that the gate leaves out, of all crates or of those in CRATE. pictures: makes the pictures of README.md and
+# docs/TOUR.md. viewer-test: the tests of viewer/, by node and a headless Chromium.
+.PHONY: example try trace view script fast build test wrong-bodies pictures viewer-test
 need = $(if $(INPUT),,$(error the input is missing: make $@ INPUT=my.json))
 example:
 	@./unproved.sh run simplex_net run < crates/simplex_net/stdin
@@ -16,8 +17,10 @@ try:
 trace:
 	$(need)@./unproved.sh run simplex_lab trace < $(INPUT)
 
-draw:
-	$(need)@./unproved.sh run simplex_lab draw < $(INPUT)
+view:
+	$(need)@mkdir -p pictures && viewer/record.py $(INPUT) > pictures/.record && \
+		node viewer/page.js < pictures/.record > pictures/$(basename $(notdir $(INPUT))).html && rm pictures/.record && \
+		echo "$(CURDIR)/pictures/$(basename $(notdir $(INPUT))).html"
 
 script:
 	$(need)@./unproved.sh run simplex_lab script < $(INPUT)
@@ -37,3 +40,6 @@ wrong-bodies:
 
 pictures:
 	@./pictures.sh
+
+viewer-test:
+	@viewer/test/records.py && node --test viewer/test/*.test.js

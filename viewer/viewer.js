@@ -947,7 +947,8 @@ const Viewer = (() => {
         span(x, top, foot, view) {
             if (foot <= top) return '';
             if (view === 0) return `<path class="o" d="M${x} ${top}V${foot}"/>`;
-            const name = foot - top > 11 ? `<text class="v" x="${x - 25}" y="${top + 10}">${view}</text>` : '';
+            const squeeze = view > 99 ? ' textLength="11" lengthAdjust="spacingAndGlyphs"' : '';
+            const name = foot - top > 11 ? `<text class="v" x="${x - 25}" y="${top + 10}"${squeeze}>${view}</text>` : '';
             return `<g><title>in view ${view}</title><rect class="b${view % 2}" x="${x - 31}" y="${top}" width="12" height="${foot - top}"/>${name}</g><path class="r" d="M${x} ${top}V${foot}"/>`;
         }
 
