@@ -705,6 +705,9 @@ const Viewer = (() => {
         block: '<path d="M-5-5L5 5M0-7A7 7 0 1 0 .1-7" fill="none" stroke="var(--ink)" stroke-width="2"/>',
     };
     const SHORTS = ['n', 'x', 'f'];
+    SHORTS.forEach((kind) => {
+        SIGNS['s' + kind] = `<circle r="6.5" fill="var(--paper)" stroke="var(--${kind})" stroke-width="2" stroke-dasharray="3 2"/><text class="k" y="3.5">${kind}</text>`;
+    });
 
     function signersText(signers) {
         return signers.length > 4 || signers.some((it) => it > 9) ? `×${signers.length}` : signers.join('');
@@ -734,12 +737,13 @@ const Viewer = (() => {
 
     // Of a member without an engine, which stores nothing: what it sends.
     function sentSigns(run, number, entry) {
-        const texts = entry.packets.map((_, place) => {
+        const sent = entry.packets.map((_, place) => {
             const message = run.message(number, place);
-            if (message.kind === undefined) return message.what;
-            return `${message.what} ${run.letter(message.payload)}`.trim();
+            if (message.kind === undefined) return { shape: null, text: message.what };
+            const kind = SHORTS[message.kind];
+            return { shape: (KINDS.includes(message.what) ? 's' : 'c') + kind, text: run.letter(message.payload) };
         });
-        return texts.slice(0, 3).map((text) => ({ shape: null, text }));
+        return sent.slice(0, 3);
     }
 
     // The class of an arrow, and of its head.
@@ -1041,10 +1045,10 @@ const Viewer = (() => {
         signs(number, left, y) {
             const signs = signsOf(this.run, number);
             if (!signs.length) return '';
-            const room = this.pitch - 44;
+            const room = this.pitch - 30;
             const wide = (sign) => (sign.shape ? 18 : 0) + (sign.text ? sign.text.length * 6.2 + 4 : 0);
             const total = () => signs.reduce((sum, sign) => sum + wide(sign), 0);
-            for (const sign of signs) if (total() > room * 1.5 && sign.shape) sign.text = '';
+            for (const sign of signs) if (total() > room * 1.3 && sign.shape && !sign.shape.startsWith('s')) sign.text = '';
             const all = total();
             const scale = Math.min(1, room / all);
             const parts = [];
@@ -1140,6 +1144,9 @@ const Viewer = (() => {
         ['stores a finalization', SIGNS.cf],
         ['stores a true verdict', SIGNS.yes],
         ['stores a false verdict', SIGNS.no],
+        ['sends a notarize, and has no journal', SIGNS.sn],
+        ['sends a nullify, and has no journal', SIGNS.sx],
+        ['sends a finalize, and has no journal', SIGNS.sf],
         ['reports a final view', SIGNS.final],
         ['reports evidence on a member', SIGNS.blame],
         ['blocks a member', SIGNS.block],
