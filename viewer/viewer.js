@@ -162,6 +162,22 @@ const Viewer = (() => {
         });
     }
 
+    // The kind, view and payload of a certificate or a record, without its signatures: of many it is enough.
+    function headOf(hex, tags) {
+        try {
+            const bytes = new Bytes(hex);
+            const what = tags[bytes.byte()];
+            if (what === undefined) return null;
+            const votes = KINDS.indexOf(what);
+            const kind = votes >= 0 ? votes : CERTIFICATES.indexOf(what);
+            const head = subject(bytes, what === 'certification' ? 1 : kind);
+            return { what, kind, view: head.view, payload: head.payload, verdict: what === 'certification' && bytes.byte() === 1 };
+        } catch {
+            return null;
+        }
+    }
+    const ARTIFACTS = ['notarize', 'notarization', 'certification', 'nullify', 'nullification', 'finalize', 'finalization'];
+
     // ---- lines, as `simplex_lab_cli trace` writes them
 
     const nodeText = (node) => `${node[0]}.${node[1]}`;
@@ -373,7 +389,11 @@ const Viewer = (() => {
             this.laneOf = new Map(this.lanes.map((lane, place) => [lane.name, place]));
             this.letters = new Map();
             this.messages = new Map();
-            this.packets = new Map();
+            this.packetStart = new Int32Array(this.count + 2);
+            this.packetKind = [];
+            this.packetChannel = [];
+            this.toStart = [0];
+            this.toLanes = [];
             this.lane = new Int16Array(this.count + 1).fill(-1);
             this.marks = new Uint8Array(this.count + 1);
             this.views = new Float64Array(this.count + 1);
@@ -391,10 +411,6 @@ const Viewer = (() => {
             return this.entries.at(number - 1);
         }
 
-        packetsOf(number) {
-            return this.packets.get(number) ?? [];
-        }
-
         // The line on an event: that of `trace` where the file has it, else what the record tells.
         line(number) {
             return this.lines ? this.lines[number - 1] : recordLine(this.event(number), this.entry(number));
@@ -405,8 +421,17 @@ const Viewer = (() => {
             return this.lines[number - 1].split(', ').slice(1);
         }
 
+        hasPacket(event, place) {
+            return event >= 1 && event <= this.count && this.packetStart[event] + place < this.packetStart[event + 1];
+        }
+
         packet(event, place) {
-            return this.packets.get(event)?.[place];
+            return this.hasPacket(event, place) ? this.entry(event).packets[place] : undefined;
+        }
+
+        // Of which kind the packet is, by its name in MESSAGES.
+        kindOf(event, place) {
+            return MESSAGES[this.packetKind[this.packetStart[event] + place]];
         }
 
         message(event, place) {
@@ -414,6 +439,7 @@ const Viewer = (() => {
             let message = this.messages.get(key);
             if (!message) {
                 message = messageOf(this.packet(event, place));
+                if (this.messages.size > 5000) this.messages.clear();
                 this.messages.set(key, message);
             }
             return message;
@@ -462,7 +488,11 @@ const Viewer = (() => {
             }
             const now = new Float64Array(this.lanes.length);
             const kept = this.lanes.map(() => ({ synced: 0, pending: 0 }));
-            for (let number = 1; number <= this.count; number++) this.tally(number, now, kept);
+            for (let number = 1; number <= this.count; number++) {
+                this.packetStart[number] = this.packetKind.length;
+                this.tally(number, now, kept);
+            }
+            this.packetStart[this.count + 1] = this.packetKind.length;
         }
 
         viewAt(view, number) {
@@ -480,7 +510,6 @@ const Viewer = (() => {
             const entry = this.entry(number);
             if (!isObject(event) || !isEntry(entry)) fault(`event ${number} or its entry is not of the form`);
             this.rounded ||= isRounded(event, entry);
-            if (entry.packets.length) this.packets.set(number, entry.packets);
             const lane = entry.who ? this.laneOf.get(nodeText(entry.who)) ?? -1 : -1;
             this.lane[number] = lane;
             if (isObject(entry.took) && entry.took.packet) this.tallyTaken(number, entry.took.packet);
@@ -488,10 +517,10 @@ const Viewer = (() => {
             if (event.do === 'start' && lane >= 0) view = Math.max(1, kept[lane].synced);
             for (const call of entry.calls) view = this.tallyCall(number, call, view, lane, kept);
             for (const added of entry.added ?? []) {
-                const certificate = certificateOf(added);
+                const certificate = headOf(added, CERTIFICATES);
                 if (certificate) view = Math.max(view, this.viewBehind(certificate));
             }
-            entry.packets.forEach((packet, place) => this.tallyPacket(number, packet, place));
+            for (const packet of entry.packets) this.tallyPacket(number, packet);
             if (this.lines) this.tallyLine(number);
             const stops = event.do === 'crash' || entry.outcome === 'cut' || entry.outcome === 'journal';
             if (stops && lane >= 0 && this.lanes[lane].hasEngine) {
@@ -511,8 +540,9 @@ const Viewer = (() => {
             const takers = this.takers.get(at[0]);
             if (takers) takers.push(number);
             else this.takers.set(at[0], [number]);
-            const packet = this.packet(at[0], at[1]);
-            if (packet) this.channels[packet.channel].taken += 1;
+            if (at[0] < number && this.packetStart[at[0]] + at[1] < this.packetStart[at[0] + 1]) {
+                this.channels[this.packetChannel[this.packetStart[at[0]] + at[1]]].taken += 1;
+            }
         }
 
         // The view that a node enters as it knows this: behind what is final, or certified, and behind the term that is given up.
@@ -524,7 +554,7 @@ const Viewer = (() => {
 
         tallyCall(number, call, view, lane, kept) {
             if (call.append) {
-                const artifact = artifactOf(call.append[1]);
+                const artifact = headOf(call.append[1], ARTIFACTS);
                 if (!artifact) return view;
                 this.name(artifact.payload);
                 const at = this.viewAt(Number(artifact.view), number);
@@ -538,7 +568,7 @@ const Viewer = (() => {
             }
             if (call.sync !== undefined && lane >= 0) kept[lane].synced = Math.max(kept[lane].synced, kept[lane].pending);
             if (call.report) {
-                const certificate = certificateOf(call.report);
+                const certificate = headOf(call.report, CERTIFICATES);
                 if (!certificate || certificate.kind !== 2) return view;
                 const of = Number(certificate.view);
                 if (!this.finals.has(of)) this.finals.set(of, certificate.payload);
@@ -552,8 +582,12 @@ const Viewer = (() => {
             return view;
         }
 
-        tallyPacket(number, packet, place) {
-            const message = this.message(number, place);
+        tallyPacket(number, packet) {
+            const message = messageOf(packet);
+            this.packetKind.push(MESSAGES.indexOf(message.what));
+            this.packetChannel.push(packet.channel);
+            for (const to of packet.to) this.toLanes.push(this.laneOf.get(nodeText(to)) ?? -1);
+            this.toStart.push(this.toLanes.length);
             const bytes = packet.bytes.length / 2;
             const channel = this.channels[packet.channel];
             channel.packets += 1;
@@ -812,8 +846,9 @@ const Viewer = (() => {
         hasKind(number) {
             const run = this.run;
             const at = [run.tookEvent[number], run.tookPlace[number]];
-            if (run.packet(...at) && this.kinds.has(run.message(...at).what)) return true;
-            return run.packetsOf(number).some((_, place) => this.kinds.has(run.message(number, place).what));
+            if (run.hasPacket(...at) && this.kinds.has(run.kindOf(...at))) return true;
+            for (let place = 0; run.hasPacket(number, place); place++) if (this.kinds.has(run.kindOf(number, place))) return true;
+            return false;
         }
 
         place() {
@@ -855,15 +890,15 @@ const Viewer = (() => {
             const busy = this.lanes.map(() => []);
             for (let row = 0; row < this.rows.length; row++) {
                 const number = this.rows[row];
-                const packets = this.run.packetsOf(number);
-                for (let at = 0; at < packets.length; at++) this.routePacket(row, number, packets[at], at, busy);
+                const first = this.run.packetStart[number];
+                for (let at = 0; first + at < this.run.packetStart[number + 1]; at++) this.routePacket(row, number, at, busy);
                 const from = this.run.tookEvent[number];
                 if (from > 0 && this.rowOf[from] < 0) this.routeFromOutside(row, [from, this.run.tookPlace[number]]);
             }
         }
 
-        wants(message) {
-            return !this.kinds || this.kinds.has(message.what);
+        wants(event, at) {
+            return !this.kinds || this.kinds.has(this.run.kindOf(event, at));
         }
 
         push(from, to, event, at, place, track, outside) {
@@ -876,13 +911,14 @@ const Viewer = (() => {
             this.outside.push(outside);
         }
 
-        routePacket(row, number, packet, at, busy) {
-            if (this.kinds && !this.wants(this.run.message(number, at))) return;
+        routePacket(row, number, at, busy) {
+            if (!this.wants(number, at)) return;
             const run = this.run;
             const takers = run.takers.get(number);
-            for (const to of packet.to) {
-                const lane = run.laneOf.get(nodeText(to));
-                const place = lane === undefined ? -1 : this.placeOf[lane];
+            const packet = run.packetStart[number] + at;
+            for (let to = run.toStart[packet]; to < run.toStart[packet + 1]; to++) {
+                const lane = run.toLanes[to];
+                const place = lane < 0 ? -1 : this.placeOf[lane];
                 if (place < 0) continue;
                 let isTaken = false;
                 let isDrawn = false;
@@ -899,7 +935,7 @@ const Viewer = (() => {
         }
 
         routeFromOutside(row, at) {
-            if (!this.run.packet(...at) || !this.wants(this.run.message(...at))) return;
+            if (!this.run.hasPacket(...at) || !this.wants(...at)) return;
             this.push(-1, row, at[0], at[1], this.placeOf[this.run.lane[this.rows[row]]], 0, true);
         }
 
