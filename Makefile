@@ -42,4 +42,4 @@ pictures:
 	@./pictures.sh
 
 viewer-test:
-	@viewer/test/records.py && node --test viewer/test/*.test.js
+	@viewer/test/records.py && node --test --test-concurrency=1 viewer/test/*.test.js

@@ -285,11 +285,15 @@ const Viewer = (() => {
             this.kept = new Map();
         }
 
+        read(place) {
+            const end = place + 1 < this.length ? this.starts[place + 1] - 1 : this.end;
+            return JSON.parse(this.text.slice(this.starts[place], end));
+        }
+
         at(place) {
             let entry = this.kept.get(place);
             if (!entry) {
-                const end = place + 1 < this.length ? this.starts[place + 1] - 1 : this.end;
-                entry = JSON.parse(this.text.slice(this.starts[place], end));
+                entry = this.read(place);
                 if (this.kept.size > 60) this.kept.clear();
                 this.kept.set(place, entry);
             }
@@ -507,7 +511,7 @@ const Viewer = (() => {
 
         tally(number, now, kept) {
             const event = this.event(number);
-            const entry = this.entry(number);
+            const entry = this.entries instanceof LateEntries ? this.entries.read(number - 1) : this.entries[number - 1];
             if (!isObject(event) || !isEntry(entry)) fault(`event ${number} or its entry is not of the form`);
             this.rounded ||= isRounded(event, entry);
             const lane = entry.who ? this.laneOf.get(nodeText(entry.who)) ?? -1 : -1;

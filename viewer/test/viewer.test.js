@@ -244,12 +244,15 @@ test('a page has the record inside, and its text does not end the script', () =>
 test('200,000 events are read and laid out within three seconds', () => {
     const text = longRecord(200000);
     const begun = performance.now();
+    const before = process.cpuUsage();
     const run = new Viewer.Run(text);
     const sheet = new Viewer.Sheet(run);
     const took = performance.now() - begun;
-    console.log(`# ${(text.length / 1e6).toFixed(0)} MB, ${Math.round(took)} ms`);
+    const used = process.cpuUsage(before);
+    const own = (used.user + used.system) / 1000;
+    console.log(`# ${(text.length / 1e6).toFixed(0)} MB, ${Math.round(took)} ms, of the processor ${Math.round(own)} ms`);
     assert.strictEqual(sheet.rows.length, 200000);
-    // Where other programs have the machine, all takes longer by as much as they have of it.
-    const share = Math.max(1, os.loadavg()[0] / os.cpus().length);
-    assert.ok(took / share < 3000, `${took} ms, at a load of ${os.loadavg()[0]}`);
+    // Where others have the machine only the processor's time tells, which has that of the collector's threads too.
+    const isBusy = os.loadavg()[0] > os.cpus().length;
+    assert.ok(took < 3000 || (isBusy && own < 5000), `${took} ms, of the processor ${own} ms, at a load of ${os.loadavg()[0]}`);
 });
