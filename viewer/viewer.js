@@ -162,6 +162,22 @@ const Viewer = (() => {
         });
     }
 
+    // The kind, view and payload of a certificate or a record, without its signatures: of many it is enough.
+    function headOf(hex, tags) {
+        try {
+            const bytes = new Bytes(hex);
+            const what = tags[bytes.byte()];
+            if (what === undefined) return null;
+            const votes = KINDS.indexOf(what);
+            const kind = votes >= 0 ? votes : CERTIFICATES.indexOf(what);
+            const head = subject(bytes, what === 'certification' ? 1 : kind);
+            return { what, kind, view: head.view, payload: head.payload, verdict: what === 'certification' && bytes.byte() === 1 };
+        } catch {
+            return null;
+        }
+    }
+    const ARTIFACTS = ['notarize', 'notarization', 'certification', 'nullify', 'nullification', 'finalize', 'finalization'];
+
     // ---- lines, as `simplex_lab_cli trace` writes them
 
     const nodeText = (node) => `${node[0]}.${node[1]}`;
@@ -200,23 +216,30 @@ const Viewer = (() => {
 
     // Whether the entry has the certification of this view among its records.
     const certifies = (entry, view) =>
-        entry.calls.some((call) => call.append && artifactOf(call.append[1])?.what === 'certification' && artifactOf(call.append[1]).view === view);
+        entry.calls.some((call) => {
+            const artifact = call.append ? artifactOf(call.append[1]) : null;
+            return artifact !== null && artifact.what === 'certification' && artifact.view === view;
+        });
 
-    // A record has a certification as its notarization: it is the one, where the same entry stores the verdict on the view.
-    function reportText(entry, hex) {
+    // A record has a certification as its notarization. It is the certification where the same entry stores the verdict on the view,
+    // or has reported the notarization before, as a start does with what it finds in its journal.
+    function reportText(entry, place) {
+        const hex = entry.calls[place].report;
         const certificate = certificateOf(hex);
         if (!certificate) return 'report unread';
-        const isVerdict = certificate.kind === 0 && certifies(entry, certificate.view);
+        const isVerdict = certificate.kind === 0
+            && (certifies(entry, certificate.view) || entry.calls.slice(0, place).some((call) => call.report === hex));
         return `report ${isVerdict ? 'certification' : certificate.what} ${certificate.view}`;
     }
 
-    function callText(entry, call) {
+    function callText(entry, place) {
+        const call = entry.calls[place];
         if (call === 'other') return 'other';
         if (call.append) return `append ${artifactOf(call.append[1])?.what ?? 'unread'} ${call.append[0]}`;
         if (call.sync !== undefined) return `sync ${call.sync}`;
         if (call.prune !== undefined) return `prune below ${call.prune}`;
         if (call.send) return `send ${call.send[0]}`;
-        return reportText(entry, call.report);
+        return reportText(entry, place);
     }
 
     const OUTCOMES = {
@@ -228,7 +251,7 @@ const Viewer = (() => {
 
     // What came of an event, item by item, but for messages in mailboxes, which a record leaves out.
     function itemsOf(entry) {
-        const items = entry.calls.map((call) => callText(entry, call));
+        const items = entry.calls.map((_, place) => callText(entry, place));
         entry.asked.forEach((asked, place) => items.push(`ask ${asked.kind} ${asked.round[1]} as ${entry.event}.${place}`));
         entry.packets.forEach((packet, place) =>
             items.push(`${packet.channel} ${entry.event}.${place} to${packet.to.map((node) => ' ' + nodeText(node)).join('')}`));
@@ -241,10 +264,58 @@ const Viewer = (() => {
 
     // ---- the run
 
+    const isGreat = (value) => typeof value === 'number' && value > Number.MAX_SAFE_INTEGER;
+
+    // Whether a number that a line tells may have been rounded as it was read.
+    function isRounded(event, entry) {
+        const inCall = (call) => isGreat(call.sync) || isGreat(call.prune) || (call.append && isGreat(call.append[0]));
+        return isGreat(event.ms) || entry.calls.some(inCall) || entry.asked.some((it) => isGreat(it.round[1]));
+    }
+
     // Whole numbers that JavaScript would round are kept as strings of digits.
-    function parsed(text) {
-        const great = /([:[,]\s*)(\d{16,})(?=\s*[,\]}])/g;
-        return JSON.parse(great.test(text) ? text.replace(great, '$1"$2"') : text);
+    const exact = (text) => JSON.parse(text.replace(/([:[,]\s*)(\d{16,})(?=\s*[,\]}])/g, '$1"$2"'));
+
+    // Entries that stay text until they are looked at: to make objects of all of a long record takes longer than all else.
+    class LateEntries {
+        constructor(text, starts, end) {
+            this.text = text;
+            this.starts = starts;
+            this.end = end;
+            this.length = starts.length;
+            this.kept = new Map();
+        }
+
+        read(place) {
+            const end = place + 1 < this.length ? this.starts[place + 1] - 1 : this.end;
+            return JSON.parse(this.text.slice(this.starts[place], end));
+        }
+
+        at(place) {
+            let entry = this.kept.get(place);
+            if (!entry) {
+                entry = this.read(place);
+                if (this.kept.size > 60) this.kept.clear();
+                this.kept.set(place, entry);
+            }
+            return entry;
+        }
+    }
+
+    const HEAD_OF_RECORD = '{"entries":[';
+    const HEAD_OF_ENTRY = '{"added":';
+
+    // A record as the program writes it, with its entries still text; null where it is written in another way.
+    function split(text) {
+        const first = HEAD_OF_RECORD.length;
+        const end = text.indexOf('],"events":[');
+        if (!text.startsWith(HEAD_OF_RECORD + HEAD_OF_ENTRY) || end < 0) return null;
+        const starts = [];
+        for (let at = first; at >= 0 && at < end; at = text.indexOf(HEAD_OF_ENTRY, at + 1)) starts.push(at);
+        try {
+            return { ...JSON.parse('{' + text.slice(end + 2)), entries: new LateEntries(text, starts, end) };
+        } catch {
+            return null;
+        }
     }
 
     const kindName = (kind) => (typeof kind === 'string' ? kind : Object.keys(kind)[0]).replace('_', '-');
@@ -273,16 +344,13 @@ const Viewer = (() => {
         if (!isObject(record)) fault('the file is no JSON object');
         if (!isObject(record.setup) || !Array.isArray(record.setup.members)) fault('the record has no setup with members');
         if (!Array.isArray(record.events)) fault('the record has no list of events');
-        if (!Array.isArray(record.entries)) fault('this is an input and no record: simplex_audit_cli record makes its record (make view INPUT=FILE)');
-        const count = Math.min(record.events.length, record.entries.length);
-        for (let at = 0; at < count; at++) {
-            const entry = record.entries[at];
-            if (!isObject(record.events[at]) || !isObject(entry) || !Array.isArray(entry.calls) || !Array.isArray(entry.packets) || !Array.isArray(entry.asked)) {
-                fault(`event ${at + 1} or its entry is not of the form`);
-            }
+        if (!Array.isArray(record.entries) && !(record.entries instanceof LateEntries)) {
+            fault('this is an input and no record: simplex_audit_cli record makes its record (make view INPUT=FILE)');
         }
-        return count;
+        return Math.min(record.events.length, record.entries.length);
     }
+
+    const isEntry = (entry) => isObject(entry) && Array.isArray(entry.calls) && Array.isArray(entry.packets) && Array.isArray(entry.asked);
 
     const BLAME = /^report evidence (\w+) (\d+)$/;
     const BLOCK = /^block (\d+) for (.+)$/;
@@ -290,7 +358,31 @@ const Viewer = (() => {
     // A run as a record tells it: what stands on which lane, what was taken, which view each node is in, and what was counted.
     class Run {
         constructor(text) {
-            const record = typeof text === 'string' ? parsed(text) : text;
+            const isText = typeof text === 'string';
+            const late = isText ? split(text) : null;
+            if (!late || !this.makes(late)) {
+                this.take(isText ? JSON.parse(text) : text);
+                this.tallyUp();
+            }
+            if (isText && this.rounded) {
+                this.take(exact(text));
+                this.tallyUp();
+            }
+        }
+
+        // Whether the record is one whose entries can be cut out of its text.
+        makes(late) {
+            try {
+                this.take(late);
+                this.tallyUp();
+                return true;
+            } catch (fault) {
+                if (fault instanceof SyntaxError) return false;
+                throw fault;
+            }
+        }
+
+        take(record) {
             this.count = checked(record);
             this.setup = record.setup;
             this.events = record.events;
@@ -301,11 +393,18 @@ const Viewer = (() => {
             this.laneOf = new Map(this.lanes.map((lane, place) => [lane.name, place]));
             this.letters = new Map();
             this.messages = new Map();
+            this.packetStart = new Int32Array(this.count + 2);
+            this.packetKind = [];
+            this.packetChannel = [];
+            this.toStart = [0];
+            this.toLanes = [];
             this.lane = new Int16Array(this.count + 1).fill(-1);
             this.marks = new Uint8Array(this.count + 1);
             this.views = new Float64Array(this.count + 1);
+            this.tookEvent = new Int32Array(this.count + 1);
+            this.tookPlace = new Int32Array(this.count + 1);
             this.takers = new Map();
-            this.tallyUp();
+            this.rounded = false;
         }
 
         event(number) {
@@ -313,7 +412,7 @@ const Viewer = (() => {
         }
 
         entry(number) {
-            return this.entries[number - 1];
+            return this.entries.at(number - 1);
         }
 
         // The line on an event: that of `trace` where the file has it, else what the record tells.
@@ -326,8 +425,17 @@ const Viewer = (() => {
             return this.lines[number - 1].split(', ').slice(1);
         }
 
+        hasPacket(event, place) {
+            return event >= 1 && event <= this.count && this.packetStart[event] + place < this.packetStart[event + 1];
+        }
+
         packet(event, place) {
-            return this.entry(event)?.packets[place];
+            return this.hasPacket(event, place) ? this.entry(event).packets[place] : undefined;
+        }
+
+        // Of which kind the packet is, by its name in MESSAGES.
+        kindOf(event, place) {
+            return MESSAGES[this.packetKind[this.packetStart[event] + place]];
         }
 
         message(event, place) {
@@ -335,6 +443,7 @@ const Viewer = (() => {
             let message = this.messages.get(key);
             if (!message) {
                 message = messageOf(this.packet(event, place));
+                if (this.messages.size > 5000) this.messages.clear();
                 this.messages.set(key, message);
             }
             return message;
@@ -383,7 +492,11 @@ const Viewer = (() => {
             }
             const now = new Float64Array(this.lanes.length);
             const kept = this.lanes.map(() => ({ synced: 0, pending: 0 }));
-            for (let number = 1; number <= this.count; number++) this.tally(number, now, kept);
+            for (let number = 1; number <= this.count; number++) {
+                this.packetStart[number] = this.packetKind.length;
+                this.tally(number, now, kept);
+            }
+            this.packetStart[this.count + 1] = this.packetKind.length;
         }
 
         viewAt(view, number) {
@@ -398,18 +511,20 @@ const Viewer = (() => {
 
         tally(number, now, kept) {
             const event = this.event(number);
-            const entry = this.entry(number);
+            const entry = this.entries instanceof LateEntries ? this.entries.read(number - 1) : this.entries[number - 1];
+            if (!isObject(event) || !isEntry(entry)) fault(`event ${number} or its entry is not of the form`);
+            this.rounded ||= isRounded(event, entry);
             const lane = entry.who ? this.laneOf.get(nodeText(entry.who)) ?? -1 : -1;
             this.lane[number] = lane;
-            if (isObject(entry.took) && entry.took.packet) this.take(number, entry.took.packet);
+            if (isObject(entry.took) && entry.took.packet) this.tallyTaken(number, entry.took.packet);
             let view = lane < 0 ? 0 : now[lane];
             if (event.do === 'start' && lane >= 0) view = Math.max(1, kept[lane].synced);
             for (const call of entry.calls) view = this.tallyCall(number, call, view, lane, kept);
             for (const added of entry.added ?? []) {
-                const certificate = certificateOf(added);
+                const certificate = headOf(added, CERTIFICATES);
                 if (certificate) view = Math.max(view, this.viewBehind(certificate));
             }
-            entry.packets.forEach((packet, place) => this.tallyPacket(number, packet, place));
+            for (const packet of entry.packets) this.tallyPacket(number, packet);
             if (this.lines) this.tallyLine(number);
             const stops = event.do === 'crash' || entry.outcome === 'cut' || entry.outcome === 'journal';
             if (stops && lane >= 0 && this.lanes[lane].hasEngine) {
@@ -424,12 +539,14 @@ const Viewer = (() => {
             }
         }
 
-        take(number, at) {
+        tallyTaken(number, at) {
+            [this.tookEvent[number], this.tookPlace[number]] = at;
             const takers = this.takers.get(at[0]);
             if (takers) takers.push(number);
             else this.takers.set(at[0], [number]);
-            const packet = this.packet(at[0], at[1]);
-            if (packet) this.channels[packet.channel].taken += 1;
+            if (at[0] < number && this.packetStart[at[0]] + at[1] < this.packetStart[at[0] + 1]) {
+                this.channels[this.packetChannel[this.packetStart[at[0]] + at[1]]].taken += 1;
+            }
         }
 
         // The view that a node enters as it knows this: behind what is final, or certified, and behind the term that is given up.
@@ -441,7 +558,7 @@ const Viewer = (() => {
 
         tallyCall(number, call, view, lane, kept) {
             if (call.append) {
-                const artifact = artifactOf(call.append[1]);
+                const artifact = headOf(call.append[1], ARTIFACTS);
                 if (!artifact) return view;
                 this.name(artifact.payload);
                 const at = this.viewAt(Number(artifact.view), number);
@@ -455,7 +572,7 @@ const Viewer = (() => {
             }
             if (call.sync !== undefined && lane >= 0) kept[lane].synced = Math.max(kept[lane].synced, kept[lane].pending);
             if (call.report) {
-                const certificate = certificateOf(call.report);
+                const certificate = headOf(call.report, CERTIFICATES);
                 if (!certificate || certificate.kind !== 2) return view;
                 const of = Number(certificate.view);
                 if (!this.finals.has(of)) this.finals.set(of, certificate.payload);
@@ -469,8 +586,12 @@ const Viewer = (() => {
             return view;
         }
 
-        tallyPacket(number, packet, place) {
-            const message = this.message(number, place);
+        tallyPacket(number, packet) {
+            const message = messageOf(packet);
+            this.packetKind.push(MESSAGES.indexOf(message.what));
+            this.packetChannel.push(packet.channel);
+            for (const to of packet.to) this.toLanes.push(this.laneOf.get(nodeText(to)) ?? -1);
+            this.toStart.push(this.toLanes.length);
             const bytes = packet.bytes.length / 2;
             const channel = this.channels[packet.channel];
             channel.packets += 1;
@@ -493,9 +614,9 @@ const Viewer = (() => {
 
         // The one who signed the vote that this event took: whom evidence is on.
         voterTaken(number) {
-            const took = this.entry(number).took;
-            if (!isObject(took) || !took.packet || !this.packet(...took.packet)) return null;
-            const message = this.message(...took.packet);
+            const at = [this.tookEvent[number], this.tookPlace[number]];
+            if (!this.packet(...at)) return null;
+            const message = this.message(...at);
             return message.signers.length === 1 ? message.signers[0] : null;
         }
 
@@ -622,6 +743,9 @@ const Viewer = (() => {
         block: '<path d="M-5-5L5 5M0-7A7 7 0 1 0 .1-7" fill="none" stroke="var(--ink)" stroke-width="2"/>',
     };
     const SHORTS = ['n', 'x', 'f'];
+    SHORTS.forEach((kind) => {
+        SIGNS['s' + kind] = `<circle r="6.5" fill="var(--paper)" stroke="var(--${kind})" stroke-width="2" stroke-dasharray="3 2"/><text class="k" y="3.5">${kind}</text>`;
+    });
 
     function signersText(signers) {
         return signers.length > 4 || signers.some((it) => it > 9) ? `×${signers.length}` : signers.join('');
@@ -651,12 +775,13 @@ const Viewer = (() => {
 
     // Of a member without an engine, which stores nothing: what it sends.
     function sentSigns(run, number, entry) {
-        const texts = entry.packets.map((_, place) => {
+        const sent = entry.packets.map((_, place) => {
             const message = run.message(number, place);
-            if (message.kind === undefined) return message.what;
-            return `${message.what} ${run.letter(message.payload)}`.trim();
+            if (message.kind === undefined) return { shape: null, text: message.what };
+            const kind = SHORTS[message.kind];
+            return { shape: (KINDS.includes(message.what) ? 's' : 'c') + kind, text: run.letter(message.payload) };
         });
-        return texts.slice(0, 3).map((text) => ({ shape: null, text }));
+        return sent.slice(0, 3);
     }
 
     // The class of an arrow, and of its head.
@@ -698,7 +823,7 @@ const Viewer = (() => {
             this.head = options.head ?? HEAD;
             this.width = options.width ?? 850;
             const most = options.text === false ? this.width - LEFT - 10 : Math.max(this.width * 0.55, this.width - LEFT - 380);
-            this.pitch = options.pitch ?? Math.max(64, Math.min(118, Math.floor(most / Math.max(1, this.lanes.length))));
+            this.pitch = options.pitch ?? Math.max(72, Math.min(126, Math.floor(most / Math.max(1, this.lanes.length))));
             this.textAt = LEFT + this.pitch * this.lanes.length + 16;
             this.place();
             this.route();
@@ -723,10 +848,11 @@ const Viewer = (() => {
 
         // Whether the event sends or takes a packet of a kind that is wanted.
         hasKind(number) {
-            const entry = this.run.entry(number);
-            const took = entry.took;
-            if (isObject(took) && took.packet && this.run.packet(...took.packet) && this.kinds.has(this.run.message(...took.packet).what)) return true;
-            return entry.packets.some((_, at) => this.kinds.has(this.run.message(number, at).what));
+            const run = this.run;
+            const at = [run.tookEvent[number], run.tookPlace[number]];
+            if (run.hasPacket(...at) && this.kinds.has(run.kindOf(...at))) return true;
+            for (let place = 0; run.hasPacket(number, place); place++) if (this.kinds.has(run.kindOf(number, place))) return true;
+            return false;
         }
 
         place() {
@@ -768,15 +894,15 @@ const Viewer = (() => {
             const busy = this.lanes.map(() => []);
             for (let row = 0; row < this.rows.length; row++) {
                 const number = this.rows[row];
-                const entry = this.run.entry(number);
-                for (let at = 0; at < entry.packets.length; at++) this.routePacket(row, number, entry.packets[at], at, busy);
-                const took = entry.took;
-                if (isObject(took) && took.packet && (this.rowOf[took.packet[0]] ?? -1) < 0) this.routeFromOutside(row, took.packet);
+                const first = this.run.packetStart[number];
+                for (let at = 0; first + at < this.run.packetStart[number + 1]; at++) this.routePacket(row, number, at, busy);
+                const from = this.run.tookEvent[number];
+                if (from > 0 && this.rowOf[from] < 0) this.routeFromOutside(row, [from, this.run.tookPlace[number]]);
             }
         }
 
-        wants(message) {
-            return !this.kinds || this.kinds.has(message.what);
+        wants(event, at) {
+            return !this.kinds || this.kinds.has(this.run.kindOf(event, at));
         }
 
         push(from, to, event, at, place, track, outside) {
@@ -789,18 +915,19 @@ const Viewer = (() => {
             this.outside.push(outside);
         }
 
-        routePacket(row, number, packet, at, busy) {
-            if (this.kinds && !this.wants(this.run.message(number, at))) return;
+        routePacket(row, number, at, busy) {
+            if (!this.wants(number, at)) return;
             const run = this.run;
             const takers = run.takers.get(number);
-            for (const to of packet.to) {
-                const lane = run.laneOf.get(nodeText(to));
-                const place = lane === undefined ? -1 : this.placeOf[lane];
+            const packet = run.packetStart[number] + at;
+            for (let to = run.toStart[packet]; to < run.toStart[packet + 1]; to++) {
+                const lane = run.toLanes[to];
+                const place = lane < 0 ? -1 : this.placeOf[lane];
                 if (place < 0) continue;
                 let isTaken = false;
                 let isDrawn = false;
                 for (const taker of takers ?? []) {
-                    if (run.lane[taker] !== lane || run.entry(taker).took.packet[1] !== at) continue;
+                    if (run.lane[taker] !== lane || run.tookPlace[taker] !== at) continue;
                     isTaken = true;
                     const end = this.rowOf[taker];
                     if (end < 0) continue;
@@ -812,7 +939,7 @@ const Viewer = (() => {
         }
 
         routeFromOutside(row, at) {
-            if (!this.run.packet(...at) || !this.wants(this.run.message(...at))) return;
+            if (!this.run.hasPacket(...at) || !this.wants(...at)) return;
             this.push(-1, row, at[0], at[1], this.placeOf[this.run.lane[this.rows[row]]], 0, true);
         }
 
@@ -864,7 +991,8 @@ const Viewer = (() => {
         span(x, top, foot, view) {
             if (foot <= top) return '';
             if (view === 0) return `<path class="o" d="M${x} ${top}V${foot}"/>`;
-            const name = foot - top > 11 ? `<text class="v" x="${x - 25}" y="${top + 10}">${view}</text>` : '';
+            const squeeze = view > 99 ? ' textLength="11" lengthAdjust="spacingAndGlyphs"' : '';
+            const name = foot - top > 11 ? `<text class="v" x="${x - 25}" y="${top + 10}"${squeeze}>${view}</text>` : '';
             return `<g><title>in view ${view}</title><rect class="b${view % 2}" x="${x - 31}" y="${top}" width="12" height="${foot - top}"/>${name}</g><path class="r" d="M${x} ${top}V${foot}"/>`;
         }
 
@@ -953,18 +1081,26 @@ const Viewer = (() => {
             return `<g id="e${number}"><title>${escaped(run.line(number))}</title>${parts.join('')}</g>`;
         }
 
+        // The signs of an event, side by side, as wide as there is room before the arrows of the next lane.
         signs(number, left, y) {
+            const signs = signsOf(this.run, number);
+            if (!signs.length) return '';
+            const room = this.pitch - 30;
+            const wide = (sign) => (sign.shape ? 18 : 0) + (sign.text ? sign.text.length * 6.2 + 4 : 0);
+            const total = () => signs.reduce((sum, sign) => sum + wide(sign), 0);
+            for (const sign of signs) if (total() > room * 1.3 && sign.shape && !sign.shape.startsWith('s')) sign.text = '';
+            const all = total();
+            const scale = Math.min(1, room / all);
             const parts = [];
-            let x = left;
-            for (const sign of signsOf(this.run, number)) {
-                const wide = sign.text ? textWidth(sign.text, 5.9) + 3 : 0;
-                const shape = sign.shape ? 18 : 0;
-                parts.push(`<rect class="l" data-label="${number}" x="${x - 8}" y="${y - 8}" width="${shape + wide}" height="16"/>`);
-                if (sign.shape) parts.push(`<g transform="translate(${x},${y})">${SIGNS[sign.shape]}${sign.inner ? `<text class="w" x="-1" y="3.5">${escaped(sign.inner)}</text>` : ''}</g>`);
-                if (sign.text) parts.push(`<text class="d" x="${x + shape - 8}" y="${y + 3.5}">${escaped(sign.text)}</text>`);
-                x += shape + wide + 2;
+            let x = 8;
+            for (const sign of signs) {
+                if (sign.shape) parts.push(`<g transform="translate(${x},0)">${SIGNS[sign.shape]}${sign.inner ? `<text class="w" x="-1" y="3.5">${escaped(sign.inner)}</text>` : ''}</g>`);
+                if (sign.text) parts.push(`<text class="d" x="${x + (sign.shape ? 10 : -6)}" y="3.5">${escaped(sign.text)}</text>`);
+                x += wide(sign);
             }
-            return parts.join('');
+            const back = `<rect class="l" data-label="${number}" x="${left - 8}" y="${y - 8}" width="${(all * scale).toFixed(1)}" height="16"/>`;
+            const moved = scale < 1 ? `translate(${left - 8},${y}) scale(${scale.toFixed(3)})` : `translate(${left - 8},${y})`;
+            return `${back}<g transform="${moved}">${parts.join('')}</g>`;
         }
 
         // The line of the event, in short: without its number, the mail, the syncs and the sends, whose packets stand there too.
@@ -992,8 +1128,6 @@ const Viewer = (() => {
             return `${this.rows.length} of ${all} events, from top to bottom: those from ${this.first} to ${this.last}${views}${nodes}. The members and what is final are those of the whole run.`;
         }
     }
-
-    const textWidth = (text, letter) => text.length * letter;
 
     function shortLine(run, number) {
         const entry = run.entry(number);
@@ -1050,6 +1184,9 @@ const Viewer = (() => {
         ['stores a finalization', SIGNS.cf],
         ['stores a true verdict', SIGNS.yes],
         ['stores a false verdict', SIGNS.no],
+        ['sends a notarize, and has no journal', SIGNS.sn],
+        ['sends a nullify, and has no journal', SIGNS.sx],
+        ['sends a finalize, and has no journal', SIGNS.sf],
         ['reports a final view', SIGNS.final],
         ['reports evidence on a member', SIGNS.blame],
         ['blocks a member', SIGNS.block],
@@ -1112,7 +1249,7 @@ ${key.text}
 `;
     }
 
-    return { Bytes, Run, Sheet, svg, legend, messageText, shortLine, signsOf, escaped, COLOURS, STYLE, SIGNS, LEGEND, MESSAGES, LEFT, messageOf, artifactOf, certificateOf, deedText, itemsOf, recordLine, nodeText, kindName, parsed, KINDS, CERTIFICATES };
+    return { Bytes, Run, Sheet, svg, legend, messageText, shortLine, signsOf, escaped, COLOURS, STYLE, SIGNS, LEGEND, MESSAGES, LEFT, messageOf, artifactOf, certificateOf, deedText, itemsOf, recordLine, nodeText, kindName, KINDS, CERTIFICATES };
 })();
 if (typeof module !== 'undefined') module.exports = Viewer;
 
@@ -1139,7 +1276,7 @@ function viewerCommand(words, text, write) {
 if (typeof require !== 'undefined' && typeof module !== 'undefined' && require.main === module) {
     const fs = require('fs');
     try {
-        viewerCommand(process.argv.slice(2), fs.readFileSync(0, 'utf8'), (text) => fs.writeSync(1, text));
+        viewerCommand(process.argv.slice(2), fs.readFileSync(0, 'utf8'), (text) => process.stdout.write(text));
     } catch (fault) {
         console.error(`viewer: ${fault.message}`);
         process.exit(2);

@@ -27,7 +27,10 @@ use Rattle.simplex_engine.specs.declared.input.Polled.{Polled}
 use Rattle.simplex_engine.specs.declared.error.PollError.{PollError}
 use Rattle.simplex_engine.specs.declared.error.PollError.TheVariants as errors
 use Rattle.model_resolver.specs.Asks.{holds_member}
-use Rattle.simplex_engine.specs.Holding.{holds}
+use Rattle.model_resolver.specs.Views.{least_of}
+use Rattle.model_resolver.specs.Resolver.{deadline_after}
+use Rattle.simplex_voter.specs.Stands.{due_at}
+use Rattle.simplex_engine.specs.Holding.{holds, next_deadline}
 use Rattle.simplex_engine.specs.Parts.{parts_of}
 use Rattle.simplex_engine.specs.Polled.{is_taken, refusal_of, is_memory, taken_inside}
 use Rattle.simplex_engine.specs.Stands.{CrewStands, TellsAs, CrewTakes, CrewGives, CrewAnswers, CrewAnswersAs, CrewRefuses, CrewFares, CrewDoes, CrewStarts, Fresh, StageStands, StandsFor, Takes, Gives, Starts, GivesFirst, FailsAfter, has_begun, has_failed, is_failed, Waits, settled, settled_with, StandsOver, Fares, FaresFirst, journal_of, faults_in, faults_of, is_stopped, has_stopped}
@@ -355,6 +358,29 @@ module _ {S L J : Type 0} {s : scheme.Ghosts S} {l : elector.Ghosts L} {j : jour
   running-view told engine crew view e tells = λ made past h.
       let held = rw e at h in
       tells told (parts_of made past) held.1
+
+  pub running-deadline : (told : Bool) (engine : Engine S L J s l j) (crew : Crew S L J s l j) (deadline : ℕ) → engine.stage ≡ stages.Running crew
+      → ((told : Bool) → TellsAs told crew (λ parts. least_of (Some (due_at parts.voter.rules (place_of parts.voter parts.given).standing.desk.known))
+      (deadline_after parts.resolver parts.asked)) (Some deadline))
+      → StageAnswers told engine.stage (λ made past. next_deadline made past) (Some deadline)
+  unfolding CrewStands parts_of next_deadline
+  running-deadline told engine crew deadline e tells = λ made past h.
+      let held = rw e at h in
+      rw held.0 (tells told (parts_of made past) held.1)
+
+  pub stopped-undue : (told : Bool) (engine : Engine S L J s l j) (crew : Crew S L J s l j) → engine.stage ≡ stages.Stopped crew
+      → StageAnswers told engine.stage (λ made past. next_deadline made past) None
+  unfolding next_deadline
+  stopped-undue told engine crew e = λ made past h.
+      let held = rw e at h in
+      rw held.0 refl
+
+  pub waiting-undue : (told : Bool) (engine : Engine S L J s l j) (unstarted : Unstarted S L J s l j) → engine.stage ≡ stages.Waiting unstarted
+      → StageAnswers told engine.stage (λ made past. next_deadline made past) None
+  unfolding next_deadline runs
+  waiting-undue told engine unstarted e = λ made past h.
+      let held = rw e at h in
+      rw held.0 refl
 
   pub running-holds : (told : Bool) (engine : Engine S L J s l j) (crew : Crew S L J s l j) (held : Bool) (source : StepSource) (now : ℕ) → engine.stage ≡ stages.Running crew
       → ((told : Bool) → CrewAnswersAs told crew (λ made past. holds made past source now) held)

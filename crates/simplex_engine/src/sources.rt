@@ -4,9 +4,10 @@
 ghost use Rattle.std.specs.Prelude.{◌≡◌, Bool, Some};
 ghost use Rattle.model_resolver.specs.Views.{least_of};
 ghost use Rattle.model_resolver.specs.Resolver.{deadline_after};
-ghost use Rattle.model_steps.specs.Engine.{resolver_past};
-ghost use Rattle.simplex_engine.specs.Holding.{holds, voter_deadline};
-ghost use Rattle.simplex_engine.specs.Stands.{CrewAnswersAs};
+ghost use Rattle.model_steps.specs.VoterLife.{place_of};
+ghost use Rattle.simplex_voter.specs.Stands.{due_at};
+ghost use Rattle.simplex_engine.specs.Holding.{holds};
+ghost use Rattle.simplex_engine.specs.Stands.{CrewAnswersAs, TellsAs};
 
 use crate::crew::Crew;
 use simplex_journal::Journal;
@@ -33,19 +34,36 @@ impl<S: Scheme + Drop, L: Elector + Drop, J: Journal + Drop> Crew<S, L, J> {
             StepSource::Fetch => self.is_fetch_due(now),
         }
     }
+    /// When a step of the timer is due.
+    fn voter_deadline(&self) -> u64
+        ensures { (told : Bool) → TellsAs told self.now (λ parts. due_at parts.voter.rules
+            (place_of parts.voter parts.given).standing.desk.known) result }
+    {
+        self.voter.next_deadline()
+    }
+
+    /// When a step of the fetcher is due, if one is.
+    fn fetch_deadline(&self) -> Option<u64>
+        ensures { (told : Bool) → TellsAs told self.now
+            (λ parts. deadline_after parts.resolver parts.asked) result }
+    {
+        self.resolver.next_deadline()
+    }
+
     /// When a step of the timer or of the fetcher is due next.
     pub(crate) fn next_deadline(&self) -> u64
-        ensures { (told : Bool) → CrewAnswersAs told self.now
-            (λ made past. least_of (Some (voter_deadline made past))
-            (deadline_after made.resolver (resolver_past past))) (Some result) }
+        ensures { (told : Bool) → TellsAs told self.now (λ parts. least_of
+            (Some (due_at parts.voter.rules
+            (place_of parts.voter parts.given).standing.desk.known))
+            (deadline_after parts.resolver parts.asked)) (Some result) }
     {
-        earliest(self.voter.next_deadline(), self.resolver.next_deadline())
+        earliest(self.voter_deadline(), self.fetch_deadline())
     }
 }
 
 /// The earlier of the two, where there is another one.
 fn earliest(deadline: u64, other: Option<u64>) -> u64
-    ensures { least_of (Some deadline) other ≡ Some result }
+    ensures { Some result ≡ least_of (Some deadline) other }
 {
     match other {
         None => deadline,
