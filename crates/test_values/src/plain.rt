@@ -17,14 +17,6 @@ pub(crate) fn run(script: &Script, told: &mut Told) -> Result<(), AllocError> {
     play(&mut desk, script, told)
 }
 
-fn policy_text() -> &'static str {
-    if ForwardPolicy::SilentVoters.is_enabled() {
-        "forwards"
-    } else {
-        "does not forward"
-    }
-}
-
 fn half(number: u64) -> u64 {
     number / 2
 }
@@ -47,7 +39,11 @@ impl Part for Desk {
     fn take(&mut self, words: &[&str], told: &mut Told) -> Result<(), AllocError> {
         let alloc = self.alloc;
         match words {
-            ["policy", "silent-voters"] => told.says(policy_text()),
+            ["policy", "silent-voters"] => told.says(if ForwardPolicy::SilentVoters.is_enabled() {
+                "forwards"
+            } else {
+                "does not forward"
+            }),
             ["handoff", "stage", value] => match number(value) {
                 Some(value) => told.says(staged_text(alloc, value)?.as_str()),
                 None => told.says("not a command"),

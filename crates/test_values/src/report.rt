@@ -136,22 +136,15 @@ fn both(alloc: Global, first: &str, second: &str) -> Result<String, AllocError> 
     pair_text(alloc, &mut reporters)
 }
 
-/// The call of a word: a report, or another that is none.
-fn call_of(alloc: Global, word: &str) -> Result<Option<Call>, AllocError> {
-    match word {
-        "sync" => Ok(Some(Call::Sync(1))),
-        "prune" => Ok(Some(Call::Prune(1))),
-        _ => Ok(activity_of(alloc, word)?.map(|activity| Call::Report(activity))),
+/// Two reports, and calls that are none.
+fn handed_calls(alloc: Global) -> Result<Vec<Call>, AllocError> {
+    let scheme = keyed(alloc, 1)?;
+    let mut calls = vec![in alloc; Call::Sync(1)]?;
+    if let Some(vote) = Notarize::sign(&scheme, block()) {
+        calls.push(Call::Report(Activity::Notarize(vote)))?;
     }
-}
-
-fn calls_of(alloc: Global, words: &[&str]) -> Result<Vec<Call>, AllocError> {
-    let mut calls = Vec::new(alloc);
-    for word in words {
-        if let Some(call) = call_of(alloc, word)? {
-            calls.push(call)?;
-        }
-    }
+    calls.push(Call::Prune(1))?;
+    calls.push(Call::Report(Activity::Notarization(unsigned(alloc))))?;
     Ok(calls)
 }
 
@@ -187,8 +180,8 @@ fn longest(alloc: Global, word: &str) -> Result<String, AllocError> {
 
 impl Desk {
     /// Hands the reports of an entry to the reporter that keeps them, and tells all that it keeps.
-    fn hand(&mut self, words: &[&str]) -> Result<String, AllocError> {
-        let entry = entry_of(self.alloc, calls_of(self.alloc, words)?);
+    fn hand(&mut self) -> Result<String, AllocError> {
+        let entry = entry_of(self.alloc, handed_calls(self.alloc)?);
         let answer = hand_reports(self.alloc, &entry, &mut self.listing)?;
         let told = self.listing.text(self.alloc)?;
         format!(in self.alloc; "{answer:?}, told so far: {}", told.as_str())
@@ -201,7 +194,7 @@ impl Part for Desk {
         let text = match words {
             ["combine", first, second] => combined(alloc, first, second)?,
             ["pair", first, second] => both(alloc, first, second)?,
-            ["hand", words @ ..] => self.hand(words)?,
+            ["hand", "sync", "notarize", "prune", "notarization"] => self.hand()?,
             ["longest", "payload", "of", n, "members"] => longest(alloc, n)?,
             [scheme, verify, what] => shown(alloc, scheme, verify, what)?,
             _ => String::from_str(alloc, "not a command")?,

@@ -31,11 +31,6 @@ fn signatures_text(alloc: Global, signatures: &Signatures) -> Result<String, All
     Ok(text)
 }
 
-/// A word, what it is about, and who signed.
-fn line(alloc: Global, word: &str, about: &str, signed: &str) -> Result<String, AllocError> {
-    format!(in alloc; "{word} {about}: {signed}")
-}
-
 fn about_proposal(
     alloc: Global,
     word: &str,
@@ -43,7 +38,7 @@ fn about_proposal(
     signed: &str,
 ) -> Result<String, AllocError> {
     let about = proposal_text(alloc, proposal)?;
-    line(alloc, word, about.as_str(), signed)
+    format!(in alloc; "{word} {}: {signed}", about.as_str())
 }
 
 fn about_round(
@@ -52,8 +47,7 @@ fn about_round(
     round: Round,
     signed: &str,
 ) -> Result<String, AllocError> {
-    let about = format!(in alloc; "{round}")?;
-    line(alloc, word, about.as_str(), signed)
+    format!(in alloc; "{word} {round}: {signed}")
 }
 
 /// A vote. Its round and its signer, as they are told by its own calls, stand first.
