@@ -168,6 +168,7 @@ pub use Rattle.simplex_batcher.specs.Stands as BatcherStands
 pub use Rattle.simplex_voter.specs.Actor
 pub use Rattle.simplex_voter.specs.Turned
 pub use Rattle.simplex_voter.specs.Unanswered as VoterUnanswered
+pub use Rattle.simplex_voter.specs.Stands as PlannerStands
 -- Of an engine.
 pub use Rattle.simplex_engine.specs.Config as EngineConfig
 pub use Rattle.simplex_engine.specs.Holding
