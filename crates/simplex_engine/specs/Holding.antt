@@ -1,5 +1,5 @@
 -- What the sources of an engine's steps hold.
-use Rattle.std.specs.Prelude.{ℕ, Bool, not, List, Option, None, Some}
+use Rattle.std.specs.Prelude.{ℕ, Bool, not, List, Option, None, Some, if◌then◌else◌}
 use Rattle.std.specs.Option.{is_some}
 use Rattle.simplex_mailbox.specs.Mail.{holds_nothing}
 use Rattle.simplex_messages.specs.declared.voter.VoterInput.{VoterInput}

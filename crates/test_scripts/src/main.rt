@@ -1,7 +1,7 @@
 //! Runs the scripts of standard input, each behind a line `== NAME` and about values, one part of an engine, an engine, or a network, and
 //! writes each with what came out.
 //! As long as no rule changes, what is written is what was read: the gate gives the program crates/test_scripts/stdin, and compares what it
-//! writes with crates/test_scripts/stdout, which has the same text. `rewrite.sh` writes both anew, so that a rule that changes is a
+//! writes with crates/test_scripts/stdout, which has the same text. `tools/rewrite.sh` writes both anew, so that a rule that changes is a
 //! difference to read.
 //!
 //! It owes nothing but that it is safe and ends.
