@@ -46,6 +46,20 @@ def digest_of(payload):
     return hashlib.sha256(payload).hexdigest()
 
 
+def genesis_of(epoch):
+    """The payload of view 0, of which nobody has bytes."""
+    return hashlib.sha256(b"\x07genesis" + number_bytes(epoch)).hexdigest()
+
+
+def number_bytes(number):
+    """A number in base 128, the least part first."""
+    parts = bytearray()
+    while number >= 128:
+        parts.append(number % 128 + 128)
+        number //= 128
+    return bytes(parts + bytes([number]))
+
+
 @dataclasses.dataclass(frozen=True)
 class Send:
     channel: str

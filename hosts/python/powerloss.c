@@ -8,6 +8,7 @@
 #include <stdlib.h>
 #include <string.h>
 #include <sys/stat.h>
+#include <time.h>
 #include <unistd.h>
 
 static void copy(const char *from, const char *to, const char *unfinished) {
@@ -69,6 +70,10 @@ static void keep(int file) {
 
 static int synced(const char *call, int file) {
     if (getenv("NO_SYNC")) return 0;
+    /* As slow as a disk, so that kills come in between. */
+    struct timespec now;
+    clock_gettime(CLOCK_MONOTONIC, &now);
+    usleep(now.tv_nsec / 100 % 6000);
     int (*real)(int) = dlsym(RTLD_NEXT, call);
     int result = real(file);
     if (!result) keep(file);
