@@ -190,7 +190,7 @@ class Node:
 
     Before each command the member is told the clock, so what it does depends on its input lines alone."""
 
-    WINDOW = 8  # commands that the process has and did not answer
+    WINDOW = 64  # commands that the process has and did not answer
     MOST_WAITING = 2000  # packets that wait for the process
 
     def __init__(self, program, me, setup, folder, *, log=None, environment=None, clock=time.monotonic_ns):
