@@ -1,7 +1,7 @@
 #!/usr/bin/env python3
 """Crash tests: clusters of members over pipes, with kill -9, power losses and lossy links, and checks that run along.
 
-    crashes.py [--members N] [--seconds S] [--power] [--no-sync] [--lossy PERCENT] [--pause S] [--seed N] [--program PATH] [--folder PATH]
+    crashes.py [--members N] [--seconds S] [--power] [--no-sync] [--lossy PERCENT] [--pause S] [--timeout MS] [--seed N] [--program PATH] [--folder PATH]
     crashes.py --all          what `make crashes` runs: five runs of less than a minute
 
 With --power a kill is a power loss too: the folder then holds what was synced, and of the rest what chance leaves. With --no-sync syncs do
@@ -27,10 +27,6 @@ from node import STATUSES, Ask, Block, Drop, Error, Evidence, Final, Node, Send,
 
 HERE = pathlib.Path(__file__).resolve().parent
 KINDS = ["notarize", "nullify", "finalize"]
-# Random payloads: a member that forgot its vote votes for another one.
-SETUP = {"leader_timeout": 800, "certification_timeout": 1600, "retry": 400, "fetch_timeout": 500, "fetch_retry": 100}
-
-
 class Fault(Exception):
     """What must not happen."""
 
@@ -148,7 +144,8 @@ class Cluster:
         self.held_back = {}
         self.powers = [None] * options.members
         self.nodes = []
-        setup = setup_of(options.members, **SETUP)
+        ms = options.timeout
+        setup = setup_of(options.members, leader_timeout=ms, certification_timeout=2 * ms, retry=ms // 2, fetch_timeout=500, fetch_retry=100)
         shim = build_shim(folder) if options.power or options.no_sync else None
         for me in range(options.members):
             home = folder / f"member-{me}"
@@ -202,6 +199,7 @@ class Cluster:
         proposals = self.checks.proposals
         match it.kind:
             case "propose":
+                # Random, so that a member that forgot its vote votes for another one.
                 words = hashlib.sha256(self.chance.randbytes(16)).hexdigest()
                 proposals[words] = (it.view, it.parent_view, it.parent)
                 words = "payload " + words
@@ -283,13 +281,15 @@ class Cluster:
             if time.monotonic() >= next_trouble:
                 self.trouble()
                 next_trouble = time.monotonic() + self.chance.expovariate(1 / self.options.pause)
-        # Calm at the end: each member makes five views more final.
+        # Calm at the end: three views more are final at each member.
         self.calm = True
-        goal = max(self.checks.finals, default=0) + 5
-        end = time.monotonic() + 60
+        goal = max(self.checks.finals, default=0) + 3
+        end = time.monotonic() + 90
         while min(self.top) < goal:
             if time.monotonic() > end:
-                raise Fault(f"after the crashes not every member comes to view {goal}: {self.top}")
+                raise Fault(
+                    f"after the crashes not every member comes to view {goal}: final {self.top}, in views {[node.view for node in self.nodes]}, "
+                    f"commands that wait {[len(node.waiting) + node.unanswered for node in self.nodes]}")
             self.turn()
         self.checks.chain()
 
@@ -337,6 +337,7 @@ def main():
     words.add_argument("--power", action="store_true")
     words.add_argument("--no-sync", action="store_true")
     words.add_argument("--lossy", type=float, default=1, help="of 100 packets so many are lost, and so many come again later")
+    words.add_argument("--timeout", type=int, default=2000, help="milliseconds; on a busy machine shorter ones make no view final")
     words.add_argument("--pause", type=float, default=0.6, help="seconds between kills, in the mean")
     words.add_argument("--seed", type=int, default=1)
     words.add_argument("--program")

@@ -33,6 +33,8 @@ class Command:
     member: int
     line: str
     out: list | None = None
+    # of the line `ready` before it
+    deadline: int | None = None
     # of a crash: the commands whose end nobody heard of, and the next start
     unheard: list = dataclasses.field(default_factory=list)
     next_start: "Command | None" = None
@@ -40,7 +42,7 @@ class Command:
 
 def lives_of(member, lines):
     """The commands of each life of a member, and the setup of its first line."""
-    lives, setup, answered, out = [], None, 0, []
+    lives, setup, answered, out, deadline = [], None, 0, [], None
     for text in lines:
         if not text.endswith("\n"):
             break  # its host was killed while it wrote
@@ -48,13 +50,14 @@ def lives_of(member, lines):
         if sign == "<" and rest[0].startswith("{"):
             setup = json.loads(rest[0])
             lives.append([])
-            answered, out = 0, []
+            answered, out, deadline = 0, [], None
         elif sign == "<":
             lives[-1].append(Command(int(stamp), member, rest[0]))
         elif sign == ">":
             it = parse(rest[0])
             if isinstance(it, Ready):
-                lives[-1][answered].out = out
+                lives[-1][answered].out, lives[-1][answered].deadline = out, deadline
+                deadline = it.deadline
                 answered, out = answered + 1, []
             else:
                 out.append(it)
@@ -77,7 +80,7 @@ def commands_of(logs):
             if place + 1 < len(lives) and life:
                 later = lives[place + 1]
                 start = later[0] if later and later[0].out is not None else None
-                commands.append(Command(life[-1].stamp, member, "crash", [], [it for it in life if it.out is None], start))
+                commands.append(Command(life[-1].stamp, member, "crash", [], unheard=[it for it in life if it.out is None], next_start=start))
     commands.sort(key=lambda it: it.stamp)
     return commands, setup
 
@@ -94,23 +97,27 @@ def step(member, source):
     return {"do": "step", "node": [member, 0], "source": source, "stop": None}
 
 
-def steps_after(member, line, many):
-    """More steps than a member makes after a command, in the order in which it looks for the next one."""
-    voter = [step(member, "voter")] * many
-    inner = voter + ([step(member, "batcher")] + voter) * many + [step(member, "resolver")] * (many + 1)
-    steps = list(inner)
+def steps_after(member, line, many, deadline=None):
+    """More steps than a member makes after a command, in the order in which it looks for the next one: `many` says how many more. Before its
+    deadline nothing comes of the clock."""
+    voter = [step(member, "voter")] * (many + 1)
+    inner = voter + ([step(member, "batcher")] + voter) * (many + 3) + [step(member, "resolver")] * (many + 3)
+    taken = []
     match line.split(" "):
+        case ["now", ms]:
+            if deadline is not None and int(ms) < deadline:
+                return []
+            taken = ["timer"] * (many + 1)
         case ["packet", _, "resolver", _]:
-            steps += ([step(member, "handler")] + inner) * many
-        case ["answer", _, "payload", _] | ["answer", _, "wait" | "stage" | "vote" | "closed", *_]:
-            steps += [step(member, "propose")] + inner
-            if line.endswith("closed"):
-                steps = inner + sum(([step(member, source)] + inner for source in ("certify", "verify", "propose")), [])
+            taken = ["handler"] * (many + 1)
+        case ["answer", _, "true" | "false"]:
+            taken = ["certify", "verify"]
+        case ["answer", _, "closed"]:
+            taken = ["certify", "verify", "propose"]
         case ["answer", *_]:
-            steps += sum(([step(member, source)] + inner for source in ("certify", "verify")), [])
-        case ["now", _]:
-            steps += ([step(member, "timer")] + inner) * 2
-    return steps + ([step(member, "fetch")] + inner) * 2
+            taken = ["propose"]
+    taken += ["fetch"] * many
+    return inner + sum(([step(member, source)] + inner for source in taken), [])
 
 
 def answer_of(words):
@@ -127,8 +134,8 @@ def answer_of(words):
 class Join:
     """The run so far, of what is known to be: events, and what each of them gave rise to."""
 
-    def __init__(self, setup, record, many=3):
-        self.setup, self.record, self.many = setup, record, many
+    def __init__(self, setup, record, many=1):
+        self.setup, self.record, self.few, self.many = setup, record, many, many
         self.events = []
         self.clock = 0
         self.packets = {}  # (sender, channel, bytes): [(event, place, receivers)]
@@ -163,7 +170,7 @@ class Join:
             return events, clock
         if command.out and any(isinstance(it, Error) for it in command.out):
             return events, clock
-        return events + steps_after(command.member, command.line, self.many), clock
+        return events + steps_after(command.member, command.line, self.many, command.deadline), clock
 
     def is_short(self, events, entries):
         """Whether more steps may have been left: the last one of a source, and of its steps in a row, has to find nothing."""
@@ -281,7 +288,8 @@ class Join:
                     break
                 plan.append((command, events, after))
                 clock = after
-                # What an answer or a packet changes for later ones of the same member stands in the record alone.
+                if self.many > self.few:
+                    break
             if not plan:
                 raise Unsaid(f"member {commands[place].member}: what it takes is in no log: {commands[place].line[:80]}")
             record = self.record(self.setup, self.events + sum((events for _, events, _ in plan), []))
@@ -296,6 +304,7 @@ class Join:
                     break
                 self.take(command, events, found)
                 self.clock = after
+                self.many = self.few
                 place += 1
 
 
