@@ -6,7 +6,9 @@
 # build         proves and builds simplex_net
 # test          the gate: proves everything, tries the wrong bodies, runs everything (docs/GATE.md says what it costs)
 # wrong-bodies  tries the wrong bodies that the gate leaves out, of all crates or of those in CRATE: hours
-.PHONY: example try trace script fast check build test wrong-bodies
+# cluster       four members on this machine with a ledger, until all agree (hosts/README.md); crashes: kills and power losses, five minutes
+# hosts-test    the tests of hosts/python, seconds; with cluster and crashes it talks to 127.0.0.1 alone
+.PHONY: example try trace script fast check build test wrong-bodies cluster crashes hosts-test
 need = $(if $(INPUT),,$(error the input is missing: make $@ INPUT=my.json))
 example:
 	@tools/unproved.py run simplex_net run < crates/simplex_net/stdin
@@ -36,3 +38,12 @@ test:
 
 wrong-bodies:
 	@tools/wrong-bodies.sh $(CRATE)
+
+cluster:
+	@hosts/python/cluster.py
+
+crashes:
+	@hosts/python/crashes.py --all
+
+hosts-test:
+	@python3 -m unittest discover -s hosts/python/tests

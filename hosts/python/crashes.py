@@ -264,7 +264,7 @@ class Cluster:
         """Kills one member, or now and then all at once, and starts them again after a while."""
         time.sleep(self.chance.random() * 0.003)  # in the middle of what it does
         running = [node for node in self.nodes if node.process]
-        if self.chance.random() < 0.2:
+        if self.chance.random() < 0.1:
             self.counts["outages"] += 1
         else:
             running = [self.chance.choice(running)] if running else []
@@ -338,7 +338,7 @@ def main():
     words.add_argument("--no-sync", action="store_true")
     words.add_argument("--lossy", type=float, default=1, help="of 100 packets so many are lost, and so many come again later")
     words.add_argument("--timeout", type=int, default=2000, help="milliseconds; on a busy machine shorter ones make no view final")
-    words.add_argument("--pause", type=float, default=0.6, help="seconds between kills, in the mean")
+    words.add_argument("--pause", type=float, default=1, help="seconds between kills, in the mean")
     words.add_argument("--seed", type=int, default=1)
     words.add_argument("--program")
     words.add_argument("--folder")
