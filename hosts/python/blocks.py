@@ -100,7 +100,7 @@ class BlockStore:
         return digest
 
     def path(self, digest, until):
-        """The blocks after the block `until`, up to this one, the oldest first; or the digest of one that is missing, or is the first of all."""
+        """The blocks after the block `until`, up to this one, the oldest first; or the digest of one that is missing, or of genesis."""
         found = []
         while digest != until:
             block = self.blocks.get(digest)

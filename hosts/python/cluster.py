@@ -50,9 +50,8 @@ class Host:
 
     def start(self):
         # A session of its own, so that a kill of both takes the host's process along.
-        self.host = subprocess.Popen(
-            [sys.executable, HERE / "member.py", self.config, "--log", self.log], stdin=subprocess.DEVNULL, stderr=self.errors, start_new_session=True
-        )
+        words = [sys.executable, HERE / "member.py", self.config, "--log", self.log]
+        self.host = subprocess.Popen(words, stdin=subprocess.DEVNULL, stderr=self.errors, start_new_session=True)
 
     def kill(self):
         """Kills host and process at once."""
@@ -174,8 +173,8 @@ def main():
         try:
             for me in range(options.members):
                 hosts.append(Host(folder, {
-                    "me": me, "setup": setup, "program": program, "folder": str(folder / f"member-{me}"), "peers": addresses[: options.members],
-                    "client": addresses[options.members + me], "accounts": ACCOUNTS, "pace": options.pace,
+                    "me": me, "setup": setup, "program": program, "folder": str(folder / f"member-{me}"), "accounts": ACCOUNTS,
+                    "peers": addresses[: options.members], "client": addresses[options.members + me], "pace": options.pace,
                 }))
             for host in hosts:
                 host.start()
@@ -189,7 +188,7 @@ def main():
             for account, balance in states[0]["balances"].items():
                 print(f"{account} {balance}")
             views = [state["view"] for state in states]
-            print(f"{options.members} members agree: {options.transfers} transfers, {height} blocks, final views {min(views)} to {max(views)}")
+            print(f"{len(hosts)} members agree: {options.transfers} transfers, {height} blocks, final views {min(views)} to {max(views)}")
             return 0
         except Faults as fault:
             print(f"fault: {fault}")

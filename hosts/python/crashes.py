@@ -1,7 +1,8 @@
 #!/usr/bin/env python3
 """Crash tests: clusters of members over pipes, with kill -9, power losses and lossy links, and checks that run along.
 
-    crashes.py [--members N] [--seconds S] [--power] [--no-sync] [--lossy PERCENT] [--pause S] [--timeout MS] [--seed N] [--program PATH] [--folder PATH]
+    crashes.py [--members N] [--seconds S] [--power] [--no-sync] [--lossy PERCENT] [--pause S] [--timeout MS]
+               [--seed N] [--program PATH] [--folder PATH]
     crashes.py --all          what `make crashes` runs: five runs of less than a minute
 
 With --power a kill is a power loss too: the folder then holds what was synced, and of the rest what chance leaves. With --no-sync syncs do
@@ -26,6 +27,8 @@ import time
 from node import STATUSES, Ask, Block, Drop, Error, Evidence, Final, Node, Send, make_folder, program_path, setup_of, vote_of
 
 HERE = pathlib.Path(__file__).resolve().parent
+# Members, with power losses, without syncs, seconds.
+RUNS = [(4, False, False, 55), (7, False, False, 55), (4, True, False, 55), (7, True, False, 55), (4, True, True, 30)]
 KINDS = ["notarize", "nullify", "finalize"]
 class Fault(Exception):
     """What must not happen."""
@@ -37,6 +40,7 @@ class Checks:
     def __init__(self, members):
         self.votes = [{} for _ in range(members)]
         self.finals = {}
+        self.late_answers = 0
         self.proposals = {}  # payload: (view, parent's view, parent)
 
     def vote(self, member, data):
@@ -61,6 +65,8 @@ class Checks:
                 raise Fault(f"member {member} has evidence {it.kind} of member {it.signer} in view {it.view}")
             case Block():
                 raise Fault(f"member {member} blocks member {it.member}: {it.cause}")
+            case Error(why="no such request is open"):
+                self.late_answers += 1  # the request was dropped while the answer was on its way
             case Error():
                 raise Fault(f"member {member} does not take line {it.line}: {it.why}")
 
@@ -145,7 +151,8 @@ class Cluster:
         self.powers = [None] * options.members
         self.nodes = []
         ms = options.timeout
-        setup = setup_of(options.members, leader_timeout=ms, certification_timeout=2 * ms, retry=ms // 2, fetch_timeout=500, fetch_retry=100)
+        times = {"leader_timeout": ms, "certification_timeout": 2 * ms, "retry": ms // 2, "fetch_timeout": 500, "fetch_retry": 100}
+        setup = setup_of(options.members, **times)
         shim = build_shim(folder) if options.power or options.no_sync else None
         for me in range(options.members):
             home = folder / f"member-{me}"
@@ -231,10 +238,6 @@ class Cluster:
             self.take(node, it)
 
     def take(self, node, it):
-        if isinstance(it, Error) and it.why == "no such request is open":
-            # It was dropped while the answer was on its way.
-            self.counts["late answers"] += 1
-            return
         self.checks.report(node.me, it)
         match it:
             case Send():
@@ -287,9 +290,9 @@ class Cluster:
         end = time.monotonic() + 90
         while min(self.top) < goal:
             if time.monotonic() > end:
-                raise Fault(
-                    f"after the crashes not every member comes to view {goal}: final {self.top}, in views {[node.view for node in self.nodes]}, "
-                    f"commands that wait {[len(node.waiting) + node.unanswered for node in self.nodes]}")
+                waits = [len(node.waiting) + node.unanswered for node in self.nodes]
+                views = [node.view for node in self.nodes]
+                raise Fault(f"not every member comes to view {goal} in the end: final {self.top}, in views {views}, waiting {waits}")
             self.turn()
         self.checks.chain()
 
@@ -322,6 +325,7 @@ def run(options):
         counts = dict(sorted(cluster.counts.items()))
         words = f"members {options.members} seed {options.seed} seconds {time.monotonic() - began:.0f}"
         words += f" views {max(cluster.checks.finals, default=0)} final {len(cluster.checks.finals)}"
+        counts["late answers"] = cluster.checks.late_answers
         words += "".join(f", {name} {count}" for name, count in counts.items())
         mode = "no-sync" if options.no_sync else "power losses" if options.power else "kills"
         print(f"{mode}: {words}, faults {int(fault is not None)}", flush=True)
@@ -350,8 +354,9 @@ def main():
         # Syncs that do nothing must be found.
         return int((fault is None) if options.no_sync else (fault is not None))
     bad = 0
-    for members, power, no_sync, seconds in [(4, False, False, 55), (7, False, False, 55), (4, True, False, 55), (7, True, False, 55), (4, True, True, 30)]:
-        fault = run(argparse.Namespace(**{**vars(options), "members": members, "power": power, "no_sync": no_sync, "seconds": seconds}))
+    for members, power, no_sync, seconds in RUNS:
+        changes = {"members": members, "power": power, "no_sync": no_sync, "seconds": seconds}
+        fault = run(argparse.Namespace(**{**vars(options), **changes}))
         bad += (fault is None) if no_sync else (fault is not None)
     return int(bad > 0)
 

@@ -4,15 +4,16 @@
     join_logs.py LOG .. [--views V] [--commands N] [--audit PATH] [--out FILE]
 
 The logs are those of `member.py --log`, of member 0, 1, .., written on one machine: their stamps are of one clock. A command of a log
-becomes a delivery, an answer, a tick or a start, and the steps that the member made after it. A log does not tell the steps, nor which of them
-made a packet: `simplex_audit_cli record` does, of the run so far. So the tool adds more steps than there can be, in the order in which a
-member looks for its next one, leaves out those that found nothing, and goes on with what the record says. What each command made by the
+becomes a delivery, an answer, a tick or a start, and the steps that the member made after it. A log does not tell the steps, nor which of
+them made a packet: `simplex_audit_cli record` does, of the run so far. So the tool adds more steps than there can be, in the order in
+which a member looks for its next one, leaves out those that found nothing, and goes on with what the record says. What each command made by the
 record must be what the log says: the same packets, requests and dropped requests, in order. At the end `check` judges the record.
 
 A member that was killed crashes in the run, where what it did last but nobody heard of is tried, step by step, until its next start is as
 in the log. What no run says (a kill within a step that stored something, a packet that no log has sent, a power loss) ends the join at
 that place, with status 1 and a line that tells it; the run up to there is written all the same."""
 import argparse
+import copy
 import dataclasses
 import json
 import pathlib
@@ -35,6 +36,8 @@ class Command:
     out: list | None = None
     # of the line `ready` before it
     deadline: int | None = None
+    # the line `ready` after it reads as the one before
+    is_quiet: bool = False
     # of a crash: the commands whose end nobody heard of, and the next start
     unheard: list = dataclasses.field(default_factory=list)
     next_start: "Command | None" = None
@@ -42,7 +45,7 @@ class Command:
 
 def lives_of(member, lines):
     """The commands of each life of a member, and the setup of its first line."""
-    lives, setup, answered, out, deadline = [], None, 0, [], None
+    lives, setup, answered, out, ready = [], None, 0, [], None
     for text in lines:
         if not text.endswith("\n"):
             break  # its host was killed while it wrote
@@ -50,14 +53,15 @@ def lives_of(member, lines):
         if sign == "<" and rest[0].startswith("{"):
             setup = json.loads(rest[0])
             lives.append([])
-            answered, out, deadline = 0, [], None
+            answered, out, ready = 0, [], None
         elif sign == "<":
             lives[-1].append(Command(int(stamp), member, rest[0]))
         elif sign == ">":
             it = parse(rest[0])
             if isinstance(it, Ready):
-                lives[-1][answered].out, lives[-1][answered].deadline = out, deadline
-                deadline = it.deadline
+                command = lives[-1][answered]
+                command.out, command.deadline, command.is_quiet = out, ready and ready.deadline, ready == it
+                ready = it
                 answered, out = answered + 1, []
             else:
                 out.append(it)
@@ -80,7 +84,8 @@ def commands_of(logs):
             if place + 1 < len(lives) and life:
                 later = lives[place + 1]
                 start = later[0] if later and later[0].out is not None else None
-                commands.append(Command(life[-1].stamp, member, "crash", [], unheard=[it for it in life if it.out is None], next_start=start))
+                unheard = [it for it in life if it.out is None]
+                commands.append(Command(life[-1].stamp, member, "crash", [], unheard=unheard, next_start=start))
     commands.sort(key=lambda it: it.stamp)
     return commands, setup
 
@@ -97,27 +102,31 @@ def step(member, source):
     return {"do": "step", "node": [member, 0], "source": source, "stop": None}
 
 
-def steps_after(member, line, many, deadline=None):
-    """More steps than a member makes after a command, in the order in which it looks for the next one: `many` says how many more. Before its
-    deadline nothing comes of the clock."""
-    voter = [step(member, "voter")] * (many + 1)
-    inner = voter + ([step(member, "batcher")] + voter) * (many + 3) + [step(member, "resolver")] * (many + 3)
+def steps_after(command, many, kind=None):
+    """More steps than a member makes after a command, in the order in which it looks for the next one: `many` says how many more, and
+    `kind` which kind of request an answer is for. Before its deadline nothing comes of the clock."""
+    me = command.member
+    voter = [step(me, "voter")] * (many + 1)
+    after = voter if many else []
+    inner = voter + ([step(me, "batcher")] + after) * (3 * many + 1) + [step(me, "resolver")] * (3 * many + 1)
     taken = []
-    match line.split(" "):
+    match command.line.split(" "):
         case ["now", ms]:
-            if deadline is not None and int(ms) < deadline:
+            if command.deadline is not None and int(ms) < command.deadline:
                 return []
             taken = ["timer"] * (many + 1)
         case ["packet", _, "resolver", _]:
             taken = ["handler"] * (many + 1)
-        case ["answer", _, "true" | "false"]:
-            taken = ["certify", "verify"]
-        case ["answer", _, "closed"]:
-            taken = ["certify", "verify", "propose"]
         case ["answer", *_]:
-            taken = ["propose"]
-    taken += ["fetch"] * many
-    return inner + sum(([step(member, source)] + inner for source in taken), [])
+            taken = ["propose" if kind == "prepare" else kind]
+    if command.out is None or "start" in command.line or any(isinstance(it, Send) and it.channel == "resolver" for it in command.out):
+        taken += ["fetch"] * (many + 1)
+    return inner + sum(([step(me, source)] + inner for source in taken), [])
+
+
+def steps_at_first(command):
+    """How many more steps are tried at first: few where nothing came of the command."""
+    return 0 if command.out == [] and command.is_quiet and "packet" in command.line and "resolver" not in command.line else 1
 
 
 def answer_of(words):
@@ -134,12 +143,14 @@ def answer_of(words):
 class Join:
     """The run so far, of what is known to be: events, and what each of them gave rise to."""
 
-    def __init__(self, setup, record, many=1):
-        self.setup, self.record, self.few, self.many = setup, record, many, many
+    def __init__(self, setup, record):
+        self.setup, self.record = setup, record
+        self.more = 0  # how many steps more than at first
         self.events = []
         self.clock = 0
         self.packets = {}  # (sender, channel, bytes): [(event, place, receivers)]
         self.requests = [[] for _ in setup["members"]]
+        self.kinds = {}
         self.counts = {"commands": 0, "rounds": 0, "packets": 0, "requests": 0, "finals": 0, "crashes": 0, "unheard steps": 0}
 
     def events_of(self, command, clock):
@@ -170,7 +181,12 @@ class Join:
             return events, clock
         if command.out and any(isinstance(it, Error) for it in command.out):
             return events, clock
-        return events + steps_after(command.member, command.line, self.many, command.deadline), clock
+        match command.line.split(" "):
+            case ["answer", number, *_]:
+                kind = self.kinds[tuple(self.requests[command.member][int(number)])]
+            case _:
+                kind = None
+        return events + steps_after(command, steps_at_first(command) + self.more, kind), clock
 
     def is_short(self, events, entries):
         """Whether more steps may have been left: the last one of a source, and of its steps in a row, has to find nothing."""
@@ -203,6 +219,7 @@ class Join:
                 said.append(("drop", self.place_of(command.member, request)))
             for place, ask in enumerate(entry["asked"]):
                 self.requests[command.member].append([number, place])
+                self.kinds[number, place] = ask["kind"]
                 said.append(("ask", ask["kind"], ask["round"][1], ask["payload"]))
         if command.out is not None and command.line != "crash":
             self.compare(command, said)
@@ -235,6 +252,10 @@ class Join:
         self.counts["finals"] += sum(isinstance(it, Final) for it in command.out)
         self.counts["commands"] += 1
 
+    def kept(self):
+        """A copy of what is known."""
+        return copy.deepcopy((self.events, self.packets, self.requests, self.kinds, self.counts))
+
     def crash(self, command):
         """A member was killed: as many steps of what nobody heard of as make its next start what the log has."""
         me = command.member
@@ -248,11 +269,11 @@ class Join:
         unheard = [event for event, entry in zip(unheard, entries) if entry["outcome"] != "idle"]
         crash = {"do": "crash", "node": [me, 0]}
         start = {"do": "start", "node": [me, 0], "floor": None, "stop": None}
-        kept = (list(self.events), {key: list(it) for key, it in self.packets.items()}, [list(it) for it in self.requests], dict(self.counts))
+        kept = self.kept()
         for count in range(len(unheard) + 1):
             trial = unheard[:count] + [crash]
             if command.next_start:
-                more = trial + [start] + steps_after(me, "start", self.many)
+                more = trial + [start] + steps_after(command.next_start, 3)
                 entries = self.record(self.setup, self.events + more)["entries"][len(self.events):]
                 try:
                     self.take(Command(0, me, "crash", []), trial, entries[: len(trial)])
@@ -260,8 +281,8 @@ class Join:
                     found = True
                 except Unsaid:
                     found = False
-                self.events, self.packets, self.requests, self.counts = (
-                    list(kept[0]), {key: list(it) for key, it in kept[1].items()}, [list(it) for it in kept[2]], dict(kept[3]))
+                self.events, self.packets, self.requests, self.kinds, self.counts = kept
+                kept = self.kept()
                 if not found:
                     continue
             entries = self.record(self.setup, self.events + trial)["entries"][len(self.events):]
@@ -288,7 +309,7 @@ class Join:
                     break
                 plan.append((command, events, after))
                 clock = after
-                if self.many > self.few:
+                if self.more:
                     break
             if not plan:
                 raise Unsaid(f"member {commands[place].member}: what it takes is in no log: {commands[place].line[:80]}")
@@ -298,13 +319,13 @@ class Join:
             for command, events, after in plan:
                 found, entries = entries[: len(events)], entries[len(events):]
                 if self.is_short(events, found):
-                    if self.many > 40:
+                    if self.more > 20:
                         raise Unsaid(f"member {command.member} makes no end of steps after {command.line[:80]}")
-                    self.many *= 2
+                    self.more = 2 * self.more + 1
                     break
                 self.take(command, events, found)
                 self.clock = after
-                self.many = self.few
+                self.more = 0
                 place += 1
 
 
@@ -341,7 +362,8 @@ def main():
     (options.out.write_text if options.out else print)(text)
     record = json.dumps(join.record(join.setup, join.events))
     verdict = subprocess.run([options.audit, "check"], input=record, text=True, capture_output=True).stdout.strip()
-    print(f"{len(join.events)} events, {', '.join(f'{name} {count}' for name, count in join.counts.items())}; the record is {verdict}", file=sys.stderr)
+    counts = ", ".join(f"{name} {count}" for name, count in join.counts.items())
+    print(f"{len(join.events)} events, {counts}; the record is {verdict}", file=sys.stderr)
     return status or int(verdict != "sound")
 
 

@@ -64,7 +64,7 @@ class Ledger:
         return True
 
     def state_at(self, parent):
-        """The state after this block: (state, None), or (None, the digest of a block that is missing), or (None, None): it is off the chain."""
+        """The state after this block: (state, None), or (None, a missing digest), or (None, None) where it is off the chain."""
         if parent == self.head[1]:
             return self.state, None
         path, missing = self.store.path(parent, self.head[1])

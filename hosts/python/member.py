@@ -7,7 +7,8 @@
 The configuration: {"me": 0, "setup": SETUP, "program": PATH, "folder": PATH, "peers": ["127.0.0.1:7000", ..], "client": "127.0.0.1:8000",
 "accounts": {"a": 100, ..}, "pace": MS}: `peers` are the addresses of all members, `pace` is how long a leader waits for transfers.
 
-Clients write lines to the client port: `transfer SENDER RECEIVER AMOUNT NUMBER`, `balances`, `chain FROM` or `status`; a line comes back."""
+Clients write lines to the client port: `transfer SENDER RECEIVER AMOUNT NUMBER`, `balances`, `chain FROM` or `status`. To each a line
+comes back."""
 import argparse
 import asyncio
 import json
@@ -210,8 +211,9 @@ class Member:
                 self.try_pending()
                 return "ok" if is_new else "known"
             case ["balances"]:
-                state = {"view": ledger.head[0], "height": len(ledger.chain) - 1, "balances": ledger.state.balances, "sent": ledger.state.sent}
-                return json.dumps(state)
+                state = ledger.state
+                height = len(ledger.chain) - 1
+                return json.dumps({"view": ledger.head[0], "height": height, "balances": state.balances, "sent": state.sent})
             case ["chain", start] if start.isdecimal():
                 return json.dumps(ledger.chain[int(start):][:1000])
             case ["status"]:

@@ -179,7 +179,7 @@ def vote_of(data):
 
 
 def make_folder(program, me, setup, folder):
-    """Makes the folder of a member that never ran. Only who sets a cluster up may call it: a member whose folder is gone forgot its votes."""
+    """Makes the folder of a member that never ran. Only who sets a cluster up calls it: a member whose folder is gone forgot its votes."""
     done = subprocess.run([program, "init", str(me), str(folder)], input=json.dumps(setup) + "\n", text=True, capture_output=True)
     if done.returncode != 0:
         raise RuntimeError(f"init {me}: {STATUSES.get(done.returncode, done.returncode)}: {done.stderr.strip()}")

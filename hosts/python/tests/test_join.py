@@ -5,7 +5,7 @@ import unittest
 
 sys.path.insert(0, str(pathlib.Path(__file__).resolve().parent.parent))
 from join_logs import Command, Join, Unsaid, commands_of, steps_after, until_view
-from node import setup_of
+from node import Final, setup_of
 
 SETUP = setup_of(2)
 FIRST = json.dumps(SETUP, separators=(",", ":"))
@@ -13,7 +13,10 @@ LEADER = [
     f"10 1 < {FIRST}", "11 1 < start 5", "12 1 > ask 0 propose 1 0 0 gg", "13 1 > ready 1 1005",
     "20 1 < now 6", "21 1 < answer 0 payload aa", "22 1 > ready 1 1005", "23 1 > send vote all 00", "24 1 > ready 1 1005",
 ]
-OTHER = [f"14 1 < {FIRST}", "15 1 < start 5", "16 1 > ready 1 1005", "30 1 < now 7", "30 1 < packet 0 vote 00", "31 1 > ready 1 1005", "32 1 > ready 1 1005"]
+OTHER = [
+    f"14 1 < {FIRST}", "15 1 < start 5", "16 1 > ready 1 1005",
+    "30 1 < now 7", "30 1 < packet 0 vote 00", "31 1 > ready 1 1005", "32 1 > ready 1 1005",
+]
 
 
 def lines(log):
@@ -21,7 +24,7 @@ def lines(log):
 
 
 def record(setup, events):
-    """Stands for the simulator: member 0 asks at its start, and a step of its answer sends a vote to member 1; no other step finds anything."""
+    """Stands for the simulator: member 0 asks at its start, and the step of its answer sends a vote to member 1; other steps are idle."""
     entries, answered = [], False
     for event in events:
         entry = {"packets": [], "asked": [], "dropped": [], "outcome": "done"}
@@ -44,7 +47,8 @@ class Logs(unittest.TestCase):
         commands, setup = commands_of([lines(LEADER), lines(OTHER)])
         self.assertEqual(setup, SETUP)
         self.assertEqual([(it.member, it.line, len(it.out)) for it in commands], [
-            (0, "start 5", 1), (1, "start 5", 0), (0, "now 6", 0), (0, "answer 0 payload aa", 1), (1, "now 7", 0), (1, "packet 0 vote 00", 0)])
+            (0, "start 5", 1), (1, "start 5", 0), (0, "now 6", 0), (0, "answer 0 payload aa", 1), (1, "now 7", 0),
+            (1, "packet 0 vote 00", 0)])
         self.assertEqual([it.deadline for it in commands], [None, None, 1005, 1005, 1005, 1005])
 
     def test_a_second_life_is_a_crash_and_a_start(self):
@@ -65,8 +69,8 @@ class Logs(unittest.TestCase):
             commands_of([lines(LEADER), lines(other)])
 
     def test_until_each_member_has_the_view(self):
-        from node import Final
-        commands = [Command(place, member, "", [Final(view, "", "")]) for place, (member, view) in enumerate([(0, 1), (0, 2), (1, 2), (0, 3)])]
+        finals = [(0, 1), (0, 2), (1, 2), (0, 3)]
+        commands = [Command(place, member, "", [Final(view, "", "")]) for place, (member, view) in enumerate(finals)]
         self.assertEqual(len(until_view(commands, 2, 2)), 3)
 
 
@@ -94,8 +98,12 @@ class Runs(unittest.TestCase):
             self.join(LEADER, [line.replace("vote 00", "vote 02") for line in OTHER])
 
     def test_before_its_deadline_the_clock_alone_goes_on(self):
-        self.assertEqual(steps_after(0, "now 9", 1, deadline=10), [])
-        self.assertIn("timer", [it["source"] for it in steps_after(0, "now 10", 1, deadline=10)])
+        self.assertEqual(steps_after(Command(0, 0, "now 9", [], deadline=10), 1), [])
+        self.assertIn("timer", [it["source"] for it in steps_after(Command(0, 0, "now 10", [], deadline=10), 1)])
+
+    def test_an_answer_is_taken_by_the_source_of_its_request(self):
+        steps = [it["source"] for it in steps_after(Command(0, 0, "answer 3 true", []), 1, "verify")]
+        self.assertEqual([it for it in steps if it not in ("voter", "batcher", "resolver")], ["verify"])
 
 
 if __name__ == "__main__":
