@@ -6,8 +6,9 @@
 The logs are those of `member.py --log`, of member 0, 1, .., written on one machine: their stamps are of one clock. A command of a log
 becomes a delivery, an answer, a tick or a start, and the steps that the member made after it. A log does not tell the steps, nor which of
 them made a packet: `simplex_audit_cli record` does, of the run so far. So the tool adds more steps than there can be, in the order in
-which a member looks for its next one, leaves out those that found nothing, and goes on with what the record says. What each command made by the
-record must be what the log says: the same packets, requests and dropped requests, in order. At the end `check` judges the record.
+which a member looks for its next one, leaves out those that found nothing, and goes on with what the record says. What each command made
+by the record must be what the log says: the same packets, requests, dropped requests and finalizations, in order. At the end `check`
+judges the record.
 
 A member that was killed crashes in the run, where what it did last but nobody heard of is tried, step by step, until its next start is as
 in the log. What no run says (a kill within a step that stored something, a packet that no log has sent, a power loss) ends the join at
@@ -217,6 +218,10 @@ class Join:
                 said.append(("send", packet["channel"], tuple(sorted(to)), packet["bytes"]))
             for request in entry["dropped"]:
                 said.append(("drop", self.place_of(command.member, request)))
+            for call in entry["calls"]:
+                # Certificates are reported among other calls; that of a finalization begins with 02.
+                if isinstance(call, dict) and call.get("report", "").startswith("02"):
+                    said.append(("final", call["report"]))
             for place, ask in enumerate(entry["asked"]):
                 self.requests[command.member].append([number, place])
                 self.kinds[number, place] = ask["kind"]
@@ -237,19 +242,21 @@ class Join:
                     yield "send", it.channel, others if it.to is None else tuple(sorted(it.to)), it.bytes
                 case Drop():
                     yield "drop", it.request
+                case Final():
+                    yield "final", it.certificate
                 case Ask():
                     yield "ask", it.kind, it.view, it.payload
 
     def compare(self, command, said):
         logged = list(self.logged(command))
         # A send to nobody is no packet. Requests and packets stand in lists of their own in an entry, so each kind is compared by itself.
-        for kind in ("send", "drop", "ask"):
+        for kind in ("send", "drop", "ask", "final"):
             ours, theirs = [[it for it in found if it[0] == kind] for found in (said, logged)]
             if ours != theirs:
                 raise Unsaid(f"member {command.member}, {command.line[:80]}: the log has {len(theirs)} of {kind} {theirs}, the run {ours}")
         self.counts["packets"] += sum(it[0] == "send" for it in logged)
         self.counts["requests"] += sum(it[0] == "ask" for it in logged)
-        self.counts["finals"] += sum(isinstance(it, Final) for it in command.out)
+        self.counts["finals"] += sum(it[0] == "final" for it in logged)
         self.counts["commands"] += 1
 
     def kept(self):

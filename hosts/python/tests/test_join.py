@@ -27,7 +27,7 @@ def record(setup, events):
     """Stands for the simulator: member 0 asks at its start, and the step of its answer sends a vote to member 1; other steps are idle."""
     entries, answered = [], False
     for event in events:
-        entry = {"packets": [], "asked": [], "dropped": [], "outcome": "done"}
+        entry = {"packets": [], "asked": [], "dropped": [], "calls": [], "outcome": "done"}
         match event:
             case {"do": "start", "node": [0, 0]}:
                 entry["asked"] = [{"kind": "propose", "round": [0, 1], "payload": None}]
