@@ -152,6 +152,7 @@ class Join:
         self.packets = {}  # (sender, channel, bytes): [(event, place, receivers)]
         self.requests = [[] for _ in setup["members"]]
         self.kinds = {}
+        self.running = set()
         self.counts = {"commands": 0, "rounds": 0, "packets": 0, "requests": 0, "finals": 0, "crashes": 0, "unheard steps": 0}
 
     def events_of(self, command, clock):
@@ -209,7 +210,10 @@ class Join:
                 continue
             self.events.append(event)
             number = len(self.events)
+            if event["do"] == "start":
+                self.running.add(command.member)
             if event["do"] == "crash":
+                self.running.discard(command.member)
                 self.requests[command.member] = []
             for place, packet in enumerate(entry["packets"]):
                 to = {member for member, _ in packet["to"]}
@@ -261,7 +265,7 @@ class Join:
 
     def kept(self):
         """A copy of what is known."""
-        return copy.deepcopy((self.events, self.packets, self.requests, self.kinds, self.counts))
+        return copy.deepcopy((self.events, self.packets, self.requests, self.kinds, self.running, self.counts))
 
     def crash(self, command):
         """A member was killed: as many steps of what nobody heard of as make its next start what the log has."""
@@ -278,7 +282,9 @@ class Join:
         start = {"do": "start", "node": [me, 0], "floor": None, "stop": None}
         kept = self.kept()
         for count in range(len(unheard) + 1):
-            trial = unheard[:count] + [crash]
+            # A process that was killed before its start was heard of may not have started.
+            runs = me in self.running or start in unheard[:count]
+            trial = unheard[:count] + [crash] * runs
             if command.next_start:
                 more = trial + [start] + steps_after(command.next_start, 3)
                 entries = self.record(self.setup, self.events + more)["entries"][len(self.events):]
@@ -288,7 +294,7 @@ class Join:
                     found = True
                 except Unsaid:
                     found = False
-                self.events, self.packets, self.requests, self.kinds, self.counts = kept
+                self.events, self.packets, self.requests, self.kinds, self.running, self.counts = kept
                 kept = self.kept()
                 if not found:
                     continue

@@ -97,6 +97,14 @@ class Runs(unittest.TestCase):
         with self.assertRaisesRegex(Unsaid, "what it takes is in no log"):
             self.join(LEADER, [line.replace("vote 00", "vote 02") for line in OTHER])
 
+    def test_a_life_that_was_killed_before_its_start_was_heard_of(self):
+        second = [f"40 2 < {FIRST}", "41 2 < start 8"]
+        third = [f"50 3 < {FIRST}", "51 3 < start 9", "52 3 > ask 0 propose 1 0 0 gg", "53 3 > ready 1 1009"]
+        join = self.join(LEADER + second + third, OTHER)
+        done = [event["do"] for event in join.events if event.get("node") == [0, 0]]
+        self.assertEqual(done, ["start", "answer", "step", "crash", "start"])
+        self.assertEqual(join.requests[0], [[len(join.events), 0]])
+
     def test_before_its_deadline_the_clock_alone_goes_on(self):
         self.assertEqual(steps_after(Command(0, 0, "now 9", [], deadline=10), 1), [])
         self.assertIn("timer", [it["source"] for it in steps_after(Command(0, 0, "now 10", [], deadline=10), 1)])
