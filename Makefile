@@ -53,3 +53,11 @@ pictures:
 
 viewer-test:
 	@viewer/test/records.py && node --test --test-concurrency=1 viewer/test/*.test.js
+cluster:
+	@hosts/python/cluster.py
+
+crashes:
+	@hosts/python/crashes.py --all
+
+hosts-test:
+	@python3 -m unittest discover -s hosts/python/tests
