@@ -53,6 +53,7 @@ pictures:
 
 viewer-test:
 	@viewer/test/records.py && node --test --test-concurrency=1 viewer/test/*.test.js
+
 cluster:
 	@hosts/python/cluster.py
 
