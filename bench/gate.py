@@ -1,26 +1,32 @@
 #!/usr/bin/env python3
-"""What the gate costs, crate by crate: runs `rt ci`, and prints a table of seconds of processor time for docs/GATE.md.
+"""What the gate costs, crate by crate: runs `rt ci`, and prints for docs/GATE.md a table of seconds of processor time, a timeline, and the
+longest chain of crates.
 
     bench/gate.py --anew          the whole gate from nothing, as the table of docs/GATE.md is made
     bench/gate.py [WORD..]        `rt ci` with these words; what an earlier run passed is not done again, and costs nothing
+    bench/gate.py --speed         the seconds of one small crate, proved from nothing: by these the figures of two machines are compared
     bench/gate.py --join TABLE LOG [TABLE LOG]..
                                   one table of a run that was stopped and gone on with, by what each of its parts wrote to standard
                                   output and standard error: of a proof the last part counts that proved the crate, of tests and
                                   wrong bodies the dearest
 
-The gate's log tells no times. So while the gate runs, this looks five times a second at the processor time of each of its
-processes, as Linux tells it in /proc, and adds it to the crate that the process was started for: to its proof, its tests, or
+The gate's log has no times. So while the gate runs, this looks five times a second at the processor time of each of its
+processes, as Linux has it in /proc, and adds it to the crate that the process was started for: to its proof, its tests, or
 its wrong bodies (with the proof of the crate that they begin with). What ends between two looks is missed. The gate's own lines
 go to standard error.
 """
 import collections
 import os
 import re
+import resource
 import signal
 import subprocess
 import sys
 import time
 
+# The crate of --speed: 34 functions, over nothing but the kit.
+SMALL = "simplex_io"
+TOP = os.path.dirname(os.path.dirname(os.path.abspath(__file__)))
 KINDS = ("proof", "tests", "edits")
 TICKS = os.sysconf("SC_CLK_TCK")
 
@@ -60,11 +66,22 @@ class Clock:
         self.session = str(session).encode()
         self.ticks = {}
         self.labels = {}
+        self.begun = time.monotonic()
+        # of each crate and kind the seconds since the begin at which it was first and last seen at work
+        self.spans = {}
+        # how many crates were at work at each look, with its time
+        self.lanes = []
 
     def look(self):
+        now = time.monotonic() - self.begun
+        self.seen = set()
         for name in os.listdir("/proc"):
             if name.isdigit():
                 self.note(int(name))
+        for work in self.seen:
+            first, _ = self.spans.get(work, (now, now))
+            self.spans[work] = first, now
+        self.lanes.append((now, len(self.seen)))
 
     def note(self, pid):
         stat = fields(pid)
@@ -76,6 +93,7 @@ class Clock:
         found = label(pid) or self.labels.get(process) or self.labels.get(parent)
         if found:
             self.labels[process] = found
+            self.seen.add(found)
         self.ticks[process] = int(stat[11]) + int(stat[12])
 
     def seconds(self):
@@ -97,6 +115,50 @@ def table(seconds):
     yield "| all, in minutes | " + " | ".join(f"{it:.1f}" for it in each) + f" | {sum(each):.1f} |"
     yield ""
     yield f"Besides, {seconds[None, None] / 60:.1f} minutes for `rt` itself and for the programs and tests that it ran."
+
+
+def needed():
+    """The crates of the repository that each crate names."""
+    found = {}
+    with open(os.path.join(TOP, "crates.txt")) as file:
+        for line in file:
+            head, colon, rest = line.partition(":")
+            if colon and not line.startswith("#"):
+                found[head.split()[0]] = rest.split()
+    return {crate: [it for it in names if it in found] for crate, names in found.items()}
+
+
+def chain(seconds):
+    """The crates that stand on one another whose proofs take longest in all, the lowest first, and their seconds."""
+    below, best = needed(), {}
+
+    def longest(crate):
+        if crate not in best:
+            before = max((longest(it) for it in below[crate]), key=lambda it: it[0], default=(0, []))
+            best[crate] = before[0] + seconds[crate, "proof"], before[1] + [crate]
+        return best[crate]
+
+    return max((longest(crate) for crate in below), key=lambda it: it[0])
+
+
+def timeline(clock):
+    """Which crate was at work in which minutes, and how long how many lanes were."""
+    yield "| Crate | Work | Minutes |"
+    yield "|---|---|---|"
+    for (crate, kind), (first, last) in sorted(clock.spans.items(), key=lambda it: it[1]):
+        yield f"| `{crate}` | {kind} | {first / 60:.1f} to {last / 60:.1f} |"
+    yield ""
+    idle = collections.Counter()
+    for (at, lanes), (after, _) in zip(clock.lanes, clock.lanes[1:]):
+        idle[lanes] += after - at
+    yield "Minutes with so many crates at work: " + ", ".join(f"{lanes}: {idle[lanes] / 60:.1f}" for lanes in sorted(idle)) + "."
+
+
+def speed():
+    """The seconds of processor time of the proof of one small crate from nothing."""
+    subprocess.run(["rt", "ci", "--anew", SMALL], cwd=TOP, stdout=sys.stderr, check=True)
+    used = resource.getrusage(resource.RUSAGE_CHILDREN)
+    print(f"{SMALL}: {used.ru_utime + used.ru_stime:.1f} s of processor time, at a load of {os.getloadavg()[0]:.0f}")
 
 
 def rows(path):
@@ -132,8 +194,10 @@ def main():
     if sys.argv[1:2] == ["--join"]:
         print("\n".join(table(joined(list(zip(sys.argv[2::2], sys.argv[3::2]))))))
         return
-    top = os.path.dirname(os.path.dirname(os.path.abspath(__file__)))
-    gate = subprocess.Popen(["rt", "ci", *sys.argv[1:]], cwd=top, stdout=sys.stderr, start_new_session=True)
+    if sys.argv[1:2] == ["--speed"]:
+        speed()
+        return
+    gate = subprocess.Popen(["rt", "ci", *sys.argv[1:]], cwd=TOP, stdout=sys.stderr, start_new_session=True)
     clock = Clock(gate.pid)
     try:
         while gate.poll() is None:
@@ -143,7 +207,11 @@ def main():
         # The gate has a session of its own, which a break does not reach.
         os.killpg(gate.pid, signal.SIGTERM)
         gate.wait()
-    print("\n".join(table(clock.seconds())))
+    seconds = clock.seconds()
+    print("\n".join(table(seconds)))
+    long, crates = chain(seconds)
+    print(f"\nThe longest chain: {long / 60:.1f} minutes, {', '.join(crates)}.\n")
+    print("\n".join(timeline(clock)))
     sys.exit(gate.returncode)
 
 
