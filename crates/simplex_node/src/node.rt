@@ -142,10 +142,10 @@ impl<S: Scheme + Drop, L: Elector + Drop, J: Journal + Drop> Node<S, L, J> {
         self.out.clear();
         match self.next_source() {
             None => Ok(None),
-            Some(source) => {
-                self.poll(Input::Step(source))?;
-                Ok(Some(source))
-            }
+            Some(source) => match self.poll(Input::Step(source)) {
+                Ok(()) => Ok(Some(source)),
+                Err(error) => Err(error),
+            },
         }
     }
 
