@@ -1,9 +1,11 @@
 //! A life of a member: from the first line to the end of the input.
 use crate::end::End;
-use crate::making::{FolderJournal, make, member_of, node_of, open, setup_of};
-use simplex_members::{NodeElector, NodeScheme};
+use crate::making::{make, member_of, node_of, open, setup_of};
+use simplex_journal::Journal;
 use simplex_names::number_of;
 use simplex_node::{Node, NodeError, Time, command_of, push_lines};
+use simplex_types::Scheme;
+use simplex_types::elector::Elector;
 use std::alloc::Global;
 use std::fs::File;
 use std::io::{BufRead, BufReader, Read, Write};
@@ -14,9 +16,9 @@ const MOST_STEPS: u64 = 1 << 20;
 
 // What a life works on.
 #[derive(Drop)]
-struct Life<R: Files<File = File> + Drop> {
+struct Life<S: Scheme + Drop, L: Elector + Drop, J: Journal + Drop> {
     alloc: Global,
-    node: Node<NodeScheme, NodeElector, FolderJournal<R>>,
+    node: Node<S, L, J>,
     is_started: bool,
     // how many requests the member made since its start
     asked: u64,
@@ -24,7 +26,7 @@ struct Life<R: Files<File = File> + Drop> {
     text: String,
 }
 
-impl<R: Files<File = File> + Drop> Life<R> {
+impl<S: Scheme + Drop, L: Elector + Drop, J: Journal + Drop> Life<S, L, J> {
     fn push_lines(&mut self) -> Result<(), End> {
         self.asked = push_lines(self.alloc, &mut self.text, self.node.out(), self.asked)?;
         Ok(())
@@ -123,45 +125,47 @@ pub(crate) fn run<
     R: Files<File = File> + AllocGlobal + Clone + Drop,
     I: Read + Drop,
     W: Write + Drop,
->(rt: &R, me: &str, folder: &str, input: I, mut out: W) -> Result<(), End> {
+>(rt: &R, me: &str, folder: &str, input: I, out: W) -> Result<(), End> {
     let alloc = rt.alloc();
-    let mut life: Option<Life<R>> = None;
-    let mut number: u64 = 0;
-    for line in BufReader::new(alloc, input)?.lines(alloc) {
-        let line = line?;
-        number = number.saturating_add(1);
-        match &mut life {
-            None => life = Some(begun(rt, me, folder, line.as_str())?),
-            Some(life) => {
-                let answered = life.answer(number, line.as_str());
-                write(&mut out, &mut life.text)?;
-                answered?;
-            }
-        }
-    }
-    match life {
-        None => Err(End::BadSetup),
-        Some(_) => Ok(()),
-    }
-}
-
-// The life that begins with this first line.
-fn begun<R: Files<File = File> + AllocGlobal + Clone + Drop>(
-    rt: &R,
-    me: &str,
-    folder: &str,
-    line: &str,
-) -> Result<Life<R>, End> {
-    let alloc = rt.alloc();
-    let setup = setup_of(alloc, line)?;
+    let mut input = BufReader::new(alloc, input)?;
+    let first = first_line(alloc, &mut input)?;
+    let setup = setup_of(alloc, first.as_str())?;
     let me = member_of(&setup, me)?;
     let journal = open(rt, &setup, me, folder)?;
     let node = node_of(alloc, &setup, me, journal)?;
-    Ok(Life {
+    live(alloc, node, input, out)
+}
+
+// The first line, without its end.
+fn first_line<B: BufRead>(alloc: Global, input: &mut B) -> Result<String, End> {
+    let mut line = String::new(alloc);
+    input.read_line(&mut line)?;
+    if line.ends_with('\n') {
+        let _end = line.pop();
+    }
+    Ok(line)
+}
+
+// The life of the member, from the second line on.
+fn live<S: Scheme + Drop, L: Elector + Drop, J: Journal + Drop, B: BufRead + Drop, W: Write + Drop>(
+    alloc: Global,
+    node: Node<S, L, J>,
+    input: B,
+    mut out: W,
+) -> Result<(), End> {
+    let mut life = Life {
         alloc,
         node,
         is_started: false,
         asked: 0,
         text: String::new(alloc),
-    })
+    };
+    let mut number: u64 = 1;
+    for line in input.lines(alloc) {
+        number = number.saturating_add(1);
+        let answered = life.answer(number, line?.as_str());
+        write(&mut out, &mut life.text)?;
+        answered?;
+    }
+    Ok(())
 }

@@ -1,6 +1,4 @@
 //! What a member is made with, and its folder.
-ghost use Rattle.std.specs.Prelude.{◌≡◌};
-
 use crate::end::End;
 use simplex_disk::DiskJournal;
 use simplex_files::{FileDisk, init};
@@ -10,7 +8,7 @@ use simplex_members::{NodeElector, NodeScheme, config_of, first_bad};
 use simplex_names::number_of;
 use simplex_node::Node;
 use simplex_transcript::{MemberKind, Setup};
-use simplex_types::{Epoch, Participant, genesis};
+use simplex_types::{Digest, Epoch, Participant, genesis};
 use simplex_writer::write_input;
 use std::alloc::Global;
 use std::fs::File;
@@ -84,6 +82,11 @@ pub(crate) fn open<R: Files<File = File> + AllocGlobal + Clone + Drop>(
     }
 }
 
+// The payload of view 0.
+fn genesis_at(epoch: u64) -> Digest {
+    genesis(Epoch(epoch))
+}
+
 /// The member, over its journal.
 pub(crate) fn node_of<J: Journal + Drop>(
     alloc: Global,
@@ -94,7 +97,7 @@ pub(crate) fn node_of<J: Journal + Drop>(
     if first_bad(setup).is_some() || me.0 as usize >= setup.members.len() {
         return Err(End::BadSetup);
     }
-    let config = config_of(alloc, setup, genesis(Epoch(setup.epoch)), me, &None)?;
+    let config = config_of(alloc, setup, genesis_at(setup.epoch), me, &None)?;
     match Node::new(alloc, config, journal) {
         Ok(node) => Ok(node),
         Err(_) => Err(End::Memory),
