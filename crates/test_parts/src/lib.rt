@@ -7,9 +7,9 @@ mod engine;
 mod fetcher;
 mod mail;
 mod network;
+mod part;
 mod resolver;
 mod state;
-mod told;
 mod verifier;
 
-pub use told::told;
+pub use part::told;
