@@ -8,7 +8,7 @@ inputs=("$@")
 to=$here/pictures
 if [[ $# -eq 0 ]]; then
     to=$here/docs/pictures
-    for name in four-members-finalize-over-a-crash happy-path-of-four lost-proposal-is-nullified leader-crashes-behind-its-stored-vote \
+    for name in four-members-finalize-over-a-crash happy-path-of-four lost-proposal-is-nullified leader-crashes-after-its-stored-vote \
         restarted-member-votes-once restart-at-a-floor-of-another equivocator-is-reported member-behind-fetches \
         twins-do-not-split; do
         inputs+=("$here/examples/net/$name.json")
