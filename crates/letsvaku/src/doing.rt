@@ -1,5 +1,6 @@
 //! What each command does: the programs of the libraries.
-use crate::ending::{BAD_WORDS, Ending, Outcome, of_run, of_work};
+use crate::ending::{Ending, Outcome, of_run, of_work};
+use crate::viewing::view;
 use simplex_audits::audit_program;
 use simplex_commands::Command;
 use simplex_epochs::epochs_program;
@@ -8,18 +9,18 @@ use simplex_lab::lab_program;
 use simplex_ledgers::ledger_program;
 use simplex_logs::log_program;
 use simplex_program::program;
-use std::alloc::Global;
+use std::rt::Files;
 use std::thread::Threads;
 
 /// Does the command with the words and a source, and writes what it prints to the sink.
-pub(crate) fn perform<R: Threads + Sync, S: Source, K: Sink>(
+pub(crate) fn perform<R: Files + AllocGlobal + Threads + Sync, S: Source, K: Sink>(
     rt: &R,
-    alloc: Global,
     command: Command,
     words: &[String],
     source: &mut S,
     sink: &mut K,
 ) -> Ending {
+    let alloc = rt.alloc();
     match command {
         Command::Run | Command::Par | Command::Gen => {
             of_run(program(rt, alloc, words, source, sink))
@@ -31,10 +32,8 @@ pub(crate) fn perform<R: Threads + Sync, S: Source, K: Sink>(
         Command::Balances => of_work(ledger_program(alloc, words, source, sink)),
         Command::Chain => of_work(epochs_program(alloc, words, source, sink)),
         Command::Record | Command::Check => of_work(audit_program(alloc, words, source, sink)),
-        // These are asked for in other ways.
-        Command::View | Command::Help | Command::Version => Ending {
-            status: BAD_WORDS,
-            outcome: Outcome::Told,
-        },
+        Command::View => view(rt, words, source, sink),
+        // These two are asked for by requests of their own.
+        Command::Help | Command::Version => Ending::new(Ending::BAD_WORDS, Outcome::Told),
     }
 }

@@ -3,21 +3,6 @@ use simplex_front::{Exit, Reason};
 use simplex_program::Exit as RunExit;
 use std::mem;
 
-/// The status where the run is refused.
-pub(crate) const REFUSED: u8 = 1;
-
-/// The status where the words are wrong.
-pub(crate) const BAD_WORDS: u8 = 2;
-
-/// The status where the output cannot be written.
-pub(crate) const WRITE_FAULT: u8 = 6;
-
-/// The status where memory is short.
-pub(crate) const MEMORY: u8 = 7;
-
-/// The status where the file cannot be opened.
-pub(crate) const CANNOT_OPEN: u8 = 20;
-
 /// What standard output does not tell of how a command ended.
 #[derive(Clone, Copy, Debug, PartialEq, Eq)]
 pub(crate) enum Outcome {
@@ -31,6 +16,8 @@ pub(crate) enum Outcome {
     WriteFault,
     /// Out of memory.
     Memory,
+    /// The files of the page could not be read.
+    NoPage,
 }
 
 /// How a command ended: the status of the process, and what is left to say.
@@ -38,6 +25,43 @@ pub(crate) enum Outcome {
 pub(crate) struct Ending {
     pub(crate) status: u8,
     pub(crate) outcome: Outcome,
+}
+
+impl Ending {
+    /// The status where the run is refused.
+    pub(crate) const REFUSED: u8 = 1;
+    /// The status where the words are wrong.
+    pub(crate) const BAD_WORDS: u8 = 2;
+    /// The status where the input is not of the form.
+    pub(crate) const BAD_INPUT: u8 = 3;
+    /// The status where the input is too long.
+    pub(crate) const TOO_LONG: u8 = 4;
+    /// The status where the file cannot be opened.
+    pub(crate) const UNOPENED: u8 = 20;
+
+    pub(crate) const READ_FAULT: Ending = Ending {
+        status: 5,
+        outcome: Outcome::ReadFault,
+    };
+
+    pub(crate) const WRITE_FAULT: Ending = Ending {
+        status: 6,
+        outcome: Outcome::WriteFault,
+    };
+
+    pub(crate) const MEMORY: Ending = Ending {
+        status: 7,
+        outcome: Outcome::Memory,
+    };
+
+    pub(crate) const NO_PAGE: Ending = Ending {
+        status: 21,
+        outcome: Outcome::NoPage,
+    };
+
+    pub(crate) fn new(status: u8, outcome: Outcome) -> Ending {
+        Ending { status, outcome }
+    }
 }
 
 fn outcome_of_run(exit: &RunExit) -> Outcome {
@@ -54,10 +78,7 @@ fn outcome_of_run(exit: &RunExit) -> Outcome {
 
 /// The ending of a run. The process ends after it, and its memory with it: a run's entries need not be let go one by one.
 pub(crate) fn of_run(exit: RunExit) -> Ending {
-    let ending = Ending {
-        status: exit.status(),
-        outcome: outcome_of_run(&exit),
-    };
+    let ending = Ending::new(exit.status(), outcome_of_run(&exit));
     mem::forget(exit);
     ending
 }
@@ -74,10 +95,7 @@ fn outcome_of<D: Drop, R: Reason>(exit: &Exit<D, R>) -> Outcome {
 
 /// The ending of any other work, whose memory is not let go either.
 pub(crate) fn of_work<D: Drop, R: Reason>(exit: Exit<D, R>) -> Ending {
-    let ending = Ending {
-        status: exit.status(),
-        outcome: outcome_of(&exit),
-    };
+    let ending = Ending::new(exit.status(), outcome_of(&exit));
     mem::forget(exit);
     ending
 }

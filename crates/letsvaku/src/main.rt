@@ -8,9 +8,10 @@
 mod doing;
 mod ending;
 mod saying;
+mod viewing;
 
 use crate::doing::perform;
-use crate::ending::{BAD_WORDS, CANNOT_OPEN, MEMORY, WRITE_FAULT};
+use crate::ending::Ending;
 use crate::saying::{say, say_unopened, say_wrong};
 use simplex_commands::{Command, Request, VERSION, help_text, request_of};
 use simplex_diagnosis::KeptSource;
@@ -28,13 +29,13 @@ fn print_text<R: Print + AllocGlobal>(rt: &R, text: &str) -> u8 {
     let mut sink = WriterSink::new(io::writer(rt));
     match write_text(&mut sink, text.as_bytes()) {
         Ok(()) => 0,
-        Err(SinkError::Memory) => MEMORY,
-        Err(SinkError::Failed) => WRITE_FAULT,
+        Err(SinkError::Memory) => Ending::MEMORY.status,
+        Err(SinkError::Failed) => Ending::WRITE_FAULT.status,
     }
 }
 
 // Does the command with what comes from a reader, which is a file if it has a name.
-fn work<R: Print + Eprint + AllocGlobal + Threads + Sync, I: Read + Drop>(
+fn work<R: Files + Print + Eprint + AllocGlobal + Threads + Sync, I: Read + Drop>(
     rt: &R,
     command: Command,
     words: &[String],
@@ -44,7 +45,7 @@ fn work<R: Print + Eprint + AllocGlobal + Threads + Sync, I: Read + Drop>(
     let alloc = rt.alloc();
     let mut source = KeptSource::new(alloc, ReaderSource::new(alloc, reader));
     let mut sink = WriterSink::new(io::writer(rt));
-    let ending = perform(rt, alloc, command, words, &mut source, &mut sink);
+    let ending = perform(rt, command, words, &mut source, &mut sink);
     say(rt, command, name, ending, source.bytes());
     ending.status
 }
@@ -58,14 +59,14 @@ fn work_on_file<R: Files + Print + Eprint + AllocGlobal + Threads + Sync>(
 ) -> u8 {
     let mut words = words;
     if place >= words.len() {
-        return BAD_WORDS;
+        return Ending::BAD_WORDS;
     }
     let name = words.remove(place);
     match fs::open(rt, name.as_str()) {
         Ok(file) => work(rt, command, &words, Some(name.as_str()), file),
         Err(error) => {
             say_unopened(rt, name.as_str(), &error);
-            CANNOT_OPEN
+            Ending::UNOPENED
         }
     }
 }
@@ -73,7 +74,7 @@ fn work_on_file<R: Files + Print + Eprint + AllocGlobal + Threads + Sync>(
 fn main(rt: HostRuntime) -> ExitCode {
     let words = match words_of(&rt) {
         Ok(words) => words,
-        Err(AllocError) => return ExitCode::from(MEMORY),
+        Err(AllocError) => return ExitCode::from(Ending::MEMORY.status),
     };
     let status = match request_of(&words) {
         Request::Help(command) => print_text(&rt, help_text(command)),
@@ -88,7 +89,7 @@ fn main(rt: HostRuntime) -> ExitCode {
         } => work(&rt, command, &words, None, rt.reader()),
         Request::Wrong(wrong) => {
             say_wrong(&rt, &words, wrong);
-            BAD_WORDS
+            Ending::BAD_WORDS
         }
     };
     ExitCode::from(status)

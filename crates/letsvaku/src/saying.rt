@@ -1,7 +1,7 @@
 //! What is said on standard error. Where that fails too, the status alone tells it.
-use crate::ending::{Ending, Outcome, REFUSED};
+use crate::ending::{Ending, Outcome};
 use simplex_commands::{Command, Wrong, wrong_line};
-use simplex_diagnosis::explain;
+use simplex_diagnosis::{Shape, explain_as};
 use simplex_lab::script_fault;
 use std::alloc::{AllocError, Global};
 use std::io::Error;
@@ -18,6 +18,16 @@ pub(crate) fn say_unopened(rt: &(impl Eprint + AllocGlobal), name: &str, error: 
     let _said = eprintln!(rt; "letsvaku: {name} cannot be opened: {error}");
 }
 
+// What the command's input is of.
+fn shape_of(command: Command) -> Shape {
+    match command {
+        Command::Balances => Shape::Ledger,
+        Command::Chain => Shape::Epochs,
+        Command::Check => Shape::Record,
+        _ => Shape::Run,
+    }
+}
+
 // What is wrong with an input, or with a script.
 fn fault_in(
     alloc: Global,
@@ -30,7 +40,7 @@ fn fault_in(
             Ok(Some(fault)) => Ok(Some(format!(in alloc; "{fault}")?)),
             _ => Ok(None),
         },
-        _ => Ok(Some(explain(alloc, bytes, place)?)),
+        _ => Ok(Some(explain_as(alloc, shape_of(command), bytes, place)?)),
     }
 }
 
@@ -51,7 +61,7 @@ fn say_bad_input(
 // Whether `trace` says more on a refused run of the same input.
 fn is_traced(command: Command) -> bool {
     match command {
-        Command::Run | Command::Par | Command::Logs | Command::Record => true,
+        Command::Run | Command::Par | Command::Logs | Command::Record | Command::View => true,
         _ => false,
     }
 }
@@ -77,8 +87,13 @@ pub(crate) fn say(
         Outcome::Memory => {
             let _said = eprintln!(rt; "letsvaku: out of memory");
         }
+        Outcome::NoPage => {
+            let _said = eprintln!(rt;
+                "letsvaku: the page's files, viewer/index.html and viewer/viewer.js or those in --page FOLDER, cannot be read"
+            );
+        }
         Outcome::Told => {
-            if ending.status == REFUSED && is_traced(command) {
+            if ending.status == Ending::REFUSED && is_traced(command) {
                 let name = name.unwrap_or("FILE");
                 let _said = eprintln!(rt;
                     "letsvaku: letsvaku trace {name} shows why, and what was open then"
