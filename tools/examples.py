@@ -9,7 +9,8 @@
 A folder of examples/ says the program: net, lab, audit, log, ledger, epochs; `letsvaku` runs those of all folders but the words that it
 does not take. An example has NAME.json (the input), or NAME.script; NAME.out
 (what is printed; of a script without it, the script itself); NAME.status, the exit status, where it is not 0; and NAME.words, where the words
-are not the one word run: each line is a run of its own that prints the same."""
+are not the one word run: each line is a run of its own that prints the same. NAME.said has for each run a line, which is what `letsvaku` says on
+standard error."""
 import argparse
 import os
 import pathlib
@@ -60,8 +61,8 @@ def input_of(example):
     return pathlib.Path("/dev/null")
 
 
-def fault(program, example, words):
-    """Why the program does not do what the example says with these words, or None."""
+def fault(program, example, number, words):
+    """Why the program does not do what the example says of the run of this number, which has these words, or None."""
     source = input_of(example)
     output = example.with_suffix(".out")
     if not output.exists():
@@ -77,6 +78,9 @@ def fault(program, example, words):
         return f"status {run.returncode}, not {wanted}"
     if run.stdout != output.read_bytes():
         return f"it printed otherwise, beginning {run.stdout.splitlines()[:1]}"
+    said = example.with_suffix(".said")
+    if program.name == WHOLE and said.exists() and run.stderr.decode() != said.read_text().splitlines(keepends=True)[number]:
+        return f"it said {run.stderr.decode()!r}"
     return None
 
 
@@ -128,8 +132,8 @@ def main():
         for example in examples:
             if name == WHOLE and example.name.endswith(OTHER_WORDS):
                 continue
-            for words in runs_of(example):
-                why = fault(program, example, words)
+            for number, words in enumerate(runs_of(example)):
+                why = fault(program, example, number, words)
                 count(f"{folder.name}/{example.name}", why and f"{why}, by {name} with the words {shlex.join(words)!r}")
 
     streams = asked.by or PROGRAMS["net"]

@@ -28,6 +28,10 @@ fn shape_of(command: Command) -> Shape {
     }
 }
 
+fn is_blank(bytes: &[u8]) -> bool {
+    bytes.iter().all(|byte| byte.is_ascii_whitespace())
+}
+
 // What is wrong with an input, or with a script.
 fn fault_in(
     alloc: Global,
@@ -36,6 +40,9 @@ fn fault_in(
     place: u64,
 ) -> Result<Option<String>, AllocError> {
     match command {
+        Command::Script if is_blank(bytes) => {
+            Ok(Some(String::from_str(alloc, "the input is empty")?))
+        }
         Command::Script => match script_fault(alloc, bytes) {
             Ok(Some(fault)) => Ok(Some(format!(in alloc; "{fault}")?)),
             _ => Ok(None),

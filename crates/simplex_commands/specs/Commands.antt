@@ -96,12 +96,23 @@ flag_of word =
     if bytes_eq word (codes "--page") then Some flags.Page else
     None
 
+abbrev pub is_of_simulation : Flag → Bool
+is_of_simulation flags.Page = false
+is_of_simulation flag = true
+
+abbrev pub is_events : Flag → Bool
+is_events flags.Events = true
+is_events flag = false
+
+abbrev pub is_page : Flag → Bool
+is_page flags.Page = true
+is_page flag = false
+
 -- whether the command takes the option
 abbrev pub takes_flag : Command → Flag → Bool
-takes_flag commands.Simulate flags.Page = false
-takes_flag commands.Simulate flag = true
-takes_flag commands.Script flags.Events = true
-takes_flag commands.View flags.Page = true
+takes_flag commands.Simulate flag = is_of_simulation flag
+takes_flag commands.Script flag = is_events flag
+takes_flag commands.View flag = is_page flag
 takes_flag command flag = false
 
 -- what stands behind the option

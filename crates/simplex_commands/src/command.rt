@@ -113,7 +113,17 @@ pub fn needs_of(command: Command) -> &'static [Parameter]
         Command::Par => &[Parameter::Workers],
         Command::Gen | Command::Simulate => &[Parameter::Seed, Parameter::Steps],
         Command::Shrink => &[Parameter::Line],
-        _ => &[],
+        Command::Run
+        | Command::Trace
+        | Command::Script
+        | Command::Logs
+        | Command::Balances
+        | Command::Chain
+        | Command::Record
+        | Command::Check
+        | Command::View
+        | Command::Help
+        | Command::Version => &[],
     }
 }
 
@@ -123,6 +133,17 @@ pub fn takes_file(command: Command) -> bool
 {
     match command {
         Command::Gen | Command::Help | Command::Version => false,
-        _ => true,
+        Command::Run
+        | Command::Par
+        | Command::Trace
+        | Command::Script
+        | Command::Simulate
+        | Command::Shrink
+        | Command::Logs
+        | Command::Balances
+        | Command::Chain
+        | Command::Record
+        | Command::Check
+        | Command::View => true,
     }
 }

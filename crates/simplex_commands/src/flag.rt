@@ -61,15 +61,56 @@ pub fn flag_of(word: &str) -> Option<Flag>
     }
 }
 
+// Whether a simulation takes the option.
+fn is_of_simulation(flag: Flag) -> bool
+    ensures { result ≡ said.is_of_simulation flag }
+{
+    match flag {
+        Flag::Drop | Flag::Repeat | Flag::Delay | Flag::Crash | Flag::Events => true,
+        Flag::Page => false,
+    }
+}
+
+// Whether the option is for the events.
+fn is_events(flag: Flag) -> bool
+    ensures { result ≡ said.is_events flag }
+{
+    match flag {
+        Flag::Events => true,
+        Flag::Drop | Flag::Repeat | Flag::Delay | Flag::Crash | Flag::Page => false,
+    }
+}
+
+// Whether the option is for the page.
+fn is_page(flag: Flag) -> bool
+    ensures { result ≡ said.is_page flag }
+{
+    match flag {
+        Flag::Page => true,
+        Flag::Drop | Flag::Repeat | Flag::Delay | Flag::Crash | Flag::Events => false,
+    }
+}
+
 /// Whether the command takes the option.
 pub fn takes_flag(command: Command, flag: Flag) -> bool
     ensures { result ≡ said.takes_flag command flag }
 {
     match command {
-        Command::Simulate => flag != Flag::Page,
-        Command::Script => flag == Flag::Events,
-        Command::View => flag == Flag::Page,
-        _ => false,
+        Command::Simulate => is_of_simulation(flag),
+        Command::Script => is_events(flag),
+        Command::View => is_page(flag),
+        Command::Run
+        | Command::Par
+        | Command::Gen
+        | Command::Trace
+        | Command::Shrink
+        | Command::Logs
+        | Command::Balances
+        | Command::Chain
+        | Command::Record
+        | Command::Check
+        | Command::Help
+        | Command::Version => false,
     }
 }
 

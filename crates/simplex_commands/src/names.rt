@@ -1,7 +1,7 @@
 //! The name that is nearest to a word.
-ghost use Rattle.std.specs.Prelude.{◌≡◌, ◌≤◌, ◌<◌, ℕ, List, All, IfOk, IfSome, IfNone};
+ghost use Rattle.std.specs.Prelude.{◌≡◌, ℕ, List, IfOk, IfSome, IfNone};
 ghost use Rattle.simplex_commands.specs.Commands as said;
-ghost use Rattle.simplex_commands.specs.Nearest.{edits};
+ghost use Rattle.simplex_commands.specs.Nearest.{AreFar, IsNearest};
 
 use crate::command::{Command, command_word};
 use crate::flag::{Flag, flag_word};
@@ -39,9 +39,12 @@ impl Named for Flag {
 
 /// The one of these whose name is nearest to the word, if it is at most two edits away. An edit puts a character in, leaves one out, or
 /// puts another one in its place. Of several that are equally near it is the first.
-pub fn nearest<N: Named>(alloc: Global, word: &str, among: &[N]) -> Result<Option<N>, AllocError> {
+pub fn nearest<N: Named>(alloc: Global, word: &str, among: &[N]) -> Result<Option<N>, AllocError>
+    ensures some { IfOk result (λ found. IfSome found (IsNearest N.name_of word.now among.now)) }
+    ensures none { IfOk result (λ found. IfNone found (AreFar N.name_of word.now among.now)) }
+{
     let mut found = None;
-    let mut least = MOST_EDITS.saturating_add(1);
+    let mut least = MOST_EDITS + 1;
     for one in among {
         let away = levenshtein(alloc, word, one.name())?;
         if away < least {

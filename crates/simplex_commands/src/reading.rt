@@ -73,12 +73,15 @@ fn option_of(
     ensures { result ≡ said.flag_with command place (flag_of (string_bytes word.now)) file
         (map string_bytes after.now) }
 {
-    match flag_of(word.as_str()) {
-        Some(flag) if takes_flag(command, flag) => match value_of(flag) {
-            None => rest_of(command, place + 1, file, after),
-            Some(wanted) => value_at(command, place + 1, wanted, file, after),
-        },
-        _ => Request::Wrong(Wrong::UnknownOption { command, place }),
+    let Some(flag) = flag_of(word.as_str()) else {
+        return Request::Wrong(Wrong::UnknownOption { command, place });
+    };
+    if !takes_flag(command, flag) {
+        return Request::Wrong(Wrong::UnknownOption { command, place });
+    }
+    match value_of(flag) {
+        None => rest_of(command, place + 1, file, after),
+        Some(wanted) => value_at(command, place + 1, wanted, file, after),
     }
 }
 
@@ -96,17 +99,17 @@ fn value_at(
 {
     match words {
         [] => Request::Wrong(Wrong::Missing { command, wanted }),
-        [word, after @ ..] if fits(wanted, word.as_str()) => rest_of(
-            command,
-            place + 1,
-            file,
-            after,
-        ),
-        _ => Request::Wrong(Wrong::Unfit {
-            command,
-            place,
-            wanted,
-        }),
+        [word, after @ ..] => {
+            if fits(wanted, word.as_str()) {
+                rest_of(command, place + 1, file, after)
+            } else {
+                Request::Wrong(Wrong::Unfit {
+                    command,
+                    place,
+                    wanted,
+                })
+            }
+        }
     }
 }
 
@@ -116,10 +119,15 @@ fn file_of(command: Command, place: usize, file: Option<usize>, after: &[String]
     requires { place + length after.now + 1 < 2 ^ 64 }
     ensures { result ≡ said.file_of command place file (map string_bytes after.now) }
 {
-    if file.is_none() && takes_file(command) {
-        rest_of(command, place + 1, Some(place), after)
-    } else {
-        Request::Wrong(Wrong::TooMany { command, place })
+    match file {
+        Some(_) => Request::Wrong(Wrong::TooMany { command, place }),
+        None => {
+            if takes_file(command) {
+                rest_of(command, place + 1, Some(place), after)
+            } else {
+                Request::Wrong(Wrong::TooMany { command, place })
+            }
+        }
     }
 }
 
@@ -135,14 +143,17 @@ fn needed(command: Command, place: usize, needs: &[Parameter], words: &[String])
                 command,
                 wanted: *wanted,
             }),
-            [word, after @ ..] if fits(*wanted, word.as_str()) => {
-                needed(command, place + 1, more, after)
+            [word, after @ ..] => {
+                if fits(*wanted, word.as_str()) {
+                    needed(command, place + 1, more, after)
+                } else {
+                    Request::Wrong(Wrong::Unfit {
+                        command,
+                        place,
+                        wanted: *wanted,
+                    })
+                }
             }
-            _ => Request::Wrong(Wrong::Unfit {
-                command,
-                place,
-                wanted: *wanted,
-            }),
         },
     }
 }
@@ -157,7 +168,7 @@ fn topic_of(words: &[String]) -> Request
             Some(command) => Request::Help(Some(command)),
             None => Request::Wrong(Wrong::UnknownCommand { place: 1 }),
         },
-        _ => Request::Wrong(Wrong::TooMany {
+        [_, _, ..] => Request::Wrong(Wrong::TooMany {
             command: Command::Help,
             place: 2,
         }),
@@ -168,13 +179,12 @@ fn topic_of(words: &[String]) -> Request
 fn version_of(words: &[String]) -> Request
     ensures { result ≡ said.version_of (map string_bytes words.now) }
 {
-    if words.is_empty() {
-        Request::Version
-    } else {
-        Request::Wrong(Wrong::TooMany {
+    match words {
+        [] => Request::Version,
+        [_, ..] => Request::Wrong(Wrong::TooMany {
             command: Command::Version,
             place: 1,
-        })
+        }),
     }
 }
 
@@ -185,7 +195,19 @@ fn command_with(command: Command, words: &[String]) -> Request
     match command {
         Command::Help => topic_of(words),
         Command::Version => version_of(words),
-        _ => needed(command, 1, needs_of(command), words),
+        Command::Run
+        | Command::Par
+        | Command::Gen
+        | Command::Trace
+        | Command::Script
+        | Command::Simulate
+        | Command::Shrink
+        | Command::Logs
+        | Command::Balances
+        | Command::Chain
+        | Command::Record
+        | Command::Check
+        | Command::View => needed(command, 1, needs_of(command), words),
     }
 }
 
