@@ -1,8 +1,8 @@
-# example       runs simplex_net on the worked example of README.md
+# example       runs letsvaku on the worked example of README.md
 # try, trace    the same on the input in INPUT; or a line for each of its events, with what is wrong where the input is refused
 # view          writes a page that shows the run of the input in INPUT event by event, and prints its path
 # script        plays the script in INPUT (docs/SCRIPTS.md) and prints it with what came out
-# fast          builds simplex_net, simplex_lab_cli and simplex_audit_cli into unproved/, which the targets above do by themselves
+# fast          builds letsvaku into unproved/, which the targets above do by themselves
 # check         builds every program without a proof, and runs all tests, stored sessions and examples: minutes, and proves nothing
 # build         proves and builds simplex_net
 # test          the gate: proves everything, tries the wrong bodies, runs everything (docs/GATE.md says what it costs)
@@ -15,22 +15,20 @@
 .PHONY: example try trace view script fast check build test wrong-bodies pictures viewer-test cluster crashes hosts-test
 need = $(if $(INPUT),,$(error the input is missing: make $@ INPUT=my.json))
 example:
-	@tools/unproved.py run simplex_net run < crates/simplex_net/stdin
+	@tools/unproved.py run letsvaku run crates/simplex_net/stdin
 
 try:
-	$(need)@tools/unproved.py run simplex_net run < $(INPUT) || { status=$$?; \
-		echo "make trace INPUT=$(INPUT) says why a run was refused, and what was open." >&2; exit $$status; }
+	$(need)@tools/unproved.py run letsvaku run $(INPUT)
 
 trace:
-	$(need)@tools/unproved.py run simplex_lab_cli trace < $(INPUT)
+	$(need)@tools/unproved.py run letsvaku trace $(INPUT)
 
 view:
-	$(need)@mkdir -p pictures && viewer/record.py $(INPUT) > pictures/.record && \
-		node viewer/page.js < pictures/.record > pictures/$(basename $(notdir $(INPUT))).html && rm pictures/.record && \
+	$(need)@mkdir -p pictures && tools/unproved.py run letsvaku view $(INPUT) > pictures/$(basename $(notdir $(INPUT))).html && \
 		echo "$(CURDIR)/pictures/$(basename $(notdir $(INPUT))).html"
 
 script:
-	$(need)@tools/unproved.py run simplex_lab_cli script < $(INPUT)
+	$(need)@tools/unproved.py run letsvaku script $(INPUT)
 
 fast:
 	@tools/unproved.py build

@@ -3,61 +3,36 @@
 
 Usage: record.py INPUT.json
 
-It is what `simplex_audit_cli record` writes, and in it `lines`, what `simplex_lab_cli trace` writes. Of a refused run it is the
-record of the events before the refused one, and `refused` has the lines on the refusal. The programs are those that the gate built,
-or else those of `make fast`, which are built where they are missing."""
+It is the record inside the page that `letsvaku view` writes: what `letsvaku record` writes, and in it `lines`, what `letsvaku trace`
+writes. Of a refused run it is the record of the events before the refused one, and `refused` has the lines on the refusal. The program is
+that which the gate built, or else that of `make fast`, which is built where it is missing."""
 import functools
-import json
 import pathlib
 import subprocess
 import sys
 
 ROOT = pathlib.Path(__file__).resolve().parent.parent
+BEGINNING = '<script type="application/json" id="record">'
+END = "</script>"
 
 
 @functools.lru_cache
-def program(name):
-    """The program of this name, proved or not."""
-    proved = ROOT / "crates" / name / "out" / name
+def program():
+    """The program, proved or not."""
+    proved = ROOT / "crates" / "letsvaku" / "out" / "letsvaku"
     if proved.exists():
         return proved
-    kept = ROOT / "unproved" / name
-    subprocess.run([ROOT / "tools" / "unproved.py", "build", name], check=True, stderr=None if not kept.exists() else subprocess.DEVNULL)
-    return kept
-
-
-def run(name, word, text):
-    done = subprocess.run([program(name), word], input=text, capture_output=True)
-    return done.returncode, done.stdout.decode(), done.stderr.decode()
-
-
-def refusal_in(lines):
-    """The place of the line that says at which event the run is refused, and that event."""
-    for place, line in enumerate(lines):
-        if line.startswith("refused "):
-            return place, int(line.rsplit(" ", 1)[1])
-    return None
+    subprocess.run([ROOT / "tools" / "unproved.py", "build"], check=True)
+    return ROOT / "unproved" / "letsvaku"
 
 
 def record_of(text):
     """The record of an input with its lines, as a text, or the reason for which there is none."""
-    status, told, why = run("simplex_lab_cli", "trace", text)
-    lines, refused = told.splitlines(), []
-    if status not in (0, 1):
-        return None, (told + why).strip()
-    if status == 1:
-        place, event = refusal_in(lines)
-        if event == 0:
-            return None, told.strip()
-        lines, refused = lines[:place], lines[place:]
-        made = json.loads(text)
-        made["events"] = made["events"][:event - 1]
-        lines, text = lines[:event - 1], json.dumps(made).encode()
-    status, record, why = run("simplex_audit_cli", "record", text)
-    if status != 0:
-        return None, (record + why).strip()
-    more = {"lines": lines, "refused": refused}
-    return record.rstrip()[:-1] + "," + json.dumps(more)[1:] + "\n", None
+    done = subprocess.run([program(), "view", "--page", ROOT / "viewer"], input=text, capture_output=True, check=False)
+    page = done.stdout.decode()
+    if done.returncode != 0:
+        return None, (page + done.stderr.decode()).strip()
+    return page.split(BEGINNING, 1)[1].split(END, 1)[0], None
 
 
 def main(words):

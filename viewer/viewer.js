@@ -1,7 +1,7 @@
 // What a record of a run says, and its picture as SVG. The page (index.html) and node (picture.js, page.js) use this file.
 //
-// A record is what `simplex_audit_cli record` writes: setup, events and entries. It may also have `lines`, what
-// `simplex_lab_cli trace` writes of the same input, and `refused`, the lines on the event at which the run ended. Of what a
+// A record is what `letsvaku record` writes: setup, events and entries. It may also have `lines`, what
+// `letsvaku trace` writes of the same input, and `refused`, the lines on the event at which the run ended. Of what a
 // record alone leaves out (votes and evidence that were reported, payloads that were relayed, members that were blocked, messages
 // between actors) only the lines tell.
 'use strict';
@@ -178,7 +178,7 @@ const Viewer = (() => {
     }
     const ARTIFACTS = ['notarize', 'notarization', 'certification', 'nullify', 'nullification', 'finalize', 'finalization'];
 
-    // ---- lines, as `simplex_lab_cli trace` writes them
+    // ---- lines, as `letsvaku trace` writes them
 
     const nodeText = (node) => `${node[0]}.${node[1]}`;
     const short = (payload) => payload.slice(0, 8);
@@ -345,7 +345,7 @@ const Viewer = (() => {
         if (!isObject(record.setup) || !Array.isArray(record.setup.members)) fault('the record has no setup with members');
         if (!Array.isArray(record.events)) fault('the record has no list of events');
         if (!Array.isArray(record.entries) && !(record.entries instanceof LateEntries)) {
-            fault('this is an input and no record: simplex_audit_cli record makes its record (make view INPUT=FILE)');
+            fault('this is an input and no record: letsvaku view FILE makes a page of it (make view INPUT=FILE)');
         }
         return Math.min(record.events.length, record.entries.length);
     }

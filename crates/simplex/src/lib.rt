@@ -17,7 +17,7 @@
 //! | apply the blocks of a log to accounts | [`ledger::Ledger`], [`ledger::ledger_program`] | `crates/simplex_ledger_cli` |
 //! | run one network behind another | [`epochs::run_epochs`], [`epochs::chain`] | `crates/simplex_epochs_cli` |
 //! | keep the record of a run, by which it can be judged without an engine | [`audit::record_of`], [`laws::audits`] | `crates/simplex_audit_cli` |
-//! | be told what each event did, also up to a refusal | [`lab::lines`], [`lab::lab_program`] | `crates/simplex_lab_cli` |
+//! | be told what each event did, also up to a refusal | [`lab::lines`], [`lab::lab_program`] | `crates/letsvaku` |
 //! | rest on evidence: whoever is named is faulty | [`run_network`], [`laws::runs::transcripts_blame_no_honest_member`] | `crates/example_monitor` |
 //! | make an input from a number | [`gen_run`] | `crates/test_failures` |
 //! | cite why no two members disagree | [`laws::runs`], `runs_are_safe` and `transcripts_report_one_chain` | docs/AGREEMENT.md |

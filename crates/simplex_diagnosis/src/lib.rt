@@ -9,9 +9,11 @@
 mod faults;
 mod kept;
 mod saying;
+mod shapes;
 mod spans;
 mod tables;
 
-pub use faults::explain;
+pub use faults::{explain, explain_as};
 pub use kept::KeptSource;
 pub use saying::say_why;
+pub use shapes::Shape;

@@ -1,0 +1,11 @@
+//! A page for a browser that shows a run: the viewer's page, with the record of the run and the lines of its trace inside.
+//!
+//! [`seen`] makes the record of what an input comes to, up to a refusal, and [`page`] puts it into the page's files.
+#![tactic(auto)]
+
+mod listing;
+mod making;
+mod seeing;
+
+pub use making::page;
+pub use seeing::{Seen, seen};
