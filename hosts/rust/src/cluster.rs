@@ -20,6 +20,10 @@ const POLL: Duration = Duration::from_millis(50);
 /// After which transfers that were not applied are submitted again.
 const SUBMIT_AGAIN: Duration = Duration::from_secs(2);
 const REPLY_TIME: Duration = Duration::from_secs(2);
+/// How long members have to stop.
+const STOP_TIME: Duration = Duration::from_secs(5);
+/// Of a tick in /proc.
+const TICK: Duration = Duration::from_millis(10);
 
 /// What to start.
 #[derive(Clone, Debug)]
@@ -58,6 +62,7 @@ enum Language {
 }
 
 struct Host {
+    language: Language,
     child: Child,
     client: String,
     connection: Option<BufReader<TcpStream>>,
@@ -83,6 +88,7 @@ pub struct Outcome {
     pub blocks: u64,
     pub speed: Speed,
     pub memory: Memory,
+    pub work: Work,
     /// Of the ledgers of all hosts in Rust.
     pub host_syncs: u64,
     /// Packets and blocks, of all members.
@@ -102,6 +108,13 @@ pub struct Speed {
 pub struct Memory {
     pub node: u64,
     pub host: u64,
+}
+
+/// Processor time of all members together, from the first view that was final at each member.
+#[derive(Clone, Copy, Debug, Default)]
+pub struct Work {
+    pub node: Duration,
+    pub host: Duration,
 }
 
 impl Speed {
@@ -139,7 +152,14 @@ impl fmt::Display for Outcome {
             self.members, self.transfers, self.blocks, self.views
         )?;
         writeln!(out, "speed: {}", self.speed)?;
-        writeln!(out, "memory: {}", self.memory)?;
+        let by_view = |time: Duration| 1e3 * time.as_secs_f64() / self.speed.views.max(1) as f64;
+        writeln!(
+            out,
+            "processor time of all members: nodes {:.2} ms a view, hosts {:.2} ms a view",
+            by_view(self.work.node),
+            by_view(self.work.host)
+        )?;
+        writeln!(out, "memory of one member: {}", self.memory)?;
         write!(
             out,
             "syncs of hosts: {}, lost packets: {}",
@@ -172,6 +192,8 @@ impl Outcome {
             ("until_first_us", microseconds(until_first)),
             ("views", views.into()),
             ("time_us", microseconds(time)),
+            ("node_work_us", microseconds(self.work.node)),
+            ("host_work_us", microseconds(self.work.host)),
             ("node_kb", self.memory.node.into()),
             ("host_kb", self.memory.host.into()),
             ("host_syncs", self.host_syncs.into()),
@@ -227,12 +249,16 @@ impl Cluster {
             let errors = plan.folder.join(format!("member-{me}.err"));
             let errors = File::create(&errors).during(errors.display())?;
             let mut command = plan.command(me);
-            command.arg(path).stdin(Stdio::null()).stderr(errors);
+            command.arg(path).stdin(Stdio::piped()).stderr(errors);
             if plan.has_logs {
                 command.arg("--log");
                 command.arg(plan.folder.join(format!("member-{me}.log")));
             }
+            if plan.language(me) == Language::Rust {
+                command.arg("--attached");
+            }
             cluster.hosts.push(Host {
+                language: plan.language(me),
                 child: command.spawn().during("member")?,
                 client: config.client,
                 connection: None,
@@ -272,10 +298,11 @@ impl Cluster {
             if accounts.len() == self.hosts.len() {
                 let view = accounts.iter().map(|it| it.view).min().unwrap_or(0);
                 let at = Instant::now();
-                if view > 0 {
-                    first.get_or_insert((view, at));
+                if view > 0 && first.is_none() {
+                    first = Some((view, at, self.work()));
                 }
-                let (first_view, first_at) = first.unwrap_or((view, at));
+                let (first_view, first_at, first_work) =
+                    first.unwrap_or((view, at, Work::default()));
                 let speed = Speed {
                     until_first: first_at - self.started,
                     views: view - first_view,
@@ -292,7 +319,8 @@ impl Cluster {
                 }
                 let is_applied = |it: &Account| transfers.iter().all(|(_, sent)| it.has(sent));
                 if view >= goal.views && accounts.iter().all(is_applied) {
-                    return self.outcome(goal, &accounts, speed, memory);
+                    let work = self.work().since(first_work);
+                    return self.outcome(goal, &accounts, speed, memory, work);
                 }
             }
             thread::sleep(POLL);
@@ -305,6 +333,7 @@ impl Cluster {
         accounts: &[Account],
         speed: Speed,
         memory: Memory,
+        work: Work,
     ) -> Result<Outcome> {
         let memory = memory.most(self.memory());
         let balances = accounts[0].balances.clone();
@@ -331,6 +360,7 @@ impl Cluster {
             blocks,
             speed,
             memory,
+            work,
             host_syncs: sum("syncs"),
             lost: sum("lost"),
         })
@@ -369,6 +399,15 @@ impl Cluster {
         found.fold(Memory::default(), Memory::most)
     }
 
+    fn work(&mut self) -> Work {
+        let mut sum = Work::default();
+        for host in &mut self.hosts {
+            sum.node += host.process().and_then(worked).unwrap_or_default();
+            sum.host += worked(u64::from(host.child.id())).unwrap_or_default();
+        }
+        sum
+    }
+
     fn statuses(&mut self) -> String {
         let statuses = self.hosts.iter_mut().map(|host| match host.status() {
             Some(status) => status.to_string(),
@@ -381,11 +420,32 @@ impl Cluster {
 impl Drop for Cluster {
     fn drop(&mut self) {
         for host in &mut self.hosts {
+            // A member in Rust ends by itself when its input ends.
+            drop(host.child.stdin.take());
+        }
+        let end = Instant::now() + STOP_TIME;
+        for host in &mut self.hosts {
+            while host.language == Language::Rust
+                && Instant::now() < end
+                && matches!(host.child.try_wait(), Ok(None))
+            {
+                thread::sleep(Duration::from_millis(1));
+            }
             // The process of a killed host sees that its input ended. Who is gone already needs no kill.
             let _ = host.child.kill();
-        }
-        for host in &mut self.hosts {
             let _ = host.child.wait();
+        }
+    }
+}
+
+/// Removes the folder of a cluster that ended. The process of a killed host may still write there for a moment.
+pub fn remove(folder: &Path) -> Result<()> {
+    let end = Instant::now() + STOP_TIME;
+    loop {
+        match std::fs::remove_dir_all(folder) {
+            Err(why) if why.kind() == io::ErrorKind::NotFound => return Ok(()),
+            Err(_) if Instant::now() < end => thread::sleep(POLL),
+            done => return done.during(folder.display()),
         }
     }
 }
@@ -416,6 +476,15 @@ impl Memory {
         Memory {
             node: self.node.max(other.node),
             host: self.host.max(other.host),
+        }
+    }
+}
+
+impl Work {
+    fn since(self, before: Work) -> Work {
+        Work {
+            node: self.node.saturating_sub(before.node),
+            host: self.host.saturating_sub(before.host),
         }
     }
 }
@@ -533,11 +602,24 @@ pub fn free_addresses(count: usize) -> Result<Vec<String>> {
     addresses.collect::<io::Result<_>>().during("free ports")
 }
 
+/// The processor time of a process, by ticks of the system.
+fn worked(process: u64) -> Option<Duration> {
+    let stat = read_proc(process, "stat")?;
+    // The name before may have blanks. User and system time are the 14th and 15th word of the line.
+    let (_, words) = stat.rsplit_once(')')?;
+    let mut words = words.split_whitespace().skip(11);
+    let mut ticks = || words.next()?.parse::<u32>().ok();
+    Some(TICK * (ticks()? + ticks()?))
+}
+
+fn read_proc(process: u64, name: &str) -> Option<String> {
+    let path = Path::new("/proc").join(process.to_string()).join(name);
+    std::fs::read_to_string(path).ok()
+}
+
 /// The resident memory of a process, in kB.
 fn resident(process: u64) -> Option<u64> {
-    let status =
-        std::fs::read_to_string(Path::new("/proc").join(process.to_string()).join("status"));
-    let status = status.ok()?;
+    let status = read_proc(process, "status")?;
     let line = status.lines().find_map(|it| it.strip_prefix("VmRSS:"))?;
     line.split_whitespace().next()?.parse().ok()
 }
@@ -580,6 +662,16 @@ mod tests {
             speed.to_string(),
             "25.0 views a second, 40.00 ms a view (50 views in 2.0 s); the first final view after 0.25 s"
         );
+    }
+
+    #[test]
+    fn the_processor_time_of_a_process() {
+        let me = u64::from(std::process::id());
+        let (before, begun) = (worked(me).unwrap(), Instant::now());
+        while worked(me).unwrap() < before + 5 * TICK {
+            assert!(begun.elapsed() < Duration::from_secs(30));
+        }
+        assert_eq!(worked(u64::MAX), None);
     }
 
     #[test]

@@ -40,7 +40,8 @@ impl FromStr for Hex {
     type Err = Malformed;
 
     fn from_str(text: &str) -> Result<Hex, Malformed> {
-        let is_hex = text.len() % 2 == 0 && text.bytes().all(|digit| DIGITS.contains(&digit));
+        let is_hex =
+            text.len().is_multiple_of(2) && text.bytes().all(|digit| DIGITS.contains(&digit));
         if is_hex {
             Ok(Hex(text.to_owned()))
         } else {

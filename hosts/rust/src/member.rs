@@ -15,9 +15,12 @@ use crate::ledger::{Ledger, Verdict};
 use crate::peers::Peers;
 use crate::process::{Answer, Process, Program, Said};
 use crate::store::{BlockStore, Kept};
+use std::collections::hash_map::Entry;
 use std::collections::{BTreeMap, HashMap};
+use std::io::{self, Read};
 use std::path::Path;
 use std::sync::mpsc::{self, Receiver, SyncSender};
+use std::thread;
 use std::time::{Duration, Instant};
 
 /// What waits for the loop. Who brings more waits too, so that a peer which sends too much is slowed by TCP.
@@ -36,6 +39,7 @@ enum Event {
     Frame(Seat, Frame),
     Kept(Kept),
     Query(Query, SyncSender<String>),
+    Stop,
 }
 
 /// A request that waits for transfers, for a block, or until a block is kept.
@@ -63,6 +67,7 @@ pub struct Member {
     lost_blocks: u64,
     pause: Duration,
     restart: Option<Instant>,
+    is_stopped: bool,
 }
 
 /// The program of a configuration.
@@ -107,12 +112,13 @@ impl Member {
             lost_blocks: 0,
             pause: SHORTEST_PAUSE,
             restart: Some(Instant::now()),
+            is_stopped: false,
         })
     }
 
     /// Runs until something ends it that a new process does not mend.
     pub fn run(mut self) -> Result<()> {
-        loop {
+        while !self.is_stopped {
             let now = Instant::now();
             if self.restart.is_some_and(|at| at <= now) {
                 self.start_process()?;
@@ -132,6 +138,20 @@ impl Member {
                 };
             }
         }
+        if self.process.id().is_some() {
+            self.process.end()?;
+        }
+        Ok(())
+    }
+
+    /// Lets the member stop once this input has ended, so that it does not outlive who started it.
+    pub fn attach(&self, mut input: impl Read + Send + 'static) {
+        let tell = self.tell.clone();
+        thread::spawn(move || {
+            // What comes is of no matter, and an error is an end too.
+            let _ = io::copy(&mut input, &mut io::sink());
+            send(&tell, Event::Stop);
+        });
     }
 
     fn start_process(&mut self) -> Result<()> {
@@ -199,6 +219,10 @@ impl Member {
                 self.try_pending()
             }
             Event::Kept(Kept::Failed(why)) => Err(Error::Io("the ledger".to_owned(), why)),
+            Event::Stop => {
+                self.is_stopped = true;
+                Ok(())
+            }
             Event::Query(query, reply) => {
                 let line = self.reply(query)?;
                 // A client that is gone needs no reply.
@@ -347,8 +371,8 @@ impl Member {
 
     fn want(&mut self, missing: Option<Digest>) {
         if let Some(digest) = missing {
-            if !self.wanted.contains_key(&digest) {
-                self.wanted.insert(digest, Instant::now());
+            if let Entry::Vacant(entry) = self.wanted.entry(digest) {
+                entry.insert(Instant::now());
                 self.peers.send(&Frame::Want(digest), &Recipients::All);
             }
         }

@@ -1,7 +1,7 @@
 //! Clusters of real members, for some seconds. They need `simplex_node_cli`: `make hosts-test` runs them where it is built.
 #![allow(clippy::unwrap_used)]
 
-use letsvaku_hosts::cluster::{Cluster, Goal, Outcome, Plan};
+use letsvaku_hosts::cluster::{remove, Cluster, Goal, Outcome, Plan};
 use std::time::Duration;
 
 fn run(name: &str, python: usize) -> Outcome {
@@ -24,7 +24,7 @@ fn run(name: &str, python: usize) -> Outcome {
         seed: 7,
     };
     let outcome = Cluster::start(&plan).and_then(|mut cluster| cluster.drive(&goal));
-    std::fs::remove_dir_all(folder).unwrap();
+    remove(&folder).unwrap();
     outcome.unwrap_or_else(|why| panic!("{why}"))
 }
 

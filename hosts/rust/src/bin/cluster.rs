@@ -1,6 +1,6 @@
 //! Starts a cluster on 127.0.0.1, submits transfers until all members have applied them, and prints balances and speed.
 
-use letsvaku_hosts::cluster::{Cluster, Goal, Plan};
+use letsvaku_hosts::cluster::{remove, Cluster, Goal, Plan};
 use letsvaku_hosts::error::{number, During, Error, Result};
 use std::path::PathBuf;
 use std::process::ExitCode;
@@ -105,7 +105,7 @@ fn run(options: &Options) -> Result<()> {
     } = options;
     let outcome = Cluster::start(plan).and_then(|mut cluster| cluster.drive(goal));
     if !plan.has_logs {
-        std::fs::remove_dir_all(&plan.folder).during(plan.folder.display())?;
+        remove(&plan.folder)?;
     }
     let outcome = outcome?;
     if *is_json {

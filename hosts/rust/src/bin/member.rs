@@ -2,8 +2,10 @@
 //!
 //! ```text
 //! member --init CONFIG.json           # once: makes the member's folder. Never for a member that voted before: it would forget its votes
-//! member CONFIG.json [--log FILE]
+//! member CONFIG.json [--log FILE] [--attached]
 //! ```
+//!
+//! `--attached` ends the member when its standard input ends.
 //!
 //! The configuration and the client port are those of `hosts/python/member.py`.
 
@@ -13,7 +15,8 @@ use letsvaku_hosts::member::{program_of, Member};
 use std::path::Path;
 use std::process::ExitCode;
 
-const USAGE: &str = "usage: member --init CONFIG.json, or member CONFIG.json [--log FILE]";
+const USAGE: &str =
+    "usage: member --init CONFIG.json, or member CONFIG.json [--log FILE] [--attached]";
 
 fn main() -> ExitCode {
     let words: Vec<String> = std::env::args().skip(1).collect();
@@ -28,16 +31,25 @@ fn main() -> ExitCode {
 }
 
 fn run(words: &[&str]) -> Result<()> {
-    match *words {
-        ["--init", path] => {
-            let config = Config::read(Path::new(path))?;
-            std::fs::create_dir_all(&config.folder).during(config.folder.display())?;
-            program_of(&config).init()
-        }
-        [path] => Member::start(&Config::read(Path::new(path))?, None)?.run(),
-        [path, "--log", log] => {
-            Member::start(&Config::read(Path::new(path))?, Some(Path::new(log)))?.run()
-        }
-        _ => Err(Error::Setup(USAGE.to_owned())),
+    let (words, is_attached) = match words {
+        [words @ .., "--attached"] => (words, true),
+        _ => (words, false),
+    };
+    let (path, log) = match *words {
+        ["--init", path] => return init(Path::new(path)),
+        [path] => (path, None),
+        [path, "--log", log] => (path, Some(Path::new(log))),
+        _ => return Err(Error::Setup(USAGE.to_owned())),
+    };
+    let member = Member::start(&Config::read(Path::new(path))?, log)?;
+    if is_attached {
+        member.attach(std::io::stdin());
     }
+    member.run()
+}
+
+fn init(path: &Path) -> Result<()> {
+    let config = Config::read(path)?;
+    std::fs::create_dir_all(&config.folder).during(config.folder.display())?;
+    program_of(&config).init()
 }
