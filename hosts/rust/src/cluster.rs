@@ -49,7 +49,10 @@ pub struct Plan {
 pub struct Goal {
     pub transfers: u64,
     pub views: u64,
+    /// After which it is a fault that the cluster is not there yet.
     pub time: Duration,
+    /// After which the run ends well, wherever it is.
+    pub enough: Option<Duration>,
     /// How often a sample is printed.
     pub every: Option<Duration>,
     pub seed: u64,
@@ -318,7 +321,12 @@ impl Cluster {
                     }
                 }
                 let is_applied = |it: &Account| transfers.iter().all(|(_, sent)| it.has(sent));
-                if view >= goal.views && accounts.iter().all(is_applied) {
+                let is_done = view >= goal.views && accounts.iter().all(is_applied);
+                if is_done && accounts.iter().any(|it| it.balances != accounts[0].balances) {
+                    return Err(Error::Fault("balances differ".to_owned()));
+                }
+                let is_enough = goal.enough.is_some_and(|time| at >= self.started + time);
+                if is_done || is_enough {
                     let work = self.work().since(first_work);
                     return self.outcome(goal, &accounts, speed, memory, work);
                 }
@@ -337,9 +345,6 @@ impl Cluster {
     ) -> Result<Outcome> {
         let memory = memory.most(self.memory());
         let balances = accounts[0].balances.clone();
-        if accounts.iter().any(|it| it.balances != balances) {
-            return Err(Error::Fault("balances differ".to_owned()));
-        }
         let blocks = self.chains_agree()?;
         let statuses: Vec<Value> = self.hosts.iter_mut().filter_map(Host::status).collect();
         let noted = |it: &&Value| it.get("notes").and_then(Value::as_list) != Some(&[]);
@@ -635,6 +640,7 @@ mod tests {
             transfers: 20,
             views: 0,
             time: Duration::ZERO,
+            enough: None,
             every: None,
             seed: 7,
         };

@@ -20,6 +20,7 @@ fn run(name: &str, python: usize) -> Outcome {
         transfers: 20,
         views: 10,
         time: Duration::from_secs(60),
+        enough: None,
         every: None,
         seed: 7,
     };
