@@ -56,7 +56,7 @@ def cluster(options, *words, program=None):
 
 
 def head(*names):
-    print(f"\nLoad of the last minute {os.getloadavg()[0]:.1f}, on {os.cpu_count()} processors, niceness {os.nice(0)}\n")
+    print(f"\nLoad of the last minute {os.getloadavg()[0]:.1f}, on {os.cpu_count()} processors\n")
     row(*names)
     row(*["---"] * len(names))
 
@@ -70,7 +70,9 @@ def by_view(figures, name):
 
 
 def speed(options):
-    head("Place", "Members", "Views", "Views a second", "ms a view", "CPU ms a view, processes", "CPU ms a view, hosts", "First final, s", "Load")
+    head(
+        "Place", "Members", "Views", "Views a second", "ms a view", "CPU ms a view, processes", "CPU ms a view, hosts", "First final, s", "Load",
+    )
     for place in options.places:
         for members in options.members or [1, 4, 7, 16]:
             try:
@@ -81,10 +83,9 @@ def speed(options):
                 row(place, members, f"given up: {why}")
                 continue
             views, seconds = found["views"], found["time_us"] / 1e6
-            row(
-                place, members, views, f"{views / seconds:.1f}" if views else "-", f"{1000 * seconds / views:.2f}" if views else "-",
-                by_view(found, "node_work_us"), by_view(found, "host_work_us"), f"{found['until_first_us'] / 1e6:.2f}", f"{os.getloadavg()[0]:.1f}",
-            )
+            speeds = (f"{views / seconds:.1f}", f"{1000 * seconds / views:.2f}") if views else ("-", "-")
+            works = by_view(found, "node_work_us"), by_view(found, "host_work_us")
+            row(place, members, views, *speeds, *works, f"{found['until_first_us'] / 1e6:.2f}", f"{os.getloadavg()[0]:.1f}")
 
 
 def syncs(options):
