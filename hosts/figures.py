@@ -71,7 +71,8 @@ def by_view(figures, name):
 
 def speed(options):
     head(
-        "Place", "Members", "Views", "Views a second", "ms a view", "CPU ms a view, processes", "CPU ms a view, hosts", "First final, s", "Load",
+        "Place", "Members", "Views", "Views a second", "ms a view", "CPU ms a view, processes", "CPU ms a view, hosts", "First final, s",
+        "Load",
     )
     for place in options.places:
         for members in options.members or [1, 4, 7, 16]:

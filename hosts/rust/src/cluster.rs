@@ -322,7 +322,11 @@ impl Cluster {
                 }
                 let is_applied = |it: &Account| transfers.iter().all(|(_, sent)| it.has(sent));
                 let is_done = view >= goal.views && accounts.iter().all(is_applied);
-                if is_done && accounts.iter().any(|it| it.balances != accounts[0].balances) {
+                if is_done
+                    && accounts
+                        .iter()
+                        .any(|it| it.balances != accounts[0].balances)
+                {
                     return Err(Error::Fault("balances differ".to_owned()));
                 }
                 let is_enough = goal.enough.is_some_and(|time| at >= self.started + time);

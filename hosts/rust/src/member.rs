@@ -46,7 +46,18 @@ enum Event {
 struct Pending {
     question: Question,
     since: Instant,
-    proposed: Option<Digest>,
+    stage: Stage,
+}
+
+/// How far the answer to a request for a payload is.
+#[derive(Clone, Copy, Debug, Eq, PartialEq)]
+enum Stage {
+    /// It waits for transfers.
+    Waits,
+    /// It waits for a block that peers have.
+    Lacks,
+    /// It waits until this block is kept.
+    Proposed(Digest),
 }
 
 pub struct Member {
@@ -207,7 +218,9 @@ impl Member {
         match event {
             Event::Said(life, _) if life != self.process.life => Ok(()),
             Event::Said(_, Said::Effects(effects)) => {
-                self.pause = SHORTEST_PAUSE;
+                if !effects.is_empty() {
+                    self.pause = SHORTEST_PAUSE;
+                }
                 effects.into_iter().try_for_each(|it| self.take(it))
             }
             Event::Said(_, Said::End) => self.process_ended(),
@@ -263,7 +276,7 @@ impl Member {
                 let pending = Pending {
                     question,
                     since: Instant::now(),
-                    proposed: None,
+                    stage: Stage::Waits,
                 };
                 self.pending.insert(request, pending);
                 self.try_request(request)?;
@@ -336,23 +349,28 @@ impl Member {
         let Question::Propose { view, parent, .. } = pending.question else {
             return Verdict::Is(None);
         };
-        if let Some(digest) = pending.proposed {
+        if let Stage::Proposed(digest) = pending.stage {
             let is_kept = self.ledger.store.is_kept(digest);
             return Verdict::Is(is_kept.then_some(Answer::Payload(digest)));
         }
         if self.ledger.waiting() == 0 && pending.since.elapsed() < self.pace {
+            pending.stage = Stage::Waits;
             return Verdict::Is(None);
         }
         let block = match self.ledger.propose(view, parent) {
             Verdict::Is(Some(block)) => block,
             Verdict::Is(None) => return Verdict::Is(Some(Answer::Closed)),
-            Verdict::Lacks(digest) => return Verdict::Lacks(digest),
+            Verdict::Lacks(digest) => {
+                // Its time is up, but only the block brings it on.
+                pending.stage = Stage::Lacks;
+                return Verdict::Lacks(digest);
+            }
         };
         let bytes = block.encode();
         let Ok(digest) = self.ledger.store.add(bytes) else {
             return Verdict::Is(Some(Answer::Closed));
         };
-        pending.proposed = Some(digest);
+        pending.stage = Stage::Proposed(digest);
         let is_kept = self.ledger.store.is_kept(digest);
         // Peers get it now, so that they sync it while this member does.
         self.send_block(digest, &Recipients::All);
@@ -476,7 +494,7 @@ impl Member {
 
 impl Pending {
     fn waits_for_transfers(&self) -> bool {
-        matches!(self.question, Question::Propose { .. }) && self.proposed.is_none()
+        matches!(self.question, Question::Propose { .. }) && self.stage == Stage::Waits
     }
 }
 
