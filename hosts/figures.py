@@ -8,8 +8,10 @@
     figures.py disk                                              how long one sync takes
 
 Each part takes --places FOLDER,FOLDER (by default /dev/shm, in memory, and the folder for temporary files, which should be on a disk),
---program for another simplex_node_cli, and --limit for the seconds after which a run is given up. The host is the one in Rust: `cargo build
---release --offline` in hosts/rust makes it. The load of the machine stands above each table: on a busy one, times tell of the load."""
+--program for another simplex_node_cli, --limit for the seconds after which a run is given up, and --timeout for the milliseconds that a
+leader has to propose: on a busy machine members are too slow for the usual 1000, and no view becomes final. The host is the one in Rust:
+`cargo build --release --offline` in hosts/rust makes it. The load of the machine stands above each table: on a busy one, times tell of
+the load."""
 import argparse
 import contextlib
 import json
@@ -47,7 +49,7 @@ def room(place):
 def cluster(options, *words, program=None):
     """The samples and the figures of a run."""
     # The cluster gives up by itself first, and ends its members.
-    command = [CLUSTER, "--json", "--program", program or options.program, "--seconds", options.limit, *words]
+    command = [CLUSTER, "--json", "--program", program or options.program, "--seconds", options.limit, "--timeout", options.timeout, *words]
     done = subprocess.run([str(word) for word in command], capture_output=True, text=True, timeout=options.limit + 60)
     *samples, last = done.stdout.splitlines() or ["nothing was said"]
     if done.returncode:
@@ -189,6 +191,7 @@ def main():
     words.add_argument("--members", type=numbers)
     words.add_argument("--seconds", type=int, default=20)
     words.add_argument("--limit", type=int, default=300)
+    words.add_argument("--timeout", type=int, default=1000)
     words.add_argument("--views", type=int, default=50)
     words.add_argument("--kept", type=numbers, default=[10, 1000, 10_000])
     words.add_argument("--places", type=lambda text: text.split(","), default=["/dev/shm", tempfile.gettempdir()])

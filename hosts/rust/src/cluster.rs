@@ -41,6 +41,8 @@ pub struct Plan {
     pub pace: Duration,
     /// How many views are kept behind the last final one.
     pub retention: u64,
+    /// How long a leader has to propose. On a busy machine members may be too slow for a short one.
+    pub timeout: Duration,
     pub has_logs: bool,
 }
 
@@ -227,7 +229,7 @@ impl Cluster {
         for (me, client) in clients.into_iter().enumerate() {
             let config = Config {
                 me,
-                setup: setup_of(plan.members, plan.retention),
+                setup: setup_of(plan.members, plan.retention, plan.timeout),
                 program: program.clone(),
                 folder: plan.folder.join(format!("member-{me}")),
                 peers: addresses.clone(),

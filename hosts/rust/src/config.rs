@@ -107,8 +107,9 @@ pub fn program_path(given: Option<PathBuf>) -> PathBuf {
     })
 }
 
-/// A setup of honest members. `retention` is how many views are kept behind the last final one.
-pub fn setup_of(members: usize, retention: u64) -> Value {
+/// A setup of honest members. `retention` is how many views are kept behind the last final one, `timeout` how long a leader has to propose.
+pub fn setup_of(members: usize, retention: u64, timeout: Duration) -> Value {
+    let timeout = timeout.as_millis() as u64;
     let honest = vec![Value::text("honest"); members];
     Value::object([
         ("epoch", 0.into()),
@@ -116,8 +117,8 @@ pub fn setup_of(members: usize, retention: u64) -> Value {
         ("members", Value::List(honest)),
         ("term", 1.into()),
         ("lookahead", 0.into()),
-        ("leader_timeout", 1000.into()),
-        ("certification_timeout", 2000.into()),
+        ("leader_timeout", timeout.into()),
+        ("certification_timeout", (2 * timeout).into()),
         ("retry", 500.into()),
         ("stall", Value::Null),
         ("retention", retention.into()),
@@ -144,7 +145,7 @@ mod tests {
         let path = room.path().join("member.json");
         let config = Config {
             me: 1,
-            setup: setup_of(2, 20),
+            setup: setup_of(2, 20, Duration::from_secs(1)),
             program: "program".into(),
             folder: "folder".into(),
             peers: vec!["127.0.0.1:1".to_owned(), "127.0.0.1:2".to_owned()],
@@ -164,7 +165,7 @@ mod tests {
         let path = room.path().join("member.json");
         let text = format!(
             r#"{{"me":1,"setup":{},"folder":"","peers":["127.0.0.1:1"],"client":"","accounts":{{}}}}"#,
-            setup_of(1, 20)
+            setup_of(1, 20, Duration::from_secs(1))
         );
         std::fs::write(&path, &text).unwrap();
         assert!(Config::read(&path).is_err());

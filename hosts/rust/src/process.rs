@@ -434,7 +434,7 @@ done
             let program = Program {
                 path,
                 me: 0,
-                setup: setup_of(1, 20),
+                setup: setup_of(1, 20, Duration::from_secs(1)),
                 journal: room.path().join("journal"),
             };
             let log = room.path().join("log");

@@ -16,6 +16,7 @@ usage: cluster [OPTION VALUE].. [--logs] [--json]
   --enough S      or ends well after S seconds, wherever it is
   --pace MS       how long a leader waits for transfers, by default 0
   --retention R   how many views are kept behind the last final one, by default 20
+  --timeout MS    how long a leader has to propose, by default 1000: more on a busy machine
   --every S       prints a sample every S seconds
   --seed N        of the transfers, by default the clock
   --in FOLDER     where a folder is made for the run, by default the one for temporary files; /dev/shm is in memory
@@ -57,6 +58,7 @@ fn options_of(words: &[String]) -> Result<Options> {
             folder: folder(std::env::temp_dir()),
             pace: Duration::ZERO,
             retention: 20,
+            timeout: Duration::from_secs(1),
             has_logs: false,
         },
         goal: Goal {
@@ -92,6 +94,7 @@ fn options_of(words: &[String]) -> Result<Options> {
             "--python" => plan.python = count()? as usize,
             "--pace" => plan.pace = Duration::from_millis(count()?),
             "--retention" => plan.retention = count()?,
+            "--timeout" => plan.timeout = Duration::from_millis(count()?),
             "--in" => plan.folder = folder(word.into()),
             "--keep" => (plan.folder, options.is_kept) = (word.into(), true),
             "--program" => plan.program = Some(word.into()),
