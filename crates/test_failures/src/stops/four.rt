@@ -1,7 +1,8 @@
 //! Four members in terms of three views, with a lookahead of one: one of them stops before each of its calls, and starts again at
 //! what it reported last.
-use super::checker::{Group, assert_sound, last_final};
-use super::world::{Answers, World, assert_run, start, stopped};
+use super::checker::{assert_sound, last_final};
+use super::world::{Answers, World, assert_run, stopped};
+use crate::events::start;
 use simplex_messages::{Outcome, Stop};
 use simplex_transcript::{Event, MemberKind, Node, Setup};
 use simplex_types::{Keep, View};
@@ -16,12 +17,6 @@ const HONEST: [Node; 3] = [
 
 /// The member that stops.
 const STOPPING: Node = Node { member: 1, half: 0 };
-
-const GROUP: Group = Group {
-    key_base: 1,
-    members: 4,
-    term: 3,
-};
 
 const ANSWERS: Answers = Answers {
     payload: 17,
@@ -107,8 +102,8 @@ fn stops(rt: &impl Abort, alloc: Global, place: usize, stop: Stop) {
     let starts = world.make(rt, start(STOPPING, floor));
     assert!(rt; starts, "{case}: it starts");
     world.settle(rt, MOST);
-    assert_sound(rt, alloc, &case, GROUP, &HONEST, world.entries.as_slice());
     let setup = setup(alloc).expect(rt, "memory");
+    assert_sound(rt, alloc, &case, &setup, &HONEST, &world);
     assert_run(rt, alloc, &case, &setup, &world);
 }
 
@@ -117,14 +112,8 @@ fn one_of_four_stops_before_each_of_its_calls(rt: HostRuntime) {
     let alloc = rt.alloc();
     let mut whole = started(&rt, alloc);
     whole.settle(&rt, MOST);
-    assert_sound(
-        &rt,
-        alloc,
-        "a whole run",
-        GROUP,
-        &HONEST,
-        whole.entries.as_slice(),
-    );
+    let setup = setup(alloc).expect(&rt, "memory");
+    assert_sound(&rt, alloc, "a whole run", &setup, &HONEST, &whole);
     assert!(rt; last_final(whole.entries.as_slice(), STOPPING).is_some());
     let places = calls_of(alloc, &whole).expect(&rt, "memory");
     drop(whole);
