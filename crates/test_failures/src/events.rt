@@ -45,7 +45,7 @@ pub(crate) fn node(member: u64) -> Node {
 /// The first fifteen events of a run of four: members 0, 1 and 2 start, member 1 proposes payload 17, and each of the
 /// three sends its notarize of view 1. Member 3 does nothing.
 pub(crate) fn notarized(alloc: Global) -> Result<Vec<Event>, AllocError> {
-    vec![in alloc;
+    let events = vec![in alloc;
         start(node(0), None),
         start(node(1), None),
         start(node(2), None),
@@ -61,5 +61,6 @@ pub(crate) fn notarized(alloc: Global) -> Result<Vec<Event>, AllocError> {
         step(node(2), StepSource::Voter),
         answer(node(2), 13, Answer::Verdict(true)),
         step(node(2), StepSource::Verify),
-    ]
+    ]?;
+    Ok(events)
 }

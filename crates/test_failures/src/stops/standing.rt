@@ -17,26 +17,33 @@ struct Found {
 }
 
 impl Found {
-    fn add(&mut self, verifies: bool, subject: Subject) -> Result<(), AllocError> {
-        if verifies && !self.subjects.iter().any(|it| *it == subject) {
+    /// Whether no certificate on it was found.
+    fn is_new(&self, subject: &Subject) -> bool {
+        !self.subjects.contains(subject)
+    }
+
+    fn notarization(&mut self, it: &Notarization) -> Result<(), AllocError> {
+        let subject = Subject::Notarize(it.proposal);
+        if self.is_new(&subject) && it.verify(&self.scheme) {
             self.subjects.push(subject)?;
         }
         Ok(())
     }
 
-    fn notarization(&mut self, it: &Notarization) -> Result<(), AllocError> {
-        let verifies = it.verify(&self.scheme);
-        self.add(verifies, Subject::Notarize(it.proposal))
-    }
-
     fn nullification(&mut self, it: &Nullification) -> Result<(), AllocError> {
-        let verifies = it.verify(&self.scheme);
-        self.add(verifies, Subject::Nullify(it.round))
+        let subject = Subject::Nullify(it.round);
+        if self.is_new(&subject) && it.verify(&self.scheme) {
+            self.subjects.push(subject)?;
+        }
+        Ok(())
     }
 
     fn finalization(&mut self, it: &Finalization) -> Result<(), AllocError> {
-        let verifies = it.verify(&self.scheme);
-        self.add(verifies, Subject::Finalize(it.proposal))
+        let subject = Subject::Finalize(it.proposal);
+        if self.is_new(&subject) && it.verify(&self.scheme) {
+            self.subjects.push(subject)?;
+        }
+        Ok(())
     }
 
     fn certificate(&mut self, it: &Certificate) -> Result<(), AllocError> {
