@@ -70,7 +70,7 @@ fn option_of(
     after: &[String],
 ) -> Request
     requires { place + length after.now + 1 < 2 ^ 64 }
-    ensures { result ≡ said.flag_with command place (flag_of (string_bytes word.now)) file
+    ensures { result ≡ said.option_of command place (flag_of (string_bytes word.now)) file
         (map string_bytes after.now) }
 {
     let Some(flag) = flag_of(word.as_str()) else {
