@@ -27,7 +27,7 @@ command_word commands.View = codes "view"
 command_word commands.Help = codes "help"
 command_word commands.Version = codes "version"
 
-abbrev pub command_of : List ℕ → Option Command
+unfoldable pub command_of : List ℕ → Option Command
 command_of word =
     if bytes_eq word (codes "run") then Some commands.Run else
     if bytes_eq word (codes "par") then Some commands.Par else
@@ -70,7 +70,7 @@ abbrev pub is_within : ℕ → ℕ → List ℕ → Bool
 is_within least most word = lies_within least most (number_of word)
 
 -- whether a word is what it has to be
-abbrev pub fits : Parameter → List ℕ → Bool
+unfoldable pub fits : Parameter → List ℕ → Bool
 fits parameters.Workers word = is_within 1 MOST_WORKERS word
 fits parameters.Seed word = is_within 0 (2 ^ 64 - 1) word
 fits parameters.Steps word = is_within 0 MOST_STEPS word
@@ -86,7 +86,7 @@ flag_word flags.Crash = codes "--crash"
 flag_word flags.Events = codes "--events"
 flag_word flags.Page = codes "--page"
 
-abbrev pub flag_of : List ℕ → Option Flag
+unfoldable pub flag_of : List ℕ → Option Flag
 flag_of word =
     if bytes_eq word (codes "--drop") then Some flags.Drop else
     if bytes_eq word (codes "--repeat") then Some flags.Repeat else

@@ -82,6 +82,7 @@ pub fn command_word(command: Command) -> &'static str
 }
 
 /// The command that a word asks for, if there is one.
+#[tactic(auto, unfolding(crate::specs::Commands::command_of))]
 pub fn command_of(word: &str) -> Option<Command>
     ensures { result ≡ said.command_of word.now }
 {

@@ -47,6 +47,7 @@ pub fn flag_word(flag: Flag) -> &'static str
 }
 
 /// The option that a word is, if there is one.
+#[tactic(auto, unfolding(crate::specs::Commands::flag_of))]
 pub fn flag_of(word: &str) -> Option<Flag>
     ensures { result ≡ said.flag_of word.now }
 {
