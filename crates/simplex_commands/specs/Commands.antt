@@ -55,7 +55,7 @@ needs_of commands.Shrink = parameters.Line ∷ []
 needs_of command = []
 
 -- whether it reads an input
-abbrev pub takes_file : Command → Bool
+unfoldable pub takes_file : Command → Bool
 takes_file commands.Gen = false
 takes_file commands.Help = false
 takes_file commands.Version = false
@@ -109,14 +109,14 @@ is_page flags.Page = true
 is_page flag = false
 
 -- whether the command takes the option
-abbrev pub takes_flag : Command → Flag → Bool
+unfoldable pub takes_flag : Command → Flag → Bool
 takes_flag commands.Simulate flag = is_of_simulation flag
 takes_flag commands.Script flag = is_events flag
 takes_flag commands.View flag = is_page flag
 takes_flag command flag = false
 
 -- what stands behind the option
-abbrev pub value_of : Flag → Option Parameter
+unfoldable pub value_of : Flag → Option Parameter
 value_of flags.Events = None
 value_of flags.Page = Some parameters.Folder
 value_of flag = Some parameters.Chance

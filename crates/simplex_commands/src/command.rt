@@ -129,6 +129,7 @@ pub fn needs_of(command: Command) -> &'static [Parameter]
 }
 
 /// Whether the command reads an input, for which a file may be named.
+#[tactic(auto, unfolding(crate::specs::Commands::takes_file))]
 pub fn takes_file(command: Command) -> bool
     ensures { result ≡ said.takes_file command }
 {
