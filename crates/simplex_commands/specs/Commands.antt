@@ -27,7 +27,7 @@ command_word commands.View = codes "view"
 command_word commands.Help = codes "help"
 command_word commands.Version = codes "version"
 
-abbrev pub command_of : List ℕ → Option Command
+unfoldable pub command_of : List ℕ → Option Command
 command_of word =
     if bytes_eq word (codes "run") then Some commands.Run else
     if bytes_eq word (codes "par") then Some commands.Par else
@@ -55,7 +55,7 @@ needs_of commands.Shrink = parameters.Line ∷ []
 needs_of command = []
 
 -- whether it reads an input
-abbrev pub takes_file : Command → Bool
+unfoldable pub takes_file : Command → Bool
 takes_file commands.Gen = false
 takes_file commands.Help = false
 takes_file commands.Version = false
@@ -70,7 +70,7 @@ abbrev pub is_within : ℕ → ℕ → List ℕ → Bool
 is_within least most word = lies_within least most (number_of word)
 
 -- whether a word is what it has to be
-abbrev pub fits : Parameter → List ℕ → Bool
+unfoldable pub fits : Parameter → List ℕ → Bool
 fits parameters.Workers word = is_within 1 MOST_WORKERS word
 fits parameters.Seed word = is_within 0 (2 ^ 64 - 1) word
 fits parameters.Steps word = is_within 0 MOST_STEPS word
@@ -86,7 +86,7 @@ flag_word flags.Crash = codes "--crash"
 flag_word flags.Events = codes "--events"
 flag_word flags.Page = codes "--page"
 
-abbrev pub flag_of : List ℕ → Option Flag
+unfoldable pub flag_of : List ℕ → Option Flag
 flag_of word =
     if bytes_eq word (codes "--drop") then Some flags.Drop else
     if bytes_eq word (codes "--repeat") then Some flags.Repeat else
@@ -109,14 +109,14 @@ is_page flags.Page = true
 is_page flag = false
 
 -- whether the command takes the option
-abbrev pub takes_flag : Command → Flag → Bool
+unfoldable pub takes_flag : Command → Flag → Bool
 takes_flag commands.Simulate flag = is_of_simulation flag
 takes_flag commands.Script flag = is_events flag
 takes_flag commands.View flag = is_page flag
 takes_flag command flag = false
 
 -- what stands behind the option
-abbrev pub value_of : Flag → Option Parameter
+unfoldable pub value_of : Flag → Option Parameter
 value_of flags.Events = None
 value_of flags.Page = Some parameters.Folder
 value_of flag = Some parameters.Chance

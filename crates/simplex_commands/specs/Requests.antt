@@ -26,23 +26,27 @@ abbrev pub asks_version : List (List ℕ) → Bool
 asks_version [] = false
 asks_version (word ∷ after) = bytes_eq word (codes "--version") || asks_version after
 
--- what is needed is there: options in any order, and a file, from this place on
+-- the one where there is none, else what the other makes of it
+abbrev pub either : {A B : Type 0} → B → (A → B) → Option A → B
+either none some None = none
+either none some (Some it) = some it
+
+-- what is needed is there: options in any order, each before its value, and a file, from this place on
 abbrev mutual
   pub rest_of : Command → ℕ → Option ℕ → List (List ℕ) → Request
   rest_of command place file [] = requests.Perform command file
   rest_of command place file (word ∷ after) =
-      if is_dashed word then flag_with command place (flag_of word) file after else file_of command place file after
-
-  -- the word at this place is this option, or none
-  pub flag_with : Command → ℕ → Option Flag → Option ℕ → List (List ℕ) → Request
-  flag_with command place None file after = requests.Wrong (wrongs.UnknownOption command place)
-  flag_with command place (Some flag) file after =
-      if takes_flag command flag then value_with command (suc place) (value_of flag) file after
-      else requests.Wrong (wrongs.UnknownOption command place)
-
-  pub value_with : Command → ℕ → Option Parameter → Option ℕ → List (List ℕ) → Request
-  value_with command place None file after = rest_of command place file after
-  value_with command place (Some wanted) file after = value_at command place wanted file after
+      if is_dashed word then
+      either (requests.Wrong (wrongs.UnknownOption command place)) (λ flag.
+      if takes_flag command flag then
+      either (rest_of command (suc place) file after) (λ wanted. value_at command (suc place) wanted file after) (value_of flag)
+      else requests.Wrong (wrongs.UnknownOption command place))
+      (flag_of word)
+      else
+      either (if takes_file command then rest_of command (suc place) (Some place) after
+      else requests.Wrong (wrongs.TooMany command place))
+      (λ other. requests.Wrong (wrongs.TooMany command place))
+      file
 
   -- the word at this place is the value of an option
   pub value_at : Command → ℕ → Parameter → Option ℕ → List (List ℕ) → Request
@@ -50,11 +54,22 @@ abbrev mutual
   value_at command place wanted file (word ∷ after) =
       if fits wanted word then rest_of command (suc place) file after else requests.Wrong (wrongs.Unfit command place wanted)
 
-  -- the word at this place is a file, or one too many
-  pub file_of : Command → ℕ → Option ℕ → List (List ℕ) → Request
-  file_of command place None after =
-      if takes_file command then rest_of command (suc place) (Some place) after else requests.Wrong (wrongs.TooMany command place)
-  file_of command place (Some file) after = requests.Wrong (wrongs.TooMany command place)
+-- the word at this place is this option, or none
+abbrev pub option_of : Command → ℕ → Option Flag → Option ℕ → List (List ℕ) → Request
+option_of command place flag file after =
+    either (requests.Wrong (wrongs.UnknownOption command place)) (λ one.
+    if takes_flag command one then
+    either (rest_of command (suc place) file after) (λ wanted. value_at command (suc place) wanted file after) (value_of one)
+    else requests.Wrong (wrongs.UnknownOption command place))
+    flag
+
+-- the word at this place is a file, or one too many
+abbrev pub file_of : Command → ℕ → Option ℕ → List (List ℕ) → Request
+file_of command place file after =
+    either (if takes_file command then rest_of command (suc place) (Some place) after
+    else requests.Wrong (wrongs.TooMany command place))
+    (λ other. requests.Wrong (wrongs.TooMany command place))
+    file
 
 -- what the command needs, and then the rest, from this place on
 abbrev pub needed : Command → ℕ → List Parameter → List (List ℕ) → Request

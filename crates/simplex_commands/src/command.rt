@@ -82,6 +82,7 @@ pub fn command_word(command: Command) -> &'static str
 }
 
 /// The command that a word asks for, if there is one.
+#[tactic(auto, unfolding(crate::specs::Commands::command_of))]
 pub fn command_of(word: &str) -> Option<Command>
     ensures { result ≡ said.command_of word.now }
 {
@@ -128,6 +129,7 @@ pub fn needs_of(command: Command) -> &'static [Parameter]
 }
 
 /// Whether the command reads an input, for which a file may be named.
+#[tactic(auto, unfolding(crate::specs::Commands::takes_file))]
 pub fn takes_file(command: Command) -> bool
     ensures { result ≡ said.takes_file command }
 {

@@ -47,6 +47,7 @@ pub fn flag_word(flag: Flag) -> &'static str
 }
 
 /// The option that a word is, if there is one.
+#[tactic(auto, unfolding(crate::specs::Commands::flag_of))]
 pub fn flag_of(word: &str) -> Option<Flag>
     ensures { result ≡ said.flag_of word.now }
 {
@@ -92,6 +93,7 @@ fn is_page(flag: Flag) -> bool
 }
 
 /// Whether the command takes the option.
+#[tactic(auto, unfolding(crate::specs::Commands::takes_flag))]
 pub fn takes_flag(command: Command, flag: Flag) -> bool
     ensures { result ≡ said.takes_flag command flag }
 {
@@ -115,6 +117,7 @@ pub fn takes_flag(command: Command, flag: Flag) -> bool
 }
 
 /// What stands behind the option, if anything does.
+#[tactic(auto, unfolding(crate::specs::Commands::value_of))]
 pub fn value_of(flag: Flag) -> Option<Parameter>
     ensures { result ≡ said.value_of flag }
 {

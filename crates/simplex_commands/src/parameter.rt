@@ -41,6 +41,7 @@ fn is_within(least: u64, most: u64, word: &str) -> bool
 }
 
 /// Whether a word is what it has to be.
+#[tactic(auto, unfolding(crate::specs::Commands::fits))]
 pub fn fits(parameter: Parameter, word: &str) -> bool
     ensures { result ≡ said.fits parameter word.now }
 {

@@ -1,5 +1,5 @@
 //! Words are read.
-ghost use Rattle.std.specs.Prelude.{◌≡◌, ◌+◌, ◌<◌, ◌^◌, length, map, string_bytes};
+ghost use Rattle.std.specs.Prelude.{◌≡◌, ◌+◌, ◌<◌, ◌^◌, ◌∷◌, length, map, string_bytes};
 ghost use Rattle.simplex_commands.specs.Commands.{flag_of};
 ghost use Rattle.simplex_commands.specs.Requests as said;
 
@@ -70,7 +70,7 @@ fn option_of(
     after: &[String],
 ) -> Request
     requires { place + length after.now + 1 < 2 ^ 64 }
-    ensures { result ≡ said.flag_with command place (flag_of (string_bytes word.now)) file
+    ensures { result ≡ said.option_of command place (flag_of (string_bytes word.now)) file
         (map string_bytes after.now) }
 {
     let Some(flag) = flag_of(word.as_str()) else {
@@ -132,29 +132,42 @@ fn file_of(command: Command, place: usize, file: Option<usize>, after: &[String]
 }
 
 // What the command needs, and then the rest, from this place on.
+#[cycle(needs)]
 fn needed(command: Command, place: usize, needs: &[Parameter], words: &[String]) -> Request
     requires { place + length words.now < 2 ^ 64 }
     ensures { result ≡ said.needed command place needs.now (map string_bytes words.now) }
 {
     match needs {
         [] => rest_of(command, place, None, words),
-        [wanted, more @ ..] => match words {
-            [] => Request::Wrong(Wrong::Missing {
-                command,
-                wanted: *wanted,
-            }),
-            [word, after @ ..] => {
-                if fits(*wanted, word.as_str()) {
-                    needed(command, place + 1, more, after)
-                } else {
-                    Request::Wrong(Wrong::Unfit {
-                        command,
-                        place,
-                        wanted: *wanted,
-                    })
-                }
+        [wanted, more @ ..] => needed_at(command, place, *wanted, more, words),
+    }
+}
+
+// The word at this place, the first of these, is what the command needs first.
+#[cycle(needs)]
+fn needed_at(
+    command: Command,
+    place: usize,
+    wanted: Parameter,
+    more: &[Parameter],
+    words: &[String],
+) -> Request
+    requires { place + length words.now < 2 ^ 64 }
+    ensures { result ≡ said.needed command place (wanted ∷ more.now) (map string_bytes words.now) }
+{
+    match words {
+        [] => Request::Wrong(Wrong::Missing { command, wanted }),
+        [word, after @ ..] => {
+            if fits(wanted, word.as_str()) {
+                needed(command, place + 1, more, after)
+            } else {
+                Request::Wrong(Wrong::Unfit {
+                    command,
+                    place,
+                    wanted,
+                })
             }
-        },
+        }
     }
 }
 

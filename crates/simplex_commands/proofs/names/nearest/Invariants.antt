@@ -1,4 +1,5 @@
-use Rattle.std.proofs.Common.{◌≡◌, ◌≤◌, AllWithin, Contains, IfNone, IfSome}
+use Rattle.std.proofs.Common.{◌≡◌, ◌≤◌, Contains, IfNone, IfSome}
+use Rattle.std.specs.List.{AllWithin}
 use Rattle.simplex_commands.specs.Nearest.{edits}
 use Rattle.simplex_commands.specs.declared.names.TheConstants.{MOST_EDITS}
 use Rattle.simplex_commands.proofs.names.nearest.Given as goal
