@@ -51,13 +51,13 @@ pub(crate) fn request_text(
     to: &Participant,
     bytes: &[u8],
 ) -> Result<String, AllocError> {
-    match ResolverMessage::decode(alloc, bytes) {
-        Ok(
-            ResolverMessage {
-                id,
-                body: ResolverBody::Request { view },
-            },
-        ) => format!(in alloc; "{to} is asked for view {view} as request {id}"),
+    let Ok(ResolverMessage { id, body }) = ResolverMessage::decode(alloc, bytes) else {
+        return String::from_str(alloc, "bytes of no message");
+    };
+    match body {
+        ResolverBody::Request { view } => {
+            format!(in alloc; "{to} is asked for view {view} as request {id}")
+        }
         _ => format!(in alloc; "{to} gets no request"),
     }
 }
