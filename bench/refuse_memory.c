@@ -1,6 +1,6 @@
 /* Refuses one request for memory: preloaded into a program, it lets the request fail whose number REFUSED has, counted from 1, and
    keeps count of all in the file that COUNTED names, as eight bytes, since a program may end without a word to it.
-   want-of-memory.sh uses it. */
+   tools/out-of-memory.sh uses it. */
 #define _GNU_SOURCE
 #include <dlfcn.h>
 #include <errno.h>

@@ -7,6 +7,8 @@ ghost use Rattle.simplex_c.specs.Told.{told_of};
 
 mod answer;
 mod filling;
+#[cfg(test)]
+mod tests;
 
 use crate::answer::answer_to;
 use crate::filling::fill;

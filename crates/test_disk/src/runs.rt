@@ -1,4 +1,4 @@
-//! A run of forty journal calls.
+//! A run of forty journal calls, and two replays between them.
 use simplex_disk::{DiskJournal, InitError, MemoryDisk};
 use simplex_journal::{Journal, JournalError};
 use simplex_values::{Epoch, Round, View};
@@ -57,9 +57,30 @@ fn call<J: Journal>(journal: &mut J, alloc: Global, number: u64) -> Result<(), J
     }
 }
 
-/// Makes the calls up to the first that does not end well, and answers how many did.
+/// Before these calls the journal is replayed: then four sections are there, the last of them with one record.
+const REPLAYED: [u64; 2] = [13, 33];
+
+/// What is answered where a replay ends well and reads other records than it has to: no run ends in such a call.
+const WRONG: u64 = 100;
+
+/// The records are read before the call of this number, where they are read before it. None: that ended well, or was not asked.
+fn replay<J: Journal>(journal: &mut J, alloc: Global, number: u64) -> Option<u64> {
+    if !REPLAYED.contains(&number) {
+        return None;
+    }
+    match journal.replay(alloc) {
+        Ok(records) if records.len() == 7 && may_be(&records, number) => None,
+        Ok(_) => Some(WRONG),
+        Err(_) => Some(number),
+    }
+}
+
+/// Makes the calls up to the first that does not end well, and answers how many did. A replay counts with the call after it.
 pub(crate) fn forty<J: Journal>(journal: &mut J, alloc: Global) -> u64 {
     for number in 0..40 {
+        if let Some(ended) = replay(journal, alloc, number) {
+            return ended;
+        }
         if call(journal, alloc, number).is_err() {
             return number;
         }

@@ -80,16 +80,22 @@ fn a_file_byte_by_byte(rt: HostRuntime) {
 // A synced record and a pending one, of which a byte is wanting: an opened journal would cut the file.
 const TORN: [u8; 11] = [1, 4, 2, 0, 1, 1, 0, 4, 2, 0, 1];
 
+// The same where it was cut.
+const MENDED: [u8; 7] = [1, 4, 2, 0, 1, 1, 0];
+
 // The same of section 2, of which no record is whole.
 const TORN_AT_ONCE: [u8; 4] = [0, 4, 2, 0];
 
-/// A disk with two torn files, whose third call fails: that is the first when a journal is opened.
-fn torn_disk(alloc: Global) -> Result<MemoryDisk, DiskError> {
-    let mut disk = MemoryDisk::new(alloc, vec![in alloc; 3u64]?);
+/// A disk with two torn files, whose call of this number fails. The first two calls write the files; a journal that is opened lists them
+/// by the third, and then makes five calls for each of them: it reads, cuts, syncs, writes the last gate, and syncs.
+fn torn_disk(alloc: Global, failing: u64) -> Result<MemoryDisk, DiskError> {
+    let mut disk = MemoryDisk::new(alloc, vec![in alloc; failing]?);
     disk.write_at(1, 0, &TORN)?;
     disk.write_at(2, 0, &TORN_AT_ONCE)?;
     Ok(disk)
 }
+
+const LAST_OF_OPENING: u64 = 13;
 
 /// The disk that is handed back, and why no journal was opened on it.
 fn refused(disk: MemoryDisk, alloc: Global) -> Option<InitError<MemoryDisk>> {
@@ -97,41 +103,38 @@ fn refused(disk: MemoryDisk, alloc: Global) -> Option<InitError<MemoryDisk>> {
     DiskJournal::init(disk, alloc).err()
 }
 
+/// The disk that is handed back where this call of it fails as it is opened, with what its files have.
+fn handed_back(rt: &impl Abort, alloc: Global, failing: u64) -> Result<[Vec<u8>; 2], Fail> {
+    let disk = torn_disk(alloc, failing)?;
+    let InitError { mut disk, error } = refused(disk, alloc).ok_or("a call fails")?;
+    let case = format!(in alloc; "disk call {failing} fails")?;
+    same(rt, &case, &error, &JournalError::Failed);
+    same(rt, &case, &disk.faults(), &1);
+    let numbers = disk.files(alloc)?;
+    same(rt, &case, &numbers.as_slice(), &[1, 2].as_slice());
+    let files = [disk.read(alloc, 1)?, disk.read(alloc, 2)?];
+    let mut journal = opened(disk, alloc)?;
+    let records = journal.replay(alloc)?;
+    same(rt, &case, &records.as_slice(), &[record(1)].as_slice());
+    same(rt, &case, &journal.faults(), &1);
+    let mut disk = journal.into_disk();
+    let mended = [disk.read(alloc, 1)?, disk.read(alloc, 2)?];
+    same(rt, &case, &mended[0].as_slice(), &MENDED.as_slice());
+    same(rt, &case, &mended[1].as_slice(), &[0].as_slice());
+    Ok(files)
+}
+
 #[test]
 fn a_disk_is_handed_back(rt: HostRuntime) -> Result<(), Fail> {
     let alloc = rt.alloc();
-    let disk = torn_disk(alloc)?;
-    let InitError { disk, error } = refused(disk, alloc).ok_or("a call fails")?;
-    same(&rt, "why", &error, &JournalError::Failed);
-    same(&rt, "how often", &disk.faults(), &1);
-    let mut disk = disk;
-    same(
-        &rt,
-        "its files",
-        &disk.files(alloc)?.as_slice(),
-        &[1, 2].as_slice(),
-    );
-    same(
-        &rt,
-        "file 1",
-        &disk.read(alloc, 1)?.as_slice(),
-        &TORN.as_slice(),
-    );
-    same(
-        &rt,
-        "file 2",
-        &disk.read(alloc, 2)?.as_slice(),
-        &TORN_AT_ONCE.as_slice(),
-    );
-    let mut journal = opened(disk, alloc)?;
-    let records = journal.replay(alloc)?;
-    same(
-        &rt,
-        "what is read",
-        &records.as_slice(),
-        &[record(1)].as_slice(),
-    );
-    same(&rt, "no other call failed", &journal.faults(), &1);
+    let [first, second] = handed_back(&rt, alloc, 3)?;
+    same(&rt, "file 1", &first.as_slice(), &TORN.as_slice());
+    same(&rt, "file 2", &second.as_slice(), &TORN_AT_ONCE.as_slice());
+    for failing in 4..=LAST_OF_OPENING {
+        let _files = handed_back(&rt, alloc, failing)?;
+    }
+    let journal = opened(torn_disk(alloc, LAST_OF_OPENING + 1)?, alloc)?;
+    same(&rt, "no call fails", &journal.faults(), &0);
     Ok(())
 }
 
@@ -223,7 +226,7 @@ fn under_order<J: Journal>(
 #[test]
 fn orders_as_in_memory(rt: HostRuntime) {
     let alloc = rt.alloc();
-    for call in 0..=41u64 {
+    for call in 0..=43u64 {
         for dropped in [0, 1, 5u64] {
             let mut journal = new_journal(alloc, 0).expect(&rt, "room");
             let left = under_order(&mut journal, alloc, call, dropped).expect(&rt, "room");

@@ -5,6 +5,10 @@
 #[cfg(test)]
 mod applications;
 #[cfg(test)]
+mod changed_bits;
+#[cfg(test)]
+mod events;
+#[cfg(test)]
 mod faulty;
 #[cfg(test)]
 mod generated;

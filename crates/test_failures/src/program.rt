@@ -16,11 +16,14 @@ const FINALIZES: &str =
 const FINALIZED: &str =
     "event 10 node 0.0 finalized 1 1111111111111111111111111111111111111111111111111111111111111111\n";
 
-// The first 16 bytes of it, and the first 80.
-const ONE_PIECE: &str = "event 10 node 0.";
-
-const FIVE_PIECES: &str =
-    "event 10 node 0.0 finalized 1 11111111111111111111111111111111111111111111111111";
+// What is written of it, in pieces of 16 bytes, where the second write fails, the third, and so on.
+const PIECES: [&str; 5] = [
+    "event 10 node 0.",
+    "event 10 node 0.0 finalized 1 11",
+    "event 10 node 0.0 finalized 1 111111111111111111",
+    "event 10 node 0.0 finalized 1 1111111111111111111111111111111111",
+    "event 10 node 0.0 finalized 1 11111111111111111111111111111111111111111111111111",
+];
 
 // So many spaces.
 fn spaces(rt: &impl Abort, alloc: Global, n: u32) -> Vec<u8> {
@@ -153,8 +156,11 @@ fn a_fault_in_a_whole_run_is_told_by_the_status(rt: HostRuntime) {
         ("read 2 fails", 2, 0, "", 5),
         ("read 3 fails", 3, 0, FINALIZED, 0),
         ("write 1 fails", 0, 1, "", 6),
-        ("write 2 fails", 0, 2, ONE_PIECE, 6),
-        ("write 6 fails", 0, 6, FIVE_PIECES, 6),
+        ("write 2 fails", 0, 2, PIECES[0], 6),
+        ("write 3 fails", 0, 3, PIECES[1], 6),
+        ("write 4 fails", 0, 4, PIECES[2], 6),
+        ("write 5 fails", 0, 5, PIECES[3], 6),
+        ("write 6 fails", 0, 6, PIECES[4], 6),
         ("write 7 fails", 0, 7, FINALIZED, 0),
     ] {
         let bytes = FINALIZES.as_bytes().to_vec(alloc).expect(&rt, "room");

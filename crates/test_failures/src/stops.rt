@@ -2,4 +2,6 @@
 mod alone;
 mod checker;
 mod four;
+mod kept;
+mod standing;
 mod world;

@@ -1,20 +1,15 @@
 //! A member alone: a view's list of ten events, stopped before each of its nineteen calls, with each of its ten journal calls
 //! failing, and started again.
-use super::checker::{Group, assert_sound, last_final};
-use super::world::{Answers, World, assert_run, start, step, stopped};
+use super::checker::{assert_sound, last_final};
+use super::world::{Answers, World, assert_run, stopped};
+use crate::events::{answer, start, step};
 use simplex_messages::{Outcome, Stop};
-use simplex_transcript::{Event, MemberKind, Node, Ref, Setup, StepSource};
+use simplex_transcript::{Event, MemberKind, Node, Setup, StepSource};
 use simplex_types::{Answer, Digest, View};
 use std::alloc::{AllocError, Global};
 use std::process::Abort;
 
 const NODE: Node = Node { member: 0, half: 0 };
-
-const GROUP: Group = Group {
-    key_base: 1,
-    members: 1,
-    term: 1,
-};
 
 /// Behind the stop the application proposes payload 22, and requests of view 3 stay open.
 const ANSWERS: Answers = Answers {
@@ -22,33 +17,21 @@ const ANSWERS: Answers = Answers {
     last: View(2),
 };
 
-fn setup(alloc: Global, mailbox: u64) -> Result<Setup, AllocError> {
+fn setup(alloc: Global) -> Result<Setup, AllocError> {
     let members = vec![in alloc; MemberKind::Honest]?;
-    Ok(Setup {
-        mailbox,
-        ..Setup::usual(alloc, members)
-    })
-}
-
-/// The answer to the only request of an event.
-fn answer(event: u64, answer: Answer) -> Event {
-    Event::Answer {
-        node: NODE,
-        request: Ref { event, place: 0 },
-        answer,
-    }
+    Ok(Setup::usual(alloc, members))
 }
 
 /// The view's events: event 1 asks for a proposal, and event 6 for a certification.
 fn view(alloc: Global) -> Result<Vec<Event>, AllocError> {
     let events = vec![in alloc;
         start(NODE, None),
-        answer(1, Answer::Payload(Digest([17; 32]))),
+        answer(NODE, 1, Answer::Payload(Digest([17; 32]))),
         step(NODE, StepSource::Propose),
         step(NODE, StepSource::Batcher),
         step(NODE, StepSource::Batcher),
         step(NODE, StepSource::Voter),
-        answer(6, Answer::Verdict(true)),
+        answer(NODE, 6, Answer::Verdict(true)),
         step(NODE, StepSource::Certify),
         step(NODE, StepSource::Batcher),
         step(NODE, StepSource::Voter),
@@ -76,7 +59,7 @@ const SOURCES: [StepSource; 9] = [
 
 /// The view up to the event of this number, which is made with this stop.
 fn until(rt: &impl Abort, alloc: Global, number: u64, stop: Stop) -> World {
-    let setup = setup(alloc, 16).expect(rt, "memory");
+    let setup = setup(alloc).expect(rt, "memory");
     let events = view(alloc).expect(rt, "memory");
     let mut world = World::new(rt, alloc, &setup, ANSWERS);
     for (place, event) in (1u64..).zip(events) {
@@ -111,10 +94,10 @@ fn starts_again(rt: &impl Abort, world: &mut World, case: &str) {
 /// What stands at the end is sound, and is the run of the events. Whether view 2 is final; else none is: the member has its
 /// notarize of view 1 in the journal, did not send it, and waits for the view's end.
 fn assert_end(rt: &impl Abort, alloc: Global, world: &World, case: &str) -> bool {
-    assert_sound(rt, alloc, case, GROUP, &[NODE], world.entries.as_slice());
+    let setup = setup(alloc).expect(rt, "memory");
+    assert_sound(rt, alloc, case, &setup, &[NODE], world);
     let last = last_final(world.entries.as_slice(), NODE).map(|it| it.proposal.round.view);
     assert!(rt; last.is_none() || last == Some(View(2)), "{case}: {last:?}");
-    let setup = setup(alloc, 16).expect(rt, "memory");
     assert_run(rt, alloc, case, &setup, world);
     last.is_some()
 }

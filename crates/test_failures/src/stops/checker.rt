@@ -1,20 +1,15 @@
-//! A slow checker of what a run made, apart from the engine: it looks at all pairs.
-use simplex_messages::Call;
-use simplex_transcript::{Entry, Node};
-use simplex_types::{
-    Activity, Artifact, Channel, Finalization, Keyed, Proposal, Subject, View, Vote,
-};
+//! A slow checker of what a run made, apart from the engine: it looks at all pairs, and keeps a journal of each member's votes itself.
+use super::kept::Kept;
+use super::standing::certified;
+use super::world::World;
+use model_audit::Verdict;
+use simplex_audit::record_of;
+use simplex_judge::audit;
+use simplex_messages::{Call, Outcome, Stop};
+use simplex_transcript::{Entry, Event, Node, Setup};
+use simplex_types::{Activity, Channel, Finalization, Proposal, Subject, View, Vote};
 use std::alloc::Global;
 use std::process::Abort;
-
-/// What the checker is told of the setup.
-#[derive(Clone, Copy)]
-pub(super) struct Group {
-    pub(super) key_base: u64,
-    pub(super) members: u32,
-    /// How many views a term has.
-    pub(super) term: u64,
-}
 
 /// Whether both views are of one term, and the second is not before the first. Terms begin at view 1.
 fn covers(term: u64, first: View, second: View) -> bool {
@@ -48,37 +43,13 @@ fn conflict(term: u64, a: &Subject, b: &Subject) -> bool {
     conflict_in_order(term, a, b) || conflict_in_order(term, b, a)
 }
 
-/// What the certificates that the entries add or report, and that verify, are on.
-fn certified(rt: &impl Abort, alloc: Global, group: Group, entries: &[Entry]) -> Vec<Subject> {
-    let mut found = Vec::new(alloc);
-    assert!(rt; group.members > 0, "a member");
-    let scheme = Keyed::new(alloc, group.key_base, group.members, None).expect(rt, "memory");
-    for entry in entries {
-        for certificate in entry.added.as_slice() {
-            if certificate.verify(&scheme) {
-                found.push(certificate.subject()).expect(rt, "memory");
-            }
-        }
-        for call in entry.calls.as_slice() {
-            if let Call::Report(Activity::Finalization(it)) = call {
-                if it.verify(&scheme) {
-                    found
-                        .push(Subject::Finalize(it.proposal))
-                        .expect(rt, "memory");
-                }
-            }
-        }
-    }
-    found
-}
-
-/// No two certificates that verify conflict.
-fn assert_agree(rt: &impl Abort, alloc: Global, case: &str, group: Group, entries: &[Entry]) {
-    let found = certified(rt, alloc, group, entries);
+/// No two certificates that stand in the run and verify conflict.
+fn assert_agree(rt: &impl Abort, alloc: Global, case: &str, setup: &Setup, entries: &[Entry]) {
+    let found = certified(rt, alloc, setup, entries);
     for (place, a) in found.iter().enumerate() {
         for b in found.iter().skip(place) {
             assert!(rt;
-                !conflict(group.term, a, b),
+                !conflict(setup.term, a, b),
                 "{case}: {a:?} and {b:?} conflict"
             );
         }
@@ -97,65 +68,37 @@ fn vote_of(call: &Call) -> Option<Vote> {
     }
 }
 
-/// Whether the record is that of the vote.
-fn is_record_of(artifact: &Artifact, vote: &Vote) -> bool {
-    match (artifact, vote) {
-        (Artifact::Notarize(a), Vote::Notarize(b)) => a == b,
-        (Artifact::Nullify(a), Vote::Nullify(b)) => a == b,
-        (Artifact::Finalize(a), Vote::Finalize(b)) => a == b,
-        _ => false,
+/// How many pending records of each section are kept by the stop of an event, where one ended it.
+fn kept_by(event: &Event, outcome: Outcome) -> Option<u64> {
+    match (outcome, event) {
+        (
+            Outcome::Cut | Outcome::Journal,
+            Event::Start {
+                stop: Stop::Cut { keep, .. } | Stop::Fail { keep, .. },
+                ..
+            }
+            | Event::Step {
+                stop: Stop::Cut { keep, .. } | Stop::Fail { keep, .. },
+                ..
+            },
+        ) => Some(*keep),
+        _ => None,
     }
 }
 
-/// How a record stands in the journal.
-#[derive(Clone, Copy, PartialEq, Eq)]
-enum Stored {
-    Not,
-    Appended,
-    Synced,
-}
-
-/// How the vote's record stands in the node's journal behind these calls of it, in order. A stop may take what is not synced.
-fn how_stored(calls: &[&Call], vote: &Vote) -> Stored {
-    let mut stored = Stored::Not;
-    for call in calls {
-        match call {
-            Call::Append(_, artifact) if is_record_of(artifact, vote) => {
-                if stored == Stored::Not {
-                    stored = Stored::Appended;
-                }
-            }
-            Call::Sync(section) if *section == vote.view().0 => {
-                if stored == Stored::Appended {
-                    stored = Stored::Synced;
-                }
-            }
-            _ => {}
-        }
-    }
-    stored
-}
-
-/// Each vote that the node sends was stored before it, and follows all that it sent before, over all its lives.
-fn assert_votes(
-    rt: &impl Abort,
-    alloc: Global,
-    case: &str,
-    term: u64,
-    node: Node,
-    entries: &[Entry],
-) {
-    let mut made: Vec<&Call> = Vec::new(alloc);
+/// Each vote that the node sends stands synced in its journal before it, and follows all that it sent before, over all its lives. In
+/// the journal stands what was appended, less what was not synced when a stop came, but for what the stop keeps. No prune fails here.
+fn assert_votes(rt: &impl Abort, alloc: Global, case: &str, term: u64, node: Node, world: &World) {
+    let mut kept = Kept::new(alloc);
     let mut sent: Vec<Vote> = Vec::new(alloc);
-    let of_node = |entry: &&Entry| entry.who == Some(node);
-    for entry in entries.iter().filter(of_node) {
+    for (event, entry) in world.happened.iter().zip(world.entries.as_slice()) {
+        if entry.who != Some(node) {
+            continue;
+        }
         for call in entry.calls.as_slice() {
             if let Some(vote) = vote_of(call) {
                 assert!(rt; u64::from(vote.signer().0) == node.member, "{case}");
-                assert!(rt;
-                    how_stored(&made, &vote) == Stored::Synced,
-                    "{case}: {vote:?} is stored"
-                );
+                assert!(rt; kept.has_synced(&vote), "{case}: {vote:?} is stored");
                 for earlier in &sent {
                     let (a, b) = (earlier.subject(), vote.subject());
                     assert!(rt;
@@ -165,7 +108,10 @@ fn assert_votes(
                 }
                 sent.push(vote).expect(rt, "memory");
             }
-            made.push(call).expect(rt, "memory");
+            kept.note(call).expect(rt, "memory");
+        }
+        if let Some(keep) = kept_by(event, entry.outcome) {
+            kept.stop(keep).expect(rt, "memory");
         }
     }
 }
@@ -183,19 +129,29 @@ fn clash(term: u64, a: &Subject, b: &Subject) -> bool {
     }
 }
 
-/// The run's certificates agree, and its honest members' votes are stored and follow one another.
+/// The record of the run has no fault: in each whole step of a voter the member sends exactly the votes that are due, of which no step
+/// of an engine is asked.
+fn assert_rules(rt: &impl Abort, alloc: Global, case: &str, setup: &Setup, world: &World) {
+    let record = record_of(alloc, world.entries.as_slice()).expect(rt, "memory");
+    let verdict = audit(alloc, setup, world.happened.as_slice(), record.as_slice());
+    let verdict = verdict.expect(rt, "memory");
+    assert_eq!(rt; verdict, Verdict::Sound, "{case}");
+}
+
+/// The run's certificates agree, its honest members' votes are stored and follow one another, and each vote that is due is sent.
 pub(super) fn assert_sound(
     rt: &impl Abort,
     alloc: Global,
     case: &str,
-    group: Group,
+    setup: &Setup,
     honest: &[Node],
-    entries: &[Entry],
+    world: &World,
 ) {
-    assert_agree(rt, alloc, case, group, entries);
+    assert_agree(rt, alloc, case, setup, world.entries.as_slice());
     for node in honest {
-        assert_votes(rt, alloc, case, group.term, *node, entries);
+        assert_votes(rt, alloc, case, setup.term, *node, world);
     }
+    assert_rules(rt, alloc, case, setup, world);
 }
 
 /// The last finalization that the node reported.

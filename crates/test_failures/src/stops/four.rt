@@ -1,7 +1,8 @@
 //! Four members in terms of three views, with a lookahead of one: one of them stops before each of its calls, and starts again at
 //! what it reported last.
-use super::checker::{Group, assert_sound, last_final};
-use super::world::{Answers, World, assert_run, start, stopped};
+use super::checker::{assert_sound, last_final};
+use super::world::{Answers, World, assert_run, stopped};
+use crate::events::start;
 use simplex_messages::{Outcome, Stop};
 use simplex_transcript::{Event, MemberKind, Node, Setup};
 use simplex_types::{Keep, View};
@@ -16,12 +17,6 @@ const HONEST: [Node; 3] = [
 
 /// The member that stops.
 const STOPPING: Node = Node { member: 1, half: 0 };
-
-const GROUP: Group = Group {
-    key_base: 1,
-    members: 4,
-    term: 3,
-};
 
 const ANSWERS: Answers = Answers {
     payload: 17,
@@ -107,35 +102,41 @@ fn stops(rt: &impl Abort, alloc: Global, place: usize, stop: Stop) {
     let starts = world.make(rt, start(STOPPING, floor));
     assert!(rt; starts, "{case}: it starts");
     world.settle(rt, MOST);
-    assert_sound(rt, alloc, &case, GROUP, &HONEST, world.entries.as_slice());
     let setup = setup(alloc).expect(rt, "memory");
+    assert_sound(rt, alloc, &case, &setup, &HONEST, &world);
     assert_run(rt, alloc, &case, &setup, &world);
 }
 
-#[test]
-fn one_of_four_stops_before_each_of_its_calls(rt: HostRuntime) {
-    let alloc = rt.alloc();
-    let mut whole = started(&rt, alloc);
-    whole.settle(&rt, MOST);
-    assert_sound(
-        &rt,
-        alloc,
-        "a whole run",
-        GROUP,
-        &HONEST,
-        whole.entries.as_slice(),
-    );
+/// The member stops before each of its calls, and of each section so many pending records are kept.
+fn stops_before_each_call(rt: &impl Abort, alloc: Global, keep: u64) {
+    let mut whole = started(rt, alloc);
+    whole.settle(rt, MOST);
+    let setup = setup(alloc).expect(rt, "memory");
+    assert_sound(rt, alloc, "a whole run", &setup, &HONEST, &whole);
     assert!(rt; last_final(whole.entries.as_slice(), STOPPING).is_some());
-    let places = calls_of(alloc, &whole).expect(&rt, "memory");
+    let places = calls_of(alloc, &whole).expect(rt, "memory");
     drop(whole);
     let mut cases = 0u64;
     for (place, calls) in places {
         for call in 1..=calls {
-            for keep in 0..=2u64 {
-                stops(&rt, alloc, place, Stop::Cut { call, keep });
-                cases = cases.saturating_add(1);
-            }
+            stops(rt, alloc, place, Stop::Cut { call, keep });
+            cases = cases.saturating_add(1);
         }
     }
-    assert!(rt; cases >= 60, "{cases} cases");
+    assert!(rt; cases >= 20, "{cases} cases");
+}
+
+#[test]
+fn one_of_four_stops_and_keeps_nothing(rt: HostRuntime) {
+    stops_before_each_call(&rt, rt.alloc(), 0);
+}
+
+#[test]
+fn one_of_four_stops_and_keeps_a_record(rt: HostRuntime) {
+    stops_before_each_call(&rt, rt.alloc(), 1);
+}
+
+#[test]
+fn one_of_four_stops_and_keeps_two_records(rt: HostRuntime) {
+    stops_before_each_call(&rt, rt.alloc(), 2);
 }

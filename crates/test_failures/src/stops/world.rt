@@ -1,10 +1,11 @@
 //! A network in which each packet arrives, and each request is answered, in the order in which they come up.
+use crate::events::step;
 use model_rules::Asked;
 use simplex_messages::{Handed, Stop};
 use simplex_network::Network;
 use simplex_run::run_network;
 use simplex_transcript::{Entry, Event, Node, Ref, Setup, StepSource};
-use simplex_types::{Answer, Digest, Finalization, View};
+use simplex_types::{Answer, Digest, View};
 use std::alloc::{AllocError, Global};
 use std::collections::VecDeque;
 use std::process::Abort;
@@ -25,22 +26,6 @@ pub(super) struct World {
     waiting: VecDeque<Event>,
     pub(super) happened: Vec<Event>,
     pub(super) entries: Vec<Entry>,
-}
-
-pub(super) fn start(node: Node, floor: Option<Finalization>) -> Event {
-    Event::Start {
-        node,
-        floor,
-        stop: Stop::None,
-    }
-}
-
-pub(super) fn step(node: Node, source: StepSource) -> Event {
-    Event::Step {
-        node,
-        source,
-        stop: Stop::None,
-    }
 }
 
 /// The same event, with this stop, if it can have one.

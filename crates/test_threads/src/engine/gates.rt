@@ -12,12 +12,13 @@ pub(super) const VOTER: u32 = 1;
 
 pub(super) const RESOLVER: u32 = 2;
 
-/// How far the actors have come: the number of the turn before which each stands.
+/// How far the actors have come: the number of the turn before which each stands, and that of the last where it made all.
 #[derive(Drop)]
 pub(super) struct Progress {
     batcher: AtomicU64,
     voter: AtomicU64,
     resolver: AtomicU64,
+    met: AtomicU64,
     gave_up: AtomicU64,
 }
 
@@ -27,8 +28,23 @@ impl Progress {
             batcher: AtomicU64::new(0),
             voter: AtomicU64::new(0),
             resolver: AtomicU64::new(0),
+            met: AtomicU64::new(0),
             gave_up: AtomicU64::new(0),
         }
+    }
+
+    /// How far the batcher, the voter and the resolver came, if each passed the gate before each of its turns.
+    pub(super) fn turns(&self) -> (u64, u64, u64) {
+        (
+            self.batcher.load(Ordering::SeqCst),
+            self.voter.load(Ordering::SeqCst),
+            self.resolver.load(Ordering::SeqCst),
+        )
+    }
+
+    /// How many stood at the gate until the one came for whom they waited.
+    pub(super) fn met(&self) -> u64 {
+        self.met.load(Ordering::SeqCst)
     }
 
     /// How many waited in vain.
@@ -46,14 +62,19 @@ impl Progress {
         }
     }
 
+    /// The actor comes to its next turn. One that leaves out a turn comes no further.
     fn come(&self, who: u32, turn: u64) {
-        self.turn_of(who).store(turn, Ordering::SeqCst);
+        let last = self.turn_of(who).load(Ordering::SeqCst);
+        if last.saturating_add(1) == turn {
+            self.turn_of(who).store(turn, Ordering::SeqCst);
+        }
     }
 
     /// Waits until this actor stands before this turn or a later one.
     fn await_turn(&self, who: u32, turn: u64) {
         for _ in 0..LOOKS {
             if self.turn_of(who).load(Ordering::SeqCst) >= turn {
+                self.met.fetch_add(1, Ordering::SeqCst);
                 return;
             }
             thread::yield_now();

@@ -16,6 +16,8 @@ fn threads_meet(rt: HostRuntime) -> Result<(), Fail> {
         .ok()
         .ok_or("a run")?;
     assert_eq!(rt; gate.progress.gave_up(), 0);
+    assert_eq!(rt; gate.progress.met(), 2);
+    assert_eq!(rt; gate.progress.turns(), (8, 8, 8));
     assert_eq!(rt;
         (run.batcher.len(), run.voter.len(), run.resolver.len()),
         (8, 8, 8)
@@ -32,6 +34,7 @@ fn a_member_alone_finalizes_a_view(rt: HostRuntime) -> Result<(), Fail> {
         .ok()
         .ok_or("a run")?;
     assert_eq!(rt; gate.progress.gave_up(), 0);
+    assert_eq!(rt; gate.progress.turns(), (turns, turns, turns));
     assert!(rt; finalizes(&run.voter, View(1)));
     assert_eq!(rt; run.journal.faults(), 0);
     Ok(())
