@@ -1,6 +1,5 @@
 //! An engine without a network. `engine 3 of 4` is the one of member 3 of four, with keyed signatures, leaders in turn and no deadlines
 //! but those of its fetcher, 1000 and 100 milliseconds. Behind it may stand `term N`, how many views a term has.
-mod bits;
 mod packets;
 mod seat;
 mod setup;

@@ -1,5 +1,4 @@
 //! A member: its engine, the clock, and what it asked last.
-use crate::engine::bits;
 use crate::engine::packets::{Load, bytes_of};
 use crate::engine::setup::{Member, Setup};
 use crate::engine::words::{NOTHING, is_deadline, items, letter_of, letter_text, records_text};
@@ -292,15 +291,6 @@ impl Seat {
         Ok(())
     }
 
-    /// What engines that are just started do with a certificate of which a bit was changed.
-    fn changes(&self, load: &[&str], told: &mut Told) -> Result<(), AllocError> {
-        let Some(load) = Load::read(load) else {
-            return told.says("not a command");
-        };
-        let bytes = bytes_of(self.alloc, self.setup.members, self.asked, load)?;
-        bits::tell(self.setup, bytes.as_slice(), told)
-    }
-
     fn goes_to(&mut self, ms: &str, told: &mut Told) -> Result<(), AllocError> {
         match number(ms) {
             Some(ms) => self.clock = ms,
@@ -320,7 +310,6 @@ impl Part for Seat {
             ["blocked"] => self.blocked(told),
             ["view"] => self.view(told),
             ["records"] => self.records(told),
-            ["each", "changed", "bit", "of", load @ ..] => self.changes(load, told),
             words => self.does(words, told),
         }
     }
