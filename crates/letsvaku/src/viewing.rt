@@ -1,7 +1,7 @@
 //! The page that shows a run.
 use crate::ending::{Ending, Outcome};
 use simplex_io::{InputEnd, Sink, SinkError, Source, read_bytes, write_text};
-use simplex_page::{Seen, page, seen};
+use simplex_page::{Seen, look_at, page};
 use std::alloc::{AllocError, Global};
 use std::fs;
 use std::rt::Files;
@@ -58,7 +58,7 @@ fn view_bytes<R: Files + AllocGlobal, K: Sink>(
     bytes: &[u8],
     sink: &mut K,
 ) -> Result<Ending, AllocError> {
-    match seen(rt.alloc(), bytes)? {
+    match look_at(rt.alloc(), bytes)? {
         Seen::Record(record) => show(rt, folder, record.as_str(), sink),
         Seen::Nothing(text) => Ok(tell(text.as_str(), Ending::REFUSED, sink)),
         Seen::BadInput { place } => Ok(Ending::new(Ending::BAD_INPUT, Outcome::BadInput { place })),

@@ -1,6 +1,6 @@
 //! A page for a browser that shows a run: the viewer's page, with the record of the run and the lines of its trace inside.
 //!
-//! [`seen`] makes the record of what an input comes to, up to a refusal, and [`page`] puts it into the page's files.
+//! [`look_at`] makes the record of what an input comes to, up to a refusal, and [`page`] puts it into the page's files.
 #![tactic(auto)]
 
 mod listing;
@@ -8,4 +8,4 @@ mod making;
 mod seeing;
 
 pub use making::page;
-pub use seeing::{Seen, seen};
+pub use seeing::{Seen, look_at};

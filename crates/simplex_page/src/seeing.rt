@@ -65,7 +65,7 @@ fn record_before(
 }
 
 /// What there is to see of an input: the record of its run, in which members `lines` and `refused` have the lines of its trace.
-pub fn seen(alloc: Global, bytes: &[u8]) -> Result<Seen, AllocError> {
+pub fn look_at(alloc: Global, bytes: &[u8]) -> Result<Seen, AllocError> {
     match LabWork.work(alloc, Word::Trace, bytes.to_vec(alloc)?)? {
         Answer::Done { text, .. } => {
             record_with(alloc, bytes.to_vec(alloc)?, text.as_str(), u64::MAX)
