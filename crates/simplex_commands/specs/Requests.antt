@@ -1,5 +1,5 @@
 -- What words ask for. Places count from 0, which is the command's word.
-use Rattle.std.specs.Prelude.{ℕ, suc, ◌==◌, ◌&&◌, ◌||◌, Bool, true, false, List, [], ◌∷◌, Option, Some, None, codes, if◌then◌else◌}
+use Rattle.std.specs.Prelude.{ℕ, suc, ◌==◌, ◌||◌, Bool, false, List, [], ◌∷◌, Option, Some, None, codes, if◌then◌else◌}
 use Rattle.std.specs.Str.{bytes_eq}
 use Rattle.simplex_commands.specs.Commands.{command_of, fits, flag_of, needs_of, takes_file, takes_flag, value_of}
 use Rattle.simplex_commands.specs.declared.command.Command.{Command}
