@@ -2,13 +2,14 @@
 # Refuses each request for memory of a run in turn: the built program runs on a stored example with the first request refused, the
 # second, and so on to the last. Each run is to end with status 7, out of memory, having written a first part of what it writes with
 # ample memory; or as it ends then, where it could do without. Needs a C compiler, and the program that rt ci or make build built.
-# Usage: out-of-memory.sh [EXAMPLE..]. Where none is named, it is the four below.
+# Usage: out-of-memory.sh [EXAMPLE..]. Where none is named, it is the five below.
 set -uo pipefail
 here=$(cd "$(dirname "$0")/.." && pwd)
 program=$here/crates/simplex_net/out/simplex_net
 [[ -x $program ]] || { echo "out-of-memory: there is no $program: make build"; exit 2; }
 examples=("$@")
-[[ $# -gt 0 ]] || examples=(one-member-finalizes four-members-notarize restart-at-a-reported-floor member-behind-fetches)
+[[ $# -gt 0 ]] || examples=(one-member-finalizes four-members-notarize restart-at-a-reported-floor member-behind-fetches
+    peer-with-a-wrong-answer-is-blocked)
 
 room=$(mktemp -d)
 trap 'rm -rf "$room"' EXIT
