@@ -70,11 +70,10 @@ pub fn look_at(alloc: Global, bytes: &[u8]) -> Result<Seen, AllocError> {
         Answer::Done { text, .. } => {
             record_with(alloc, bytes.to_vec(alloc)?, text.as_str(), u64::MAX)
         }
-        Answer::Refused {
-            reason: LabReason::Refused(refusal),
-            text,
-        } => record_before(alloc, bytes, refusal.event, text),
-        Answer::Refused { text, .. } => Ok(Seen::Nothing(text)),
+        Answer::Refused { reason, text } => match reason {
+            LabReason::Refused(refusal) => record_before(alloc, bytes, refusal.event, text),
+            _ => Ok(Seen::Nothing(text)),
+        },
         Answer::BadInput { place } => Ok(Seen::BadInput { place }),
     }
 }
