@@ -10,9 +10,11 @@
 # pictures      makes the pictures of README.md and docs/TOUR.md anew, with node
 # viewer-test   the tests of viewer/, with node and a headless Chromium
 # cluster       four members as processes on this machine, transfers until their balances agree
+# cluster-rust  the same with the host in Rust, and how fast it is
 # crashes       members that are killed and lose power, for some minutes
-# hosts-test    the tests of hosts/
-.PHONY: example try trace view script fast check build test wrong-bodies pictures viewer-test cluster crashes hosts-test
+# hosts-test    the tests of hosts/; those that run clusters of the host in Rust only where simplex_node_cli is built
+.PHONY: example try trace view script fast check build test wrong-bodies pictures viewer-test cluster cluster-rust crashes hosts-test
+node = $(or $(SIMPLEX_NODE),$(wildcard crates/simplex_node_cli/out/simplex_node_cli unproved/simplex_node_cli))
 need = $(if $(INPUT),,$(error the input is missing: make $@ INPUT=my.json))
 example:
 	@tools/unproved.py run simplex_net run < crates/simplex_net/stdin
@@ -57,8 +59,12 @@ viewer-test:
 cluster:
 	@hosts/python/cluster.py
 
+cluster-rust:
+	@cd hosts/rust && cargo build --release --offline --quiet && target/release/cluster
+
 crashes:
 	@hosts/python/crashes.py --all
 
 hosts-test:
 	@python3 -m unittest discover -s hosts/python/tests
+	@cd hosts/rust && cargo test --offline --quiet -- --test-threads=1 $(if $(node),--include-ignored)
