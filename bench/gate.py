@@ -197,6 +197,8 @@ def main():
     if sys.argv[1:2] == ["--speed"]:
         speed()
         return
+    # A run that is stopped prints what it has seen, so that `--join` can go on from there.
+    signal.signal(signal.SIGTERM, signal.default_int_handler)
     gate = subprocess.Popen(["rt", "ci", *sys.argv[1:]], cwd=TOP, stdout=sys.stderr, start_new_session=True)
     clock = Clock(gate.pid)
     try:
