@@ -19,7 +19,9 @@ const BALANCE: u64 = 1000;
 const POLL: Duration = Duration::from_millis(50);
 /// After which transfers that were not applied are submitted again.
 const SUBMIT_AGAIN: Duration = Duration::from_secs(2);
-const REPLY_TIME: Duration = Duration::from_secs(2);
+const REPLY_TIME: Duration = Duration::from_secs(10);
+/// How often a member that has to answer is asked.
+const TRIES: u32 = 3;
 /// How long members have to stop.
 const STOP_TIME: Duration = Duration::from_secs(5);
 /// Of a tick in /proc.
@@ -352,7 +354,11 @@ impl Cluster {
         let memory = memory.most(self.memory());
         let balances = accounts[0].balances.clone();
         let blocks = self.chains_agree()?;
-        let statuses: Vec<Value> = self.hosts.iter_mut().filter_map(Host::status).collect();
+        let statuses: Vec<Value> = self
+            .hosts
+            .iter_mut()
+            .map(|host| host.need("status"))
+            .collect::<Result<_>>()?;
         let noted = |it: &&Value| it.get("notes").and_then(Value::as_list) != Some(&[]);
         if let Some(status) = statuses.iter().find(noted) {
             return Err(Error::Fault(format!(
@@ -383,11 +389,11 @@ impl Cluster {
         for host in &mut self.hosts {
             let mut chain = Vec::new();
             loop {
-                let reply = host.ask(&format!("chain {}", chain.len()));
-                match reply.as_ref().and_then(Value::as_list) {
+                let reply = host.need(&format!("chain {}", chain.len()))?;
+                match reply.as_list() {
                     Some([]) => break,
                     Some(more) => chain.extend_from_slice(more),
-                    None => return Err(Error::Fault("a member does not answer".to_owned())),
+                    None => return Err(Error::Fault(format!("no chain: {reply}"))),
                 }
             }
             chains.push(chain);
@@ -528,6 +534,12 @@ impl Host {
 
     fn ask(&mut self, line: &str) -> Option<Value> {
         Value::parse(&self.tell(line)?).ok()
+    }
+
+    /// The answer of a member that has to answer, where it may be slow.
+    fn need(&mut self, line: &str) -> Result<Value> {
+        let answer = (0..TRIES).find_map(|_| self.ask(line));
+        answer.ok_or_else(|| Error::Fault(format!("a member does not answer to {line}")))
     }
 
     fn status(&mut self) -> Option<Value> {
