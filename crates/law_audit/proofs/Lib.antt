@@ -12,6 +12,7 @@ pub mod Lives
 pub mod Taken
 pub mod Pending
 pub mod Starting
+pub mod StartVotes
 pub mod Allowed
 pub mod Following
 pub mod Writing

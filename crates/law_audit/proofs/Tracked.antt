@@ -1,12 +1,12 @@
 -- What is read of the record of a run is where the engine of a node stands.
-use Rattle.std.proofs.Common.{◌≡◌, ℕ, ◌-◌, ◌==◌, ◌<◌, ◌&&◌, nat_le, Bool, true, false, nat_lt, List, [], ◌∷◌, map, filter, reverse, Option, Some, None, refl, sym, ap, ◌∙◌, subst, inl, inr, if◌then◌else◌}
+use Rattle.std.proofs.Common.{◌≡◌, ℕ, ◌-◌, ◌==◌, ◌<◌, ◌&&◌, nat_le, Bool, true, false, nat_lt, List, [], ◌∷◌, ◌++◌, map, filter, reverse, Option, Some, None, refl, sym, ap, ◌∙◌, subst, inl, inr, if◌then◌else◌}
 use Rattle.std.specs.List.{filter_map}
 use Rattle.std.specs.Option.{option_map_or}
 use Rattle.simplex_types.specs.declared.floor.Floor.{Floor}
 use Rattle.simplex_wire.specs.declared.certificate.Finalization.{Finalization}
 use Rattle.simplex_journal.specs.Journal.{Section, replayed, crashed}
 use Rattle.simplex_journal.proofs.Contents.{crashed-rested}
-use Rattle.model_rules.specs.Known.{Made}
+use Rattle.model_rules.specs.Known.{Made, Fact}
 use Rattle.simplex_messages.specs.declared.batcher.Message as batcher_message
 use Rattle.simplex_messages.specs.declared.call.Call.{Call}
 use Rattle.simplex_messages.specs.declared.call.Call.TheVariants as calls
@@ -60,13 +60,14 @@ use Rattle.model_audit.specs.Taking.{Taking}
 use Rattle.model_audit.specs.Record.{took_of, record_entry}
 use Rattle.model_audit.specs.Rebuilt.{took_for, rebuilt_entry, recorded}
 use Rattle.model_audit.specs.Journal.{behind_reading, after_failure, sections_behind}
-use Rattle.model_audit.specs.Reading.{Read, taking_of, votes_in, rules_at, step_read, start_read, read_behind, read}
+use Rattle.model_audit.specs.Reading.{Read, taking_of, votes_in, rules_at, calls_read, step_read, start_read, read_behind, read}
 use Rattle.law_audit.specs.Recording.{IsStep, IsTakenSo, IsRunningAs, IsReadAs}
 use Rattle.law_audit.proofs.Alike.{alike_itself}
 use Rattle.law_audit.proofs.Telling.{same_clock}
 use Rattle.law_audit.proofs.Journals.{told, same_journal}
 use Rattle.law_audit.proofs.Following.{same_votes, followed}
 use Rattle.law_audit.proofs.Starting.{start_is_read}
+use Rattle.law_audit.proofs.StartVotes.{start_votes}
 use Rattle.law_audit.proofs.Taken.{taking_read}
 
 -- ---- a step that calls no journal
@@ -242,10 +243,15 @@ module _ (setting : Setting) (node : Node) where
 
   -- ---- a step
 
+  -- what is read of calls that are none of the journal
+  quiet_calls : (now : ℕ) (stop : Stop) (entry : Entry) (r : Read) → votes_in now entry.calls ≡ [] → sections_behind entry.outcome stop [] entry.calls r.sections ≡ r.sections
+      → calls_read now stop entry r ≡ r
+  quiet_calls now stop entry r v s = rw (v, s) refl
+
   -- what is read behind a step in which the voter took nothing
   quiet_read : (made : Made) (now : ℕ) (stop : Stop) (entry : Entry) (r : Read) (o : Option Taking) → o ≡ None → votes_in now entry.calls ≡ [] → sections_behind entry.outcome stop [] entry.calls r.sections ≡ r.sections
       → step_read made now stop entry r o ≡ r
-  quiet_read made now stop entry r None e v s = rw (v, s) refl
+  quiet_read made now stop entry r None e v s = quiet_calls now stop entry r v s
   quiet_read made now stop entry r (Some taking) e v s = cc
 
   module _ (before : List Noted) (made : EngineMade) (past : List Did) (r : Read) (h : Runs made past r) (rested : (keep : ℕ) → crashed keep (sections_of made past) ≡ sections_of made past)
@@ -369,7 +375,11 @@ module _ (setting : Setting) (node : Node) where
     -- what is read behind a start over these sections
     abbrev begun_read : List Section → Did → Read
     begun_read js did =
-        record { start = now; known = (begins js).desk.known; sections = sections_behind (start_entry did).outcome (behind_reading stop) (begins js).calls (start_entry did).calls js }
+        record {
+          start = now;
+          known = votes_in now (start_entry did).calls ++ (begins js).desk.known;
+          sections = sections_behind (start_entry did).outcome (behind_reading stop) (begins js).calls (start_entry did).calls js;
+        }
 
     begun_so : (js : List Section) → (let did = by_voter Began now stop (given_start setting node floor js now stop) in IsReadAs setting node (going_on (engine_at setting node floor js) (did ∷ [])) (begun_read js did))
     unfolding rebuilt_entry record_entry sections_of started_at voter_past engine_of runs
@@ -382,7 +392,9 @@ module _ (setting : Setting) (node : Node) where
         (λ w. record {
           start = refl;
           sections = same;
-          known = subst (AreAlike (begins js).desk.known) (sym (start_place made now stop (start_readable stop (floor_of setting.genesis floor) (begins js) js w))) (alike_itself (begins js).desk.known);
+          known = subst (λ (facts : List Fact). AreAlike (facts ++ (begins js).desk.known) (place_of made (Started now stop ∷ [])).standing.desk.known)
+              (sym (start_votes (rules_of setting node.member now) now (floor_of setting.genesis floor) (replayed js) stop js w))
+              (subst (AreAlike (begins js).desk.known) (sym (start_place made now stop (start_readable stop (floor_of setting.genesis floor) (begins js) js w))) (alike_itself (begins js).desk.known));
           rules = λ start. refl;
         })
 
@@ -454,39 +466,71 @@ module _ (setting : Setting) (node : Node) where
     ready : (made : EngineMade) (past : List Did) → life_in setting before node ≡ Running made past → Runs made past (read setting (map recorded before) node)
     ready made past running = subst (λ (l : Life). IsReadAs setting node l (read setting (map recorded before) node)) running old
 
-    heard : (noted : Noted) → HasHeard setting before node noted → At (noted ∷ before)
-    unfolding after
-    heard noted b =
-        let did = engine.heard b.made b.past b.packet.from.member b.packet.channel b.packet.bytes (clock_of before) in
-        let q = heard_quiet b.made b.past b.packet.from.member b.packet.channel b.packet.bytes (clock_of before) in
-        subst (λ (n : Noted). At (n ∷ before)) b.is
-        (turns b.made b.past (events.Deliver node b.ref) (Some (tooks.Packet b.ref)) did b.running (same_self node) refl
-        (stays b.made b.past (read setting (map recorded before) node) did (ready b.made b.past b.running) q.start (quiet_place b.made b.past did q)))
-
-    replied : (noted : Noted) → WasAnswered setting before node noted → At (noted ∷ before)
-    unfolding after place_of sections_of
-    replied noted b =
-        let did = engine.replied b.number b.answer (clock_of before) in
-        let r = read setting (map recorded before) node in
-        let h = ready b.made b.past b.running in
-        let s = (place_in b.made b.past).standing in
-        let later : Place = record { standing = voter.answered b.number b.answer s; sections = (place_in b.made b.past).sections } in
-        subst (λ (n : Noted). At (n ∷ before)) b.is
-        (turns b.made b.past (events.Answer node b.ref b.answer) None did b.running (same_self node) refl
-        (moved b.made b.past did later refl (given_place b.made b.past did (Answered b.number b.answer) refl refl) r h.rules h.start h.sections
-        (λ w. subst (AreAlike r.known) (sym (answered_known b.number b.answer s)) h.known)))
-
-    crashed_then : (noted : Noted) → HasCrashed setting before node noted → At (noted ∷ before)
-    unfolding after
-    crashed_then noted b =
-        let r = read setting (map recorded before) node in
-        let h = ready b.made b.past b.running in
-        let new = noted_blank before (events.Crash node) (Some node) in
-        subst (λ (n : Noted). At (n ∷ before)) b.is
-        (goes new (same_self node)
-        (subst (λ (l : Life). IsReadAs setting node (Stopped (crashed 0 (sections_in l))) (read_behind setting node (map recorded before) (recorded new).entry (events.Crash node) r)) (sym b.running) (ap (crashed 0) h.sections)))
-
     module _ (pos : 0 < setting.setup.term) (good : runs_engine setting.setup node.member ≡ true) (ran : IsRun setting before) (floors : AreFloors before) where
+      -- a stop drops nothing of what is read of a running node
+      read_rested : (made : EngineMade) (past : List Did) → life_in setting before node ≡ Running made past → (keep : ℕ)
+          → crashed keep (read setting (map recorded before) node).sections ≡ (read setting (map recorded before) node).sections
+      read_rested made past running keep =
+          let h = ready made past running in
+          ap (crashed keep) h.sections ∙ rested_at before made past pos good ran floors running keep ∙ sym h.sections
+
+      -- nothing is read of an entry whose calls are none of the journal
+      unread_calls : (made : EngineMade) (past : List Did) → life_in setting before node ≡ Running made past → (now : ℕ) (event : Event) (took : Option Took) (did : Did) → filter is_of_journal did.out.calls ≡ []
+          → calls_read now stops.None (recorded (noted_with setting.setup before event node took did)).entry (read setting (map recorded before) node) ≡ read setting (map recorded before) node
+      unfolding rebuilt_entry record_entry
+      unread_calls made past running now event took did none =
+          let r = read setting (map recorded before) node in
+          quiet_calls now stops.None (recorded (noted_with setting.setup before event node took did)).entry r (no_votes now did.out.calls none)
+          (quiet_sections r.sections (read_rested made past running) did.outcome stops.None did.out.calls none)
+
+      heard : (noted : Noted) → HasHeard setting before node noted → At (noted ∷ before)
+      unfolding after
+      heard noted b =
+          let did = engine.heard b.made b.past b.packet.from.member b.packet.channel b.packet.bytes (clock_of before) in
+          let q = heard_quiet b.made b.past b.packet.from.member b.packet.channel b.packet.bytes (clock_of before) in
+          let event = events.Deliver node b.ref in
+          let took = Some (tooks.Packet b.ref) in
+          subst (λ (n : Noted). At (n ∷ before)) b.is
+          (turns b.made b.past event took did b.running (same_self node) refl
+          (subst (IsReadAs setting node (going_on b.made (did ∷ b.past))) (sym (unread_calls b.made b.past b.running (clock_of (map recorded before)) event took did q.journal))
+          (stays b.made b.past (read setting (map recorded before) node) did (ready b.made b.past b.running) q.start (quiet_place b.made b.past did q))))
+
+      replied : (noted : Noted) → WasAnswered setting before node noted → At (noted ∷ before)
+      unfolding after place_of sections_of
+      replied noted b =
+          let did = engine.replied b.number b.answer (clock_of before) in
+          let r = read setting (map recorded before) node in
+          let h = ready b.made b.past b.running in
+          let s = (place_in b.made b.past).standing in
+          let event = events.Answer node b.ref b.answer in
+          let later : Place = record { standing = voter.answered b.number b.answer s; sections = (place_in b.made b.past).sections } in
+          subst (λ (n : Noted). At (n ∷ before)) b.is
+          (turns b.made b.past event None did b.running (same_self node) refl
+          (subst (IsReadAs setting node (going_on b.made (did ∷ b.past))) (sym (unread_calls b.made b.past b.running (clock_of (map recorded before)) event None did refl))
+          (moved b.made b.past did later refl (given_place b.made b.past did (Answered b.number b.answer) refl refl) r h.rules h.start h.sections
+          (λ w. subst (AreAlike r.known) (sym (answered_known b.number b.answer s)) h.known))))
+
+      -- nothing is read of an entry in which nothing happens
+      unread_crash : (made : EngineMade) (past : List Did) → life_in setting before node ≡ Running made past
+          → calls_read (clock_of (map recorded before)) stops.None (recorded (noted_blank before (events.Crash node) (Some node))).entry (read setting (map recorded before) node) ≡ read setting (map recorded before) node
+      unfolding rebuilt_entry record_entry
+      unread_crash made past running =
+          let r = read setting (map recorded before) node in
+          let now = clock_of (map recorded before) in
+          quiet_calls now stops.None (recorded (noted_blank before (events.Crash node) (Some node))).entry r (no_votes now [] refl)
+          (quiet_sections r.sections (read_rested made past running) outcomes.Done stops.None [] refl)
+
+      crashed_then : (noted : Noted) → HasCrashed setting before node noted → At (noted ∷ before)
+      unfolding after
+      crashed_then noted b =
+          let r = read setting (map recorded before) node in
+          let h = ready b.made b.past b.running in
+          let new = noted_blank before (events.Crash node) (Some node) in
+          subst (λ (n : Noted). At (n ∷ before)) b.is
+          (goes new (same_self node)
+          (subst (λ (l : Life). IsReadAs setting node (Stopped (crashed 0 (sections_in l))) (read_behind setting node (map recorded before) (recorded new).entry (events.Crash node) r)) (sym b.running)
+          (ap (λ (x : Read). crashed 0 x.sections) (unread_crash b.made b.past b.running) ∙ ap (crashed 0) h.sections)))
+
       stepped : (noted : Noted) → HasStepped setting before node noted → At (noted ∷ before)
       unfolding after
       stepped noted b =

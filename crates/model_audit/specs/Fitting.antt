@@ -105,8 +105,26 @@ abbrev pub took_or_idle : List Noted → Event → Outcome → AuditTook → Boo
 took_or_idle before event outcomes.Idle took = is_nothing took
 took_or_idle before event outcome took = took_fits before event took
 
--- its number is its place, its node the one that the event names, and it ended and took as such an event may
+-- ---- what it lists
+
+-- nothing was added, asked or dropped
+abbrev pub adds_nothing : AuditEntry → Bool
+adds_nothing e = length e.added == 0 && length e.asked == 0 && length e.dropped == 0
+
+-- nor was a call made or a packet sent
+abbrev pub lists_nothing : AuditEntry → Bool
+lists_nothing e = adds_nothing e && length e.calls == 0 && length e.packets == 0
+
+-- an idle or a refused entry lists nothing, and a broken one its calls and packets alone
+abbrev pub lists_fit : Outcome → AuditEntry → Bool
+lists_fit outcomes.Done e = true
+lists_fit outcomes.Idle e = lists_nothing e
+lists_fit outcomes.Cut e = adds_nothing e
+lists_fit outcomes.Journal e = adds_nothing e
+lists_fit outcomes.Refused e = lists_nothing e
+
+-- its number is its place, its node the one that the event names, and it ended, took and lists what such an event may
 unfoldable pub fits : List Noted → Event → AuditEntry → Bool
 fits before event e =
     e.event == length before + 1 && option_eq is_same_node e.who (node_named event)
-    && outcome_fits event e.outcome && took_or_idle before event e.outcome e.took
+    && outcome_fits event e.outcome && took_or_idle before event e.outcome e.took && lists_fit e.outcome e

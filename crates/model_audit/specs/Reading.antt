@@ -8,6 +8,7 @@ use Rattle.simplex_journal.specs.Journal.{Section, replayed, crashed}
 use Rattle.simplex_messages.specs.declared.call.Call.{Call}
 use Rattle.simplex_messages.specs.declared.handed.Handed.TheVariants as handed
 use Rattle.simplex_messages.specs.declared.step.Stop.{Stop}
+use Rattle.simplex_messages.specs.declared.step.Stop.TheVariants as stops
 use Rattle.simplex_transcript.specs.declared.event.Event.{Event}
 use Rattle.simplex_transcript.specs.declared.event.Event.TheVariants as events
 use Rattle.simplex_transcript.specs.declared.event.StepSource.{StepSource}
@@ -55,34 +56,42 @@ votes_in now made = own_votes (facts_of_step now made)
 abbrev pub rules_at : Setting → Node → Read → Made
 rules_at setting node r = rules_of setting node.member r.start
 
--- behind a step: what it took tells, the certificates that it added, and the own votes that it appended
-abbrev pub step_read : Made → ℕ → Stop → Entry → Read → Option Taking → Read
-step_read made now stop entry r None =
+-- after the calls of an entry: the own votes that they appended, and what they leave of the journal
+abbrev pub calls_read : ℕ → Stop → Entry → Read → Read
+calls_read now stop entry r =
     record r { known = votes_in now entry.calls ++ r.known; sections = sections_behind entry.outcome stop [] entry.calls r.sections }
+
+-- after a step: what it took tells, the certificates that it added, and the own votes that it appended
+abbrev pub step_read : Made → ℕ → Stop → Entry → Read → Option Taking → Read
+step_read made now stop entry r None = calls_read now stop entry r
 step_read made now stop entry r (Some taking) =
     record r {
       known = votes_in now entry.calls ++ acted made now r.known entry.added taking;
       sections = sections_behind entry.outcome stop (journal_calls made now r.known taking) entry.calls r.sections;
     }
 
--- behind a start: what the rules make of the floor and of what the journal held
+-- after a start: what the rules make of the floor and of what the journal held, and the own votes that it appended
 abbrev pub start_read : ℕ → Stop → Entry → Doing → Read → Read
 start_read now stop entry doing r =
     record {
       start = now;
-      known = doing.desk.known;
+      known = votes_in now entry.calls ++ doing.desk.known;
       sections = sections_behind entry.outcome (behind_reading stop) doing.calls entry.calls r.sections;
     }
 
--- what an event makes of what was read of its node
+-- after a crash: nothing is known, and nothing is kept of what was pending
+abbrev pub crash_read : Read → Read
+crash_read r = record { start = r.start; known = []; sections = crashed 0 r.sections }
+
+-- What an event makes of what was read of its node. The calls of an entry count, whatever its event is
 abbrev pub read_behind : Setting → Node → List Noted → Entry → Event → Read → Read
 read_behind setting node before entry (events.Start at floor stop) r =
     let now = clock_of before in
     start_read now stop entry (started (rules_of setting node.member now) now (floor_of setting.genesis floor) (replayed r.sections)) r
 read_behind setting node before entry (events.Step at source stop) r =
     step_read (rules_at setting node r) (clock_of before) stop entry r (taking_of before source entry.took)
-read_behind setting node before entry (events.Crash at) r = record { start = r.start; known = []; sections = crashed 0 r.sections }
-read_behind setting node before entry event r = r
+read_behind setting node before entry (events.Crash at) r = crash_read (calls_read (clock_of before) stops.None entry r)
+read_behind setting node before entry event r = calls_read (clock_of before) stops.None entry r
 
 unfoldable pub read : Setting → List Noted → Node → Read
 read setting [] node = record { start = 0; known = []; sections = [] }

@@ -34,7 +34,7 @@ use Rattle.model_audit.specs.declared.record.AuditCall.{AuditCall}
 use Rattle.model_audit.specs.declared.record.AuditEntry.{AuditEntry}
 use Rattle.model_audit.specs.Answers.{answer_fits}
 use Rattle.model_audit.specs.Conditions.{is_allowed, is_at_end, is_pending, was_answered, was_dropped}
-use Rattle.model_audit.specs.Fitting.{fits, outcome_fits, took_or_idle}
+use Rattle.model_audit.specs.Fitting.{fits, outcome_fits, took_or_idle, lists_fit}
 use Rattle.model_audit.specs.Rebuilt.{call_for, rebuilt, rebuilt_entry}
 use Rattle.law_run.specs.Asked.{asked_at}
 use Rattle.model_audit.specs.Running.{runs_at}
@@ -337,16 +337,18 @@ pending-some before node at answer number r some is = rw (← some) is
 
 -- ---- an entry that fits
 
-pub fits-is : (prior : List AuditEntry) (before : List Noted) (event : Event) (e : AuditEntry) (number : ℕ) (b c d r : Bool) → AreItems prior before → number ≡ length prior + 1
-    → r ≡ (e.event == number && b && c && d)
+pub fits-is : (prior : List AuditEntry) (before : List Noted) (event : Event) (e : AuditEntry) (number : ℕ) (b c d l r : Bool) → AreItems prior before → number ≡ length prior + 1
+    → r ≡ (e.event == number && b && c && d && l)
     → b ≡ option_eq is_same_node e.who (node_named event) → c ≡ outcome_fits event e.outcome → d ≡ took_or_idle before event e.outcome e.took
+    → l ≡ lists_fit e.outcome e
     → r ≡ fits before event e
 unfolding fits
-fits-is prior before event e number b c d r items counted all named ends took =
-    all ∙ ap (λ n. e.event == n && b && c && d) (counted ∙ ap (λ n. n + 1) items.count)
-    ∙ ap (λ x. e.event == length before + 1 && x && c && d) named
-    ∙ ap (λ x. e.event == length before + 1 && option_eq is_same_node e.who (node_named event) && x && d) ends
-    ∙ ap (λ x. e.event == length before + 1 && option_eq is_same_node e.who (node_named event) && outcome_fits event e.outcome && x) took
+fits-is prior before event e number b c d l r items counted all named ends took lists =
+    all ∙ ap (λ n. e.event == n && b && c && d && l) (counted ∙ ap (λ n. n + 1) items.count)
+    ∙ ap (λ x. e.event == length before + 1 && x && c && d && l) named
+    ∙ ap (λ x. e.event == length before + 1 && option_eq is_same_node e.who (node_named event) && x && d && l) ends
+    ∙ ap (λ x. e.event == length before + 1 && option_eq is_same_node e.who (node_named event) && outcome_fits event e.outcome && x && l) took
+    ∙ ap (λ x. e.event == length before + 1 && option_eq is_same_node e.who (node_named event) && outcome_fits event e.outcome && took_or_idle before event e.outcome e.took && x) lists
 
 -- ---- one entry more
 

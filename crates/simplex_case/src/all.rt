@@ -18,3 +18,9 @@ pub(crate) fn four(first: bool, second: bool, third: bool, fourth: bool) -> bool
 {
     first && second && third && fourth
 }
+
+pub(crate) fn five(first: bool, second: bool, third: bool, fourth: bool, fifth: bool) -> bool
+    ensures { result ≡ (first && second && third && fourth && fifth) }
+{
+    first && second && third && fourth && fifth
+}

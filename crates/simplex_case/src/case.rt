@@ -21,11 +21,11 @@ ghost use Rattle.law_run.specs.Complete.{node_named};
 ghost use Rattle.simplex_case.specs.Sources as sources;
 ghost use Rattle.simplex_case.specs.Stands.{Answers, CaseStands, IsEndOf};
 
-use crate::all::{both, four, three};
+use crate::all::{both, five, four, three};
 use crate::answered::Answered;
 use crate::desk::Desk;
 use crate::fitting::{
-    answer_fits, is_for, is_nothing, is_same, node_named, outcome_fits, source_takes,
+    answer_fits, is_for, is_nothing, is_same, lists_fit, node_named, outcome_fits, source_takes,
 };
 use crate::items::{asked_at, has_packet_for};
 use crate::members::{exist, is_faulty_member, is_node, runs_engine};
@@ -311,11 +311,12 @@ impl Case {
             (λ before. fitting.fits before event.now entry.now) result }
     {
         let number = prior.len() as u64 + 1;
-        four(
+        five(
             entry.event == number,
             is_same(entry.who, node_named(event)),
             outcome_fits(event, entry.outcome),
             self.took_or_idle(setup, prior, event, entry),
+            lists_fit(entry),
         )
     }
 

@@ -7,7 +7,8 @@ ghost use Rattle.model_audit.specs.Answers as answers;
 ghost use Rattle.model_audit.specs.Fitting as fitting;
 ghost use Rattle.simplex_case.specs.Sources as sources;
 
-use model_audit::AuditTook;
+use crate::all::three;
+use model_audit::{AuditEntry, AuditTook};
 use model_rules::Asked;
 use simplex_messages::{Outcome, Stop};
 use simplex_transcript::{Event, Node, StepSource};
@@ -77,6 +78,39 @@ pub(crate) fn outcome_fits(event: &Event, outcome: Outcome) -> bool
         Outcome::Journal => is_fail(stop_of(event)),
         Outcome::Refused => matches!(event, Event::Deliver { .. }),
     }
+}
+
+/// Whether an entry that ended so may list what it does.
+pub(crate) fn lists_fit(entry: &AuditEntry) -> bool
+    ensures { result ≡ fitting.lists_fit entry.now.outcome entry.now }
+{
+    match entry.outcome {
+        Outcome::Done => true,
+        Outcome::Idle => lists_nothing(entry),
+        Outcome::Cut => adds_nothing(entry),
+        Outcome::Journal => adds_nothing(entry),
+        Outcome::Refused => lists_nothing(entry),
+    }
+}
+
+fn lists_nothing(entry: &AuditEntry) -> bool
+    ensures { result ≡ fitting.lists_nothing entry.now }
+{
+    three(
+        adds_nothing(entry),
+        entry.calls.is_empty(),
+        entry.packets.is_empty(),
+    )
+}
+
+fn adds_nothing(entry: &AuditEntry) -> bool
+    ensures { result ≡ fitting.adds_nothing entry.now }
+{
+    three(
+        entry.added.is_empty(),
+        entry.asked.is_empty(),
+        entry.dropped.is_empty(),
+    )
 }
 
 /// Whether nothing was taken.

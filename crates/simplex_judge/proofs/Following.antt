@@ -2,19 +2,18 @@
 use Rattle.std.proofs.Common.{◌≡◌, ℕ, List, [], ◌∷◌, Bool, true, false, refl, sym, ap, subst, ◌∙◌, if◌then◌else◌, Option, Some, None, map, length, ◌+◌}
 use Rattle.std.specs.Prelude.{◌==◌, ◌&&◌, ◌||◌, not, filter_map}
 use Rattle.std.specs.Option.{option_eq}
+use Rattle.simplex_values.specs.declared.answer.Answer.{Answer}
 use Rattle.simplex_wire.specs.declared.certificate.Finalization.{Finalization}
 use Rattle.simplex_wire.specs.declared.vote.Vote.{Vote}
 use Rattle.simplex_wire.specs.Message as format
-use Rattle.simplex_messages.specs.declared.step.Outcome.{Outcome}
-use Rattle.simplex_messages.specs.declared.step.Outcome.TheVariants as outcomes
 use Rattle.simplex_messages.specs.declared.step.Stop.{Stop}
 use Rattle.simplex_transcript.specs.declared.event.Event.{Event}
 use Rattle.simplex_transcript.specs.declared.event.Event.TheVariants as events
 use Rattle.simplex_transcript.specs.declared.event.StepSource.{StepSource}
 use Rattle.simplex_transcript.specs.declared.node.Node.{Node}
+use Rattle.simplex_transcript.specs.declared.node.Ref.{Ref}
 use Rattle.model_rules.specs.declared.request.Asked.{Asked}
 use Rattle.model_run.specs.Kinds.{is_node, is_same_node, members_of, runs_engine}
-use Rattle.law_run.specs.Complete.{node_named}
 use Rattle.model_run.specs.Life.{Noted, is_of}
 use Rattle.model_run.specs.Setting.{Setting, setting_of}
 use Rattle.model_run.specs.Members.{engine_of, kind_of, rules_of}
@@ -30,7 +29,6 @@ use Rattle.model_audit.specs.declared.record.AuditEntry.{AuditEntry}
 use Rattle.model_audit.specs.declared.record.AuditTook.{AuditTook}
 use Rattle.model_audit.specs.declared.record.AuditTook.TheVariants as tooks
 use Rattle.model_audit.specs.Conditions.{is_allowed, goes_on}
-use Rattle.model_audit.specs.Fitting.{fits, outcome_fits, took_or_idle}
 use Rattle.model_audit.specs.Reading.{Read, read, rules_at}
 use Rattle.model_audit.specs.Rebuilt.{rebuilt, rebuilt_entry}
 use Rattle.model_audit.specs.Running.{runs_at, asked_at, is_broken, is_done}
@@ -70,87 +68,41 @@ followed-other follower setting before noted node other followed =
       signs = followed.signs;
     }
 
--- events that make nothing of what is read
+-- events of no node with an engine
 abbrev pub keeps : Event → Bool
-keeps (events.Start node floor stop) = false
 keeps (events.Tick ms) = true
-keeps (events.Deliver node at) = true
-keeps (events.Step node source stop) = false
-keeps (events.Answer node at answer) = true
-keeps (events.Crash node) = false
 keeps (events.Inject member channel to bytes) = true
-
-pub kept-other : (event : Event) → ((node : Node) (floor : Option Finalization) (stop : Stop) → event ≡ events.Start node floor stop → ⊥)
-    → ((node : Node) (source : StepSource) (stop : Stop) → event ≡ events.Step node source stop → ⊥) → ((node : Node) → event ≡ events.Crash node → ⊥) → keeps event ≡ true
-kept-other (events.Start node floor stop) start step crash = absurd (start node floor stop refl)
-kept-other (events.Tick ms) start step crash = refl
-kept-other (events.Deliver node at) start step crash = refl
-kept-other (events.Step node source stop) start step crash = absurd (step node source stop refl)
-kept-other (events.Answer node at answer) start step crash = refl
-kept-other (events.Crash node) start step crash = absurd (crash node refl)
-kept-other (events.Inject member channel to bytes) start step crash = refl
-
-either : {A : Type 0} (b : Bool) (x : A) → (if b then x else x) ≡ x
-either true x = refl
-either false x = refl
+keeps event = false
 
 read-kept : (setting : Setting) (before : List Noted) (event : Event) (e : AuditEntry) (node : Node) → keeps event ≡ true
     → read setting (rebuilt event e ∷ before) node ≡ read setting before node
 unfolding read
 read-kept setting before (events.Start at floor stop) e node kept = absurd cc
 read-kept setting before (events.Tick ms) e node kept = refl
-read-kept setting before (events.Deliver at packet) e node kept = either (is_of node (events.Deliver at packet)) (read setting before node)
+read-kept setting before (events.Deliver at packet) e node kept = absurd cc
 read-kept setting before (events.Step at source stop) e node kept = absurd cc
-read-kept setting before (events.Answer at request answer) e node kept = either (is_of node (events.Answer at request answer)) (read setting before node)
+read-kept setting before (events.Answer at request answer) e node kept = absurd cc
 read-kept setting before (events.Crash at) e node kept = absurd cc
 read-kept setting before (events.Inject member channel to bytes) e node kept = refl
 
-never : {A : Type 0} (own broken : Bool) (x y : A) → broken ≡ false → (if (own && (false || false || broken)) then x else y) ≡ y
-never true broken x y e = rw e refl
-never false broken x y e = refl
-
-runs-kept : (before : List Noted) (event : Event) (e : AuditEntry) (node : Node) → keeps event ≡ true → outcome_fits event e.outcome ≡ true
+runs-kept : (before : List Noted) (event : Event) (e : AuditEntry) (node : Node) → keeps event ≡ true
     → runs_at (rebuilt event e ∷ before) node ≡ runs_at before node
-unfolding runs_at rebuilt_entry
-runs-kept before (events.Start at floor stop) e node kept fit = absurd cc
-runs-kept before (events.Tick ms) e node kept fit = refl
-runs-kept before (events.Deliver at packet) e node kept fit = never (is_of node (events.Deliver at packet)) (is_broken e.outcome) _ _ (at_delivery e.outcome fit)
-  where
-    at_delivery : (o : Outcome) → outcome_fits (events.Deliver at packet) o ≡ true → is_broken o ≡ false
-    at_delivery outcomes.Done h = refl
-    at_delivery outcomes.Idle h = refl
-    at_delivery outcomes.Cut h = absurd cc
-    at_delivery outcomes.Journal h = absurd cc
-    at_delivery outcomes.Refused h = refl
-runs-kept before (events.Step at source stop) e node kept fit = absurd cc
-runs-kept before (events.Answer at request answer) e node kept fit = never (is_of node (events.Answer at request answer)) (is_broken e.outcome) _ _ (at_answer e.outcome fit)
-  where
-    at_answer : (o : Outcome) → outcome_fits (events.Answer at request answer) o ≡ true → is_broken o ≡ false
-    at_answer outcomes.Done h = refl
-    at_answer outcomes.Idle h = refl
-    at_answer outcomes.Cut h = absurd cc
-    at_answer outcomes.Journal h = absurd cc
-    at_answer outcomes.Refused h = refl
-runs-kept before (events.Crash at) e node kept fit = absurd cc
-runs-kept before (events.Inject member channel to bytes) e node kept fit = refl
-
-third : (a b c d : Bool) → (a && b && c && d) ≡ true → c ≡ true
-third true true true d h = refl
-third true true false d h = absurd cc
-third true false c d h = absurd cc
-third false b c d h = absurd cc
-
-fit-outcome : (before : List Noted) (event : Event) (e : AuditEntry) → fits before event e ≡ true → outcome_fits event e.outcome ≡ true
-unfolding fits
-fit-outcome before event e fitting = third (e.event == length before + 1) (option_eq is_same_node e.who (node_named event)) (outcome_fits event e.outcome) (took_or_idle before event e.outcome e.took) fitting
+unfolding runs_at
+runs-kept before (events.Start at floor stop) e node kept = absurd cc
+runs-kept before (events.Tick ms) e node kept = refl
+runs-kept before (events.Deliver at packet) e node kept = absurd cc
+runs-kept before (events.Step at source stop) e node kept = absurd cc
+runs-kept before (events.Answer at request answer) e node kept = absurd cc
+runs-kept before (events.Crash at) e node kept = absurd cc
+runs-kept before (events.Inject member channel to bytes) e node kept = refl
 
 kept-sends : (setting : Setting) (before : List Noted) (event : Event) (e : AuditEntry) (node : Node) → keeps event ≡ true → true ≡ sends_due setting before (rebuilt_entry e) node event
 unfolding sends_due
 kept-sends setting before (events.Start at floor stop) e node kept = absurd cc
 kept-sends setting before (events.Tick ms) e node kept = refl
-kept-sends setting before (events.Deliver at packet) e node kept = refl
+kept-sends setting before (events.Deliver at packet) e node kept = absurd cc
 kept-sends setting before (events.Step at source stop) e node kept = absurd cc
-kept-sends setting before (events.Answer at request answer) e node kept = refl
+kept-sends setting before (events.Answer at request answer) e node kept = absurd cc
 kept-sends setting before (events.Crash at) e node kept = absurd cc
 kept-sends setting before (events.Inject member channel to bytes) e node kept = refl
 
@@ -158,35 +110,58 @@ pub goes-kept : (follower : Follower) (prior : List AuditEntry) (event : Event) 
 goes-kept follower prior event e kept =
     record {
       follows = λ setting before node followed taken. record {
-        follows = same-read follower.reader setting before (rebuilt event e) node (read-kept setting before event e node kept)
-            (runs-kept before event e node kept (fit-outcome before event e taken.next.fitting)) followed.follows;
+        follows = same-read follower.reader setting before (rebuilt event e) node (read-kept setting before event e node kept) (runs-kept before event e node kept) followed.follows;
         signs = followed.signs;
       };
       sends = λ setting before node followed taken. kept-sends setting before event e node kept;
     }
 
--- ---- a crash
+-- ---- an event that sends no vote that is due
 
-abbrev pub Crashes : Reader → Reader → Type 0
-Crashes old new = (setting : Setting) (before : List Noted) (node : Node) (e : AuditEntry) → Follows old setting before node
-    → Follows new setting (rebuilt (events.Crash node) e ∷ before) node
+-- the event of a node, of whichever node it is
+abbrev pub Takes : Reader → Reader → (Node → Event) → AuditEntry → Type 0
+Takes old new event e = (setting : Setting) (before : List Noted) (node : Node) → Follows old setting before node
+    → Follows new setting (rebuilt (event node) e ∷ before) node
 
-pub goes-crash : (old new : Follower) (prior : List AuditEntry) (event : Event) (at : Node) (e : AuditEntry) → event ≡ events.Crash at → new.scheme ≡ old.scheme
-    → Crashes old.reader new.reader → GoesOn old new prior event e true
-unfolding sends_due
-goes-crash old new prior event at e is scheme crashes =
+pub goes-quiet : (old new : Follower) (prior : List AuditEntry) (event : Node → Event) (at : Node) (e : AuditEntry)
+    → ((node : Node) → own_node (event node) ≡ Some node)
+    → ((setting : Setting) (before : List Noted) (node : Node) → true ≡ sends_due setting before (rebuilt_entry e) node (event at))
+    → new.scheme ≡ old.scheme → Takes old.reader new.reader event e → GoesOn old new prior (event at) e true
+goes-quiet old new prior event at e own sends scheme takes =
     record {
       follows = λ setting before node followed taken.
-          let same : event ≡ events.Crash node = crash-of event at node is taken.named in
+          let named : Some at ≡ Some node = sym (own at) ∙ taken.named in
+          let same : at ≡ node = cc in
           record {
-            follows = subst (λ (ev : Event). Follows new.reader setting (rebuilt ev e ∷ before) node) (sym same) (crashes setting before node e followed.follows);
+            follows = subst (λ (n : Node). Follows new.reader setting (rebuilt (event n) e ∷ before) node) (sym same) (takes setting before node followed.follows);
             signs = subst (λ s. attests_by s setting.setup node.member) (sym scheme) followed.signs;
           };
-      sends = λ setting before node followed taken. subst (λ (ev : Event). true ≡ sends_due setting before (rebuilt_entry e) node ev) (sym is) refl;
+      sends = λ setting before node followed taken. sends setting before node;
     }
-  where
-    crash-of : (event : Event) (at node : Node) → event ≡ events.Crash at → own_node event ≡ Some node → event ≡ events.Crash node
-    crash-of event at node is named = let own : Some at ≡ Some node = sym (ap own_node is) ∙ named in let same : at ≡ node = cc in is ∙ ap events.Crash same
+
+-- a packet
+pub goes-packet : (old new : Follower) (prior : List AuditEntry) (event : Event) (at : Node) (packet : Ref) (e : AuditEntry) → event ≡ events.Deliver at packet → new.scheme ≡ old.scheme
+    → Takes old.reader new.reader (λ node. events.Deliver node packet) e → GoesOn old new prior event e true
+unfolding sends_due
+goes-packet old new prior event at packet e is scheme takes =
+    subst (λ (ev : Event). GoesOn old new prior ev e true) (sym is)
+    (goes-quiet old new prior (λ node. events.Deliver node packet) at e (λ node. refl) (λ setting before node. refl) scheme takes)
+
+-- an answer
+pub goes-answer : (old new : Follower) (prior : List AuditEntry) (event : Event) (at : Node) (request : Ref) (answer : Answer) (e : AuditEntry) → event ≡ events.Answer at request answer
+    → new.scheme ≡ old.scheme → Takes old.reader new.reader (λ node. events.Answer node request answer) e → GoesOn old new prior event e true
+unfolding sends_due
+goes-answer old new prior event at request answer e is scheme takes =
+    subst (λ (ev : Event). GoesOn old new prior ev e true) (sym is)
+    (goes-quiet old new prior (λ node. events.Answer node request answer) at e (λ node. refl) (λ setting before node. refl) scheme takes)
+
+-- a crash
+pub goes-crash : (old new : Follower) (prior : List AuditEntry) (event : Event) (at : Node) (e : AuditEntry) → event ≡ events.Crash at → new.scheme ≡ old.scheme
+    → Takes old.reader new.reader (λ node. events.Crash node) e → GoesOn old new prior event e true
+unfolding sends_due
+goes-crash old new prior event at e is scheme takes =
+    subst (λ (ev : Event). GoesOn old new prior ev e true) (sym is)
+    (goes-quiet old new prior (λ node. events.Crash node) at e (λ node. refl) (λ setting before node. refl) scheme takes)
 
 -- ---- a start
 

@@ -60,11 +60,20 @@ impl Follower {
         match event {
             Event::Start { floor, stop, .. } => self.start(alloc, floor, *stop, entry),
             Event::Step { source, stop, .. } => self.step(alloc, prior, *source, *stop, entry),
-            Event::Crash { .. } => {
-                self.reader.take_crash();
+            Event::Deliver { .. } => {
+                self.reader.take_input(alloc, entry)?;
                 Ok(true)
             }
-            _ => Ok(true),
+            Event::Answer { .. } => {
+                self.reader.take_input(alloc, entry)?;
+                Ok(true)
+            }
+            Event::Crash { .. } => {
+                self.reader.take_crash(alloc, entry)?;
+                Ok(true)
+            }
+            Event::Tick { .. } => Ok(true),
+            Event::Inject { .. } => Ok(true),
         }
     }
 

@@ -1,18 +1,16 @@
 -- What is read of a node behind one entry more.
-use Rattle.std.proofs.Common.{◌≡◌, ℕ, ◌==◌, ◌+◌, ◌-◌, ◌*◌, nat_lt, Bool, true, false, List, [], ◌∷◌, length, refl, sym, ap, ◌∙◌, subst, arith, eq-eqb, if◌then◌else◌}
+use Rattle.std.proofs.Common.{◌≡◌, ℕ, ◌-◌, ◌*◌, ◌++◌, nat_lt, Bool, true, false, List, [], ◌∷◌, refl, sym, ap, ◌∙◌, subst, arith, eq-eqb, if◌then◌else◌}
 use Rattle.std.specs.Prelude.{◌&&◌, ◌||◌, Option}
 use Rattle.std.specs.List.{filter_map}
-use Rattle.std.specs.Option.{option_eq}
-use Rattle.law_run.specs.Complete.{node_named}
 use Rattle.std.proofs.lemmas.Grind.{common_steps}
 use Rattle.simplex_values.specs.declared.answer.Answer.{Answer}
 use Rattle.simplex_wire.specs.declared.certificate.Finalization.{Finalization}
 use Rattle.simplex_values.specs.Terms.{greatest_view}
 use Rattle.simplex_journal.specs.Journal.{Section, crashed, replayed}
 use Rattle.simplex_journal.specs.Contents.{kept}
-use Rattle.simplex_messages.specs.declared.step.Outcome.{Outcome}
-use Rattle.simplex_messages.specs.declared.step.Outcome.TheVariants as outcomes
 use Rattle.simplex_messages.specs.declared.step.Stop.{Stop}
+use Rattle.simplex_messages.specs.declared.step.Stop.TheVariants as stops
+use Rattle.simplex_transcript.specs.declared.event.Event.{Event}
 use Rattle.simplex_transcript.specs.declared.event.Event.TheVariants as events
 use Rattle.simplex_transcript.specs.declared.node.Node.{Node}
 use Rattle.simplex_transcript.specs.declared.node.Ref.{Ref}
@@ -27,17 +25,16 @@ use Rattle.model_run.specs.Setting.{Setting}
 use Rattle.model_audit.specs.declared.record.AuditEntry.{AuditEntry}
 use Rattle.model_audit.specs.Audit.{stores_first}
 use Rattle.model_audit.specs.Conditions.{is_at_end}
-use Rattle.model_audit.specs.Fitting.{outcome_fits, took_or_idle, fits}
 use Rattle.model_audit.specs.Journal.{behind_reading, sections_behind}
 use Rattle.model_audit.specs.Order.{are_in_order}
-use Rattle.model_audit.specs.Reading.{Read, rules_at, start_read, read_behind, read}
+use Rattle.model_audit.specs.Reading.{Read, votes_in, rules_at, calls_read, start_read, crash_read, read_behind, read}
 use Rattle.model_audit.specs.Rebuilt.{call_for, rebuilt, rebuilt_entry}
 use Rattle.model_audit.specs.Running.{is_done, is_broken, is_crash, runs_at}
 use Rattle.simplex_known.specs.declared.rules.Rules.{Rules}
 use Rattle.simplex_known.specs.Knows.{Knows, AreRulesOf}
 use Rattle.simplex_reader.specs.declared.reader.Reader.{Reader}
 use Rattle.simplex_reader.specs.Follows.{Follows}
-use Rattle.simplex_reader.specs.Starting.{Starts}
+use Rattle.simplex_reader.proofs.Voting.{Appends}
 
 -- ---- the node of an event
 
@@ -49,19 +46,10 @@ module _ (setting : Setting) (before : List Noted) (noted : Noted) (node : Node)
   unfolding read
   read_own e = ap (λ b. if b then read_behind setting node before noted.entry noted.event (read setting before node) else read setting before node) e
 
-  read_apart : is_of node noted.event ≡ false → read setting (noted ∷ before) node ≡ read setting before node
-  unfolding read
-  read_apart e = ap (λ b. if b then read_behind setting node before noted.entry noted.event (read setting before node) else read setting before node) e
-
   pub runs_own : is_of node noted.event ≡ true → runs_at (noted ∷ before) node
       ≡ (if is_start noted.event || is_crash noted.event || is_broken noted.entry.outcome then is_start noted.event && is_done noted.entry.outcome else runs_at before node)
   unfolding runs_at
   runs_own e =
-      ap (λ b. if b && (is_start noted.event || is_crash noted.event || is_broken noted.entry.outcome) then is_start noted.event && is_done noted.entry.outcome else runs_at before node) e
-
-  runs_apart : is_of node noted.event ≡ false → runs_at (noted ∷ before) node ≡ runs_at before node
-  unfolding runs_at
-  runs_apart e =
       ap (λ b. if b && (is_start noted.event || is_crash noted.event || is_broken noted.entry.outcome) then is_start noted.event && is_done noted.entry.outcome else runs_at before node) e
 
 -- ---- following it
@@ -83,65 +71,38 @@ follows_at reader setting before node r e rules known sections =
       sections = sections ∙ ap (λ (x : Read). x.sections) (sym e);
     }
 
--- an entry of another node, or of none, is not read
-pub follows_apart : (reader : Reader) (setting : Setting) (before : List Noted) (node : Node) (noted : Noted) → is_of node noted.event ≡ false
-    → Follows reader setting before node → Follows reader setting (noted ∷ before) node
-follows_apart reader setting before node noted e f =
-    follows_at reader setting (noted ∷ before) node (read setting before node) (read_apart setting before noted node e)
-    f.rules (λ runs. f.known (sym (runs_apart setting before noted node e) ∙ runs)) f.sections
+-- ---- a packet or an answer
 
--- nor is one of an event that is neither a start nor a step nor a crash, and not broken
-heard : (reader : Reader) (setting : Setting) (before : List Noted) (node : Node) (noted : Noted) → is_of node noted.event ≡ true
-    → (is_start noted.event || is_crash noted.event || is_broken noted.entry.outcome) ≡ false
-    → read_behind setting node before noted.entry noted.event (read setting before node) ≡ read setting before node
-    → Follows reader setting before node → Follows reader setting (noted ∷ before) node
-heard reader setting before node noted e whole same f =
-    follows_at reader setting (noted ∷ before) node (read setting before node) (read_own setting before noted node e ∙ same)
-    f.rules
-    (λ runs. f.known (sym (runs_own setting before noted node e ∙ ap (λ b. if b then is_start noted.event && is_done noted.entry.outcome else runs_at before node) whole) ∙ runs))
-    f.sections
+-- a node that runs after an entry that is no start ran before it
+ran_before : (start other done runs : Bool) → start ≡ false → (if start || other then start && done else runs) ≡ true → runs ≡ true
+ran_before true other done runs e h = cc
+ran_before false true done runs e h = cc
+ran_before false false done runs e h = h
 
-fitting_outcome : (a b c d : Bool) → (a && b && c && d) ≡ true → c ≡ true
-fitting_outcome true true true true e = refl
-fitting_outcome true true true false e = refl
-fitting_outcome true true false d e = cc
-fitting_outcome true false c d e = cc
-fitting_outcome false b c d e = cc
+module _ (old new : Reader) (setting : Setting) (before : List Noted) (node : Node) (entry : AuditEntry) (same : new.rules ≡ old.rules) where
+  -- an event of which the calls alone are read
+  calls_followed : (event : Event) → is_of node event ≡ true → is_start event ≡ false
+      → read_behind setting node before (rebuilt_entry entry) event (read setting before node) ≡ calls_read (clock_of before) stops.None (rebuilt_entry entry) (read setting before node)
+      → Appends old.known new.known entry.calls → new.stored ≡ sections_behind entry.outcome stops.None [] (filter_map call_for entry.calls) old.stored
+      → Follows old setting before node → Follows new setting (rebuilt event entry ∷ before) node
+  unfolding rebuilt_entry
+  calls_followed event own start read_so knows stored f =
+      let noted = rebuilt event entry in
+      let r = read setting before node in
+      follows_at new setting (noted ∷ before) node (calls_read (clock_of before) stops.None (rebuilt_entry entry) r)
+      (read_own setting before noted node own ∙ read_so)
+      (subst (AreRulesOf (rules_at setting node r)) (sym same) f.rules)
+      (λ runs. knows (rules_at setting node r) r.known (clock_of before)
+      (f.known (ran_before (is_start event) (is_crash event || is_broken entry.outcome) (is_done entry.outcome) (runs_at before node) start (sym (runs_own setting before noted node own) ∙ runs))))
+      (stored ∙ ap (sections_behind entry.outcome stops.None [] (filter_map call_for entry.calls)) f.sections)
 
--- neither has a stop
-answer_whole : (node : Node) (at : Ref) (answer : Answer) (outcome : Outcome) → outcome_fits (events.Answer node at answer) outcome ≡ true → is_broken outcome ≡ false
-answer_whole node at answer outcomes.Done e = refl
-answer_whole node at answer outcomes.Idle e = refl
-answer_whole node at answer outcomes.Cut e = cc
-answer_whole node at answer outcomes.Journal e = cc
-answer_whole node at answer outcomes.Refused e = refl
+  pub follows_packet : (at : Ref) → Appends old.known new.known entry.calls → new.stored ≡ sections_behind entry.outcome stops.None [] (filter_map call_for entry.calls) old.stored
+      → Follows old setting before node → Follows new setting (rebuilt (events.Deliver node at) entry ∷ before) node
+  follows_packet at = calls_followed (events.Deliver node at) (same_node node) refl refl
 
-packet_whole : (node : Node) (at : Ref) (outcome : Outcome) → outcome_fits (events.Deliver node at) outcome ≡ true → is_broken outcome ≡ false
-packet_whole node at outcomes.Done e = refl
-packet_whole node at outcomes.Idle e = refl
-packet_whole node at outcomes.Cut e = cc
-packet_whole node at outcomes.Journal e = cc
-packet_whole node at outcomes.Refused e = refl
-
-pub follows_answer : (reader : Reader) (setting : Setting) (before : List Noted) (node : Node) (at : Ref) (answer : Answer) (entry : AuditEntry)
-    → fits before (events.Answer node at answer) entry ≡ true
-    → Follows reader setting before node → Follows reader setting (rebuilt (events.Answer node at answer) entry ∷ before) node
-unfolding fits rebuilt_entry
-follows_answer reader setting before node at answer entry fit f =
-    heard reader setting before node (rebuilt (events.Answer node at answer) entry) (same_node node)
-    (answer_whole node at answer entry.outcome (fitting_outcome (entry.event == length before + 1) (option_eq is_same_node entry.who (node_named (events.Answer node at answer)))
-    (outcome_fits (events.Answer node at answer) entry.outcome) (took_or_idle before (events.Answer node at answer) entry.outcome entry.took) fit))
-    refl f
-
-pub follows_packet : (reader : Reader) (setting : Setting) (before : List Noted) (node : Node) (at : Ref) (entry : AuditEntry)
-    → fits before (events.Deliver node at) entry ≡ true
-    → Follows reader setting before node → Follows reader setting (rebuilt (events.Deliver node at) entry ∷ before) node
-unfolding fits rebuilt_entry
-follows_packet reader setting before node at entry fit f =
-    heard reader setting before node (rebuilt (events.Deliver node at) entry) (same_node node)
-    (packet_whole node at entry.outcome (fitting_outcome (entry.event == length before + 1) (option_eq is_same_node entry.who (node_named (events.Deliver node at)))
-    (outcome_fits (events.Deliver node at) entry.outcome) (took_or_idle before (events.Deliver node at) entry.outcome entry.took) fit))
-    refl f
+  pub follows_answer : (at : Ref) (answer : Answer) → Appends old.known new.known entry.calls → new.stored ≡ sections_behind entry.outcome stops.None [] (filter_map call_for entry.calls) old.stored
+      → Follows old setting before node → Follows new setting (rebuilt (events.Answer node at answer) entry ∷ before) node
+  follows_answer at answer = calls_followed (events.Answer node at answer) (same_node node) refl refl
 
 -- ---- before any entry
 
@@ -178,16 +139,18 @@ stored_is reader setting before node entry answer is f = is ∙ ap (λ (js : Lis
 
 -- ---- a crash
 
-pub follows_crash : (old new : Reader) (setting : Setting) (before : List Noted) (node : Node) (entry : AuditEntry) → new.rules ≡ old.rules → new.stored ≡ crashed 0 old.stored
+pub follows_crash : (old new : Reader) (setting : Setting) (before : List Noted) (node : Node) (entry : AuditEntry) → new.rules ≡ old.rules
+    → new.stored ≡ crashed 0 (sections_behind entry.outcome stops.None [] (filter_map call_for entry.calls) old.stored)
     → Follows old setting before node → Follows new setting (rebuilt (events.Crash node) entry ∷ before) node
+unfolding rebuilt_entry
 follows_crash old new setting before node entry same stored f =
     let noted = rebuilt (events.Crash node) entry in
     let r = read setting before node in
-    follows_at new setting (noted ∷ before) node (record { start = r.start; known = []; sections = crashed 0 r.sections })
+    follows_at new setting (noted ∷ before) node (crash_read (calls_read (clock_of before) stops.None (rebuilt_entry entry) r))
     (read_own setting before noted node (same_node node))
     (subst (AreRulesOf (rules_at setting node r)) (sym same) f.rules)
     (λ runs. absurd (never (sym (runs_own setting before noted node (same_node node)) ∙ runs)))
-    (stored ∙ ap (crashed 0) f.sections)
+    (stored ∙ ap (λ (js : List Section). crashed 0 (sections_behind entry.outcome stops.None [] (filter_map call_for entry.calls) js)) f.sections)
   where
     never : false ≡ true → ⊥
     never e = cc
@@ -195,12 +158,14 @@ follows_crash old new setting before node entry same stored f =
 -- ---- a start
 
 pub follows_start : (old new : Reader) (setting : Setting) (before : List Noted) (node : Node) (floor : Option Finalization) (stop : Stop) (entry : AuditEntry)
-    → new.rules ≡ old.rules → Starts new.known old.rules floor (replayed old.stored)
+    → new.rules ≡ old.rules
+    → ((made : Made) (genesis : List ℕ) (now : ℕ) → AreRulesOf made old.rules
+    → Knows new.known made (votes_in now (filter_map call_for entry.calls) ++ (started made now (floor_of genesis floor) (replayed old.stored)).desk.known))
     → ((made : Made) (genesis : List ℕ) (now : ℕ) → AreRulesOf made old.rules → new.stored
     ≡ sections_behind entry.outcome (behind_reading stop) (started made now (floor_of genesis floor) (replayed old.stored)).calls (filter_map call_for entry.calls) old.stored)
     → Follows old setting before node → Follows new setting (rebuilt (events.Start node floor stop) entry ∷ before) node
 unfolding rebuilt_entry
-follows_start old new setting before node floor stop entry same starts stored f =
+follows_start old new setting before node floor stop entry same knows stored f =
     let noted = rebuilt (events.Start node floor stop) entry in
     let r = read setting before node in
     let now = clock_of before in
@@ -210,6 +175,7 @@ follows_start old new setting before node floor stop entry same starts stored f 
     follows_at new setting (noted ∷ before) node (start_read now stop (rebuilt_entry entry) (started made now at (replayed r.sections)) r)
     (read_own setting before noted node (same_node node))
     (subst (AreRulesOf made) (sym same) rules)
-    (λ runs. subst (λ (js : List Section). Knows new.known made (started made now at (replayed js)).desk.known) f.sections (starts made setting.genesis now rules))
+    (λ runs. subst (λ (js : List Section). Knows new.known made (votes_in now (filter_map call_for entry.calls) ++ (started made now at (replayed js)).desk.known)) f.sections
+    (knows made setting.genesis now rules))
     (stored made setting.genesis now rules
     ∙ ap (λ (js : List Section). sections_behind entry.outcome (behind_reading stop) (started made now at (replayed js)).calls (filter_map call_for entry.calls) js) f.sections)

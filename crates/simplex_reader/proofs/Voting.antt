@@ -31,6 +31,9 @@ abbrev pub Appends : Known → Known → List AuditCall → Type 0
 Appends old new calls =
     (made : Made) (facts : List Fact) (now : ℕ) → Knows old made facts → Knows new made (votes_in now (filter_map call_for calls) ++ facts)
 
+pub appended : (old new : Known) (told calls : List AuditCall) → told ≡ calls → Appends old new told → Appends old new calls
+appended old new told calls e appends = subst (Appends old new) e appends
+
 pub appends_none : (kept : Known) → Appends kept kept []
 appends_none kept made facts now k = k
 

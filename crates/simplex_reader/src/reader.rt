@@ -1,7 +1,9 @@
 //! The reader of one node.
-ghost use Rattle.std.specs.Prelude.{◌≡◌, ◌∷◌, [], List, true, nat_lt, IsNone, IfOk};
+ghost use Rattle.std.specs.Prelude.{◌≡◌, ◌∷◌, [], List, true, nat_lt, IsNone, OnOk, IfOk};
+ghost use Rattle.simplex_values.specs.declared.answer.Answer.{Answer};
 ghost use Rattle.simplex_transcript.specs.declared.event.Event.TheVariants as events;
 ghost use Rattle.simplex_transcript.specs.declared.node.Node.{Node};
+ghost use Rattle.simplex_transcript.specs.declared.node.Ref.{Ref};
 ghost use Rattle.model_run.specs.Life.{Noted};
 ghost use Rattle.model_run.specs.Setting.{Setting};
 ghost use Rattle.model_run.specs.Setups as setups;
@@ -11,8 +13,11 @@ ghost use Rattle.model_audit.specs.Rebuilt.{rebuilt, rebuilt_entry};
 ghost use Rattle.model_audit.specs.Running.{runs_at};
 ghost use Rattle.simplex_reader.specs.Follows.{Follows};
 
+use crate::sections::take_calls;
+use crate::votes::take_votes;
 use model_audit::AuditEntry;
 use simplex_known::{Known, Rules};
+use simplex_messages::Stop;
 use simplex_stored::Stored;
 use simplex_transcript::Setup;
 use simplex_values::{Epoch, Lookahead, TermLength, View, ViewDelta};
@@ -64,12 +69,27 @@ impl Reader {
         self.stored.stores_first(alloc, entry.calls.as_slice())
     }
 
-    /// Takes in the entry of a crash.
-    pub fn take_crash(&mut self)
-        ensures { (setting : Setting) (before : List Noted) (node : Node) (entry : AuditEntry) → Follows self.old setting before node
-            → Follows self.new setting (rebuilt (events.Crash node) entry ∷ before) node }
+    /// Takes in the entry of a packet or of an answer that came to the node. In the record of a run it calls no journal, but whoever
+    /// wrote the record may have put a call there, and the journal would hold it.
+    pub fn take_input(&mut self, alloc: Global, entry: &AuditEntry) -> Result<(), AllocError>
+        ensures packet { OnOk result ((setting : Setting) (before : List Noted) (node : Node) (at : Ref) → Follows self.old setting before node
+            → Follows self.new setting (rebuilt (events.Deliver node at) entry.now ∷ before) node) }
+        ensures answer { OnOk result ((setting : Setting) (before : List Noted) (node : Node) (at : Ref) (answer : Answer)
+            → Follows self.old setting before node
+            → Follows self.new setting (rebuilt (events.Answer node at answer) entry.now ∷ before) node) }
     {
+        take_votes(&mut self.known, entry.calls.as_slice())?;
+        take_calls(&mut self.stored, alloc, entry, Stop::None, None)
+    }
+
+    /// Takes in the entry of a crash.
+    pub fn take_crash(&mut self, alloc: Global, entry: &AuditEntry) -> Result<(), AllocError>
+        ensures { OnOk result ((setting : Setting) (before : List Noted) (node : Node) → Follows self.old setting before node
+            → Follows self.new setting (rebuilt (events.Crash node) entry.now ∷ before) node) }
+    {
+        take_calls(&mut self.stored, alloc, entry, Stop::None, None)?;
         self.stored.crash(0);
+        Ok(())
     }
 }
 

@@ -17,6 +17,7 @@ ghost use Rattle.simplex_reader.specs.Starting.{Stands, Replays, ReplaysOne, Sta
 
 use crate::reader::Reader;
 use crate::sections::{RuledPrune, behind_reading, take_calls};
+use crate::votes::take_votes;
 use model_audit::AuditEntry;
 use simplex_known::{Known, Rules};
 use simplex_messages::Stop;
@@ -38,8 +39,9 @@ impl Reader {
             (rebuilt (events.Start node floor.now stop) entry.now ∷ before) node) }
     {
         let records = self.stored.replay(alloc)?;
-        let known = known_at_start(alloc, &self.rules, floor, records.as_slice())?;
+        let mut known = known_at_start(alloc, &self.rules, floor, records.as_slice())?;
         let prune = prune_at_start(&known, floor, records.as_slice());
+        take_votes(&mut known, entry.calls.as_slice())?;
         self.known = known;
         take_calls(&mut self.stored, alloc, entry, behind_reading(stop), prune)
     }

@@ -9,6 +9,7 @@ use Rattle.model_audit.specs.Journal.{behind_reading, sections_behind}
 use Rattle.model_audit.specs.Rebuilt.{call_for}
 use Rattle.simplex_reader.proofs.Following.{follows_start}
 use Rattle.simplex_reader.proofs.Started.{starts_same, pruned_same}
+use Rattle.simplex_reader.proofs.Voting.{appended}
 use Rattle.simplex_reader.proofs.reader.Reader.take_start.Goals as goal
 
 pub returns : goal.returns
@@ -17,7 +18,8 @@ returns c =
     (λ did setting before node follows.
     let starts = starts_same c.in_ok-known.known c.args.self.now.rules c.args.floor.now _ _ (c.as_slice.ensures.value ∙ c.in_ok-records.ensures.records) c.in_ok-known.ensures in
     follows_start c.args.self.now _ setting before node c.args.floor.now c.args.stop c.args.entry.now refl
-    starts
+    (λ made genesis now own. appended _ _ _ _ c.as_slice-3.ensures c.in_ok-take_votes.ensures made (started made now (floor_of genesis c.args.floor.now) (replayed c.args.self.now.stored)).desk.known now
+    (starts made genesis now own))
     (λ made genesis now own.
     let ruled = (started made now (floor_of genesis c.args.floor.now) (replayed c.args.self.now.stored)).calls in
     did ruled
