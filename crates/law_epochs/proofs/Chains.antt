@@ -70,7 +70,7 @@ unfolding logs_in
 epoch_log height input ran e member =
     subst (λ logs. IsLogOf height input.setup ran.entries member (log_in logs member)) (sym e.logs) (found_log height input.setup ran.entries member (honest_from 0 input.setup.members))
 
-of_epoch : (height : ℕ) (input : Input) (ran : Ran) → IsEpoch height input ran → IsTranscript input.setup input.events ran.entries
+pub of_epoch : (height : ℕ) (input : Input) (ran : Ran) → IsEpoch height input ran → IsTranscript input.setup input.events ran.entries
 of_epoch height input ran e = record { genesis = ran.genesis; ran = e.made; safe = e.safe }
 
 whole_fronts : (setup : Setup) (list : List Event) (entries : List Entry) → IsTranscript setup list entries → (a b : Node) → AreFronts (log_at setup entries a) (log_at setup entries b)

@@ -3,6 +3,7 @@ use Rattle.std.specs.Prelude.{ℕ, ◌≡◌, ◌≤◌, List, [], ◌∷◌, Co
 use Rattle.simplex_transcript.specs.declared.entry.Entry.{Entry}
 use Rattle.simplex_transcript.specs.declared.node.Node.{Node}
 use Rattle.simplex_transcript.specs.declared.setup.Setup.{Setup}
+use Rattle.simplex_types.specs.Genesis.{genesis_of}
 use Rattle.model_run.specs.Setting.{setting_of}
 use Rattle.model_run.specs.Run.{RunFrom}
 use Rattle.law_run.specs.Sayings.{Each}
@@ -38,6 +39,27 @@ EachRooted (ran ∷ rest) = AllRooted ran.genesis ran.entries × EachRooted rest
 abbrev pub ClosesAs : ℕ → Setup → List Entry → List ℕ → Type 0
 ClosesAs height setup entries digest = (node : Node) → height ≤ length (log_at setup entries node)
     → payload_at height (log_at setup entries node) ≡ Some digest
+
+-- an honest node's log reaches the height, and whichever does has this digest there
+pub record IsClosedAs (height : ℕ) (setup : Setup) (entries : List Entry) (digest : List ℕ) : Type 0 where
+  pub reached : closing_payload height (lists_of (logs_in setup entries)) ≡ Some digest
+  pub closes : ClosesAs height setup entries digest
+
+-- each epoch but the last is closed by the genesis digest of the next
+unfoldable pub AreClosed : ℕ → List Input → List Ran → Type 0
+AreClosed height (input ∷ next ∷ later) (ran ∷ after ∷ rest) =
+    IsClosedAs height input.setup ran.entries after.genesis × AreClosed height (next ∷ later) (after ∷ rest)
+AreClosed height _ _ = Unit {0}
+
+-- the first epoch has the genesis digest of its number
+unfoldable pub BeginsAtGenesis : List Input → List Ran → Type 0
+BeginsAtGenesis (input ∷ later) (ran ∷ rest) = ran.genesis ≡ genesis_of input.setup.epoch
+BeginsAtGenesis _ _ = Unit {0}
+
+-- each epoch goes on where the one before was closed
+pub record AreLinked (height : ℕ) (inputs : List Input) (rans : List Ran) : Type 0 where
+  pub begins : BeginsAtGenesis inputs rans
+  pub closed : AreClosed height inputs rans
 
 -- of the chains of any two members one begins the other
 abbrev pub ChainsAreFronts : ℕ → List Input → List Ran → Type 0

@@ -1,5 +1,5 @@
 //! Chains of members whose logs agree.
-ghost use Rattle.std.specs.Prelude.{◌≡◌, ◌<◌, ◌≤◌, ℕ, List, Some, length};
+ghost use Rattle.std.specs.Prelude.{◌≡◌, ◌<◌, ◌≤◌, ℕ, List, Some, Ok, length};
 ghost use Rattle.simplex_transcript.specs.declared.entry.Entry.{Entry};
 ghost use Rattle.simplex_transcript.specs.declared.event.Event.{Event};
 ghost use Rattle.simplex_transcript.specs.declared.setup.Setup.{Setup};
@@ -9,8 +9,8 @@ ghost use Rattle.law_log.specs.Logs.{logs_in};
 ghost use Rattle.law_log.specs.Transcripts.{IsTranscript};
 ghost use Rattle.law_epochs.specs.Alike.{AreAlike};
 ghost use Rattle.model_epochs.specs.Chain.{chain_of, payload_at, closing_payload};
-ghost use Rattle.model_epochs.specs.Epochs.{Input, Ran, lists_of};
-ghost use Rattle.law_epochs.specs.Whole.{AreEpochs, ClosesAs, AreChainsOf};
+ghost use Rattle.model_epochs.specs.Epochs.{Input, Ran, Epochs, lists_of};
+ghost use Rattle.law_epochs.specs.Whole.{AreEpochs, ClosesAs, AreChainsOf, AreLinked};
 
 /// Where of each epoch one log begins the other, one chain begins the other.
 pub fn chains_are_fronts()
@@ -31,6 +31,14 @@ pub fn epochs_close_as_one()
         → 0 < height → IsTranscript setup events entries
         → closing_payload height (lists_of (logs_in setup entries)) ≡ Some digest
         → ClosesAs height setup entries digest }
+{}
+
+/// The first epoch runs from the genesis digest of its number, and each later one from the payload that closed the one before: the
+/// payload at the height in each log that reaches it, of which there is one.
+pub fn epochs_are_linked()
+    ensures { (height : ℕ) (inputs : List Input) (rans : List Ran)
+        → 0 < height → Epochs height inputs ≡ Ok rans → AreEpochs height inputs rans
+        → AreLinked height inputs rans }
 {}
 
 /// Where the run of each epoch is safe, each request on view 0 names its epoch's genesis digest, and of the chains of any two

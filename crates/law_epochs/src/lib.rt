@@ -4,4 +4,6 @@
 
 mod laws;
 
-pub use laws::{chains_are_fronts, chains_of_whole_runs, epochs_close_as_one, long_logs_agree};
+pub use laws::{
+    chains_are_fronts, chains_of_whole_runs, epochs_are_linked, epochs_close_as_one, long_logs_agree,
+};

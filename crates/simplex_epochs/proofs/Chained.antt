@@ -9,7 +9,7 @@ use Rattle.simplex_types.specs.Genesis.{genesis_of}
 use Rattle.model_run.specs.Run.{RunFrom}
 use Rattle.model_epochs.specs.Epochs.{Epochs, Input, Ran, behind, epochs_from, epochs_of}
 use Rattle.model_epochs.specs.Lines.{chain_lines}
-use Rattle.law_epochs.specs.Whole.{AreChainsOf, AreEpochs}
+use Rattle.law_epochs.specs.Whole.{AreChainsOf, AreEpochs, AreLinked}
 use Rattle.simplex_epochs.specs.declared.epoch.EpochRun.{EpochRun}
 use Rattle.simplex_epochs.specs.declared.form.ChainInput.{ChainInput}
 use Rattle.simplex_epochs.specs.declared.reason.ChainReason.{ChainReason}
@@ -165,9 +165,18 @@ are_epochs height (input ∷ inputs) (run ∷ runs) h =
 pub made_chained : (input : ChainInput) (runs : List EpochRun) (text : List ℕ)
     → Epochs input.height (inputs_of input.epochs) ≡ Ok (rans_of runs) → AreEpochRuns input.height input.epochs runs
     → ((height : ℕ) (inputs : List Input) (rans : List Ran) → AreEpochs height inputs rans → AreChainsOf height inputs rans)
+    → 0 < input.height
+    → ((height : ℕ) (inputs : List Input) (rans : List Ran) → 0 < height → Epochs height inputs ≡ Ok rans → AreEpochs height inputs rans → AreLinked height inputs rans)
     → text ≡ chain_lines input.height (inputs_of input.epochs) (rans_of runs) → AreChained input (record { runs = runs }) text
-made_chained input runs text ran whole law told =
-    record { ran = ran; whole = whole; chains = law input.height (inputs_of input.epochs) (rans_of runs) (are_epochs input.height input.epochs runs whole); told = told }
+made_chained input runs text ran whole law some linked told =
+    let epochs = are_epochs input.height input.epochs runs whole in
+    record {
+      ran = ran;
+      whole = whole;
+      linked = linked input.height (inputs_of input.epochs) (rans_of runs) some ran epochs;
+      chains = law input.height (inputs_of input.epochs) (rans_of runs) epochs;
+      told = told;
+    }
 
 -- ---- their error
 

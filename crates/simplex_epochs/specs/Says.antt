@@ -4,7 +4,7 @@ use Rattle.std.specs.declared.alloc.Global.{Global}
 use Rattle.simplex_front.specs.Words.{is_alone}
 use Rattle.model_epochs.specs.Epochs.{Epochs}
 use Rattle.model_epochs.specs.Lines.{chain_lines}
-use Rattle.law_epochs.specs.Whole.{AreChainsOf}
+use Rattle.law_epochs.specs.Whole.{AreChainsOf, AreLinked}
 use Rattle.simplex_epochs.specs.declared.form.ChainInput.{ChainInput}
 use Rattle.simplex_epochs.specs.declared.reason.ChainReason.{ChainReason}
 use Rattle.simplex_epochs.specs.declared.work.ChainDone.{ChainDone}
@@ -24,11 +24,12 @@ usage = codes "usage: chain\n"
 abbrev pub IsMisread : List ℕ → ℕ → Type 0
 IsMisread bytes place = chain_input_of bytes ≡ Err place
 
--- The runs of the epochs, each whole and safe, one after another: each request on view 0 names its epoch's genesis digest, and of the
--- chains of any two members one begins the other. The text tells the digests and the chains
+-- The runs of the epochs, each whole and safe, one after another: each goes on where the one before was closed, each request on view 0
+-- names its epoch's genesis digest, and of the chains of any two members one begins the other. The text has the digests and the chains
 pub record AreChained (input : ChainInput) (done : ChainDone) (text : List ℕ) : Type 0 where
   pub ran : Epochs input.height (inputs_of input.epochs) ≡ Ok (rans_of done.runs)
   pub whole : AreEpochRuns input.height input.epochs done.runs
+  pub linked : AreLinked input.height (inputs_of input.epochs) (rans_of done.runs)
   pub chains : AreChainsOf input.height (inputs_of input.epochs) (rans_of done.runs)
   pub told : text ≡ chain_lines input.height (inputs_of input.epochs) (rans_of done.runs)
 

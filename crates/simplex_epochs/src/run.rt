@@ -223,8 +223,8 @@ fn add_run(
 }
 
 /// The runs of the epochs, one after another: the first from its epoch's genesis digest, and each later one from the payload at the
-/// height, which is from 1 to [`MOST_HEIGHT`](crate::MOST_HEIGHT), of the longest log of an honest node of the one before. An error is that of the
-/// first epoch that has one.
+/// height, which is from 1 to [`MOST_HEIGHT`](crate::MOST_HEIGHT), of an honest node's log of the one before. All logs that reach the height
+/// have the same payload there. An error is that of the first epoch that has one.
 #[tactic(auto, unfolding(model_epochs::specs::Epochs::epochs_of, crate::specs::Runs::AreEpochRuns))]
 pub fn run_epochs(
     alloc: Global,

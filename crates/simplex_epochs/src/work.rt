@@ -16,7 +16,7 @@ use crate::form::{ChainInput, read_chain_input};
 use crate::reason::{ChainReason, reason_of, reason_text};
 use crate::run::run_epochs;
 use crate::text::chain_lines;
-use law_epochs::chains_of_whole_runs;
+use law_epochs::{chains_of_whole_runs, epochs_are_linked};
 use model_epochs::EpochError;
 use simplex_front::{Answer, Exit, Work, is_word, program};
 use simplex_io::{Sink, Source};
@@ -35,17 +35,19 @@ pub struct ChainDone {
 /// Runs the epochs of an input, and tells the chain of each member that exists and is honest in each of them.
 pub struct ChainWork;
 
-// The runs of the epochs of the input, and the lines on them.
+// The lines on the runs of the epochs of the input.
 #[tactic(auto, using(crate::proofs::Chained::made_chained))]
 fn tell(
     alloc: Global,
     input: &ChainInput,
     runs: Sequence<EpochRun>,
 ) -> Result<Answer<ChainDone, ChainReason>, AllocError>
+    requires height { 0 < input.now.height }
     requires ran { Epochs input.now.height (inputs_of input.now.epochs) ≡ Ok (rans_of runs) }
     requires whole { AreEpochRuns input.now.height input.now.epochs runs }
     ensures { IfOk result (IsAnswer (AreChained input.now) (IsRefused input.now) (λ place. ⊥)) }
 {
+    epochs_are_linked();
     chains_of_whole_runs();
     let text = chain_lines(
         alloc,

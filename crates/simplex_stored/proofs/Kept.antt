@@ -1,11 +1,11 @@
 -- Sets of spellings, and synced records.
-use Rattle.std.proofs.Common.{◌≡◌, ℕ, List, [], ◌∷◌, ◌++◌, Bool, true, false, refl, sym, ap, subst, ◌∙◌}
+use Rattle.std.proofs.Common.{◌≡◌, ℕ, List, [], ◌∷◌, ◌++◌, Bool, true, false, cond, Option, Some, refl, sym, ap, subst, ◌∙◌}
 use Rattle.std.specs.Prelude.{◌||◌}
 use Rattle.std.specs.Global.{Vec}
 use Rattle.std.specs.BTreeSet.{BTreeSet}
 use Rattle.std.specs.BTreeSet as set
 use Rattle.std.specs.Set.{KeepsOthers}
-use Rattle.std.specs.Map.{IsKeyTest, AreApart}
+use Rattle.std.specs.Map.{IsKeyTest, AreApart, lookup}
 use Rattle.std.specs.Cmp.Lexicographic.{slice_cmp}
 use Rattle.std.proofs.lemmas.Cmp.{eq_by_cmp_equiv, nat_list_cmp_total, nat_list_eq_equiv}
 use Rattle.std.specs.List.{list_any}
@@ -55,6 +55,22 @@ pub kept-more : (p : Artifact → Bool) (e : ℕ × Lists) (es : List (ℕ × Li
     → list_any p (kept (sections_of (e ∷ es))) ≡ (list_any p e.1.synced || list_any p (kept (sections_of es)))
 unfolding kept sections_of
 kept-more p e es = list_any-append p e.1.synced (kept (sections_of es))
+
+or-true : (b : Bool) → (b || true) ≡ true
+or-true true = refl
+or-true false = refl
+
+-- of the section that a look-up finds
+pub kept-at : (p : Artifact → Bool) (test : ℕ → Bool) (es : List (ℕ × Lists)) (lists : Lists) → lookup test es ≡ Some lists → list_any p lists.synced ≡ true
+    → list_any p (kept (sections_of es)) ≡ true
+kept-at p test [] lists e have = cc
+kept-at p test (x ∷ es) lists e have = kept-more p x es ∙ at (test x.0) e
+  where
+    at : (b : Bool) → cond b (Some x.1) (lookup test es) ≡ Some lists → (list_any p x.1.synced || list_any p (kept (sections_of es))) ≡ true
+    at true f =
+        let same : x.1 ≡ lists = cc in
+        ap (λ (l : Lists). list_any p l.synced || list_any p (kept (sections_of es))) same ∙ ap (λ b. b || list_any p (kept (sections_of es))) have
+    at false f = ap (λ b. list_any p x.1.synced || b) (kept-at p test es lists f have) ∙ or-true (list_any p x.1.synced)
 
 pub kept-found : (p : Artifact → Bool) (es rest : List (ℕ × Lists)) (e : ℕ × Lists) (records : List Artifact) (have whole : Bool)
     → es ≡ e ∷ rest → have ≡ list_any p records → records ≡ e.1.synced → have ≡ true → list_any p (kept (sections_of es)) ≡ whole → true ≡ whole

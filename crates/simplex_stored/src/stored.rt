@@ -17,7 +17,7 @@ use crate::journal::{append, prune, prune_first, replay, sync};
 use crate::votes::keep_nullify;
 use model_audit::AuditCall;
 use simplex_journal::{Journal, MemoryJournal};
-use simplex_types::{Artifact, Channel, Vote};
+use simplex_types::{Artifact, Channel, View, Vote};
 use std::alloc::{AllocError, Global};
 use std::marker::Model;
 
@@ -133,15 +133,15 @@ impl Stored {
             return Ok(true);
         }
         match vote {
-            Vote::Nullify(_) => self.holds(alloc, bytes),
+            Vote::Nullify(nullify) => self.holds(alloc, bytes, nullify.round.view),
             _ => Ok(false),
         }
     }
 
-    // Whether the record of this nullify is synced.
-    fn holds(&self, alloc: Global, bytes: &[u8]) -> Result<bool, AllocError>
+    // Whether the record of this nullify, of this view, is synced.
+    fn holds(&self, alloc: Global, bytes: &[u8], view: View) -> Result<bool, AllocError>
         ensures { IfOk result (λ held. held ≡ list_any (is_nullify bytes.now) (kept self.now)) }
     {
-        keep_nullify(alloc, bytes, self.journal.sections())
+        keep_nullify(alloc, bytes, view, self.journal.sections())
     }
 }

@@ -3,7 +3,7 @@ use Rattle.std.specs.List.{list_any}
 use Rattle.simplex_journal.specs.Contents.{kept}
 use Rattle.simplex_journal.specs.Memory.{sections_of}
 use Rattle.simplex_stored.specs.Before.{is_nullify}
-use Rattle.simplex_stored.proofs.votes.keep_nullify.Given as goal
+use Rattle.simplex_stored.proofs.votes.have_nullify_anywhere.Given as goal
 
 abbrev pub invariant-loop-lists : goal.invariant-loop-lists
 invariant-loop-lists l =

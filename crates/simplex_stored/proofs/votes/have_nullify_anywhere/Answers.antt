@@ -1,7 +1,7 @@
 use Rattle.std.proofs.Common.{◌≡◌, ◌∷◌, rules}
 use Rattle.simplex_stored.specs.Before.{is_nullify}
 use Rattle.simplex_stored.proofs.Kept.{kept-found, kept-next, kept-end}
-use Rattle.simplex_stored.proofs.votes.keep_nullify.Goals as goal
+use Rattle.simplex_stored.proofs.votes.have_nullify_anywhere.Goals as goal
 
 pub returns-then-branch : goal.returns-then-branch
 returns-then-branch c =
