@@ -1,8 +1,11 @@
 -- A whole run, as it was made, its record, and the record's text.
-use Rattle.std.proofs.Common.{◌≡◌, ℕ, Bool, true, false, List, [], Option, Some, None, Ok, Err, refl, codes, subst, sym, if◌then◌else◌}
-use Rattle.serde_json.specs.Data.{Data}
+use Rattle.std.proofs.Common.{◌≡◌, ◌≤◌, ℕ, Bool, true, false, List, [], Option, Some, None, Ok, Err, refl, codes, subst, sym, if◌then◌else◌}
+use Rattle.json.specs.Lex.{tokens}
+use Rattle.json.specs.Print.{print}
+use Rattle.serde_json.specs.Data.{Data, depth}
 use Rattle.serde_json.specs.Find.{get, as_array}
 use Rattle.serde_json.specs.View.{view}
+use Rattle.serde_json.specs.Read.{read, max_depth}
 use Rattle.serde_json.specs.Written.{has_float, compact_text, IsInOrder}
 use Rattle.simplex_transcript.specs.declared.entry.Entry.{Entry}
 use Rattle.simplex_transcript.specs.declared.event.Event.{Event}
@@ -64,8 +67,9 @@ parts_are json value parts is setup events = (value, is, setup, events)
 
 -- ---- the record and its text
 
-pub is_written : (value : Data) (text : List ℕ) → (has_float value ≡ false → text ≡ compact_text value) → IsInOrder text value → IsWritten value text
-is_written value text compact order = record { compact = compact; order = order }
+pub is_written : (value : Data) (text : List ℕ) → text ≡ print (tokens text) → (has_float value ≡ false → text ≡ compact_text value) → IsInOrder text value
+    → (depth value ≤ max_depth → read text ≡ Some value) → IsWritten value text
+is_written value text compact spelled order reads_back = record { compact = compact; spelled = spelled; order = order; reads_back = reads_back }
 
 -- what is found of the record of each transcript
 abbrev pub IsFoundSound : List Entry → List AuditEntry → Type 0
@@ -79,4 +83,4 @@ is_recorded input transcript told whole is sound =
 pub is_told : (json : Option Data) (parts : Parts) (done : RecordDone) (text : List ℕ) → PartsIn json (Ok parts)
     → IsWritten (document_data (view parts.setup) (view parts.events) done.entries) text → IsDocument json done text
 is_told json parts done text p written =
-    record { value = p.0; setup = view parts.setup; events = view parts.events; read = p.1; has_setup = p.2; has_events = p.3; written = written }
+    record { value = p.0; setup = view parts.setup; events = view parts.events; was_read = p.1; has_setup = p.2; has_events = p.3; written = written }

@@ -1,7 +1,10 @@
 -- What the words and the bytes of an input say of a record.
-use Rattle.std.specs.Prelude.{ℕ, ◌≡◌, false, List, Option, Some, Ok, Err, codes}
-use Rattle.serde_json.specs.Data.{Data}
+use Rattle.std.specs.Prelude.{ℕ, ◌≡◌, ◌≤◌, false, List, Option, Some, Ok, Err, codes}
+use Rattle.json.specs.Lex.{tokens}
+use Rattle.json.specs.Print.{print}
+use Rattle.serde_json.specs.Data.{Data, depth}
 use Rattle.serde_json.specs.Find.{get}
+use Rattle.serde_json.specs.Read.{read, max_depth}
 use Rattle.serde_json.specs.Written.{has_float, compact_text, IsInOrder}
 use Rattle.simplex_transcript.specs.declared.refusal.Refusal.{Refusal}
 use Rattle.simplex_form.specs.declared.input.Input.{Input}
@@ -20,17 +23,19 @@ use Rattle.simplex_audits.specs.declared.recording.RecordDone.{RecordDone}
 abbrev pub IsMisread : List ℕ → ℕ → Type 0
 IsMisread bytes place = input_of bytes ≡ Err place
 
--- the text of the value without a space, its members in their order
+-- the text of the value without a space, its members in their order, which reads back as the value
 pub record IsWritten (value : Data) (text : List ℕ) : Type 0 where
-  pub compact : has_float value ≡ false → text ≡ compact_text value
+  pub compact : text ≡ print (tokens text)
+  pub spelled : has_float value ≡ false → text ≡ compact_text value
   pub order : IsInOrder text value
+  pub reads_back : depth value ≤ max_depth → read text ≡ Some value
 
 -- the setup and the events as they stand in the value that was read, and the record of the transcript
 pub record IsDocument (json : Option Data) (done : RecordDone) (text : List ℕ) : Type 0 where
   pub value : Data
   pub setup : Data
   pub events : Data
-  pub read : json ≡ Some value
+  pub was_read : json ≡ Some value
   pub has_setup : get (codes "setup") value ≡ Some setup
   pub has_events : get (codes "events") value ≡ Some events
   pub written : IsWritten (document_data setup events done.entries) text
