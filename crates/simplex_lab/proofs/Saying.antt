@@ -12,6 +12,7 @@ use Rattle.model_run.specs.Run.{Run, run}
 use Rattle.simplex_run.specs.declared.run.Transcript.{Transcript}
 use Rattle.simplex_run.specs.WholeRuns.{WholeRunFrom}
 use Rattle.simplex_simulator.specs.Going.{IsRunnable}
+use Rattle.simplex_shrinker.specs.Part.{IsPartOf}
 use Rattle.simplex_lab.specs.Lines.{makes_as_written, read_makes_line}
 use Rattle.simplex_lab.specs.Prefix.{earlier, entries_of}
 use Rattle.simplex_lab.specs.Refusals.{reason_line}
@@ -59,5 +60,5 @@ pub tells_refusal : (input : Input) (refusal : Refusal) (left text : List ℕ)
 tells_refusal input refusal left text tells told = record { left = left; tells = tells; told = told }
 
 pub shrunk : (line : List ℕ) (input : Input) (left : List Event) (text : List ℕ) → makes_as_written input.setup line left ≡ true
-    → length left ≤ length input.events → text ≡ input_text input.setup left → IsShrunk line input left text
-shrunk line input left text makes few told = record { makes = makes; few = few; told = told }
+    → length left ≤ length input.events → IsPartOf left input.events → text ≡ input_text input.setup left → IsShrunk line input left text
+shrunk line input left text makes few part told = record { makes = makes; few = few; part = part; told = told }

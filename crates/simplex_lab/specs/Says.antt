@@ -27,6 +27,7 @@ use Rattle.model_run.specs.Run.{Run}
 use Rattle.simplex_run.specs.declared.run.Transcript.{Transcript}
 use Rattle.simplex_run.specs.WholeRuns.{WholeRunFrom}
 use Rattle.simplex_simulator.specs.Going.{IsRunnable}
+use Rattle.simplex_shrinker.specs.Part.{IsPartOf}
 use Rattle.simplex_script.specs.Scripts.{script_of}
 use Rattle.simplex_script.specs.declared.fault.BadLine.{BadLine}
 use Rattle.simplex_script.specs.declared.script.Script.{Script}
@@ -136,10 +137,11 @@ pub record IsUnread (order : Order) (given : Input) (place : ℕ) (text : List �
 
 -- ---- shrink
 
--- the text is an input of the same setup with no more events, and its run makes the line
+-- the text is an input of the same setup with some of the events, in their order, and its run makes the line
 pub record IsShrunk (line : List ℕ) (input : Input) (left : List Event) (text : List ℕ) : Type 0 where
   pub makes : makes_as_written input.setup line left ≡ true
   pub few : length left ≤ length input.events
+  pub part : IsPartOf left input.events
   pub told : text ≡ input_text input.setup left
 
 -- ---- script

@@ -1,5 +1,6 @@
 //! Leaves events out.
 ghost use Rattle.std.specs.Prelude.{◌≡◌, ◌<◌, ◌≤◌, true, IfOk, length};
+ghost use Rattle.simplex_shrinker.specs.Part.{IsPartOf};
 
 use crate::probe::Probe;
 use crate::without::without;
@@ -18,6 +19,7 @@ fn pass<P: Probe>(
     requires so { P.stays probe.now events ≡ true }
     ensures so { IfOk result (λ left. P.stays probe.now left ≡ true) }
     ensures few { IfOk result (λ left. length left ≤ length events) }
+    ensures part { IfOk result (λ left. IsPartOf left events) }
 {
     let mut best = events;
     let mut end = best.len();
@@ -41,6 +43,7 @@ fn settle<P: Probe>(
     requires { P.stays probe.now events ≡ true }
     ensures so { IfOk result (λ left. P.stays probe.now left ≡ true) }
     ensures few { IfOk result (λ left. length left ≤ length events) }
+    ensures part { IfOk result (λ left. IsPartOf left events) }
 {
     let mut best = events;
     let mut count = best.len();
@@ -53,7 +56,7 @@ fn settle<P: Probe>(
     }
 }
 
-/// The shortest list that is found of which it is so too.
+/// The shortest list that is found of which it is so too: some of the events, in their order, under their new numbers.
 pub fn shrink<P: Probe>(
     alloc: Global,
     probe: &P,
@@ -62,6 +65,7 @@ pub fn shrink<P: Probe>(
     requires { P.stays probe.now events ≡ true }
     ensures so { IfOk result (λ left. P.stays probe.now left ≡ true) }
     ensures few { IfOk result (λ left. length left ≤ length events) }
+    ensures part { IfOk result (λ left. IsPartOf left events) }
 {
     let mut best = events;
     let mut size = best.len() / 2;

@@ -1,5 +1,6 @@
 //! A list of events without some of them.
-ghost use Rattle.std.specs.Prelude.{◌≤◌, ◌+◌, IfOk, length};
+ghost use Rattle.std.specs.Prelude.{◌≡◌, ◌≤◌, ◌+◌, IfOk, IfSome, OnOk, length};
+ghost use Rattle.simplex_shrinker.specs.Part.{IsPartOf, unnumbered, with_last};
 
 use simplex_transcript::{Event, Ref};
 use simplex_types::{Keep, Sequence};
@@ -13,7 +14,9 @@ struct Names {
 
 impl Names {
     /// The new name of a place. An event that is none of those so far has the name that it had.
-    fn of(&self, at: &Ref) -> Option<Ref> {
+    fn of(&self, at: &Ref) -> Option<Ref>
+        ensures { IfSome result (λ name. name.place ≡ at.now.place) }
+    {
         let old = at.event;
         let event = match old.checked_sub(1) {
             None => old,
@@ -30,7 +33,9 @@ impl Names {
 }
 
 // The same event under the new names, if what it names is left.
-fn renamed(alloc: Global, names: &Names, event: &Event) -> Result<Option<Event>, AllocError> {
+fn renamed(alloc: Global, names: &Names, event: &Event) -> Result<Option<Event>, AllocError>
+    ensures { IfOk result (λ it. IfSome it (λ renamed. unnumbered renamed ≡ unnumbered event.now)) }
+{
     let renamed = match event {
         Event::Start { node, floor, stop } => Some(Event::Start {
             node: *node,
@@ -38,10 +43,13 @@ fn renamed(alloc: Global, names: &Names, event: &Event) -> Result<Option<Event>,
             stop: *stop,
         }),
         Event::Tick { ms } => Some(Event::Tick { ms: *ms }),
-        Event::Deliver { node, packet } => names.of(packet).map(|packet| Event::Deliver {
-            node: *node,
-            packet,
-        }),
+        Event::Deliver { node, packet } => match names.of(packet) {
+            None => None,
+            Some(packet) => Some(Event::Deliver {
+                node: *node,
+                packet,
+            }),
+        },
         Event::Step { node, source, stop } => Some(Event::Step {
             node: *node,
             source: *source,
@@ -51,11 +59,14 @@ fn renamed(alloc: Global, names: &Names, event: &Event) -> Result<Option<Event>,
             node,
             request,
             answer,
-        } => names.of(request).map(|request| Event::Answer {
-            node: *node,
-            request,
-            answer: *answer,
-        }),
+        } => match names.of(request) {
+            None => None,
+            Some(request) => Some(Event::Answer {
+                node: *node,
+                request,
+                answer: *answer,
+            }),
+        },
         Event::Crash { node } => Some(Event::Crash { node: *node }),
         Event::Inject {
             member,
@@ -79,7 +90,8 @@ pub(crate) fn without(
     from: usize,
     to: usize,
 ) -> Result<Sequence<Event>, AllocError>
-    ensures { IfOk result (λ left. length left ≤ length events.now) }
+    ensures few { IfOk result (λ left. length left ≤ length events.now) }
+    ensures part { IfOk result (λ left. IsPartOf left events.now) }
 {
     let mut left = Sequence::new(alloc);
     let mut names = Names {
@@ -99,7 +111,8 @@ pub(crate) fn without(
 
 // Puts the event last, if there is one, and answers its number.
 fn push_if(left: &mut Sequence<Event>, event: Option<Event>) -> Result<Option<u64>, AllocError>
-    ensures { IfOk result (λ _. length left.new ≤ length left.old + 1) }
+    ensures few { IfOk result (λ _. length left.new ≤ length left.old + 1) }
+    ensures last { OnOk result (left.new ≡ with_last left.old event) }
 {
     match event {
         None => Ok(None),
