@@ -134,10 +134,10 @@ module _ (setup : Setup) (before : List Noted) (event : Event) (node : Node) (to
   nothing_listed did e = ap (λ (out : StepOut). lists_nothing (entry_for (record did { out = out }))) e
 
   lists_so : (did : Did) → GivesSo did.outcome did.out → lists_fit did.outcome (entry_for did) ≡ true
+  unfolding record_entry
   lists_so did g = at did.outcome g
     where
       at : (o : Outcome) → GivesSo o did.out → lists_fit o (entry_for did) ≡ true
-      unfolding record_entry
       at outcomes.Done g = refl
       at outcomes.Idle g = nothing_listed did g
       at outcomes.Refused g = nothing_listed did g

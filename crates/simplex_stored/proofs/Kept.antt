@@ -64,13 +64,14 @@ or-true false = refl
 pub kept-at : (p : Artifact → Bool) (test : ℕ → Bool) (es : List (ℕ × Lists)) (lists : Lists) → lookup test es ≡ Some lists → list_any p lists.synced ≡ true
     → list_any p (kept (sections_of es)) ≡ true
 kept-at p test [] lists e have = cc
-kept-at p test (x ∷ es) lists e have = kept-more p x es ∙ at (test x.0) e
+kept-at p test (x ∷ es) lists e have = kept-more p x es ∙ at (test x.0) e (λ later. kept-at p test es lists later have)
   where
-    at : (b : Bool) → cond b (Some x.1) (lookup test es) ≡ Some lists → (list_any p x.1.synced || list_any p (kept (sections_of es))) ≡ true
-    at true f =
+    at : (b : Bool) → cond b (Some x.1) (lookup test es) ≡ Some lists → (lookup test es ≡ Some lists → list_any p (kept (sections_of es)) ≡ true)
+        → (list_any p x.1.synced || list_any p (kept (sections_of es))) ≡ true
+    at true f go =
         let same : x.1 ≡ lists = cc in
         ap (λ (l : Lists). list_any p l.synced || list_any p (kept (sections_of es))) same ∙ ap (λ b. b || list_any p (kept (sections_of es))) have
-    at false f = ap (λ b. list_any p x.1.synced || b) (kept-at p test es lists f have) ∙ or-true (list_any p x.1.synced)
+    at false f go = ap (λ b. list_any p x.1.synced || b) (go f) ∙ or-true (list_any p x.1.synced)
 
 pub kept-found : (p : Artifact → Bool) (es rest : List (ℕ × Lists)) (e : ℕ × Lists) (records : List Artifact) (have whole : Bool)
     → es ≡ e ∷ rest → have ≡ list_any p records → records ≡ e.1.synced → have ≡ true → list_any p (kept (sections_of es)) ≡ whole → true ≡ whole

@@ -12,7 +12,7 @@ returns-then-is_stored c =
 pub returns-in-Nullify : goal.returns-in-Nullify
 returns-in-Nullify c =
     IfOk-weaker c.holds.result _ _
-    (λ held found xs stand. may-again (kept c.args.self.now) c.args.before.now xs c.in-Ok.vote c.in-Nullify.field-0 c.args.bytes.now _ held (sym c.decode.ensures.exact ∙ c.in-Ok.is) c.in-Nullify.is
+    (λ held found xs stand. may-again (kept c.args.self.now) c.args.before.now xs c.in-Ok.vote c.in-Nullify.nullify c.args.bytes.now _ held (sym c.decode.ensures.exact ∙ c.in-Ok.is) c.in-Nullify.is
     c.in-Ok.ensures.found.1 (sym c.is_stored.ensures ∙ c.if-is_stored.false) found stand)
     c.holds.ensures
 
