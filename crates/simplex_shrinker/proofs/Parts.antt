@@ -44,4 +44,4 @@ pub part_more : (old new events : List Event) (i : ℕ) (o : Option Event) (y : 
     → IfSome o (λ x. unnumbered x ≡ unnumbered y) → IsPartOf old (take i events) → IsPartOf new (take (i + 1) events)
 part_more old new events i o y low is last like p =
     subst (λ (xs : List Event). IsPartOf xs (take (i + 1) events)) (sym last)
-    (subst (IsPartOf (with_last old o)) (sym (take_more events i y low is)) (subst (λ (z : Event). IsPartOf (with_last old o) (take i events ++ z ∷ [])) is (last_or_out old (take i events) o y like p)))
+    (subst (IsPartOf (with_last old o)) (sym (take_more events i y low)) (subst (λ (z : Event). IsPartOf (with_last old o) (take i events ++ z ∷ [])) is (last_or_out old (take i events) o y like p)))
