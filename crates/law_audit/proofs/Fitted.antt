@@ -362,8 +362,7 @@ module _ (setting : Setting) (before : List Noted) (ran : IsRun setting before) 
               let gives = step_gives (voter_in made past) (voter_past past) v.input now stop (Some d) g in
               let ends : did.outcome ≡ (performed stop d js).outcome = v.outcome ∙ ap (λ (x : Performed). x.outcome) gives in
               let out : did.out ≡ (performed stop d js).out = v.out ∙ ap (λ (x : Performed). x.out) gives in
-              let t : IsTakenSo before at (place_in made past).standing source (entries.took_of before at made past did) v.input = taking_read setting before at made past source now stop did v d ran good running g in
-              (
+              let t : IsTakenSo before at (place_in made past).standing source (entries.took_of before at made past did) v.input = taking_read setting before at made past source now stop did v d ran good running g in (
                 ap (outcome_fits event) ends ∙ performed_fits event stop refl d js,
                 unidle event did.outcome (took_of (entries.took_of before at made past did)) (λ e. never_idle stop d js (sym ends ∙ e)) t.fits,
                 subst (λ (o : Outcome). GivesSo o did.out) (sym ends) (subst (λ (x : StepOut). GivesSo (performed stop d js).outcome x) (sym out) (performed_gives stop d js)),

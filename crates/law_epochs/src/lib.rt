@@ -5,5 +5,6 @@
 mod laws;
 
 pub use laws::{
-    chains_are_fronts, chains_of_whole_runs, epochs_are_linked, epochs_close_as_one, long_logs_agree,
+    chains_are_fronts, chains_of_whole_runs, epochs_are_linked, epochs_close_as_one,
+    long_logs_agree,
 };

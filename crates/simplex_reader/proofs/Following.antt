@@ -74,10 +74,11 @@ follows_at reader setting before node r e rules known sections =
 -- ---- a packet or an answer
 
 -- a node that runs after an entry that is no start ran before it
-ran_before : (start other done runs : Bool) → start ≡ false → (if start || other then start && done else runs) ≡ true → runs ≡ true
-ran_before true other done runs e h = cc
-ran_before false true done runs e h = cc
-ran_before false false done runs e h = h
+ran_before : (start crash broken done runs : Bool) → start ≡ false → (if start || crash || broken then start && done else runs) ≡ true → runs ≡ true
+ran_before true crash broken done runs e h = cc
+ran_before false true broken done runs e h = cc
+ran_before false false true done runs e h = cc
+ran_before false false false done runs e h = h
 
 module _ (old new : Reader) (setting : Setting) (before : List Noted) (node : Node) (entry : AuditEntry) (same : new.rules ≡ old.rules) where
   -- an event of which the calls alone are read
@@ -93,7 +94,7 @@ module _ (old new : Reader) (setting : Setting) (before : List Noted) (node : No
       (read_own setting before noted node own ∙ read_so)
       (subst (AreRulesOf (rules_at setting node r)) (sym same) f.rules)
       (λ runs. knows (rules_at setting node r) r.known (clock_of before)
-      (f.known (ran_before (is_start event) (is_crash event || is_broken entry.outcome) (is_done entry.outcome) (runs_at before node) start (sym (runs_own setting before noted node own) ∙ runs))))
+      (f.known (ran_before (is_start event) (is_crash event) (is_broken entry.outcome) (is_done entry.outcome) (runs_at before node) start (sym (runs_own setting before noted node own) ∙ runs))))
       (stored ∙ ap (sections_behind entry.outcome stops.None [] (filter_map call_for entry.calls)) f.sections)
 
   pub follows_packet : (at : Ref) → Appends old.known new.known entry.calls → new.stored ≡ sections_behind entry.outcome stops.None [] (filter_map call_for entry.calls) old.stored

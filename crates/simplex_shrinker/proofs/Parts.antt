@@ -5,6 +5,10 @@ use Rattle.std.proofs.lemmas.List.{take_more}
 use Rattle.simplex_transcript.specs.declared.event.Event.{Event}
 use Rattle.simplex_shrinker.specs.Part.{unnumbered, IsPartOf, with_last}
 
+pub part_empty : (xs ys : List Event) → xs ≡ [] → IsPartOf xs ys
+unfolding IsPartOf
+part_empty xs ys e = subst (λ (zs : List Event). IsPartOf zs ys) (sym e) tt
+
 pub part_itself : (xs : List Event) → IsPartOf xs xs
 unfolding IsPartOf
 part_itself [] = tt

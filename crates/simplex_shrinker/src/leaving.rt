@@ -9,6 +9,7 @@ use simplex_types::Sequence;
 use std::alloc::{AllocError, Global};
 
 // Leaves out each stretch of this length, the last one first, without which it stays so.
+#[tactic(auto, using(crate::proofs::Parts::part_itself, crate::proofs::Parts::part_of_part))]
 fn pass<P: Probe>(
     alloc: Global,
     probe: &P,
@@ -35,6 +36,7 @@ fn pass<P: Probe>(
 }
 
 // Leaves out single events until there is none without which it stays so.
+#[tactic(auto, using(crate::proofs::Parts::part_itself, crate::proofs::Parts::part_of_part))]
 fn settle<P: Probe>(
     alloc: Global,
     probe: &P,
@@ -57,6 +59,7 @@ fn settle<P: Probe>(
 }
 
 /// The shortest list that is found of which it is so too: some of the events, in their order, under their new numbers.
+#[tactic(auto, using(crate::proofs::Parts::part_itself, crate::proofs::Parts::part_of_part))]
 pub fn shrink<P: Probe>(
     alloc: Global,
     probe: &P,

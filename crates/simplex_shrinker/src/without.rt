@@ -83,6 +83,21 @@ fn renamed(alloc: Global, names: &Names, event: &Event) -> Result<Option<Event>,
     Ok(renamed)
 }
 
+// What is kept of the event: nothing where it is dropped.
+fn kept(
+    alloc: Global,
+    names: &Names,
+    is_dropped: bool,
+    event: &Event,
+) -> Result<Option<Event>, AllocError>
+    ensures { IfOk result (λ it. IfSome it (λ kept. unnumbered kept ≡ unnumbered event.now)) }
+{
+    if is_dropped {
+        return Ok(None);
+    }
+    renamed(alloc, names, event)
+}
+
 /// The events without those from one place up to another, counted from 0, and without those whose packet or request is gone.
 pub(crate) fn without(
     alloc: Global,
@@ -99,11 +114,7 @@ pub(crate) fn without(
     };
     for (place, event) in events.iter().enumerate() {
         let is_dropped = from <= place && place < to;
-        let kept = if is_dropped {
-            None
-        } else {
-            renamed(alloc, &names, event)?
-        };
+        let kept = kept(alloc, &names, is_dropped, event)?;
         names.list.push(push_if(&mut left, kept)?)?;
     }
     Ok(left)
