@@ -127,9 +127,14 @@ fn handed_back(rt: &impl Abort, alloc: Global, failing: u64) -> Result<[Vec<u8>;
 #[test]
 fn a_disk_is_handed_back(rt: HostRuntime) -> Result<(), Fail> {
     let alloc = rt.alloc();
-    let [first, second] = handed_back(&rt, alloc, 3)?;
-    same(&rt, "file 1", &first.as_slice(), &TORN.as_slice());
-    same(&rt, "file 2", &second.as_slice(), &TORN_AT_ONCE.as_slice());
+    let files = handed_back(&rt, alloc, 3)?;
+    same(&rt, "file 1", &files[0].as_slice(), &TORN.as_slice());
+    same(
+        &rt,
+        "file 2",
+        &files[1].as_slice(),
+        &TORN_AT_ONCE.as_slice(),
+    );
     for failing in 4..=LAST_OF_OPENING {
         let _files = handed_back(&rt, alloc, failing)?;
     }
