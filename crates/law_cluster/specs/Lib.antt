@@ -1,0 +1,4 @@
+pub mod Agree
+pub mod Cluster
+pub mod Lives
+pub mod Signatures
