@@ -15,14 +15,14 @@ use Rattle.law_cluster.specs.Cluster.{Cluster, IsHonest}
 
 -- ---- the certificates that a member has
 
+-- in a packet
 abbrev pub in_taken : Taken → List Certificate
 in_taken (Heard sender channel bytes) = certificate_on channel bytes
 in_taken _ = []
 
--- in an item: that came in a packet, or that the engine added, handed on, reported or appended
-abbrev pub in_did : Did → List Certificate
-in_did did =
-    in_taken did.taken ++ did.out.added ++ flat_map of_message did.out.handed ++ flat_map of_call did.out.calls
+-- that an engine said in an item: it added, handed on, appended or reported them
+abbrev pub said_in : Did → List Certificate
+said_in did = did.out.added ++ flat_map of_message did.out.handed ++ flat_map of_call did.out.calls
 
 -- in its journal, when the life had ended
 abbrev pub in_journal : Life → List Certificate
@@ -34,10 +34,11 @@ IsKnown life c =
     let voter = voter_in life.made life.past in
     (now : ℕ) × Contains (place_of voter (voter_past life.past)).standing.desk.known (Added c now)
 
--- it had it in a life: as the floor, in an item, in its journal, or among what its voter knew
+-- it had it in a life: as the floor, in a packet or in what its engine said, in its journal, or among what its voter knew
 abbrev pub HadIn : Life → Certificate → Type 0
-HadIn life c = (Contains (floor_of life) c ⊎ ((did : Did) × Contains life.past did × Contains (in_did did) c))
-    ⊎ (Contains (in_journal life) c ⊎ IsKnown life c)
+HadIn life c = Contains (floor_of life) c
+    ⊎ (((did : Did) × Contains life.past did × (Contains (in_taken did.taken) c ⊎ Contains (said_in did) c))
+    ⊎ (Contains (in_journal life) c ⊎ IsKnown life c))
 
 abbrev pub Had : List Life → Certificate → Type 0
 Had lives c = (life : Life) × Contains lives life × HadIn life c
