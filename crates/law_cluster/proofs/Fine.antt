@@ -1,5 +1,6 @@
 -- An engine to which no forged signature comes says certificates alone that verify and whose signers voted so.
 use Rattle.std.proofs.Common.{◌≡◌, ℕ, ◌-◌, ◌<◌, ◌≤◌, ◌==◌, ◌&&◌, nat_lt, nat_le, Bool, true, false, List, [], ◌∷◌, length, take, Contains, All, Option, Some, None, Ok, refl, sym, ap, ◌∙◌, subst, inl, inr, ◌⊎◌, if◌then◌else◌}
+use Rattle.std.specs.Option.{option_map_or}
 use Rattle.std.proofs.lemmas.List.Elements.{All-head, All-tail, All-weaker}
 use Rattle.simplex_values.specs.Quorum.{quorum_of}
 use Rattle.simplex_values.specs.declared.answer.Answer.{Answer}
@@ -178,6 +179,17 @@ voter_signed made past input now stop = at (voter.stepped (voter_in made past).r
         subst (λ (x : Performed). Each (InOwn (IsSigned (voter_in made past).rules)) x.out.handed) (sym (step_gives (voter_in made past) (voter_past past) input now stop (Some d) e))
         (performed_signed (voter_in made past).rules now input (place_in made past).standing stop d (place_in made past).sections e)
 
+-- what is taken of a packet that is heard
+let_in_taken : (made : EngineMade) (past : List Did) (sender : ℕ) (channel : Channel) (bytes : List ℕ) (now : ℕ) → (engine.let_in made past sender channel bytes now).taken ≡ engine.Heard sender channel bytes
+unfolding engine.let_in engine.by_batcher engine.by_resolver
+let_in_taken made past sender channels.Vote bytes now = refl
+let_in_taken made past sender channels.Certificate bytes now = refl
+let_in_taken made past sender channels.Resolver bytes now = refl
+
+heard_taken : (made : EngineMade) (past : List Did) (sender : ℕ) (channel : Channel) (bytes : List ℕ) (now : ℕ) → (engine.heard made past sender channel bytes now).taken ≡ engine.Heard sender channel bytes
+heard_taken made past sender channel bytes now =
+    heard_either (λ (d : Did). d.taken ≡ engine.Heard sender channel bytes) made past sender channel bytes now refl (let_in_taken made past sender channel bytes now)
+
 -- ---- good certificates
 
 module _ (group : Group) (Counts : ℕ → Subject → Type 0) where
@@ -212,6 +224,10 @@ module _ (group : Group) (Counts : ℕ → Subject → Type 0) where
   FineOn channels.Vote bytes = (v : Vote) → whole format.vote bytes ≡ Ok v → IsCounted v
   FineOn channels.Certificate bytes = (c : Certificate) → whole format.certificate bytes ≡ Ok c → IsVerifying group c → IsGood c
   FineOn channels.Resolver bytes = (c : Certificate) → Contains (certificate_on channels.Resolver bytes) c → IsVerifying group c → IsGood c
+
+  abbrev pub FineTaken : engine.Taken → Type 0
+  FineTaken (engine.Heard sender channel bytes) = FineOn channel bytes
+  FineTaken _ = Unit {0}
 
   record IsFineDid (did : Did) : Type 0 where
     handed : Each IsFine did.out.handed
@@ -633,3 +649,110 @@ module _ (group : Group) (Counts : ℕ → Subject → Type 0) where
         heard_either S made past sender channel bytes now
         (nothing_fine (engine.Heard sender channel bytes) now stops.None outcomes.Refused refl refl (λ t q. cc) (nothing_given (engine.Heard sender channel bytes) now stops.None).1)
         (let_in_fine sender channel bytes now f)
+
+    -- whatever an engine takes
+    taken_fine : (did : Did) → GoesOn made past did → FineTaken did.taken → S did
+    taken_fine did g f = elim g.next [
+      | inl p ↦ subst S (sym p.is) (heard_fine p.sender p.channel p.bytes p.now
+          (subst FineTaken (ap (λ (d : Did). d.taken) p.is ∙ heard_taken made past p.sender p.channel p.bytes p.now) f))
+      | inr other ↦ elim other [
+        | inl s ↦ subst S (sym s.is) (any_step s.source s.now s.stop)
+        | inr r ↦ subst S (sym r.is) (record {
+          said = nothing_said IsGood;
+          taken = λ t q. cc;
+          given = tt;
+          place = answered_place made past (engine.replied r.number r.answer r.now) r.number r.answer refl refl h.place;
+          fine = λ own. tt;
+        })
+      ]
+    ]
+
+    goes_fine : (did : Did) → S did → AreOwn member did.out.handed → IsFineEngine member made (did ∷ past)
+    goes_fine did s own =
+        record {
+          batcher = h.batcher;
+          resolver = h.resolver;
+          signs = h.signs;
+          history = (record { handed = s.fine own; taken = s.taken }, h.history);
+          given = given_on (InGiven made.resolver IsGood) did past s.given h.given;
+          place = s.place;
+        }
+
+  -- ---- a start
+
+  start_place_fine : (v : VoterMade) (now : ℕ) (stop : Stop) → SaysGood IsGood (start_at v now v.sections) → InJournal (InRecord IsGood) v.sections → IsPlaceFine (place_of v (Started now stop ∷ []))
+  unfolding place_of
+  start_place_fine v now stop says records =
+      record {
+        known = at (unreadable stop);
+        records = start_keeps (InRecord IsGood) stop v.floor (start_at v now v.sections) v.sections
+            (appended_good IsGood (start_at v now v.sections).calls (voter_calls IsGood (start_at v now v.sections).calls says.in_calls)) records;
+      }
+    where
+      at : (b : Bool) → InKnown IsGood (if b then (place_of v []).standing else rest (start_at v now v.sections) []).desk.known
+      at true = nothing_known IsGood
+      at false = says.in_known
+
+  -- an engine of the member that knows the group, and whose floor and journal are good
+  pub record IsFit (member : ℕ) (made : EngineMade) : Type 0 where
+    pub batcher : IsMade made.batcher
+    pub resolver : IsResolverOf made.resolver
+    pub signs : (start : ℕ) → Signs member (made.voter start).rules
+    pub floor : (now : ℕ) → InFloor IsGood (made.voter now).floor
+    pub records : (now : ℕ) → InJournal (InRecord IsGood) (made.voter now).sections
+
+  start_engine : (made : EngineMade) (now : ℕ) (stop : Stop) → IsPlaceFine (place_of (made.voter now) (Started now stop ∷ [])) → IsPlaceFine (place_in made (by_voter Began now stop (start_of made now stop) ∷ []))
+  unfolding started_at voter_past
+  start_engine made now stop p = p
+
+  begin_fine : (member : ℕ) (made : EngineMade) (did : Did) → IsStart made did → IsFit member made → AllSaid IsGood did.out × IsFineEngine member made (did ∷ [])
+  begin_fine member made did s fit = subst (λ (d : Did). AllSaid IsGood d.out × IsFineEngine member made (d ∷ [])) (sym (s.is ∙ begun_is made s.now s.stop)) (all, engine_fine)
+    where
+      says : SaysGood IsGood (start_at (made.voter s.now) s.now (made.voter s.now).sections)
+      says = started_says IsGood (made.voter s.now).rules s.now (made.voter s.now).floor (replayed (made.voter s.now).sections) (fit.floor s.now) (fit.records s.now)
+
+      all : AllSaid IsGood (start_of made s.now s.stop).out
+      all = said_at_start IsGood s.stop (made.voter s.now).floor (start_at (made.voter s.now) s.now (made.voter s.now).sections) (made.voter s.now).sections says
+
+      silent : AreSilent (start_of made s.now s.stop).out.handed
+      silent =
+          let w = made.voter s.now in
+          let d = start_at w s.now w.sections in
+          let sound = start_sound w.rules s.now w.floor (replayed w.sections) in
+          start_performed_silent s.stop w.floor d w.sections (no_own IsGood d.calls d.handed sound.silent says.in_messages)
+
+      engine_fine : IsFineEngine member made (by_voter Began s.now s.stop (start_of made s.now s.stop) ∷ [])
+      engine_fine =
+          let out = (start_of made s.now s.stop).out in
+          record {
+            batcher = fit.batcher;
+            resolver = fit.resolver;
+            signs = fit.signs;
+            given = start_given (InGiven made.resolver IsGood) (λ m. tt) s.now s.stop (start_of made s.now s.stop).outcome out;
+            history = (
+              record {
+                handed = own_fine out.calls out.handed all.handed (silent_own out.handed silent);
+                taken = λ g t. (let k = given_input (by_voter Began s.now s.stop (start_of made s.now s.stop)) g t in cc);
+              },
+              tt,
+            );
+            place = start_engine made s.now s.stop (start_place_fine (made.voter s.now) s.now s.stop says (fit.records s.now));
+          }
+
+  -- ---- a history
+
+  pub record IsHistoryFine (member : ℕ) (made : EngineMade) (past : List Did) : Type 0 where
+    pub said : Each (λ (did : Did). AllSaid IsGood did.out) past
+    pub engine : IsFineEngine member made past
+
+  pub history_fine : (member : ℕ) (made : EngineMade) (past : List Did) → IsHistory made past → IsFit member made → Each (λ (did : Did). FineTaken did.taken) past → Each (λ (did : Did). AreOwn member did.out.handed) past
+      → IsHistoryFine member made past
+  unfolding IsHistory
+  history_fine member made [] h fit f own = absurd h
+  history_fine member made (did ∷ past) h fit f own = elim h [
+    | inl s ↦ (let b = begin_fine member made did s.1 fit in
+        subst (λ xs. IsHistoryFine member made (did ∷ xs)) (sym s.0) (record { said = (b.0, tt); engine = b.1 }))
+    | inr g ↦ (let before = history_fine member made past g.1 fit f.1 own.1 in
+        let step = taken_fine member made past before.engine did g.0 f.0 in
+        record { said = (step.said, before.said); engine = goes_fine member made past before.engine did step own.0 })
+  ]
