@@ -47,10 +47,13 @@ pub record IsRulesOf (group : Group) (member : ℕ) (rules : Made) : Type 0 wher
   pub epoch : rules.epoch ≡ group.epoch
   pub signs : (subject : Subject) (a : Attestation) → rules.signs subject ≡ Some a → a.signer ≡ member
 
--- the engine is one of the member, it counts the group's members and verifies their signatures, and its journal holds this
+-- the engine is one of the member: whenever it starts, it does at such a floor, with such rules, over a journal that holds this.
+-- It counts the group's members and verifies their signatures
 pub record IsEngineOf (group : Group) (member : ℕ) (sections : List Section) (made : EngineMade) : Type 0 where
   pub journal : (now : ℕ) → (made.voter now).sections ≡ sections
-  pub floor : (now : ℕ) → IsFloorOf group (made.voter now).floor
+  pub floor : Floor
+  pub stands : (now : ℕ) → (made.voter now).floor ≡ floor
+  pub sound : IsFloorOf group floor
   pub rules : (now : ℕ) → IsRulesOf group member (made.voter now).rules
   pub scheme : IsSchemeOfMembers made.batcher
   pub counts : made.batcher.members ≡ group.members
