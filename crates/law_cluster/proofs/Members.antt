@@ -15,7 +15,7 @@ use Rattle.simplex_wire.specs.Format.{whole}
 use Rattle.simplex_wire.specs.Message as format
 use Rattle.simplex_types.specs.declared.floor.Floor.{Floor}
 use Rattle.simplex_types.specs.declared.floor.Floor.TheVariants as floors
-use Rattle.simplex_journal.specs.Journal.{Section}
+use Rattle.simplex_journal.specs.Journal.{Section, replayed}
 use Rattle.simplex_messages.specs.declared.batcher.Message.TheVariants as batcher_messages
 use Rattle.simplex_messages.specs.declared.handed.Handed.{Handed}
 use Rattle.simplex_messages.specs.declared.handed.Handed.TheVariants as handed
@@ -222,7 +222,7 @@ module _ (c : Cluster) (o : IsMostlyHonest c) where
       }
 
   lives_fine : (i : ℕ) (lives : List Life) → AreLives c.group i lives → Each (IsSound i) lives → Each (λ (l : Life). Each (λ (did : Did). AreOwn c.group Counts i did.out.handed) l.past) lives → AreFine i lives
-  unfolding AreLives
+  unfolding AreLives replayed
   lives_fine i [] are sound own = record { each = tt; journal = λ a k. absurd (not_in_empty a k) }
   lives_fine i (l ∷ before) are sound own =
       let old = lives_fine i before are.1 sound.1 own.1 in
