@@ -53,7 +53,7 @@ use Rattle.law_cluster.proofs.Members.{Counts, history, sent_is, packet_good, Is
 
 module _ (Good : Certificate → Type 0) where
   -- it is what a good certificate states
-  abbrev States : agreement.Certificate → Type 0
+  abbrev pub States : agreement.Certificate → Type 0
   States x = (c : Certificate) × Good c × (statement_of c ≡ x)
 
   only_one : (c : Certificate) (x : agreement.Certificate) → Good c → Contains (statement_of c ∷ []) x → States x
@@ -105,7 +105,7 @@ module _ (Good : Certificate → Type 0) where
   one_record (artifacts.Certification r good) c g k = absurd (not_in_empty c k)
 
   -- what an engine said stands in an entry as it does in the item
-  abbrev entry_of : Did → Noted
+  abbrev pub entry_of : Did → Noted
   entry_of did =
       let blank = noted_blank [] (events.Tick 0) None in
       record blank { entry = record blank.entry { added = did.out.added; handed = did.out.handed; calls = did.out.calls } }
@@ -120,9 +120,6 @@ each_at P (y ∷ xs) x h k = elim (Contains-cons_cases y xs x k) [ inl e ↦ sub
 -- ---- a cluster
 
 module _ (c : Cluster) (o : IsMostlyHonest c) where
-  abbrev G : Certificate → Type 0
-  G = IsGood c.group (Counts c o)
-
   lives_said : (i : ℕ) (lives : List Life) → Each (IsFineLife c o i) lives → Each (InCall (IsGood c.group (Counts c o))) (calls_of lives)
   unfolding calls_of
   lives_said i [] h = tt

@@ -202,19 +202,19 @@ module _ (group : Group) (Counts : ℕ → Subject → Type 0) where
   abbrev pub IsCounted : Vote → Type 0
   IsCounted v = group.verifies (vote_subject v) (vote_attestation v) ≡ true → Counts (vote_signer v) (vote_subject v)
 
-  abbrev InOwnMail : batcher_message.Message → Type 0
+  abbrev pub InOwnMail : batcher_message.Message → Type 0
   InOwnMail (batcher_messages.Constructed v) = IsCounted v
   InOwnMail (batcher_messages.Update current leader finalized proposal) = Unit {0}
 
-  abbrev InVoterMail : voter_message.Message → Type 0
+  abbrev pub InVoterMail : voter_message.Message → Type 0
   InVoterMail (voter_messages.Verified c) = IsGood c
   InVoterMail _ = Unit {0}
 
-  abbrev IsFine : Handed → Type 0
+  abbrev pub IsFine : Handed → Type 0
   IsFine = InHanded InOwnMail InVoterMail IsGood
 
   -- what the batcher takes: each vote counts, a certificate that verifies is good
-  abbrev IsFineInput : BatcherInput → Type 0
+  abbrev pub IsFineInput : BatcherInput → Type 0
   IsFineInput (batcher_inputs.Vote sender bytes) = (v : Vote) → whole format.vote bytes ≡ Ok v → IsCounted v
   IsFineInput (batcher_inputs.Certificate sender bytes) = (c : Certificate) → whole format.certificate bytes ≡ Ok c → IsVerifying group c → IsGood c
   IsFineInput (batcher_inputs.Mail message) = InOwnMail message
@@ -229,9 +229,9 @@ module _ (group : Group) (Counts : ℕ → Subject → Type 0) where
   FineTaken (engine.Heard sender channel bytes) = FineOn channel bytes
   FineTaken _ = Unit {0}
 
-  record IsFineDid (did : Did) : Type 0 where
-    handed : Each IsFine did.out.handed
-    taken : (given : batcher.Timed) → given_to_batcher did ≡ Some given → IsFineInput given.input
+  pub record IsFineDid (did : Did) : Type 0 where
+    pub handed : Each IsFine did.out.handed
+    pub taken : (given : batcher.Timed) → given_to_batcher did ≡ Some given → IsFineInput given.input
 
   handed_all : (past : List Did) → Each IsFineDid past → Each (λ (did : Did). Each IsFine did.out.handed) past
   handed_all [] h = tt
@@ -239,7 +239,7 @@ module _ (group : Group) (Counts : ℕ → Subject → Type 0) where
 
   -- ---- the batcher
 
-  abbrev IsFineTimed : batcher.Timed → Type 0
+  abbrev pub IsFineTimed : batcher.Timed → Type 0
   IsFineTimed given = IsFineInput given.input
 
   inputs_fine : (past : List Did) → Each IsFineDid past → Each IsFineTimed (batcher_past past)
@@ -415,12 +415,12 @@ module _ (group : Group) (Counts : ℕ → Subject → Type 0) where
   -- ---- a step
 
   -- what comes of one item, where the member counts for what it constructed
-  record IsStepFine (member : ℕ) (made : EngineMade) (past : List Did) (did : Did) : Type 0 where
-    said : AllSaid IsGood did.out
-    taken : (given : batcher.Timed) → given_to_batcher did ≡ Some given → IsFineInput given.input
-    given : Each (InGiven made.resolver IsGood) (engine.given_to_resolver did)
-    place : IsPlaceFine (place_in made (did ∷ past))
-    fine : AreOwn member did.out.handed → Each IsFine did.out.handed
+  pub record IsStepFine (member : ℕ) (made : EngineMade) (past : List Did) (did : Did) : Type 0 where
+    pub said : AllSaid IsGood did.out
+    pub taken : (given : batcher.Timed) → given_to_batcher did ≡ Some given → IsFineInput given.input
+    pub given : Each (InGiven made.resolver IsGood) (engine.given_to_resolver did)
+    pub place : IsPlaceFine (place_in made (did ∷ past))
+    pub fine : AreOwn member did.out.handed → Each IsFine did.out.handed
 
   unseen_place : (made : EngineMade) (did : Did) (past : List Did) → given_to_voter did ≡ None → is_start did.taken ≡ false → IsPlaceFine (place_in made past) → IsPlaceFine (place_in made (did ∷ past))
   unseen_place made did past e f h =
@@ -469,7 +469,7 @@ module _ (group : Group) (Counts : ℕ → Subject → Type 0) where
           (stepped_says IsGood (voter_in made past).rules now (place_in made past).standing input d given k e))
 
   module _ (member : ℕ) (made : EngineMade) (past : List Did) (h : IsFineEngine member made past) where
-    abbrev S : Did → Type 0
+    abbrev pub S : Did → Type 0
     S = IsStepFine member made past
 
     -- a step of the voter on an input that brings a good certificate or none
@@ -732,7 +732,7 @@ module _ (group : Group) (Counts : ℕ → Subject → Type 0) where
             history = (
               record {
                 handed = own_fine out.calls out.handed all.handed (silent_own out.handed silent);
-                taken = λ g t. (let k = given_input (by_voter Began s.now s.stop (start_of made s.now s.stop)) g t in cc);
+                taken = λ g t. (let k : input_of_batcher Began ≡ Some g.input = given_input (by_voter Began s.now s.stop (start_of made s.now s.stop)) g t in cc);
               },
               tt,
             );

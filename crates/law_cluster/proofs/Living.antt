@@ -47,9 +47,9 @@ floor_in l = floor_statement (voter_in l.made l.past).floor
 
 module _ (term epoch : ℕ) (floors : List agreement.Certificate) (made : EngineMade) (keeps : Keeps term epoch made) where
   -- the member where the engine may start
-  record MayStart (m : Member) : Type 0 where
-    floor : (now : ℕ) → IsFloor (made.voter now).floor
-    stopped : (now : ℕ) → IsStoppedIn epoch (made.voter now).sections m
+  pub record MayStart (m : Member) : Type 0 where
+    pub floor : (now : ℕ) → IsFloor (made.voter now).floor
+    pub stopped : (now : ℕ) → IsStoppedIn epoch (made.voter now).sections m
 
   runs_at : (past : List Did) (m : Member) → runs past ≡ true → IsAt epoch (going_on made past) m → IsAt epoch (ran.Running made past) m
   runs_at past m e a = subst (λ (b : Bool). IsAt epoch (if b then ran.Running made past else ran.Stopped (sections_of made past)) m) e a
@@ -67,16 +67,16 @@ module _ (term epoch : ℕ) (floors : List agreement.Certificate) (made : Engine
     | inr g ↦ (let f = history_lives past g.1 m may among in
         let on = g.0 in
         go term epoch floors (calls_in past) did.out.calls (handed_in past) did.out.handed (going_on made past) (going_on made (did ∷ past)) m f
-        (taken_further term epoch floors made keeps past (run m f.calls) (runs_at past (run m f.calls) on.runs f.at) did on))
+        (taken_further term epoch floors made keeps past (run m f.calls) (runs_at past (run m f.calls) on.running f.at) did on))
   ]
 
   -- a crash behind the last item, or what a stop left
   ended : (past : List Did) (keep : ℕ) (m : Member) (f : Further term epoch floors (calls_in past) (handed_in past) (going_on made past) m)
       → Further term epoch floors (calls_in past) (handed_in past) (ran.Stopped (crashed keep (sections_of made past))) m
+  unfolding sections_of
   ended past keep m f = at (runs past) refl
     where
       crash : runs past ≡ true → Further term epoch floors [] [] (ran.Stopped (crashed keep (sections_of made past))) (run m f.calls)
-      unfolding sections_of
       crash e =
           let place = place_in made past in
           let v = voter_in made past in

@@ -83,9 +83,6 @@ vote_read r v e = subst (λ y. Contains (read_vote y) v) (sym e) (Contains-here 
 -- ---- a cluster
 
 module _ (c : Cluster) (o : IsMostlyHonest c) where
-  abbrev floors_of : ℕ → List agreement.Certificate
-  floors_of i = flat_map floor_in (c.lives i)
-
   -- what an honest member lived
   abbrev pub Lived : ℕ → Type 0
   Lived i = Further c.group.term c.group.epoch (flat_map floor_in (c.lives i)) (calls_of (c.lives i)) (handed_of (c.lives i)) (ran.Stopped (left_by (c.lives i))) newborn
@@ -193,9 +190,9 @@ module _ (c : Cluster) (o : IsMostlyHonest c) where
     pub journal : InJournal (InRecord (IsGood c.group Counts)) (left_by lives)
 
   -- what is asked of a life
-  record IsSound (i : ℕ) (l : Life) : Type 0 where
-    taken : Each (λ (did : Did). FineTaken c.group Counts did.taken) l.past
-    floor : InFloor (IsGood c.group Counts) (voter_in l.made l.past).floor
+  pub record IsSound (i : ℕ) (l : Life) : Type 0 where
+    pub taken : Each (λ (did : Did). FineTaken c.group Counts did.taken) l.past
+    pub floor : InFloor (IsGood c.group Counts) (voter_in l.made l.past).floor
 
   left_good : (l : Life) (keep : ℕ) → IsPlaceFine c.group Counts (place_in l.made l.past) → InJournal (InRecord (IsGood c.group Counts)) (sections_of l.made l.past)
   unfolding sections_of

@@ -185,15 +185,15 @@ unfolding engine.begun start_given place_of
 begun_is made now stop = refl
 
 -- what the voter does not see
-abbrev IsUnseen : Taken → Type 0
+abbrev pub IsUnseen : Taken → Type 0
 IsUnseen taken = ((now : ℕ) (stop : Stop) (outcome : Outcome) (out : StepOut) → given_to_voter (did_of taken now stop outcome out) ≡ None) × (is_start taken ≡ false)
 
 -- the voter takes this
-abbrev IsGiven : Taken → VoterInput → Type 0
+abbrev pub IsGiven : Taken → VoterInput → Type 0
 IsGiven taken input = ((now : ℕ) (stop : Stop) (outcome : Outcome) (out : StepOut) → given_to_voter (did_of taken now stop outcome out) ≡ Some (Stepped input now stop)) × (is_start taken ≡ false)
 
 module _ (term epoch : ℕ) (floors : List agreement.Certificate) (made : EngineMade) (keeps : Keeps term epoch made) where
-  abbrev F : List Call → List Handed → ran.Life → Member → Type 0
+  abbrev pub F : List Call → List Handed → ran.Life → Member → Type 0
   F = Further term epoch floors
 
   -- ---- a start
@@ -303,7 +303,7 @@ module _ (term epoch : ℕ) (floors : List agreement.Certificate) (made : Engine
         at outcomes.Journal = quiet_off did.out.calls did.out.handed _ voteless silent (quiet_stopped did e f)
         at outcomes.Cut = quiet_off did.out.calls did.out.handed _ voteless silent (quiet_stopped did e f)
 
-    abbrev Goes : Did → Type 0
+    abbrev pub Goes : Did → Type 0
     Goes did = F did.out.calls did.out.handed (going_on made (did ∷ past)) m
 
     batcher_further : (taken : Taken) (input : BatcherInput) (now : ℕ) (stop : Stop) → IsUnseen taken → Goes (by_batcher made past taken input now stop)

@@ -95,7 +95,7 @@ view_in made past =
 
 -- the engine ran, below the greatest view, and did this next
 pub record GoesOn (made : EngineMade) (past : List Did) (did : Did) : Type 0 where
-  pub runs : runs past ≡ true
+  pub running : runs past ≡ true
   pub low : view_in made past < greatest_view
   pub next : IsHearing made past did ⊎ (IsStep made past did ⊎ IsReply did)
 
