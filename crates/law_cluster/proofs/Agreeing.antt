@@ -113,14 +113,14 @@ module _ (Good : Certificate → Type 0) where
   one_said : (did : Did) (c : Certificate) → AllSaid Good did.out → Contains (said_in did) c → Good c
   one_said did c s k = in_said Good (entry_of did) c (record { floor = tt; added = s.added; handed = s.handed; calls = s.calls }) k
 
-each_at : {A : Type 0} (P : A → Type 0) (xs : List A) (x : A) → Each P xs → Contains xs x → P x
+pub each_at : {A : Type 0} (P : A → Type 0) (xs : List A) (x : A) → Each P xs → Contains xs x → P x
 each_at P [] x h k = absurd (not_in_empty x k)
 each_at P (y ∷ xs) x h k = elim (Contains-cons_cases y xs x k) [ inl e ↦ subst P e h.0 | inr r ↦ each_at P xs x h.1 r ]
 
 -- ---- a cluster
 
 module _ (c : Cluster) (o : IsMostlyHonest c) where
-  lives_said : (i : ℕ) (lives : List Life) → Each (IsFineLife c o i) lives → Each (InCall (IsGood c.group (Counts c o))) (calls_of lives)
+  pub lives_said : (i : ℕ) (lives : List Life) → Each (IsFineLife c o i) lives → Each (InCall (IsGood c.group (Counts c o))) (calls_of lives)
   unfolding calls_of
   lives_said i [] h = tt
   lives_said i (l ∷ before) h =
@@ -162,7 +162,7 @@ module _ (c : Cluster) (o : IsMostlyHonest c) where
   states_backed : (x : agreement.Certificate) → States (IsGood c.group (Counts c o)) x → IsBacked world x
   states_backed x s = subst (IsBacked world) s.2 (good_backed s.0 s.1)
 
-  lawful : IsLawful world
+  pub lawful : IsLawful world
   lawful =
       record {
         members = o.some;

@@ -3,5 +3,7 @@ pub mod Fine
 pub mod Further
 pub mod Living
 pub mod Members
+pub mod Ordering
+pub mod Reporting
 pub mod Sending
 pub mod Turns

@@ -1,4 +1,6 @@
 pub mod Agree
 pub mod Cluster
 pub mod Lives
+pub mod Order
+pub mod Reports
 pub mod Signatures

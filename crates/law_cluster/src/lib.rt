@@ -13,4 +13,4 @@
 
 mod cluster;
 
-pub use cluster::clusters_agree;
+pub use cluster::{clusters_agree, clusters_report_one_chain, members_keep_order};
