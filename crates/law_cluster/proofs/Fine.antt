@@ -202,31 +202,75 @@ module _ (group : Group) (Counts : ℕ → Subject → Type 0) where
   abbrev pub IsCounted : Vote → Type 0
   IsCounted v = group.verifies (vote_subject v) (vote_attestation v) ≡ true → Counts (vote_signer v) (vote_subject v)
 
+  pub record IsMade (made : batcher.Made) : Type 0 where
+    pub scheme : IsSchemeOfMembers made
+    pub verifies : made.scheme.verifies ≡ group.verifies
+    pub members : made.members ≡ group.members
+
+  -- each certificate that is known is good, and so is each of the journal
+  pub record IsPlaceFine (place : Place) : Type 0 where
+    pub known : InKnown IsGood place.standing.desk.known
+    pub records : InJournal (InRecord IsGood) place.sections
+
+  pub record IsResolverOf (made : resolver.Made) : Type 0 where
+    pub verifies : made.verifies ≡ group.verifies
+    pub members : made.members ≡ group.members
+
+  -- what the voter signs is the member's
+  abbrev pub Signs : ℕ → Made → Type 0
+  Signs member rules = (subject : Subject) (a : Attestation) → rules.signs subject ≡ Some a → a.signer ≡ member
+
+  -- the member itself counts for what was constructed
+  abbrev pub AreOwn : ℕ → List Handed → Type 0
+  AreOwn member hs = Each (InOwn (λ (v : Vote). Counts member (vote_subject v))) hs
+
+  -- an engine of the member that knows the group, and whose floor and journal are good
+  pub record IsFit (member : ℕ) (made : EngineMade) : Type 0 where
+    pub batcher : IsMade made.batcher
+    pub resolver : IsResolverOf made.resolver
+    pub signs : (start : ℕ) → Signs member (made.voter start).rules
+    pub floor : (now : ℕ) → InFloor IsGood (made.voter now).floor
+    pub records : (now : ℕ) → InJournal (InRecord IsGood) (made.voter now).sections
+
+-- ---- an engine
+
+-- beside that, what is told of each vote that comes from its signer follows where its signer counts
+module _ (group : Group) (Counts : ℕ → Subject → Type 0) (Told : Vote → Type 0) (told : (v : Vote) → Counts (vote_signer v) (vote_subject v) → Told v) where
+  abbrev pub Good : Certificate → Type 0
+  Good = IsGood group Counts
+
+  abbrev pub IsFinePlace : Place → Type 0
+  IsFinePlace = IsPlaceFine group Counts
+
+  -- the signer of the vote counts, where its signature verifies, and it is told
+  abbrev pub Counted : Vote → Type 0
+  Counted v = IsCounted group Counts v × Told v
+
   abbrev pub InOwnMail : batcher_message.Message → Type 0
-  InOwnMail (batcher_messages.Constructed v) = IsCounted v
+  InOwnMail (batcher_messages.Constructed v) = Counted v
   InOwnMail (batcher_messages.Update current leader finalized proposal) = Unit {0}
 
   abbrev pub InVoterMail : voter_message.Message → Type 0
-  InVoterMail (voter_messages.Verified c) = IsGood c
+  InVoterMail (voter_messages.Verified c) = Good c
   InVoterMail _ = Unit {0}
 
   abbrev pub IsFine : Handed → Type 0
-  IsFine = InHanded InOwnMail InVoterMail IsGood
+  IsFine = InHanded InOwnMail InVoterMail Good
 
   -- what the batcher takes: each vote counts, a certificate that verifies is good
   abbrev pub IsFineInput : BatcherInput → Type 0
-  IsFineInput (batcher_inputs.Vote sender bytes) = (v : Vote) → whole format.vote bytes ≡ Ok v → IsCounted v
-  IsFineInput (batcher_inputs.Certificate sender bytes) = (c : Certificate) → whole format.certificate bytes ≡ Ok c → IsVerifying group c → IsGood c
+  IsFineInput (batcher_inputs.Vote sender bytes) = (v : Vote) → whole format.vote bytes ≡ Ok v → sender ≡ vote_signer v → Counted v
+  IsFineInput (batcher_inputs.Certificate sender bytes) = (c : Certificate) → whole format.certificate bytes ≡ Ok c → IsVerifying group c → Good c
   IsFineInput (batcher_inputs.Mail message) = InOwnMail message
 
   -- and a packet on any channel
-  abbrev pub FineOn : Channel → List ℕ → Type 0
-  FineOn channels.Vote bytes = (v : Vote) → whole format.vote bytes ≡ Ok v → IsCounted v
-  FineOn channels.Certificate bytes = (c : Certificate) → whole format.certificate bytes ≡ Ok c → IsVerifying group c → IsGood c
-  FineOn channels.Resolver bytes = (c : Certificate) → Contains (certificate_on channels.Resolver bytes) c → IsVerifying group c → IsGood c
+  abbrev pub FineOn : ℕ → Channel → List ℕ → Type 0
+  FineOn sender channels.Vote bytes = (v : Vote) → whole format.vote bytes ≡ Ok v → sender ≡ vote_signer v → Counted v
+  FineOn sender channels.Certificate bytes = (c : Certificate) → whole format.certificate bytes ≡ Ok c → IsVerifying group c → Good c
+  FineOn sender channels.Resolver bytes = (c : Certificate) → Contains (certificate_on channels.Resolver bytes) c → IsVerifying group c → Good c
 
   abbrev pub FineTaken : engine.Taken → Type 0
-  FineTaken (engine.Heard sender channel bytes) = FineOn channel bytes
+  FineTaken (engine.Heard sender channel bytes) = FineOn sender channel bytes
   FineTaken _ = Unit {0}
 
   pub record IsFineDid (did : Did) : Type 0 where
@@ -247,38 +291,33 @@ module _ (group : Group) (Counts : ℕ → Subject → Type 0) where
   inputs_fine [] h = tt
   inputs_fine (did ∷ past) h = each_given IsFineTimed did past (let first = h.0 in first.taken) (inputs_fine past h.1)
 
-  brings_counted : (input : BatcherInput) (v : Vote) → IsFineInput input → BringsVote input v → IsCounted v
-  brings_counted (batcher_inputs.Mail (batcher_messages.Constructed own)) v f b = subst IsCounted b f
+  brings_counted : (input : BatcherInput) (v : Vote) → IsFineInput input → BringsVote input v → Counted v
+  brings_counted (batcher_inputs.Mail (batcher_messages.Constructed own)) v f b = subst Counted b f
   brings_counted (batcher_inputs.Mail (batcher_messages.Update current leader finalized proposal)) v f b = absurd b
-  brings_counted (batcher_inputs.Vote sender bytes) v f b = f v b.1
+  brings_counted (batcher_inputs.Vote sender bytes) v f b = f v b.1 b.0
   brings_counted (batcher_inputs.Certificate sender bytes) v f b = absurd b
 
-  came_counted : (past : List batcher.Timed) (v : Vote) → Each IsFineTimed past → Came past v → IsCounted v
+  came_counted : (past : List batcher.Timed) (v : Vote) → Each IsFineTimed past → Came past v → Counted v
   unfolding Came
   came_counted [] v f c = absurd c
   came_counted (given ∷ past) v f c = elim c [ inl b ↦ brings_counted given.input v f.0 b | inr r ↦ came_counted past v f.1 r ]
 
-  pub record IsMade (made : batcher.Made) : Type 0 where
-    pub scheme : IsSchemeOfMembers made
-    pub verifies : made.scheme.verifies ≡ group.verifies
-    pub members : made.members ≡ group.members
-
-  brings_good : (standing : batcher.Standing) (input : BatcherInput) (c : Certificate) → IsFineInput input → BringsNew standing input c → IsVerifying group c → IsGood c
+  brings_good : (standing : batcher.Standing) (input : BatcherInput) (c : Certificate) → IsFineInput input → BringsNew standing input c → IsVerifying group c → Good c
   brings_good standing (batcher_inputs.Certificate sender bytes) c f b v = f c b.0 v
   brings_good standing (batcher_inputs.Vote sender bytes) c f b v = absurd b
   brings_good standing (batcher_inputs.Mail message) c f b v = absurd b
 
-  vote_counts : (made : batcher.Made) (past : List batcher.Timed) (subject : Subject) (a : Attestation) → IsMade made → Each IsFineTimed past → IsVoteOn made (Accepted made past) subject a → Counts a.signer subject
+  vote_counts : (made : batcher.Made) (past : List batcher.Timed) (subject : Subject) (a : Attestation) → IsMade group Counts made → Each IsFineTimed past → IsVoteOn made (Accepted made past) subject a → Counts a.signer subject
   vote_counts made past subject a m f on =
       let v = on.vote in
       let same : made.scheme.verifies subject a ≡ group.verifies subject a = ap (λ (g : Subject → Attestation → Bool). g subject a) m.verifies in
       let verified : group.verifies (vote_subject v) (vote_attestation v) ≡ true =
       ap (λ s. group.verifies s (vote_attestation v)) on.on ∙ ap (group.verifies subject) on.signature ∙ sym same ∙ on.verifies in
       subst (λ (x : Attestation). Counts x.signer subject) on.signature
-      (subst (Counts (vote_signer v)) on.on (came_counted past v f (accepted_came made past v on.was_accepted) verified))
+      (subst (Counts (vote_signer v)) on.on ((came_counted past v f (accepted_came made past v on.was_accepted)).0 verified))
 
-  founded_good : (made : batcher.Made) (past : List batcher.Timed) (given : batcher.Timed) (c : Certificate) → IsMade made → Each IsFineTimed (given ∷ past)
-      → IsFoundedCertificate made (Accepted made (given ∷ past)) (BringsNew (batcher.standing_after made past) given.input) c → IsGood c
+  founded_good : (made : batcher.Made) (past : List batcher.Timed) (given : batcher.Timed) (c : Certificate) → IsMade group Counts made → Each IsFineTimed (given ∷ past)
+      → IsFoundedCertificate made (Accepted made (given ∷ past)) (BringsNew (batcher.standing_after made past) given.input) c → Good c
   founded_good made past given c m f founded =
       let subject = certificate_subject c in
       let list = certificate_signatures c in
@@ -294,9 +333,9 @@ module _ (group : Group) (Counts : ℕ → Subject → Type 0) where
         }
       ]
 
-  messages_good : (made : batcher.Made) (past : List batcher.Timed) (given : batcher.Timed) (cs : List Call) (hs : List Handed) → IsMade made → Each IsFineTimed (given ∷ past)
+  messages_good : (made : batcher.Made) (past : List batcher.Timed) (given : batcher.Timed) (cs : List Call) (hs : List Handed) → IsMade group Counts made → Each IsFineTimed (given ∷ past)
       → AllForVoter hs → All (IsFoundedMessage made (Accepted made (given ∷ past)) (BringsNew (batcher.standing_after made past) given.input)) hs
-      → Each (InMessage IsGood cs) hs
+      → Each (InMessage Good cs) hs
   messages_good made past given cs [] m f voter founded = tt
   messages_good made past given cs (handed.Voter (voter_messages.Verified c) ∷ rest) m f voter founded =
       let P = IsFoundedMessage made (Accepted made (given ∷ past)) (BringsNew (batcher.standing_after made past) given.input) in (
@@ -313,19 +352,19 @@ module _ (group : Group) (Counts : ℕ → Subject → Type 0) where
   messages_good made past given cs (handed.Resolver message ∷ rest) m f voter founded = absurd voter.0
   messages_good made past given cs (handed.Handler message ∷ rest) m f voter founded = absurd voter.0
 
-  step_said : (made : batcher.Made) (past : List batcher.Timed) (given : batcher.Timed) → IsMade made → Each IsFineTimed (given ∷ past) → AllSaid IsGood (batcher.step_out made past given)
+  step_said : (made : batcher.Made) (past : List batcher.Timed) (given : batcher.Timed) → IsMade group Counts made → Each IsFineTimed (given ∷ past) → AllSaid Good (batcher.step_out made past given)
   unfolding batcher.step_out
   step_said made past given m f =
       let out = batcher.step_out made past given in
       let hush = batcher_hush made past given in
       record {
-        calls = calls_good IsGood (Accepted made (given ∷ past)) (Came (given ∷ past)) out.calls hush.0 (calls_founded made past given);
+        calls = calls_good Good (Accepted made (given ∷ past)) (Came (given ∷ past)) out.calls hush.0 (calls_founded made past given);
         handed = messages_good made past given out.calls out.handed m f hush.1 (handed_founded made past given m.scheme);
         added = tt;
       }
 
   -- what a batcher hands on is fine
-  handed_fine : (cs : List Call) (hs : List Handed) → Each (InMessage IsGood cs) hs → AllForVoter hs → Each IsFine hs
+  handed_fine : (cs : List Call) (hs : List Handed) → Each (InMessage Good cs) hs → AllForVoter hs → Each IsFine hs
   handed_fine cs [] s v = tt
   handed_fine cs (handed.Voter (voter_messages.Verified c) ∷ rest) s v = (s.0, handed_fine cs rest s.1 v.1)
   handed_fine cs (handed.Voter (voter_messages.Proposal p) ∷ rest) s v = (tt, handed_fine cs rest s.1 v.1)
@@ -349,17 +388,17 @@ module _ (group : Group) (Counts : ℕ → Subject → Type 0) where
   -- ---- the voter
 
   -- what a voter hands on is fine, where its own votes count
-  own_fine : (cs : List Call) (hs : List Handed) → Each (InMessage IsGood cs) hs → Each (InOwn IsCounted) hs → Each IsFine hs
+  own_fine : (cs : List Call) (hs : List Handed) → Each (InMessage Good cs) hs → Each (InOwn Counted) hs → Each IsFine hs
   own_fine cs [] s g = tt
   own_fine cs (handed.Batcher (batcher_messages.Constructed v) ∷ rest) s g = (g.0, own_fine cs rest s.1 g.1)
   own_fine cs (handed.Batcher (batcher_messages.Update current leader finalized proposal) ∷ rest) s g = (tt, own_fine cs rest s.1 g.1)
   own_fine cs (handed.Voter (voter_messages.Verified c) ∷ rest) s g = (s.0, own_fine cs rest s.1 g.1)
   own_fine cs (handed.Voter (voter_messages.Proposal p) ∷ rest) s g = (tt, own_fine cs rest s.1 g.1)
   own_fine cs (handed.Voter (voter_messages.Timeout round reason) ∷ rest) s g = (tt, own_fine cs rest s.1 g.1)
-  own_fine cs (handed.Resolver message ∷ rest) s g = (mail_told IsGood cs message s.0, own_fine cs rest s.1 g.1)
+  own_fine cs (handed.Resolver message ∷ rest) s g = (mail_told Good cs message s.0, own_fine cs rest s.1 g.1)
   own_fine cs (handed.Handler message ∷ rest) s g = (tt, own_fine cs rest s.1 g.1)
 
-  silent_own : (hs : List Handed) → AreSilent hs → Each (InOwn IsCounted) hs
+  silent_own : (hs : List Handed) → AreSilent hs → Each (InOwn Counted) hs
   silent_own [] s = tt
   silent_own (handed.Batcher (batcher_messages.Constructed v) ∷ rest) s = absurd s.0
   silent_own (handed.Batcher (batcher_messages.Update current leader finalized proposal) ∷ rest) s = (tt, silent_own rest s.1)
@@ -367,7 +406,7 @@ module _ (group : Group) (Counts : ℕ → Subject → Type 0) where
   silent_own (handed.Resolver message ∷ rest) s = (tt, silent_own rest s.1)
   silent_own (handed.Handler message ∷ rest) s = (tt, silent_own rest s.1)
 
-  is_handed : (made : resolver.Made) (hs : List Handed) → Each (InHandedOn made IsGood) hs → Each IsFine hs
+  is_handed : (made : resolver.Made) (hs : List Handed) → Each (InHandedOn made Good) hs → Each IsFine hs
   is_handed made [] h = tt
   is_handed made (handed.Voter (voter_messages.Verified c) ∷ hs) h = (h.0, is_handed made hs h.1)
   is_handed made (handed.Voter (voter_messages.Proposal p) ∷ hs) h = absurd h.0
@@ -376,37 +415,21 @@ module _ (group : Group) (Counts : ℕ → Subject → Type 0) where
   is_handed made (handed.Batcher message ∷ hs) h = absurd h.0
   is_handed made (handed.Resolver message ∷ hs) h = absurd h.0
 
-  -- each certificate that is known is good, and so is each of the journal
-  pub record IsPlaceFine (place : Place) : Type 0 where
-    pub known : InKnown IsGood place.standing.desk.known
-    pub records : InJournal (InRecord IsGood) place.sections
-
-  pub record IsResolverOf (made : resolver.Made) : Type 0 where
-    pub verifies : made.verifies ≡ group.verifies
-    pub members : made.members ≡ group.members
-
-  -- what the voter signs is the member's
-  abbrev pub Signs : ℕ → Made → Type 0
-  Signs member rules = (subject : Subject) (a : Attestation) → rules.signs subject ≡ Some a → a.signer ≡ member
-
   pub record IsFineEngine (member : ℕ) (made : EngineMade) (past : List Did) : Type 0 where
-    pub batcher : IsMade made.batcher
-    pub resolver : IsResolverOf made.resolver
-    pub signs : (start : ℕ) → Signs member (made.voter start).rules
+    pub batcher : IsMade group Counts made.batcher
+    pub resolver : IsResolverOf group Counts made.resolver
+    pub signs : (start : ℕ) → Signs group Counts member (made.voter start).rules
     pub history : Each IsFineDid past
-    pub given : Each (InGiven made.resolver IsGood) (engine.resolver_past past)
-    pub place : IsPlaceFine (place_in made past)
-
-  -- the member itself counts for what was constructed
-  abbrev pub AreOwn : ℕ → List Handed → Type 0
-  AreOwn member hs = Each (InOwn (λ (v : Vote). Counts member (vote_subject v))) hs
+    pub given : Each (InGiven made.resolver Good) (engine.resolver_past past)
+    pub place : IsFinePlace (place_in made past)
 
   -- a signed own vote counts
-  signed_counted : (member : ℕ) (rules : Made) (hs : List Handed) → Signs member rules → Each (InOwn (IsSigned rules)) hs → AreOwn member hs → Each (InOwn IsCounted) hs
+  signed_counted : (member : ℕ) (rules : Made) (hs : List Handed) → Signs group Counts member rules → Each (InOwn (IsSigned rules)) hs → AreOwn group Counts member hs → Each (InOwn Counted) hs
   signed_counted member rules [] own g k = tt
   signed_counted member rules (handed.Batcher (batcher_messages.Constructed v) ∷ rest) own g k =
       let signer : vote_signer v ≡ member = own (vote_subject v) (vote_attestation v) g.0 in
-      (λ e. subst (λ n. Counts n (vote_subject v)) (sym signer) k.0, signed_counted member rules rest own g.1 k.1)
+      let here : Counts (vote_signer v) (vote_subject v) = subst (λ n. Counts n (vote_subject v)) (sym signer) k.0 in
+      ((λ e. here, told v here), signed_counted member rules rest own g.1 k.1)
   signed_counted member rules (handed.Batcher (batcher_messages.Update current leader finalized proposal) ∷ rest) own g k = (tt, signed_counted member rules rest own g.1 k.1)
   signed_counted member rules (handed.Voter message ∷ rest) own g k = (tt, signed_counted member rules rest own g.1 k.1)
   signed_counted member rules (handed.Resolver message ∷ rest) own g k = (tt, signed_counted member rules rest own g.1 k.1)
@@ -416,57 +439,57 @@ module _ (group : Group) (Counts : ℕ → Subject → Type 0) where
 
   -- what comes of one item, where the member counts for what it constructed
   pub record IsStepFine (member : ℕ) (made : EngineMade) (past : List Did) (did : Did) : Type 0 where
-    pub said : AllSaid IsGood did.out
+    pub said : AllSaid Good did.out
     pub taken : (given : batcher.Timed) → given_to_batcher did ≡ Some given → IsFineInput given.input
-    pub given : Each (InGiven made.resolver IsGood) (engine.given_to_resolver did)
-    pub place : IsPlaceFine (place_in made (did ∷ past))
-    pub fine : AreOwn member did.out.handed → Each IsFine did.out.handed
+    pub given : Each (InGiven made.resolver Good) (engine.given_to_resolver did)
+    pub place : IsFinePlace (place_in made (did ∷ past))
+    pub fine : AreOwn group Counts member did.out.handed → Each IsFine did.out.handed
 
-  unseen_place : (made : EngineMade) (did : Did) (past : List Did) → given_to_voter did ≡ None → is_start did.taken ≡ false → IsPlaceFine (place_in made past) → IsPlaceFine (place_in made (did ∷ past))
+  unseen_place : (made : EngineMade) (did : Did) (past : List Did) → given_to_voter did ≡ None → is_start did.taken ≡ false → IsFinePlace (place_in made past) → IsFinePlace (place_in made (did ∷ past))
   unseen_place made did past e f h =
       let p = place_same made did past e f in
-      subst IsPlaceFine (sym (ap (λ v. place_of v (voter_past (did ∷ past))) p.0 ∙ ap (place_of (voter_in made past)) p.1)) h
+      subst IsFinePlace (sym (ap (λ v. place_of v (voter_past (did ∷ past))) p.0 ∙ ap (place_of (voter_in made past)) p.1)) h
 
   voter_place : (made : EngineMade) (past : List Did) (did : Did) (input : VoterInput) (now : ℕ) (stop : Stop) → given_to_voter did ≡ Some (Stepped input now stop) → is_start did.taken ≡ false
-      → InInput IsGood input → IsPlaceFine (place_in made past) → IsPlaceFine (place_in made (did ∷ past))
+      → InInput Good input → IsFinePlace (place_in made past) → IsFinePlace (place_in made (did ∷ past))
   voter_place made past did input now stop e f given h =
       let p = place_then made did past (Stepped input now stop) e f in
-      subst IsPlaceFine (sym (ap (λ v. place_of v (voter_past (did ∷ past))) p.0 ∙ ap (place_of (voter_in made past)) p.1))
+      subst IsFinePlace (sym (ap (λ v. place_of v (voter_past (did ∷ past))) p.0 ∙ ap (place_of (voter_in made past)) p.1))
       (at (voter.stepped (voter_in made past).rules now (place_in made past).standing input) refl)
     where
-      at : (o : Option Doing) → voter.stepped (voter_in made past).rules now (place_in made past).standing input ≡ o → IsPlaceFine (place_of (voter_in made past) (Stepped input now stop ∷ voter_past past))
-      at None g = subst IsPlaceFine (sym (idle_place (voter_in made past) (voter_past past) input now stop g)) h
+      at : (o : Option Doing) → voter.stepped (voter_in made past).rules now (place_in made past).standing input ≡ o → IsFinePlace (place_of (voter_in made past) (Stepped input now stop ∷ voter_past past))
+      at None g = subst IsFinePlace (sym (idle_place (voter_in made past) (voter_past past) input now stop g)) h
       at (Some d) g =
-          let says = stepped_says IsGood (voter_in made past).rules now (place_in made past).standing input d given h.known g in
-          subst IsPlaceFine (sym (step_place (voter_in made past) (voter_past past) input now stop d g))
+          let says = stepped_says Good (voter_in made past).rules now (place_in made past).standing input d given h.known g in
+          subst IsFinePlace (sym (step_place (voter_in made past) (voter_past past) input now stop d g))
           (record {
             known = says.in_known;
-            records = step_keeps (InRecord IsGood) stop d (place_in made past).sections (appended_good IsGood d.calls (voter_calls IsGood d.calls says.in_calls)) h.records;
+            records = step_keeps (InRecord Good) stop d (place_in made past).sections (appended_good Good d.calls (voter_calls Good d.calls says.in_calls)) h.records;
           })
 
   answered_place : (made : EngineMade) (past : List Did) (did : Did) (number : ℕ) (answer : Answer) → given_to_voter did ≡ Some (Answered number answer) → is_start did.taken ≡ false
-      → IsPlaceFine (place_in made past) → IsPlaceFine (place_in made (did ∷ past))
+      → IsFinePlace (place_in made past) → IsFinePlace (place_in made (did ∷ past))
   unfolding place_of
   answered_place made past did number answer e f h =
       let p = place_then made did past (Answered number answer) e f in
-      subst IsPlaceFine (sym (ap (λ v. place_of v (voter_past (did ∷ past))) p.0 ∙ ap (place_of (voter_in made past)) p.1))
+      subst IsFinePlace (sym (ap (λ v. place_of v (voter_past (did ∷ past))) p.0 ∙ ap (place_of (voter_in made past)) p.1))
       (record {
-        known = subst (InKnown IsGood) (sym (answered_known number answer (place_in made past).standing)) h.known;
+        known = subst (InKnown Good) (sym (answered_known number answer (place_in made past).standing)) h.known;
         records = h.records;
       })
 
-  voter_said : (made : EngineMade) (past : List Did) (input : VoterInput) (now : ℕ) (stop : Stop) → InInput IsGood input → InKnown IsGood (place_in made past).standing.desk.known
-      → AllSaid IsGood (step_given (voter_in made past) (voter_past past) input now stop).out
+  voter_said : (made : EngineMade) (past : List Did) (input : VoterInput) (now : ℕ) (stop : Stop) → InInput Good input → InKnown Good (place_in made past).standing.desk.known
+      → AllSaid Good (step_given (voter_in made past) (voter_past past) input now stop).out
   voter_said made past input now stop given k =
       at (voter.stepped (voter_in made past).rules now (place_in made past).standing input) refl
     where
       at : (o : Option Doing) → voter.stepped (voter_in made past).rules now (place_in made past).standing input ≡ o
-          → AllSaid IsGood (step_given (voter_in made past) (voter_past past) input now stop).out
-      at None e = subst (λ (x : Performed). AllSaid IsGood x.out) (sym (step_gives (voter_in made past) (voter_past past) input now stop None e)) (nothing_said IsGood)
+          → AllSaid Good (step_given (voter_in made past) (voter_past past) input now stop).out
+      at None e = subst (λ (x : Performed). AllSaid Good x.out) (sym (step_gives (voter_in made past) (voter_past past) input now stop None e)) (nothing_said Good)
       at (Some d) e =
-          subst (λ (x : Performed). AllSaid IsGood x.out) (sym (step_gives (voter_in made past) (voter_past past) input now stop (Some d) e))
-          (said IsGood stop d (place_in made past).sections
-          (stepped_says IsGood (voter_in made past).rules now (place_in made past).standing input d given k e))
+          subst (λ (x : Performed). AllSaid Good x.out) (sym (step_gives (voter_in made past) (voter_past past) input now stop (Some d) e))
+          (said Good stop d (place_in made past).sections
+          (stepped_says Good (voter_in made past).rules now (place_in made past).standing input d given k e))
 
   module _ (member : ℕ) (made : EngineMade) (past : List Did) (h : IsFineEngine member made past) where
     abbrev pub S : Did → Type 0
@@ -475,14 +498,14 @@ module _ (group : Group) (Counts : ℕ → Subject → Type 0) where
     -- a step of the voter on an input that brings a good certificate or none
     by_voter_fine : (did : Did) (input : VoterInput) (now : ℕ) (stop : Stop) → given_to_voter did ≡ Some (Stepped input now stop) → is_start did.taken ≡ false
         → did.out ≡ (step_given (voter_in made past) (voter_past past) input now stop).out → ((i : BatcherInput) → input_of_batcher did.taken ≡ Some i → IsFineInput i) → engine.is_of_resolver did.taken ≡ false
-        → InInput IsGood input → S did
+        → InInput Good input → S did
     by_voter_fine did input now stop e f out taken none given =
-        let all : AllSaid IsGood did.out = subst (AllSaid IsGood) (sym out) (voter_said made past input now stop given (let p = h.place in p.known)) in
+        let all : AllSaid Good did.out = subst (AllSaid Good) (sym out) (voter_said made past input now stop given (let p = h.place in p.known)) in
         let rules = (voter_in made past).rules in
         record {
           said = all;
           taken = λ t q. taken t.input (given_input did t q);
-          given = told_alone (InGiven made.resolver IsGood) (λ m. tt) did none;
+          given = told_alone (InGiven made.resolver Good) (λ m. tt) did none;
           place = voter_place made past did input now stop e f given h.place;
           fine = λ own. own_fine did.out.calls did.out.handed all.handed
               (signed_counted member rules did.out.handed (h.signs (started_at past))
@@ -496,9 +519,9 @@ module _ (group : Group) (Counts : ℕ → Subject → Type 0) where
         → S (engine.did_of taken now stop o no_out)
     nothing_fine taken now stop o e f none apart =
         record {
-          said = nothing_said IsGood;
+          said = nothing_said Good;
           taken = none;
-          given = subst (Each (InGiven made.resolver IsGood)) (sym apart) tt;
+          given = subst (Each (InGiven made.resolver Good)) (sym apart) tt;
           place = unseen_place made (engine.did_of taken now stop o no_out) past e f h.place;
           fine = λ own. tt;
         }
@@ -521,9 +544,9 @@ module _ (group : Group) (Counts : ℕ → Subject → Type 0) where
         let all = step_said made.batcher (batcher_past past) timed h.batcher (f, inputs_fine past h.history) in
         let apart = unseen did.now did.stop did.outcome did.out in
         record {
-          said = cut_said IsGood stop out all;
+          said = cut_said Good stop out all;
           taken = λ t q. subst IsFineInput (sym (only t.input (given_input did t q))) f;
-          given = told_alone (InGiven made.resolver IsGood) (λ m. tt) did apart.2;
+          given = told_alone (InGiven made.resolver Good) (λ m. tt) did apart.2;
           place = unseen_place made did past apart.0 apart.1 h.place;
           fine = λ own. cut_fine stop out (handed_fine out.calls out.handed all.handed (batcher_hush made.batcher (batcher_past past) timed).1);
         }
@@ -531,12 +554,12 @@ module _ (group : Group) (Counts : ℕ → Subject → Type 0) where
     batcher_step : (now : ℕ) (stop : Stop) (o : Option batcher_message.Message) → received (engine.batcher_mail made past) ≡ o → S (engine.on_batcher_mail made past now stop o)
     batcher_step now stop None e = held_nothing sources.Batcher now stop refl (λ input t. cc)
     batcher_step now stop (Some message) e =
-        let mail = batcher_holds InOwnMail InVoterMail IsGood made past (handed_all past h.history) in
+        let mail = batcher_holds InOwnMail InVoterMail Good made past (handed_all past h.history) in
         let came = holds_received InOwnMail (engine.batcher_mail made past) message mail e in
         by_batcher_fine (engine.Took sources.Batcher (Some (handed.Batcher message))) (batcher_inputs.Mail message) now stop
         (λ i t. sym (some_is (batcher_inputs.Mail message) i t)) (λ n s o out. (refl, refl, refl)) came
 
-    in_mail : (message : voter_message.Message) → InVoterMail message → InInput IsGood (voter_inputs.Mail message)
+    in_mail : (message : voter_message.Message) → InVoterMail message → InInput Good (voter_inputs.Mail message)
     in_mail (voter_messages.Verified c) g = g
     in_mail (voter_messages.Proposal p) g = tt
     in_mail (voter_messages.Timeout round reason) g = tt
@@ -544,28 +567,28 @@ module _ (group : Group) (Counts : ℕ → Subject → Type 0) where
     voter_step : (now : ℕ) (stop : Stop) (o : Option voter_message.Message) → received (engine.voter_mail made past) ≡ o → S (engine.on_voter_mail made past now stop o)
     voter_step now stop None e = held_nothing sources.Voter now stop refl (λ input t. cc)
     voter_step now stop (Some message) e =
-        let mail = voter_holds InOwnMail InVoterMail IsGood made past (handed_all past h.history) in
+        let mail = voter_holds InOwnMail InVoterMail Good made past (handed_all past h.history) in
         let came = holds_received InVoterMail (engine.voter_mail made past) message mail e in
         by_voter_fine (engine.on_voter_mail made past now stop (Some message)) (voter_inputs.Mail message) now stop refl refl refl (λ input t. cc) refl (in_mail message came)
 
     own_step : (source : StepSource) (input : VoterInput) (now : ℕ) (stop : Stop)
         → given_to_voter (engine.on_voter made past source input now stop) ≡ Some (Stepped input now stop) → ((i : BatcherInput) → input_of_batcher (engine.Took source None) ≡ Some i → IsFineInput i) → engine.is_of_resolver (engine.Took source None) ≡ false
-        → InInput IsGood input → S (engine.on_voter made past source input now stop)
+        → InInput Good input → S (engine.on_voter made past source input now stop)
     own_step source input now stop e none apart given = by_voter_fine (engine.on_voter made past source input now stop) input now stop e refl refl none apart given
 
     -- ---- a step of the resolver
 
     by_resolver_fine : (given : List resolver.Given) (taken : engine.Taken) (input : ResolverInput) (now : ℕ) (stop : Stop)
         → ((i : BatcherInput) → input_of_batcher taken ≡ Some i → IsFineInput i) → ((o : Outcome) (out : StepOut) → given_to_voter (engine.did_of taken now stop o out) ≡ None) → is_start taken ≡ false
-        → ((o : Outcome) (out : StepOut) → Each (InGiven made.resolver IsGood) (engine.given_to_resolver (engine.did_of taken now stop o out)))
-        → Each (InGiven made.resolver IsGood) given → InResolverInput made.resolver IsGood input → S (engine.by_resolver made given taken input now stop)
+        → ((o : Outcome) (out : StepOut) → Each (InGiven made.resolver Good) (engine.given_to_resolver (engine.did_of taken now stop o out)))
+        → Each (InGiven made.resolver Good) given → InResolverInput made.resolver Good input → S (engine.by_resolver made given taken input now stop)
     unfolding engine.by_resolver
     by_resolver_fine given taken input now stop none unseen no_start more old g =
         let did = engine.by_resolver made given taken input now stop in
         let out = resolver.step_out made.resolver given input now in
-        let passes = resolver_handed made.resolver IsGood given input now old g in
+        let passes = resolver_handed made.resolver Good given input now old g in
         record {
-          said = cut_said IsGood stop out (record { calls = resolver_calls made.resolver IsGood given input now old g; handed = in_handed IsGood made.resolver out.calls out.handed passes; added = nothing_added IsGood made.resolver given input now });
+          said = cut_said Good stop out (record { calls = resolver_calls made.resolver Good given input now old g; handed = in_handed Good made.resolver out.calls out.handed passes; added = nothing_added Good made.resolver given input now });
           taken = λ t q. none t.input (given_input did t q);
           given = more did.outcome did.out;
           place = unseen_place made did past (unseen did.outcome did.out) no_start h.place;
@@ -575,19 +598,19 @@ module _ (group : Group) (Counts : ℕ → Subject → Type 0) where
     resolver_step : (now : ℕ) (stop : Stop) (o : Option MailboxMessage) → received (engine.resolver_mail made past) ≡ o → S (engine.on_resolver_mail made past now stop o)
     resolver_step now stop None e = held_nothing sources.Resolver now stop refl (λ input t. cc)
     resolver_step now stop (Some message) e =
-        let mail = resolver_holds InOwnMail InVoterMail IsGood made past (handed_all past h.history) in
-        let came = holds_received (InResolverMail IsGood) (engine.resolver_mail made past) message mail e in
+        let mail = resolver_holds InOwnMail InVoterMail Good made past (handed_all past h.history) in
+        let came = holds_received (InResolverMail Good) (engine.resolver_mail made past) message mail e in
         let taken : engine.Taken = engine.Took sources.Resolver (Some (handed.Resolver message)) in
         by_resolver_fine (engine.resolver_past past) taken (resolver_inputs.Mail message) now stop (λ input t. cc) (λ x out. refl) refl
-        (λ x out. held_given (InGiven made.resolver IsGood) x (resolver.Stepped (resolver_inputs.Mail message) now ∷ []) (came, tt)) h.given came
+        (λ x out. held_given (InGiven made.resolver Good) x (resolver.Stepped (resolver_inputs.Mail message) now ∷ []) (came, tt)) h.given came
 
     handler_step : (now : ℕ) (stop : Stop) (o : Option HandlerMessage) → resolver.handler_message made.resolver (engine.resolver_past past) ≡ o → S (engine.on_handler_mail made past now stop o)
     handler_step now stop None e = held_nothing sources.Handler now stop refl (λ input t. cc)
     handler_step now stop (Some message) e =
-        let came = handler_sound made.resolver IsGood (engine.resolver_past past) message h.given e in
+        let came = handler_sound made.resolver Good (engine.resolver_past past) message h.given e in
         let taken : engine.Taken = engine.Took sources.Handler (Some (handed.Handler message)) in
         by_resolver_fine (resolver.HandlerTaken ∷ engine.resolver_past past) taken (resolver_inputs.Handler message) now stop (λ input t. cc) (λ x out. refl) refl
-        (λ x out. held_given (InGiven made.resolver IsGood) x (resolver.Stepped (resolver_inputs.Handler message) now ∷ resolver.HandlerTaken ∷ []) (came, (tt, tt)))
+        (λ x out. held_given (InGiven made.resolver Good) x (resolver.Stepped (resolver_inputs.Handler message) now ∷ resolver.HandlerTaken ∷ []) (came, (tt, tt)))
         (tt, h.given) came
 
     fetch_step : (now : ℕ) (stop : Stop) → S (engine.on_fetcher made past now stop)
@@ -596,17 +619,17 @@ module _ (group : Group) (Counts : ℕ → Subject → Type 0) where
         step : S (engine.by_resolver made (engine.resolver_past past) (engine.Took sources.Fetch None) resolver_inputs.Timer now stop)
         step =
             by_resolver_fine (engine.resolver_past past) (engine.Took sources.Fetch None) resolver_inputs.Timer now stop (λ input t. cc) (λ x out. refl) refl
-            (λ x out. held_given (InGiven made.resolver IsGood) x (resolver.Stepped resolver_inputs.Timer now ∷ []) (tt, tt)) h.given tt
+            (λ x out. held_given (InGiven made.resolver Good) x (resolver.Stepped resolver_inputs.Timer now ∷ []) (tt, tt)) h.given tt
 
         at : (b : Bool) → S (if b then engine.by_resolver made (engine.resolver_past past) (engine.Took sources.Fetch None) resolver_inputs.Timer now stop else engine.nothing_held sources.Fetch now stop)
         at true = step
         at false = held_nothing sources.Fetch now stop refl (λ input t. cc)
 
     -- a packet on the resolver channel
-    brings : (bytes : List ℕ) → FineOn channels.Resolver bytes → PacketBrings made.resolver IsGood bytes
-    brings bytes f message e = by message.body refl
+    brings : (sender : ℕ) (bytes : List ℕ) → FineOn sender channels.Resolver bytes → PacketBrings made.resolver Good bytes
+    brings sender bytes f message e = by message.body refl
       where
-        by : (body : ResolverBody) → message.body ≡ body → BodyBrings IsGood (Brings made.resolver IsGood) body
+        by : (body : ResolverBody) → message.body ≡ body → BodyBrings Good (Brings made.resolver Good) body
         by (bodies.Request view) k = tt
         by bodies.Error k = tt
         by (bodies.Response ys) k = λ c r v.
@@ -630,7 +653,7 @@ module _ (group : Group) (Counts : ℕ → Subject → Type 0) where
     any_step sources.Fetch now stop = fetch_step now stop
 
     -- a packet that is let in
-    let_in_fine : (sender : ℕ) (channel : Channel) (bytes : List ℕ) (now : ℕ) → FineOn channel bytes → S (engine.let_in made past sender channel bytes now)
+    let_in_fine : (sender : ℕ) (channel : Channel) (bytes : List ℕ) (now : ℕ) → FineOn sender channel bytes → S (engine.let_in made past sender channel bytes now)
     unfolding engine.let_in
     let_in_fine sender channels.Vote bytes now f =
         by_batcher_fine (engine.Heard sender channels.Vote bytes) (batcher_inputs.Vote sender bytes) now stops.None
@@ -639,12 +662,12 @@ module _ (group : Group) (Counts : ℕ → Subject → Type 0) where
         by_batcher_fine (engine.Heard sender channels.Certificate bytes) (batcher_inputs.Certificate sender bytes) now stops.None
         (λ i t. sym (some_is (batcher_inputs.Certificate sender bytes) i t)) (λ n s o out. (refl, refl, refl)) f
     let_in_fine sender channels.Resolver bytes now f =
-        let came = brings bytes f in
+        let came = brings sender bytes f in
         let taken : engine.Taken = engine.Heard sender channels.Resolver bytes in
         by_resolver_fine (engine.resolver_past past) taken (resolver_inputs.Packet sender bytes) now stops.None (λ input t. cc) (λ x out. refl) refl
-        (λ x out. held_given (InGiven made.resolver IsGood) x (resolver.Stepped (resolver_inputs.Packet sender bytes) now ∷ []) (came, tt)) h.given came
+        (λ x out. held_given (InGiven made.resolver Good) x (resolver.Stepped (resolver_inputs.Packet sender bytes) now ∷ []) (came, tt)) h.given came
 
-    heard_fine : (sender : ℕ) (channel : Channel) (bytes : List ℕ) (now : ℕ) → FineOn channel bytes → S (engine.heard made past sender channel bytes now)
+    heard_fine : (sender : ℕ) (channel : Channel) (bytes : List ℕ) (now : ℕ) → FineOn sender channel bytes → S (engine.heard made past sender channel bytes now)
     heard_fine sender channel bytes now f =
         heard_either S made past sender channel bytes now
         (nothing_fine (engine.Heard sender channel bytes) now stops.None outcomes.Refused refl refl (λ t q. cc) (nothing_given (engine.Heard sender channel bytes) now stops.None).1)
@@ -658,7 +681,7 @@ module _ (group : Group) (Counts : ℕ → Subject → Type 0) where
       | inr other ↦ elim other [
         | inl s ↦ subst S (sym s.is) (any_step s.source s.now s.stop)
         | inr r ↦ subst S (sym r.is) (record {
-          said = nothing_said IsGood;
+          said = nothing_said Good;
           taken = λ t q. cc;
           given = tt;
           place = answered_place made past (engine.replied r.number r.answer r.now) r.number r.answer refl refl h.place;
@@ -667,59 +690,51 @@ module _ (group : Group) (Counts : ℕ → Subject → Type 0) where
       ]
     ]
 
-    goes_fine : (did : Did) → S did → AreOwn member did.out.handed → IsFineEngine member made (did ∷ past)
+    goes_fine : (did : Did) → S did → AreOwn group Counts member did.out.handed → IsFineEngine member made (did ∷ past)
     goes_fine did s own =
         record {
           batcher = h.batcher;
           resolver = h.resolver;
           signs = h.signs;
           history = (record { handed = s.fine own; taken = s.taken }, h.history);
-          given = given_on (InGiven made.resolver IsGood) did past s.given h.given;
+          given = given_on (InGiven made.resolver Good) did past s.given h.given;
           place = s.place;
         }
 
   -- ---- a start
 
-  start_place_fine : (v : VoterMade) (now : ℕ) (stop : Stop) → SaysGood IsGood (start_at v now v.sections) → InJournal (InRecord IsGood) v.sections → IsPlaceFine (place_of v (Started now stop ∷ []))
+  start_place_fine : (v : VoterMade) (now : ℕ) (stop : Stop) → SaysGood Good (start_at v now v.sections) → InJournal (InRecord Good) v.sections → IsFinePlace (place_of v (Started now stop ∷ []))
   unfolding place_of
   start_place_fine v now stop says records =
       record {
         known = at (unreadable stop);
-        records = start_keeps (InRecord IsGood) stop v.floor (start_at v now v.sections) v.sections
-            (appended_good IsGood (start_at v now v.sections).calls (voter_calls IsGood (start_at v now v.sections).calls says.in_calls)) records;
+        records = start_keeps (InRecord Good) stop v.floor (start_at v now v.sections) v.sections
+            (appended_good Good (start_at v now v.sections).calls (voter_calls Good (start_at v now v.sections).calls says.in_calls)) records;
       }
     where
-      at : (b : Bool) → InKnown IsGood (if b then (place_of v []).standing else rest (start_at v now v.sections) []).desk.known
-      at true = nothing_known IsGood
+      at : (b : Bool) → InKnown Good (if b then (place_of v []).standing else rest (start_at v now v.sections) []).desk.known
+      at true = nothing_known Good
       at false = says.in_known
 
-  -- an engine of the member that knows the group, and whose floor and journal are good
-  pub record IsFit (member : ℕ) (made : EngineMade) : Type 0 where
-    pub batcher : IsMade made.batcher
-    pub resolver : IsResolverOf made.resolver
-    pub signs : (start : ℕ) → Signs member (made.voter start).rules
-    pub floor : (now : ℕ) → InFloor IsGood (made.voter now).floor
-    pub records : (now : ℕ) → InJournal (InRecord IsGood) (made.voter now).sections
-
-  start_engine : (made : EngineMade) (now : ℕ) (stop : Stop) → IsPlaceFine (place_of (made.voter now) (Started now stop ∷ [])) → IsPlaceFine (place_in made (by_voter Began now stop (start_of made now stop) ∷ []))
+  start_engine : (made : EngineMade) (now : ℕ) (stop : Stop) → IsFinePlace (place_of (made.voter now) (Started now stop ∷ [])) → IsFinePlace (place_in made (by_voter Began now stop (start_of made now stop) ∷ []))
   unfolding started_at voter_past
   start_engine made now stop p = p
 
-  begin_fine : (member : ℕ) (made : EngineMade) (did : Did) → IsStart made did → IsFit member made → AllSaid IsGood did.out × IsFineEngine member made (did ∷ [])
-  begin_fine member made did s fit = subst (λ (d : Did). AllSaid IsGood d.out × IsFineEngine member made (d ∷ [])) (sym (s.is ∙ begun_is made s.now s.stop)) (all, engine_fine)
+  begin_fine : (member : ℕ) (made : EngineMade) (did : Did) → IsStart made did → IsFit group Counts member made → AllSaid Good did.out × IsFineEngine member made (did ∷ [])
+  begin_fine member made did s fit = subst (λ (d : Did). AllSaid Good d.out × IsFineEngine member made (d ∷ [])) (sym (s.is ∙ begun_is made s.now s.stop)) (all, engine_fine)
     where
-      says : SaysGood IsGood (start_at (made.voter s.now) s.now (made.voter s.now).sections)
-      says = started_says IsGood (made.voter s.now).rules s.now (made.voter s.now).floor (replayed (made.voter s.now).sections) (fit.floor s.now) (fit.records s.now)
+      says : SaysGood Good (start_at (made.voter s.now) s.now (made.voter s.now).sections)
+      says = started_says Good (made.voter s.now).rules s.now (made.voter s.now).floor (replayed (made.voter s.now).sections) (fit.floor s.now) (fit.records s.now)
 
-      all : AllSaid IsGood (start_of made s.now s.stop).out
-      all = said_at_start IsGood s.stop (made.voter s.now).floor (start_at (made.voter s.now) s.now (made.voter s.now).sections) (made.voter s.now).sections says
+      all : AllSaid Good (start_of made s.now s.stop).out
+      all = said_at_start Good s.stop (made.voter s.now).floor (start_at (made.voter s.now) s.now (made.voter s.now).sections) (made.voter s.now).sections says
 
       silent : AreSilent (start_of made s.now s.stop).out.handed
       silent =
           let w = made.voter s.now in
           let d = start_at w s.now w.sections in
           let sound = start_sound w.rules s.now w.floor (replayed w.sections) in
-          start_performed_silent s.stop w.floor d w.sections (no_own IsGood d.calls d.handed sound.silent says.in_messages)
+          start_performed_silent s.stop w.floor d w.sections (no_own Good d.calls d.handed sound.silent says.in_messages)
 
       engine_fine : IsFineEngine member made (by_voter Began s.now s.stop (start_of made s.now s.stop) ∷ [])
       engine_fine =
@@ -728,7 +743,7 @@ module _ (group : Group) (Counts : ℕ → Subject → Type 0) where
             batcher = fit.batcher;
             resolver = fit.resolver;
             signs = fit.signs;
-            given = start_given (InGiven made.resolver IsGood) (λ m. tt) s.now s.stop (start_of made s.now s.stop).outcome out;
+            given = start_given (InGiven made.resolver Good) (λ m. tt) s.now s.stop (start_of made s.now s.stop).outcome out;
             history = (
               record {
                 handed = own_fine out.calls out.handed all.handed (silent_own out.handed silent);
@@ -742,10 +757,10 @@ module _ (group : Group) (Counts : ℕ → Subject → Type 0) where
   -- ---- a history
 
   pub record IsHistoryFine (member : ℕ) (made : EngineMade) (past : List Did) : Type 0 where
-    pub said : Each (λ (did : Did). AllSaid IsGood did.out) past
+    pub said : Each (λ (did : Did). AllSaid Good did.out) past
     pub engine : IsFineEngine member made past
 
-  pub history_fine : (member : ℕ) (made : EngineMade) (past : List Did) → IsHistory made past → IsFit member made → Each (λ (did : Did). FineTaken did.taken) past → Each (λ (did : Did). AreOwn member did.out.handed) past
+  pub history_fine : (member : ℕ) (made : EngineMade) (past : List Did) → IsHistory made past → IsFit group Counts member made → Each (λ (did : Did). FineTaken did.taken) past → Each (λ (did : Did). AreOwn group Counts member did.out.handed) past
       → IsHistoryFine member made past
   unfolding IsHistory
   history_fine member made [] h fit f own = absurd h

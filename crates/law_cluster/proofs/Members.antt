@@ -16,6 +16,7 @@ use Rattle.simplex_wire.specs.Message as format
 use Rattle.simplex_types.specs.declared.floor.Floor.{Floor}
 use Rattle.simplex_types.specs.declared.floor.Floor.TheVariants as floors
 use Rattle.simplex_journal.specs.Journal.{Section, replayed}
+use Rattle.simplex_round.specs.Votes.{vote_signer}
 use Rattle.simplex_messages.specs.declared.batcher.Message.TheVariants as batcher_messages
 use Rattle.simplex_messages.specs.declared.handed.Handed.{Handed}
 use Rattle.simplex_messages.specs.declared.handed.Handed.TheVariants as handed
@@ -42,7 +43,7 @@ use Rattle.law_cluster.specs.Lives.{Group, Life, IsVerifying, IsFloorOf, IsEngin
 use Rattle.law_cluster.specs.Signatures as signatures
 use Rattle.law_cluster.specs.Signatures.{calls_of, IsSignedBy, InTaken, CameIn, Came, HasVoted}
 use Rattle.law_cluster.specs.Cluster.{Cluster, IsHonest, IsMostlyHonest}
-use Rattle.law_cluster.proofs.Fine.{IsGood, IsCounted, FineTaken, FineOn, AreOwn, IsPlaceFine, IsFineEngine, IsFit, history_fine}
+use Rattle.law_cluster.proofs.Fine.{IsGood, FineTaken, FineOn, AreOwn, IsPlaceFine, IsFit, history_fine}
 use Rattle.law_cluster.proofs.Further.{Further}
 use Rattle.law_cluster.proofs.Living.{handed_in, handed_of, floor_in, lives_lived}
 use Rattle.law_cluster.proofs.Sending.{voted_in, all_fit, typed_of}
@@ -117,7 +118,7 @@ module _ (c : Cluster) (o : IsMostlyHonest c) where
   abbrev pub Counts : ℕ → Subject → Type 0
   Counts i s = IsHonest c i → Contains (subjects_of (history i)) s
 
-  voted_lived : (i : ℕ) (s : Subject) → IsHonest c i → HasVoted (c.lives i) s → Contains (subjects_of (history i)) s
+  pub voted_lived : (i : ℕ) (s : Subject) → IsHonest c i → HasVoted (c.lives i) s → Contains (subjects_of (history i)) s
   voted_lived i s h v =
       let f = sent_is i h in
       let l = f.0 in
@@ -152,19 +153,24 @@ module _ (c : Cluster) (o : IsMostlyHonest c) where
   packet_good i h l k did m t e x brings v =
       came_good i h x (λ a j. (l, k, inl (did, m, subst (λ y. InTaken y (certificate_subject x) a) (sym e) (brings (certificate_subject x) a (refl, j))))) v
 
-  taken_good : (i : ℕ) → IsHonest c i → (l : Life) → Contains (c.lives i) l → (did : Did) → Contains l.past did → FineTaken c.group Counts did.taken
-  taken_good i h l k did m = at did.taken refl
+  -- whatever an engine takes, where of each vote of its sender this is told
+  pub taken_good : (Told : Vote → Type 0) (told : (v : Vote) → Counts (vote_signer v) (vote_subject v) → Told v) (i : ℕ) → IsHonest c i → (l : Life) → Contains (c.lives i) l → (did : Did) → Contains l.past did
+      → ((sender : ℕ) (bytes : List ℕ) (v : Vote) → did.taken ≡ engine.Heard sender channels.Vote bytes → whole format.vote bytes ≡ Ok v → sender ≡ vote_signer v → Told v)
+      → FineTaken c.group Counts Told told did.taken
+  taken_good Told told i h l k did m own = at did.taken refl
     where
-      on : (sender : ℕ) (channel : Channel) (bytes : List ℕ) → did.taken ≡ engine.Heard sender channel bytes → FineOn c.group Counts channel bytes
-      on sender channels.Vote bytes e = λ v r verified.
-          came_counts i h (vote_subject v) (vote_attestation v)
-          (l, k, inl (did, m, subst (λ y. InTaken y (vote_subject v) (vote_attestation v)) (sym e) (inl (v, vote_read (whole format.vote bytes) v r, refl, refl)))) verified
+      on : (sender : ℕ) (channel : Channel) (bytes : List ℕ) → did.taken ≡ engine.Heard sender channel bytes → FineOn c.group Counts Told told sender channel bytes
+      on sender channels.Vote bytes e = λ v r same. (
+        λ verified. came_counts i h (vote_subject v) (vote_attestation v)
+            (l, k, inl (did, m, subst (λ y. InTaken y (vote_subject v) (vote_attestation v)) (sym e) (inl (v, vote_read (whole format.vote bytes) v r, refl, refl)))) verified,
+        own sender bytes v e r same,
+      )
       on sender channels.Certificate bytes e = λ x r v.
           packet_good i h l k did m (engine.Heard sender channels.Certificate bytes) e x (λ s a signed. inr (x, certificate_read (whole format.certificate bytes) x r, signed)) v
       on sender channels.Resolver bytes e = λ x j v.
           packet_good i h l k did m (engine.Heard sender channels.Resolver bytes) e x (λ s a signed. inr (x, j, signed)) v
 
-      at : (t : Taken) → did.taken ≡ t → FineTaken c.group Counts t
+      at : (t : Taken) → did.taken ≡ t → FineTaken c.group Counts Told told t
       at (engine.Heard sender channel bytes) e = on sender channel bytes e
       at engine.Began e = tt
       at (engine.Took source message) e = tt
@@ -180,6 +186,7 @@ module _ (c : Cluster) (o : IsMostlyHonest c) where
   -- ---- what a member says
 
   pub record IsFineLife (i : ℕ) (l : Life) : Type 0 where
+    pub fit : IsFit c.group Counts i l.made
     pub said : Each (λ (did : Did). AllSaid (IsGood c.group Counts) did.out) l.past
     pub place : IsPlaceFine c.group Counts (place_in l.made l.past)
     pub floor : InFloor (IsGood c.group Counts) (voter_in l.made l.past).floor
@@ -189,9 +196,16 @@ module _ (c : Cluster) (o : IsMostlyHonest c) where
     pub each : Each (IsFineLife i) lives
     pub journal : InJournal (InRecord (IsGood c.group Counts)) (left_by lives)
 
+  -- nothing more is told of votes
+  abbrev pub NotTold : Vote → Type 0
+  NotTold v = Unit {0}
+
+  not_told : (v : Vote) → Counts (vote_signer v) (vote_subject v) → NotTold v
+  not_told v k = tt
+
   -- what is asked of a life
   pub record IsSound (i : ℕ) (l : Life) : Type 0 where
-    pub taken : Each (λ (did : Did). FineTaken c.group Counts did.taken) l.past
+    pub taken : Each (λ (did : Did). FineTaken c.group Counts NotTold not_told did.taken) l.past
     pub floor : InFloor (IsGood c.group Counts) (voter_in l.made l.past).floor
 
   left_good : (l : Life) (keep : ℕ) → IsPlaceFine c.group Counts (place_in l.made l.past) → InJournal (InRecord (IsGood c.group Counts)) (sections_of l.made l.past)
@@ -209,9 +223,10 @@ module _ (c : Cluster) (o : IsMostlyHonest c) where
         floor = λ now. subst (InFloor G) (e.stands (started_at l.past) ∙ sym (e.stands now)) sound.floor;
         records = λ now. subst (InJournal (InRecord G)) (sym (e.journal now)) records;
       } in
-      let f = history_fine c.group Counts i l.made l.past is.history fit sound.taken own in
+      let f = history_fine c.group Counts NotTold not_told i l.made l.past is.history fit sound.taken own in
       let g = f.engine in
       record {
+        fit = fit;
         said = f.said;
         place = g.place;
         floor = sound.floor;
@@ -235,13 +250,17 @@ module _ (c : Cluster) (o : IsMostlyHonest c) where
     | inr r ↦ sound_floor i h before are.1 l r
   ]
 
-  pub member_fine : (i : ℕ) → IsHonest c i → AreFine i (c.lives i)
-  member_fine i h =
+  -- the own votes of an honest member
+  pub member_own : (i : ℕ) → IsHonest c i → Each (λ (l : Life). Each (λ (did : Did). AreOwn c.group Counts i did.out.handed) l.past) (c.lives i)
+  member_own i h =
       let f = sent_is i h in
       let l = f.0 in
+      in_lives (Counts i) (run newborn l.calls).sent (λ s k g. subst (λ xs. Contains (subjects_of xs) s) (sym f.1) k) (c.lives i) l.constructed
+
+  pub member_fine : (i : ℕ) → IsHonest c i → AreFine i (c.lives i)
+  member_fine i h =
       let all : Each (IsSound i) (c.lives i) = each_contained (IsSound i) (c.lives i) (λ x k. record {
-        taken = each_contained (λ (did : Did). FineTaken c.group Counts did.taken) x.past (λ did m. taken_good i h x k did m);
+        taken = each_contained (λ (did : Did). FineTaken c.group Counts NotTold not_told did.taken) x.past (λ did m. taken_good NotTold not_told i h x k did m (λ sender bytes v e r same. tt));
         floor = floor_good i h x k (voter_in x.made x.past).floor refl (sound_floor i h (c.lives i) (o.lives i h) x k);
       }) in
-      lives_fine i (c.lives i) (o.lives i h) all
-      (in_lives (Counts i) (run newborn l.calls).sent (λ s k g. subst (λ xs. Contains (subjects_of xs) s) (sym f.1) k) (c.lives i) l.constructed)
+      lives_fine i (c.lives i) (o.lives i h) all (member_own i h)
