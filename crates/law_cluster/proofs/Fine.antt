@@ -186,7 +186,7 @@ let_in_taken made past sender channels.Vote bytes now = refl
 let_in_taken made past sender channels.Certificate bytes now = refl
 let_in_taken made past sender channels.Resolver bytes now = refl
 
-heard_taken : (made : EngineMade) (past : List Did) (sender : ℕ) (channel : Channel) (bytes : List ℕ) (now : ℕ) → (engine.heard made past sender channel bytes now).taken ≡ engine.Heard sender channel bytes
+pub heard_taken : (made : EngineMade) (past : List Did) (sender : ℕ) (channel : Channel) (bytes : List ℕ) (now : ℕ) → (engine.heard made past sender channel bytes now).taken ≡ engine.Heard sender channel bytes
 heard_taken made past sender channel bytes now =
     heard_either (λ (d : Did). d.taken ≡ engine.Heard sender channel bytes) made past sender channel bytes now refl (let_in_taken made past sender channel bytes now)
 
@@ -277,7 +277,7 @@ module _ (group : Group) (Counts : ℕ → Subject → Type 0) (Told : Vote → 
     pub handed : Each IsFine did.out.handed
     pub taken : (given : batcher.Timed) → given_to_batcher did ≡ Some given → IsFineInput given.input
 
-  handed_all : (past : List Did) → Each IsFineDid past → Each (λ (did : Did). Each IsFine did.out.handed) past
+  pub handed_all : (past : List Did) → Each IsFineDid past → Each (λ (did : Did). Each IsFine did.out.handed) past
   handed_all [] h = tt
   handed_all (did ∷ past) h = (let first = h.0 in first.handed, handed_all past h.1)
 
@@ -286,7 +286,7 @@ module _ (group : Group) (Counts : ℕ → Subject → Type 0) (Told : Vote → 
   abbrev pub IsFineTimed : batcher.Timed → Type 0
   IsFineTimed given = IsFineInput given.input
 
-  inputs_fine : (past : List Did) → Each IsFineDid past → Each IsFineTimed (batcher_past past)
+  pub inputs_fine : (past : List Did) → Each IsFineDid past → Each IsFineTimed (batcher_past past)
   unfolding batcher_past
   inputs_fine [] h = tt
   inputs_fine (did ∷ past) h = each_given IsFineTimed did past (let first = h.0 in first.taken) (inputs_fine past h.1)
@@ -297,7 +297,7 @@ module _ (group : Group) (Counts : ℕ → Subject → Type 0) (Told : Vote → 
   brings_counted (batcher_inputs.Vote sender bytes) v f b = f v b.1 b.0
   brings_counted (batcher_inputs.Certificate sender bytes) v f b = absurd b
 
-  came_counted : (past : List batcher.Timed) (v : Vote) → Each IsFineTimed past → Came past v → Counted v
+  pub came_counted : (past : List batcher.Timed) (v : Vote) → Each IsFineTimed past → Came past v → Counted v
   unfolding Came
   came_counted [] v f c = absurd c
   came_counted (given ∷ past) v f c = elim c [ inl b ↦ brings_counted given.input v f.0 b | inr r ↦ came_counted past v f.1 r ]

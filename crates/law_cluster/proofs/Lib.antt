@@ -1,4 +1,5 @@
 pub mod Agreeing
+pub mod Blaming
 pub mod Fine
 pub mod Further
 pub mod Living

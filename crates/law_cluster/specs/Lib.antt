@@ -1,5 +1,6 @@
 pub mod Agree
 pub mod Cluster
+pub mod Evidence
 pub mod Lives
 pub mod Order
 pub mod Reports

@@ -13,4 +13,6 @@
 
 mod cluster;
 
-pub use cluster::{clusters_agree, clusters_report_one_chain, members_keep_order};
+pub use cluster::{
+    clusters_agree, clusters_blame_no_honest_member, clusters_report_one_chain, members_keep_order,
+};
