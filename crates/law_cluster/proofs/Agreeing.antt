@@ -1,10 +1,7 @@
 -- A cluster whose faulty members are few and in which nothing is forged is a lawful world: no two of its certificates conflict.
-use Rattle.std.proofs.Common.{◌≡◌, ℕ, ◌+◌, ◌<◌, ◌≤◌, ◌++◌, ◌⊎◌, Bool, List, [], ◌∷◌, length, map, All, Contains, refl, sym, ap, ◌∙◌, subst, inl, inr, arith, Result, Ok, Err, None}
-use Rattle.std.specs.List.{flat_map}
+use Rattle.std.proofs.Common.{◌≡◌, ℕ, ◌<◌, ◌⊎◌, List, [], ◌∷◌, length, map, All, Contains, refl, sym, subst, inl, inr, arith, None}
 use Rattle.std.proofs.lemmas.List.{length-map}
 use Rattle.std.proofs.lemmas.List.Elements.{All-contains, All-contains_itself, All-map, All-weaker, Contains-append_cases}
-use Rattle.simplex_values.specs.declared.plan.Channel.{Channel}
-use Rattle.simplex_values.specs.declared.plan.Channel.TheVariants as channels
 use Rattle.simplex_values.specs.declared.proposal.Subject.{Subject}
 use Rattle.simplex_wire.specs.declared.artifact.Artifact.{Artifact}
 use Rattle.simplex_wire.specs.declared.artifact.Artifact.TheVariants as artifacts
@@ -21,20 +18,15 @@ use Rattle.simplex_transcript.specs.declared.event.Event.TheVariants as events
 use Rattle.model_steps.specs.Engine as engine
 use Rattle.model_steps.specs.Engine.{Did, Taken, voter_in}
 use Rattle.model_run.specs.Entries.{noted_blank}
-use Rattle.model_run.specs.Life as ran
 use Rattle.model_run.specs.Life.{Noted}
 use Rattle.law_agreement.specs.World as agreement
-use Rattle.law_agreement.specs.World.{Sent, World, IsBacked, IsLawful}
-use Rattle.law_agreement.specs.Conflict.{Conflict}
+use Rattle.law_agreement.specs.World.{World, IsBacked, IsLawful}
 use Rattle.law_agreement.specs.Member as life
-use Rattle.law_agreement.specs.Member.{newborn, run}
 use Rattle.law_agreement.proofs.Invariant.{sent_honest}
-use Rattle.law_agreement.proofs.ListFacts.{not_in_empty, Contains-here, Contains-cons_cases}
+use Rattle.law_agreement.proofs.ListFacts.{not_in_empty, Contains-cons_cases}
 use Rattle.law_agreement.proofs.Safety.{no_conflict}
-use Rattle.law_member.specs.Evidence.{subjects_of}
 use Rattle.law_member.specs.Life.{statement_of, certificate_in, taken, floor_statement}
-use Rattle.law_run.specs.Backed.{certificate_on, of_record}
-use Rattle.law_run.specs.Saying.{InNoted}
+use Rattle.law_run.specs.Backed.{of_record}
 use Rattle.law_run.specs.Sayings.{Each, InCall, InRecord, InFloor, AllSaid}
 use Rattle.law_run.proofs.Above.{sent_of}
 use Rattle.law_run.proofs.Good.{certified_parts, each_verifies}
@@ -42,9 +34,9 @@ use Rattle.law_run.proofs.Speaking.{Each-append}
 use Rattle.law_run.proofs.Standing.{in_said}
 use Rattle.law_run.proofs.Worlds.{find, in_flat_map, rising_from}
 use Rattle.law_cluster.specs.Lives.{Life, IsVerifying}
-use Rattle.law_cluster.specs.Signatures.{calls_in, calls_of, floor_certificate, floor_of, InTaken, IsSignedBy}
+use Rattle.law_cluster.specs.Signatures.{calls_in, calls_of, floor_certificate}
 use Rattle.law_cluster.specs.Cluster.{Cluster, IsHonest, IsMostlyHonest}
-use Rattle.law_cluster.specs.Agree.{in_taken, said_in, in_journal, IsKnown, HadIn, Had, IsHad, Agree}
+use Rattle.law_cluster.specs.Agree.{in_taken, said_in, HadIn, IsHad, Agree}
 use Rattle.law_cluster.proofs.Fine.{IsGood}
 use Rattle.law_cluster.proofs.Living.{floor_in}
 use Rattle.law_cluster.proofs.Members.{Counts, history, sent_is, packet_good, IsFineLife, member_fine}

@@ -1,8 +1,8 @@
 -- No evidence that an honest member reports names another one.
-use Rattle.std.proofs.Common.{◌≡◌, ℕ, ◌-◌, ◌==◌, Bool, true, false, List, [], ◌∷◌, ◌++◌, take, All, Contains, Option, Some, None, Ok, refl, sym, ap, ◌∙◌, subst, inl, inr, ◌⊎◌, if◌then◌else◌}
+use Rattle.std.proofs.Common.{◌≡◌, ℕ, ◌-◌, ◌==◌, Bool, true, false, List, [], ◌∷◌, ◌++◌, Contains, Option, Some, None, Ok, refl, sym, ap, ◌∙◌, subst, inl, inr, if◌then◌else◌}
 use Rattle.std.specs.List.{list_all}
 use Rattle.std.specs.Option.{option_map_or}
-use Rattle.std.proofs.lemmas.List.Elements.{All-nil, All-cons, All-head, All-tail, All-take}
+use Rattle.std.proofs.lemmas.List.Elements.{All-append, All-cons, All-take}
 use Rattle.simplex_values.specs.declared.plan.Channel.{Channel}
 use Rattle.simplex_values.specs.declared.plan.Channel.TheVariants as channels
 use Rattle.simplex_values.specs.declared.proposal.Subject.{Subject}
@@ -34,7 +34,6 @@ use Rattle.model_steps.specs.ResolverSteps.{is_call_of_resolver}
 use Rattle.model_steps.specs.VoterLife.{unread, before_reading, start_at, start_performed}
 use Rattle.model_steps.proofs.ResolverSteps.{heard_by_resolver, stepped_resolver, stepped_handler, stepped_fetcher}
 use Rattle.law_agreement.specs.World.{Sent}
-use Rattle.law_agreement.specs.Member.{newborn, run}
 use Rattle.law_agreement.proofs.Invariant.{sent_in_order}
 use Rattle.law_agreement.proofs.ListFacts.{Contains-here, Contains-there}
 use Rattle.law_member.specs.Evidence.{blames, BlameNot, subjects_of, AreInOrder, IsAuthentic as IsAuthenticIn}
@@ -46,22 +45,19 @@ use Rattle.law_run.proofs.Mailing.{batcher_holds}
 use Rattle.law_run.proofs.Mails.{holds_received}
 use Rattle.law_run.proofs.Packets.{each_contained}
 use Rattle.law_run.proofs.Sparing.{Spares, none, voter_spares, cut_spares}
-use Rattle.law_cluster.specs.Lives.{Group, Life, IsStart, GoesOn, IsHistory, IsLife, AreLives}
+use Rattle.law_cluster.specs.Lives.{Group, Life, IsStart, GoesOn, IsHistory, AreLives}
 use Rattle.law_cluster.specs.Signatures.{calls_in, calls_of}
 use Rattle.law_cluster.specs.Cluster.{Cluster, IsHonest, IsMostlyHonest}
 use Rattle.law_cluster.specs.Evidence.{IsVoteFrom, IsAuthentic, IsBlameless}
-use Rattle.law_cluster.proofs.Fine.{IsGood, AreOwn, IsFit, InOwnMail, InVoterMail, IsFineInput, IsFineTimed, IsFineDid, IsFineEngine, FineOn, FineTaken, handed_all, inputs_fine, came_counted, heard_taken, history_fine}
+use Rattle.law_cluster.proofs.Fine.{IsGood, AreOwn, IsFit, InOwnMail, InVoterMail, IsFineInput, IsFineTimed, IsFineDid, FineOn, FineTaken, handed_all, inputs_fine, came_counted, heard_taken, history_fine}
 use Rattle.law_cluster.proofs.Members.{Counts, history, sent_is, voted_lived, taken_good, IsFineLife, member_fine, member_own}
-use Rattle.law_cluster.proofs.Turns.{start_of, begun_is}
+use Rattle.law_cluster.proofs.Turns.{begun_is}
 
 -- ---- a start
 
 module _ (other : ℕ) where
   joined : (xs ys : List Call) → BlameNot other xs → BlameNot other ys → BlameNot other (xs ++ ys)
-  joined [] ys h k = k
-  joined (x ∷ xs) ys h k =
-      let P = λ (call : Call). blames call other ≡ false in
-      All-cons P x (xs ++ ys) (All-head P x xs h) (joined xs ys (All-tail P x xs h) k)
+  joined xs ys h k = All-append (λ (call : Call). blames call other ≡ false) xs ys h k
 
   performed_spares : (stop : Stop) (d : Doing) (js : List Section) → Spares other d.calls → Spares other (performed stop d js).out.calls
   unfolding performed

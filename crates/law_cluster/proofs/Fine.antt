@@ -1,14 +1,12 @@
 -- An engine to which no forged signature comes says certificates alone that verify and whose signers voted so.
-use Rattle.std.proofs.Common.{◌≡◌, ℕ, ◌-◌, ◌<◌, ◌≤◌, ◌==◌, ◌&&◌, nat_lt, nat_le, Bool, true, false, List, [], ◌∷◌, length, take, Contains, All, Option, Some, None, Ok, refl, sym, ap, ◌∙◌, subst, inl, inr, ◌⊎◌, if◌then◌else◌}
+use Rattle.std.proofs.Common.{◌≡◌, ℕ, ◌-◌, ◌==◌, ◌&&◌, nat_lt, nat_le, Bool, true, false, List, [], ◌∷◌, length, take, Contains, All, Option, Some, None, Ok, refl, sym, ap, ◌∙◌, subst, inl, inr, if◌then◌else◌}
 use Rattle.std.specs.Option.{option_map_or}
 use Rattle.std.proofs.lemmas.List.Elements.{All-head, All-tail, All-weaker}
-use Rattle.simplex_values.specs.Quorum.{quorum_of}
 use Rattle.simplex_values.specs.declared.answer.Answer.{Answer}
 use Rattle.simplex_values.specs.declared.plan.Channel.{Channel}
 use Rattle.simplex_values.specs.declared.plan.Channel.TheVariants as channels
 use Rattle.simplex_values.specs.declared.plan.Recipients.TheVariants as recipients
 use Rattle.simplex_values.specs.declared.proposal.Subject.{Subject}
-use Rattle.simplex_wire.specs.declared.artifact.Artifact.{Artifact}
 use Rattle.simplex_wire.specs.declared.attestation.Attestation.{Attestation}
 use Rattle.simplex_wire.specs.declared.certificate.Certificate.{Certificate}
 use Rattle.simplex_wire.specs.declared.resolver.ResolverBody.{ResolverBody}
@@ -59,7 +57,7 @@ use Rattle.model_steps.specs.Engine.{EngineMade, Did, Began, started_at, is_star
 use Rattle.model_steps.specs.Performed.{Performed, performed, stop_place, broken, whole as made_whole}
 use Rattle.model_steps.specs.Voter as voter
 use Rattle.model_steps.specs.VoterLife.{VoterMade, Place, Started, Stepped, Answered, place_of, rest, unreadable, start_at, unread, start_performed, step_given}
-use Rattle.law_agreement.proofs.ListFacts.{not_in_empty, Contains-here, Contains-cons_cases, Contains-filter}
+use Rattle.law_agreement.proofs.ListFacts.{not_in_empty, Contains-here, Contains-filter}
 use Rattle.law_member.specs.BatcherVotes.{Accepted, Came, Brings as BringsVote}
 use Rattle.law_member.specs.Certificates.{IsSchemeOfMembers, BringsNew, IsVoteOn, IsFoundedCertificate, IsFoundedMessage}
 use Rattle.law_member.specs.Reports.{IsFounded, IsFoundedCall}
@@ -83,7 +81,7 @@ use Rattle.law_run.proofs.Resolving.{Brings, InGiven, InHandedOn, InResolverInpu
 use Rattle.law_run.proofs.Signed.{InOwn, performed_signed}
 use Rattle.law_run.proofs.Speaking.{SaysGood, voter_calls}
 use Rattle.law_run.proofs.Telling.{some_is, stepped_says, started_says, said, said_at_start, nothing_known}
-use Rattle.law_cluster.specs.Lives.{Group, IsVerifying, IsHearing, IsStep, IsReply, IsStart, GoesOn, IsHistory}
+use Rattle.law_cluster.specs.Lives.{Group, IsVerifying, IsStart, GoesOn, IsHistory}
 use Rattle.law_cluster.proofs.Turns.{start_of, begun_is}
 
 -- ---- what has nothing to do with signatures

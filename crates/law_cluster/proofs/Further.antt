@@ -1,5 +1,5 @@
 -- What a member lives more, and that lives go on from one another.
-use Rattle.std.proofs.Common.{◌≡◌, ℕ, ◌<◌, List, [], ◌∷◌, ◌++◌, map, Contains, refl, sym, ap, ◌∙◌, subst, inl, inr, ◌⊎◌, append_assoc}
+use Rattle.std.proofs.Common.{◌≡◌, ℕ, ◌<◌, List, [], ◌∷◌, ◌++◌, Contains, refl, sym, ap, ◌∙◌, subst, inl, inr, ◌⊎◌, append_assoc}
 use Rattle.std.proofs.lemmas.List.{map-append}
 use Rattle.std.proofs.lemmas.List.Elements.{Contains-append_left, Contains-append_right, Contains-append_cases}
 use Rattle.simplex_values.specs.declared.plan.Channel.TheVariants as channels
@@ -12,7 +12,7 @@ use Rattle.simplex_messages.specs.declared.call.Call.{Call}
 use Rattle.simplex_messages.specs.declared.call.Call.TheVariants as calls
 use Rattle.simplex_messages.specs.declared.handed.Handed.{Handed}
 use Rattle.model_rules.specs.Known.{Made}
-use Rattle.model_steps.specs.Engine.{EngineMade, Did, voter_in}
+use Rattle.model_steps.specs.Engine.{voter_in}
 use Rattle.model_run.specs.Life as ran
 use Rattle.law_agreement.specs.World as agreement
 use Rattle.law_agreement.specs.World.{Sent}

@@ -1,13 +1,11 @@
 -- All lives of a member are one life of an honest member.
-use Rattle.std.proofs.Common.{◌≡◌, ℕ, ◌<◌, Bool, true, false, List, [], ◌∷◌, ◌++◌, Contains, refl, sym, ap, ◌∙◌, subst, inl, inr, ◌⊎◌, append-nil, if◌then◌else◌}
+use Rattle.std.proofs.Common.{◌≡◌, ℕ, Bool, true, false, List, [], ◌∷◌, ◌++◌, Contains, refl, sym, ap, ◌∙◌, subst, inl, inr, append-nil, if◌then◌else◌}
 use Rattle.std.specs.List.Sorted.{IsStrictlySortedBy}
-use Rattle.simplex_wire.specs.declared.certificate.Certificate.TheVariants as certificates
 use Rattle.simplex_types.specs.declared.floor.Floor.{Floor}
 use Rattle.simplex_types.specs.declared.floor.Floor.TheVariants as floors
 use Rattle.simplex_journal.specs.Journal.{Section, replayed, crashed}
 use Rattle.simplex_journal.specs.Contents.{numbers}
 use Rattle.simplex_journal.proofs.Contents.{crashed-rested}
-use Rattle.simplex_messages.specs.declared.call.Call.{Call}
 use Rattle.simplex_messages.specs.declared.handed.Handed.{Handed}
 use Rattle.model_rules.specs.Known.{Made}
 use Rattle.model_steps.specs.Engine.{EngineMade, Did, voter_in, started_at, sections_of, runs}
@@ -18,9 +16,7 @@ use Rattle.law_agreement.specs.World as agreement
 use Rattle.law_agreement.specs.Member as life
 use Rattle.law_agreement.specs.Member.{Member, happens, newborn, run}
 use Rattle.law_agreement.proofs.ListFacts.{not_in_empty, Contains-here, Contains-there}
-use Rattle.law_member.specs.Evidence.{subjects_of}
-use Rattle.law_member.specs.Life.{floor_statement, journal_of, AreSent, IsFloor, IsStopped}
-use Rattle.law_member.proofs.Constructing.{all_silent}
+use Rattle.law_member.specs.Life.{floor_statement, journal_of, IsFloor, IsStopped}
 use Rattle.law_member.proofs.Floors.{crash_lived}
 use Rattle.law_member.proofs.LifeStarting.{none_sent}
 use Rattle.law_run.proofs.Events.{place_in}

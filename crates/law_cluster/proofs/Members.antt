@@ -1,5 +1,5 @@
 -- What each member of a cluster sent, what came to it, and that what it says is good.
-use Rattle.std.proofs.Common.{◌≡◌, ℕ, ◌<◌, ◌&&◌, nat_lt, Bool, true, false, List, [], ◌∷◌, ◌++◌, All, Contains, Result, Ok, Err, refl, sym, ap, ◌∙◌, subst, inl, inr, ◌⊎◌, arith, ltb-true, ltb-false}
+use Rattle.std.proofs.Common.{◌≡◌, ℕ, ◌<◌, nat_lt, Bool, true, false, List, [], ◌∷◌, ◌++◌, Contains, Result, Ok, refl, sym, ◌∙◌, subst, inl, inr, ◌⊎◌, arith, ltb-true, ltb-false}
 use Rattle.std.specs.List.{flat_map}
 use Rattle.std.proofs.lemmas.List.Elements.{All-contains, All-contains_itself, All-weaker}
 use Rattle.simplex_values.specs.declared.plan.Channel.{Channel}
@@ -23,15 +23,14 @@ use Rattle.simplex_messages.specs.declared.handed.Handed.TheVariants as handed
 use Rattle.model_steps.specs.Engine as engine
 use Rattle.model_steps.specs.Engine.{Did, Taken, voter_in, started_at, sections_of}
 use Rattle.model_run.specs.Life as ran
-use Rattle.law_agreement.specs.World as agreement
 use Rattle.law_agreement.specs.World.{Sent}
 use Rattle.law_agreement.specs.Member.{newborn, run}
 use Rattle.law_agreement.proofs.ListFacts.{not_in_empty, Contains-here, Contains-cons_cases}
 use Rattle.law_member.specs.Evidence.{subjects_of}
 use Rattle.law_member.specs.Life.{AreVotesSent}
-use Rattle.law_run.specs.Backed.{read_certificate, certificate_on}
+use Rattle.law_run.specs.Backed.{read_certificate}
 use Rattle.law_run.specs.Sayings.{Each, InRecord, InFloor, AllSaid}
-use Rattle.law_run.specs.Voting.{read_vote, vote_on}
+use Rattle.law_run.specs.Voting.{read_vote}
 use Rattle.law_run.proofs.Agreeing.{into_flat_map}
 use Rattle.law_run.proofs.Events.{place_in}
 use Rattle.law_run.proofs.Good.{certified_parts, each_verifies}
@@ -39,9 +38,9 @@ use Rattle.law_run.proofs.NodeKeeping.{InJournal, crash_keeps}
 use Rattle.law_run.proofs.Packets.{each_contained}
 use Rattle.law_run.proofs.Signed.{InOwn}
 use Rattle.law_run.proofs.Worlds.{find}
-use Rattle.law_cluster.specs.Lives.{Group, Life, IsVerifying, IsFloorOf, IsEngineOf, IsLife, AreLives, left_by}
+use Rattle.law_cluster.specs.Lives.{Life, IsVerifying, IsFloorOf, IsLife, AreLives, left_by}
 use Rattle.law_cluster.specs.Signatures as signatures
-use Rattle.law_cluster.specs.Signatures.{calls_of, IsSignedBy, InTaken, CameIn, Came, HasVoted}
+use Rattle.law_cluster.specs.Signatures.{calls_of, IsSignedBy, InTaken, Came, HasVoted}
 use Rattle.law_cluster.specs.Cluster.{Cluster, IsHonest, IsMostlyHonest}
 use Rattle.law_cluster.proofs.Fine.{IsGood, FineTaken, FineOn, AreOwn, IsPlaceFine, IsFit, history_fine}
 use Rattle.law_cluster.proofs.Further.{Further}

@@ -1,5 +1,5 @@
 -- The votes of all lives of a member are those of one life, which are in order.
-use Rattle.std.proofs.Common.{◌≡◌, ℕ, ◌<◌, List, sym, subst}
+use Rattle.std.proofs.Common.{ℕ, ◌<◌, List, sym, subst}
 use Rattle.std.specs.List.{flat_map}
 use Rattle.law_agreement.specs.Member.{newborn, run}
 use Rattle.law_agreement.proofs.Invariant.{sent_in_order, sent_alone}

@@ -1,5 +1,5 @@
 -- A vote that went out is one of the member's life.
-use Rattle.std.proofs.Common.{◌≡◌, ℕ, ◌<◌, ◌^◌, List, [], ◌∷◌, ◌++◌, All, Contains, Result, Ok, Err, refl, sym, ap, ◌∙◌, subst, inl, inr, ◌⊎◌}
+use Rattle.std.proofs.Common.{◌≡◌, ℕ, ◌<◌, ◌^◌, List, [], ◌∷◌, All, Contains, Result, Ok, Err, sym, ap, ◌∙◌, subst, inl, inr, ◌⊎◌}
 use Rattle.std.specs.List.{flat_map}
 use Rattle.std.proofs.lemmas.List.Elements.{All-contains, All-contains_itself, All-weaker, Contains-append_cases}
 use Rattle.simplex_values.specs.declared.plan.Channel.{Channel}
@@ -28,7 +28,7 @@ use Rattle.law_run.specs.Sayings.{Each}
 use Rattle.law_run.specs.Voting.{read_vote, vote_on}
 use Rattle.law_run.proofs.Speaking.{Each-append}
 use Rattle.law_run.proofs.Worlds.{in_flat_map, low_fits}
-use Rattle.law_cluster.specs.Lives.{Group, Life, IsLife, AreLives}
+use Rattle.law_cluster.specs.Lives.{Group, Life, AreLives}
 use Rattle.law_cluster.specs.Signatures.{calls_in, calls_of, vote_in}
 use Rattle.law_cluster.proofs.Further.{IsLowIn}
 

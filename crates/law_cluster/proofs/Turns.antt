@@ -1,18 +1,15 @@
 -- What the member lives in each turn of its engine.
-use Rattle.std.proofs.Common.{◌≡◌, ℕ, zero, suc, ◌-◌, ◌<◌, ◌==◌, ◌&&◌, nat_lt, nat_le, Bool, true, false, List, [], ◌∷◌, ◌++◌, length, take, Contains, Option, Some, None, refl, sym, ap, ◌∙◌, subst, inl, inr, ◌⊎◌, append-nil, if◌then◌else◌}
-use Rattle.std.specs.Option.{option_map, option_map_or}
+use Rattle.std.proofs.Common.{◌≡◌, ℕ, zero, suc, ◌-◌, ◌<◌, ◌==◌, ◌&&◌, nat_lt, nat_le, Bool, true, false, List, [], ◌∷◌, length, take, Contains, Option, Some, None, refl, sym, ap, ◌∙◌, subst, inl, inr, append-nil, if◌then◌else◌}
 use Rattle.std.specs.List.{list_all}
 use Rattle.simplex_values.specs.declared.answer.Answer.{Answer}
 use Rattle.simplex_values.specs.declared.plan.Channel.{Channel}
 use Rattle.simplex_values.specs.declared.plan.Channel.TheVariants as channels
 use Rattle.simplex_values.specs.declared.plan.Recipients.{Recipients}
 use Rattle.simplex_values.specs.declared.plan.Recipients.TheVariants as recipients
-use Rattle.simplex_values.specs.declared.proposal.Subject.{Subject}
 use Rattle.simplex_values.specs.Terms.{greatest_view}
 use Rattle.simplex_wire.specs.Message as format
 use Rattle.simplex_types.specs.declared.floor.Floor.{Floor}
-use Rattle.simplex_journal.specs.Journal.{Section, replayed, crashed}
-use Rattle.simplex_journal.proofs.Contents.{crashed-rested}
+use Rattle.simplex_journal.specs.Journal.{Section, replayed}
 use Rattle.simplex_mailbox.specs.Mail.{received}
 use Rattle.simplex_messages.specs.declared.call.Call.{Call}
 use Rattle.simplex_messages.specs.declared.call.Call.TheVariants as calls
@@ -34,8 +31,6 @@ use Rattle.simplex_messages.specs.declared.step.StepOut.{StepOut}
 use Rattle.simplex_messages.specs.Step.{no_out}
 use Rattle.simplex_transcript.specs.declared.event.StepSource.{StepSource}
 use Rattle.simplex_transcript.specs.declared.event.StepSource.TheVariants as sources
-use Rattle.model_rules.specs.Known.{Made, Fact}
-use Rattle.model_rules.specs.Views.{current_of}
 use Rattle.model_steps.specs.Batcher as batcher
 use Rattle.model_steps.specs.Desk.{Doing}
 use Rattle.model_steps.specs.Engine as engine
@@ -47,27 +42,23 @@ use Rattle.model_steps.specs.VoterLife.{VoterMade, Started, Stepped, Answered, P
 use Rattle.model_steps.proofs.ResolverSteps.{heard_by_resolver, heard_apart, stepped_resolver, stepped_resolver_apart, stepped_handler, stepped_handler_apart, stepped_fetcher, stepped_fetcher_apart}
 use Rattle.model_run.specs.Life as ran
 use Rattle.model_run.specs.Life.{going_on}
-use Rattle.law_agreement.specs.Journal as kept
 use Rattle.law_agreement.specs.World as agreement
 use Rattle.law_agreement.specs.Member as life
 use Rattle.law_agreement.specs.Member.{Member, happens, run, IsLegal}
 use Rattle.law_agreement.proofs.ListFacts.{not_in_empty, Contains-cons_cases}
-use Rattle.law_member.specs.Evidence.{subjects_of}
-use Rattle.law_member.specs.Life as conduct
-use Rattle.law_member.specs.Life.{floor_statement, AreSent, IsRunning, IsStopped, AreVotesSent, IsLeft, IsFloor}
+use Rattle.law_member.specs.Life.{floor_statement, AreSent, IsRunning, IsStopped, IsLeft, IsFloor}
 use Rattle.law_member.proofs.Constructing.{AreSilent, all_silent}
-use Rattle.law_member.proofs.Floors.{start_lived, crash_lived}
+use Rattle.law_member.proofs.Floors.{start_lived}
 use Rattle.law_member.proofs.LifeStarting.{none_sent, plain_voteless, Voteless}
 use Rattle.law_member.proofs.LifeStepping.{step_lived}
 use Rattle.law_member.proofs.Replaying.{AllPlain}
 use Rattle.law_run.specs.Sayings.{Each, InMessage}
 use Rattle.law_run.proofs.Events.{place_in, place_same, place_then, step_place, idle_place, step_gives, answered_known, never_idle, never_refused, start_never_refused, start_sections, rest_stopped, any_record, any_floor, nothing_bad}
-use Rattle.law_run.proofs.Further.{at_rest}
 use Rattle.law_run.proofs.Letting.{heard_either, heard_no_start}
 use Rattle.law_run.proofs.Nodes.{resolver_no_start, handler_no_start, fetcher_no_start}
 use Rattle.law_run.proofs.NodeQuiet.{batcher_hush, batcher_plain, for_voter_silent}
 use Rattle.law_run.proofs.Telling.{started_says, said_at_start}
-use Rattle.law_cluster.specs.Lives.{IsHearing, IsStep, IsReply, IsStart, GoesOn, view_in}
+use Rattle.law_cluster.specs.Lives.{IsStart, GoesOn, view_in}
 use Rattle.law_cluster.proofs.Further.{IsAt, IsStoppedIn, stopped_in, Further}
 
 -- the rules of an engine, whenever it starts, have these terms and are of this epoch

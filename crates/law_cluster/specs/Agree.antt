@@ -1,5 +1,5 @@
 -- What a member of a cluster knows, and that members agree.
-use Rattle.std.specs.Prelude.{ℕ, ◌≡◌, ◌⊎◌, ◌++◌, List, [], ◌∷◌, Contains}
+use Rattle.std.specs.Prelude.{ℕ, ◌⊎◌, ◌++◌, List, [], Contains}
 use Rattle.std.specs.List.{flat_map}
 use Rattle.simplex_wire.specs.declared.certificate.Certificate.{Certificate}
 use Rattle.simplex_wire.specs.Fields.{certificate_subject}
