@@ -1,5 +1,5 @@
 -- A cluster whose faulty members are few and in which nothing is forged is a lawful world: no two of its certificates conflict.
-use Rattle.std.proofs.Common.{◌≡◌, ℕ, ◌<◌, ◌⊎◌, List, [], ◌∷◌, length, map, All, Contains, refl, sym, subst, inl, inr, arith, None}
+use Rattle.std.proofs.Common.{◌≡◌, ℕ, ◌<◌, ◌⊎◌, true, List, [], ◌∷◌, length, map, All, Contains, refl, sym, subst, inl, inr, arith, None}
 use Rattle.std.proofs.lemmas.List.{length-map}
 use Rattle.std.proofs.lemmas.List.Elements.{All-contains, All-contains_itself, All-map, All-weaker, Contains-append_cases}
 use Rattle.simplex_values.specs.declared.proposal.Subject.{Subject}

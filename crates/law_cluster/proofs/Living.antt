@@ -84,7 +84,7 @@ module _ (term epoch : ℕ) (floors : List agreement.Certificate) (made : Engine
             brought = λ c k. absurd (not_in_empty c k);
             sends = sym (append-nil (run m f.calls).sent);
             votes = none_sent [] tt;
-            at = stopped_in epoch v.rules (crashed keep place.sections) (happens (run m f.calls) (life.Crash (λ view. keep))) (keeps.epoch (started_at past))
+            at = stopped_in epoch v.rules (crashed keep place.sections) (happens (run m f.calls) (life.Crash (λ view. keep))) (keeps.epochs (started_at past))
                 (crash_lived v.rules keep place.standing.desk.known place.sections (run m f.calls) a);
             constructed = tt;
             own = λ s k. absurd (not_in_empty s k);
@@ -94,7 +94,7 @@ module _ (term epoch : ℕ) (floors : List agreement.Certificate) (made : Engine
       rested e =
           let stopped = stops_at past (run m f.calls) e f.at in
           let js = sections_of made past in
-          let s = stopped (made.voter 0).rules (keeps.epoch 0) in
+          let s = stopped (made.voter 0).rules (keeps.epochs 0) in
           subst (λ x. IsStoppedIn epoch x (run m f.calls)) (sym (crashed-rested keep js (at_rest js (ap kept.waiting (sym s.journal) ∙ s.stored)))) stopped
 
       at : (b : Bool) → runs past ≡ b → Further term epoch floors (calls_in past) (handed_in past) (ran.Stopped (crashed keep (sections_of made past))) m
@@ -122,7 +122,7 @@ floor_above group (floors.Genesis payload) f = tt
 floor_above group (floors.Finalized c) f = f.0
 
 pub keeps_of : (group : Group) (member : ℕ) (js : List Section) (made : EngineMade) → IsEngineOf group member js made → Keeps group.term group.epoch made
-keeps_of group member js made e = record { term = λ now. (let r = e.rules now in r.term); epoch = λ now. (let r = e.rules now in r.epoch) }
+keeps_of group member js made e = record { terms = λ now. (let r = e.rules now in r.term); epochs = λ now. (let r = e.rules now in r.epoch) }
 
 life_lives : (group : Group) (member : ℕ) (list : List agreement.Certificate) (js : List Section) (l : Life) (m : Member) → IsLife group member js l
     → ((c : agreement.Certificate) → Contains (floor_in l) c → Contains list c) → IsStoppedIn group.epoch js m

@@ -107,6 +107,7 @@ module _ (c : Cluster) (o : IsMostlyHonest c) where
   history i = sent_in i (decide i)
 
   pub sent_is : (i : ℕ) → IsHonest c i → (l : Lived i) × (history i ≡ (run newborn l.calls).sent)
+  unfolding sent_in history
   sent_is i h = at (decide i)
     where
       at : (d : IsHonest c i ⊎ ¬ (IsHonest c i)) → (l : Lived i) × (sent_in i d ≡ (run newborn l.calls).sent)
@@ -199,7 +200,7 @@ module _ (c : Cluster) (o : IsMostlyHonest c) where
   abbrev pub NotTold : Vote → Type 0
   NotTold v = Unit {0}
 
-  not_told : (v : Vote) → Counts (vote_signer v) (vote_subject v) → NotTold v
+  pub not_told : (v : Vote) → Counts (vote_signer v) (vote_subject v) → NotTold v
   not_told v k = tt
 
   -- what is asked of a life

@@ -63,8 +63,8 @@ use Rattle.law_cluster.proofs.Further.{IsAt, IsStoppedIn, stopped_in, Further}
 
 -- the rules of an engine, whenever it starts, have these terms and are of this epoch
 pub record Keeps (term epoch : ℕ) (made : EngineMade) : Type 0 where
-  pub term : (now : ℕ) → (made.voter now).rules.term_length ≡ term
-  pub epoch : (now : ℕ) → (made.voter now).rules.epoch ≡ epoch
+  pub terms : (now : ℕ) → (made.voter now).rules.term_length ≡ term
+  pub epochs : (now : ℕ) → (made.voter now).rules.epoch ≡ epoch
 
 -- ---- what an outcome is
 
@@ -201,10 +201,10 @@ module _ (term epoch : ℕ) (floors : List agreement.Certificate) (made : Engine
   start_leaves now stop m outcomes.Refused e l = (let v = made.voter now in absurd (start_never_refused stop v.floor (start_at v now v.sections) v.sections e))
   start_leaves now stop m outcomes.Cut e l =
       let v = made.voter now in
-      stopped_in epoch v.rules _ m (keeps.epoch now) (subst (λ sections. IsStopped v.rules sections m) (sym (start_sections v now stop)) l)
+      stopped_in epoch v.rules _ m (keeps.epochs now) (subst (λ sections. IsStopped v.rules sections m) (sym (start_sections v now stop)) l)
   start_leaves now stop m outcomes.Journal e l =
       let v = made.voter now in
-      stopped_in epoch v.rules _ m (keeps.epoch now) (subst (λ sections. IsStopped v.rules sections m) (sym (start_sections v now stop)) l)
+      stopped_in epoch v.rules _ m (keeps.epochs now) (subst (λ sections. IsStopped v.rules sections m) (sym (start_sections v now stop)) l)
 
   start_silent : (now : ℕ) (stop : Stop) → AreSent (start_of made now stop).out.calls [] → AreSilent (start_of made now stop).out.handed
   start_silent now stop h =
@@ -219,11 +219,11 @@ module _ (term epoch : ℕ) (floors : List agreement.Certificate) (made : Engine
   unfolding runs
   start_further now stop m good among s =
       let v = made.voter now in
-      let x = start_lived v.rules now v.floor stop v.sections m good (s v.rules (keeps.epoch now)) in
+      let x = start_lived v.rules now v.floor stop v.sections m good (s v.rules (keeps.epochs now)) in
       record {
         calls = x.calls;
         sent = [];
-        legal = subst (λ n. IsLegal n m x.calls) (keeps.term now) x.legal;
+        legal = subst (λ n. IsLegal n m x.calls) (keeps.terms now) x.legal;
         brought = λ c k. inr (among c (elim x.brought [
           | inl none ↦ absurd (not_in_empty c (subst (λ xs. Contains xs c) none k))
           | inr one ↦ subst (λ xs. Contains xs c) one k
@@ -250,7 +250,7 @@ module _ (term epoch : ℕ) (floors : List agreement.Certificate) (made : Engine
         let p = place_same made did past e f in
         let place = place_in made past in
         let after = happens m (life.Crash (λ view. 0)) in
-        let stopped = stopped_in epoch (voter_in made past).rules place.sections after (keeps.epoch (started_at past)) (rest_stopped (voter_in made past).rules place.standing.desk.known place.sections m a) in
+        let stopped = stopped_in epoch (voter_in made past).rules place.sections after (keeps.epochs (started_at past)) (rest_stopped (voter_in made past).rules place.standing.desk.known place.sections m a) in
         subst (λ v. IsStoppedIn epoch (place_of v (voter_past (did ∷ past))).sections after) (sym p.0)
         (subst (λ given. IsStoppedIn epoch (place_of (voter_in made past) given).sections after) (sym p.1) stopped)
 
@@ -329,10 +329,10 @@ module _ (term epoch : ℕ) (floors : List agreement.Certificate) (made : Engine
     step_leaves did place stop d n outcomes.Refused at same e known sections l = absurd (never_refused stop d (place_in made past).sections e)
     step_leaves did place stop d n outcomes.Journal at same e known sections l =
         subst (λ (p : Place). IsStoppedIn epoch p.sections n) (sym at)
-        (subst (λ x. IsStoppedIn epoch x n) (sym sections) (stopped_in epoch (voter_in made past).rules _ n (keeps.epoch (started_at past)) l))
+        (subst (λ x. IsStoppedIn epoch x n) (sym sections) (stopped_in epoch (voter_in made past).rules _ n (keeps.epochs (started_at past)) l))
     step_leaves did place stop d n outcomes.Cut at same e known sections l =
         subst (λ (p : Place). IsStoppedIn epoch p.sections n) (sym at)
-        (subst (λ x. IsStoppedIn epoch x n) (sym sections) (stopped_in epoch (voter_in made past).rules _ n (keeps.epoch (started_at past)) l))
+        (subst (λ x. IsStoppedIn epoch x n) (sym sections) (stopped_in epoch (voter_in made past).rules _ n (keeps.epochs (started_at past)) l))
 
     same_place : (did : Did) → voter_in made (did ∷ past) ≡ voter_in made past → place_in made (did ∷ past) ≡ place_in made past → IsAt epoch (ran.Running made (did ∷ past)) m
     same_place did v p =
@@ -362,7 +362,7 @@ module _ (term epoch : ℕ) (floors : List agreement.Certificate) (made : Engine
         record {
           calls = x.calls;
           sent = x.sent;
-          legal = subst (λ n. IsLegal n m x.calls) (keeps.term (started_at past)) x.legal;
+          legal = subst (λ n. IsLegal n m x.calls) (keeps.terms (started_at past)) x.legal;
           brought = λ c k. inl (subst (λ xs. Contains xs c) x.brought k);
           sends = x.sends;
           votes = x.votes;
@@ -371,7 +371,7 @@ module _ (term epoch : ℕ) (floors : List agreement.Certificate) (made : Engine
           constructed = x.constructed;
           own = λ s k. elim (x.own s k) [
             | inl t ↦ inl t
-            | inr l ↦ inr (l.0, l.1, l.2 ∙ keeps.epoch (started_at past), l.3)
+            | inr l ↦ inr (l.0, l.1, l.2 ∙ keeps.epochs (started_at past), l.3)
           ];
         }
 
