@@ -206,8 +206,8 @@ module _ (c : Cluster) (o : IsMostlyHonest c) (authentic : IsAuthentic c) (membe
   lives_spare [] are among fine own = none other
   lives_spare (l ∷ before) are among fine own =
       (let is = are.0 in
-          joined other (calls_of before) (calls_in l.past) (lives_spare before are.1 (λ x k. among x (Contains-there l before x k)) fine.1 own.1)
-          (life_spares l (among l (Contains-here l before)) is.history fine.0 own.0))
+      joined other (calls_of before) (calls_in l.past) (lives_spare before are.1 (λ x k. among x (Contains-there l before x k)) fine.1 own.1)
+      (life_spares l (among l (Contains-here l before)) is.history fine.0 own.0))
 
   pub spares : BlameNot other (calls_of (c.lives member))
   spares = (let fine = member_fine c o member honest in lives_spare (c.lives member) (o.lives member honest) (λ l k. k) fine.each (member_own c o member honest))

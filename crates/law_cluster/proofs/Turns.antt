@@ -452,7 +452,7 @@ module _ (term epoch : ℕ) (floors : List agreement.Certificate) (made : Engine
     taken_further did g = elim g.next [
       | inl p ↦ subst Goes (sym p.is) (heard_further p.sender p.channel p.bytes p.now)
       | inr other ↦ elim other [
-        | inl s ↦ subst Goes (sym s.is) (step_further s.source s.now s.stop g.low)
+        | inl s ↦ subst Goes (sym s.is) (step_further s.source s.now s.stop s.low)
         | inr r ↦ subst Goes (sym r.is) (answer_further r.number r.answer r.now)
       ]
     ]

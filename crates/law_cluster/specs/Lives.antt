@@ -63,7 +63,13 @@ pub record IsEngineOf (group : Group) (member : ℕ) (sections : List Section) (
 
 -- ---- what it did
 
--- whatever comes, at whatever clock: bytes that are said to be of a member, a step on a source, an answer of the application
+-- the view that the engine is in
+abbrev pub view_in : EngineMade → List Did → ℕ
+view_in made past =
+    let voter = voter_in made past in current_of voter.rules (place_of voter (voter_past past)).standing.desk.known
+
+-- whatever comes, at whatever clock: bytes that are said to be of a member, a step on a source below the greatest view, an answer
+-- of the application
 pub record IsHearing (made : EngineMade) (past : List Did) (did : Did) : Type 0 where
   pub sender : ℕ
   pub channel : Channel
@@ -73,6 +79,7 @@ pub record IsHearing (made : EngineMade) (past : List Did) (did : Did) : Type 0 
 
 pub record IsStep (made : EngineMade) (past : List Did) (did : Did) : Type 0 where
   pub source : StepSource
+  pub low : view_in made past < greatest_view
   pub now : ℕ
   pub stop : Stop
   pub is : did ≡ stepped made past source now stop
@@ -88,15 +95,9 @@ pub record IsStart (made : EngineMade) (did : Did) : Type 0 where
   pub stop : Stop
   pub is : did ≡ begun made now stop
 
--- the view that the engine is in
-abbrev pub view_in : EngineMade → List Did → ℕ
-view_in made past =
-    let voter = voter_in made past in current_of voter.rules (place_of voter (voter_past past)).standing.desk.known
-
--- the engine ran, below the greatest view, and did this next
+-- the engine ran, and did this next
 pub record GoesOn (made : EngineMade) (past : List Did) (did : Did) : Type 0 where
   pub running : runs past ≡ true
-  pub low : view_in made past < greatest_view
   pub next : IsHearing made past did ⊎ (IsStep made past did ⊎ IsReply did)
 
 -- the engine was started and did this, the newest first. At most the last was broken off, by any stop
