@@ -4,6 +4,7 @@ pub mod Fine
 pub mod Further
 pub mod Living
 pub mod Members
+pub mod Nodes
 pub mod Ordering
 pub mod Reporting
 pub mod Sending

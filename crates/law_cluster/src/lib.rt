@@ -14,5 +14,6 @@
 mod cluster;
 
 pub use cluster::{
-    clusters_agree, clusters_blame_no_honest_member, clusters_report_one_chain, members_keep_order,
+    clusters_agree, clusters_blame_no_honest_member, clusters_report_one_chain,
+    engines_are_of_their_group, members_keep_order,
 };
