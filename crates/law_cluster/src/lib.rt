@@ -12,7 +12,9 @@
 #![tactic(auto)]
 
 mod cluster;
+mod computed;
 
+pub use computed::leader_does;
 pub use cluster::{
     clusters_agree, clusters_blame_no_honest_member, clusters_report_one_chain,
     engines_are_of_their_group, members_keep_order,
