@@ -1,11 +1,10 @@
 -- A name for what a clause unfolds to compute a sample.
 use Rattle.std.specs.Prelude.{⊤}
-use Rattle.sha2.specs.Sha256.{sha224}
 use Rattle.model_run.specs.Computed.{run}
 use Rattle.law_cluster.specs.Samples.{are_histories, goes_on, lives_by, play}
 use Rattle.law_cluster.specs.Signatures.{calls_in, calls_of}
 
 -- what computes what members of a sample did and sent
 unfoldable pub samples : ⊤
-unfolding run sha224 are_histories goes_on lives_by play calls_in calls_of
+unfolding run are_histories goes_on lives_by play calls_in calls_of
 samples = tt

@@ -1,5 +1,5 @@
 -- A cluster of four members, act by act. The last member is faulty.
-use Rattle.std.specs.Prelude.{ℕ, ◌==◌, ◌&&◌, nat_lt, ◌^◌, Bool, true, List, [], ◌∷◌, ◌++◌, length, map, replicate, if◌then◌else◌}
+use Rattle.std.specs.Prelude.{ℕ, ◌==◌, ◌&&◌, nat_lt, ◌^◌, Bool, true, List, [], ◌∷◌, ◌++◌, length, map, replicate, if◌then◌else◌, Some}
 use Rattle.std.specs.List.{flat_map, list_all, list_any}
 use Rattle.simplex_values.specs.declared.answer.Answer.{Answer}
 use Rattle.simplex_values.specs.declared.answer.Answer.TheVariants as answers
@@ -20,8 +20,8 @@ use Rattle.simplex_wire.specs.Fields.{vote_subject, vote_attestation, certificat
 use Rattle.simplex_wire.specs.Message as format
 use Rattle.simplex_types.specs.declared.activity.Activity.TheVariants as activities
 use Rattle.simplex_types.specs.declared.floor.Floor.TheVariants as floors
-use Rattle.simplex_types.specs.Keyed.{signature_of}
 use Rattle.simplex_journal.specs.Journal.{Section, crashed}
+use Rattle.simplex_round.specs.Assembly.{as_scheme}
 use Rattle.simplex_round.specs.Votes.{is_same_subject}
 use Rattle.simplex_messages.specs.declared.call.Call.{Call}
 use Rattle.simplex_messages.specs.declared.call.Call.TheVariants as calls
@@ -34,10 +34,10 @@ use Rattle.model_rules.specs.Known.{view_of}
 use Rattle.model_steps.specs.Engine.{EngineMade, Did, Taken, Heard, sections_of, runs, begun, heard, stepped, replied}
 use Rattle.model_run.specs.Members.{engine_of}
 use Rattle.model_run.specs.Samples.{with_last}
-use Rattle.model_run.specs.Setting.{Setting, at_epoch_genesis}
+use Rattle.model_run.specs.Setting.{Setting}
 use Rattle.law_run.specs.Backed.{certificate_on}
 use Rattle.law_run.specs.Voting.{vote_on}
-use Rattle.law_cluster.specs.Lives.{Life, view_in, left_by}
+use Rattle.law_cluster.specs.Lives.{Group, Life, view_in, left_by}
 use Rattle.law_cluster.specs.Signatures.{calls_of, sent_by}
 use Rattle.law_cluster.specs.Cluster.{Cluster}
 use Rattle.law_cluster.specs.Nodes.{group_of}
@@ -77,11 +77,27 @@ is_history made acts = goes_on made (begun made 0 stops.None ∷ []) acts
 -- ---- lives
 
 abbrev pub setting : Setting
-setting = at_epoch_genesis (with_last kinds.Silent)
+setting = record { setup = with_last kinds.Silent; genesis = replicate 32 0 }
 
--- the engine that starts at genesis over what the journal holds
+-- signatures that say who signed, and no more: whatever is said to be a member's verifies
+abbrev pub signed_by : ℕ → Attestation
+signed_by member = record { signer = member; signature = replicate 32 0 }
+
+abbrev pub is_of_member : Subject → Attestation → Bool
+is_of_member subject a = nat_lt a.signer 4
+
+-- the engine that starts at genesis over what the journal holds, with these signatures
 abbrev pub engine : ℕ → List Section → EngineMade
-engine member sections = engine_of setting member (floors.Genesis setting.genesis) sections
+engine member sections =
+    let plain = engine_of setting member (floors.Genesis setting.genesis) sections in
+    record plain {
+      voter = λ start.
+          let voter = plain.voter start in record voter {
+            rules = record voter.rules { signs = λ subject. Some (signed_by member) };
+          };
+      batcher = record plain.batcher { scheme = as_scheme is_of_member true 4 };
+      resolver = record plain.resolver { verifies = is_of_member };
+    }
 
 -- the lives in which a member does these acts, and then is killed
 unfoldable pub lives_by : ℕ → List (List Act) → List Life
@@ -152,18 +168,15 @@ voted_on subjects lives =
 abbrev pub block : Proposal
 block = record { round = record { epoch = 0; view = 1 }; parent = 0; payload = replicate 32 17 }
 
-abbrev pub signed_by : ℕ → Subject → Attestation
-signed_by member subject = record { signer = member; signature = signature_of 1 member subject }
-
 abbrev pub notarize : ℕ → List ℕ
 notarize member =
     format.vote.spelling
-    (votes.Notarize (record { proposal = block; attestation = signed_by member (subjects.Notarize block) }))
+    (votes.Notarize (record { proposal = block; attestation = signed_by member }))
 
 abbrev pub finalize : ℕ → List ℕ
 finalize member =
     format.vote.spelling
-    (votes.Finalize (record { proposal = block; attestation = signed_by member (subjects.Finalize block) }))
+    (votes.Finalize (record { proposal = block; attestation = signed_by member }))
 
 abbrev pub step : StepSource → Act
 step source = Step source stops.None
@@ -195,8 +208,15 @@ acts_of member =
     if member == 0 then follows 2 ∷ []
     else (if member == 1 then leads ∷ [] else (if member == 2 then follows 0 ∷ [] else []))
 
+abbrev pub group : Group
+group = record (group_of setting.setup) { verifies = is_of_member }
+
 abbrev pub four : Cluster
-four = record { group = group_of setting.setup; faulty = 3 ∷ []; lives = λ member. lives_by member (acts_of member) }
+four = record { group = group; faulty = 3 ∷ []; lives = λ member. lives_by member (acts_of member) }
+
+-- what they vote on
+abbrev pub subjects_voted : List Subject
+subjects_voted = subjects.Notarize block ∷ subjects.Finalize block ∷ []
 
 -- the views that a member reported as final
 abbrev pub final_in : Call → List ℕ

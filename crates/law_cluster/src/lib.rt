@@ -14,7 +14,7 @@
 mod cluster;
 mod computed;
 
-pub use computed::leader_does;
+pub use computed::{the_first_finalizes, the_second_finalizes, the_third_finalizes};
 pub use cluster::{
     clusters_agree, clusters_blame_no_honest_member, clusters_report_one_chain,
     engines_are_of_their_group, members_keep_order,
