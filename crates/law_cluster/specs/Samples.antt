@@ -14,6 +14,7 @@ use Rattle.simplex_wire.specs.declared.artifact.Artifact.{Artifact}
 use Rattle.simplex_wire.specs.declared.artifact.Artifact.TheVariants as artifacts
 use Rattle.simplex_wire.specs.declared.attestation.Attestation.{Attestation}
 use Rattle.simplex_wire.specs.declared.certificate.Certificate.{Certificate}
+use Rattle.simplex_wire.specs.declared.certificate.Certificate.TheVariants as certificates
 use Rattle.simplex_wire.specs.declared.vote.Vote.{Vote}
 use Rattle.simplex_wire.specs.declared.vote.Vote.TheVariants as votes
 use Rattle.simplex_wire.specs.Fields.{vote_subject, vote_attestation, certificate_subject, certificate_signatures}
@@ -189,6 +190,11 @@ hear sender bytes = Hear sender channels.Vote bytes
 abbrev pub approve : ℕ → Act
 approve number = Reply number (answers.Verdict true)
 
+abbrev pub notarization : List ℕ
+notarization =
+    format.certificate.spelling
+    (certificates.Notarization (record { proposal = block; certificate = signed_by 0 ∷ signed_by 1 ∷ signed_by 2 ∷ [] }))
+
 -- in order: what the leader of view 1 does, which is the second member
 abbrev pub leads : List Act
 leads =
@@ -196,17 +202,29 @@ leads =
     ∷ hear 0 (notarize 0) ∷ hear 2 (notarize 2) ∷ step sources.Voter ∷ approve 1 ∷ step sources.Certify
     ∷ step sources.Batcher ∷ hear 0 (finalize 0) ∷ hear 2 (finalize 2) ∷ step sources.Voter ∷ []
 
--- and what another one does, with these two others
-abbrev pub follows : ℕ → List Act
-follows third =
-    step sources.Batcher ∷ hear 1 (notarize 1) ∷ step sources.Voter ∷ approve 0 ∷ step sources.Verify
-    ∷ step sources.Batcher ∷ hear third (notarize third) ∷ step sources.Voter ∷ approve 1 ∷ step sources.Certify
-    ∷ step sources.Batcher ∷ hear 1 (finalize 1) ∷ hear third (finalize third) ∷ step sources.Voter ∷ []
+-- what another one does up to its first vote
+abbrev pub follows : List Act
+follows =
+    step sources.Batcher ∷ hear 1 (notarize 1) ∷ step sources.Voter ∷ approve 0 ∷ step sources.Verify ∷ []
 
+-- the third then makes the certificates itself
+abbrev pub goes_further : List Act
+goes_further =
+    step sources.Batcher ∷ hear 0 (notarize 0) ∷ step sources.Voter ∷ approve 1 ∷ step sources.Certify
+    ∷ step sources.Batcher ∷ hear 1 (finalize 1) ∷ hear 0 (finalize 0) ∷ step sources.Voter ∷ []
+
+-- the first is killed there. It starts again, and hears the leader's vote once more, and the notarization
+abbrev pub starts_again : List Act
+starts_again =
+    step sources.Batcher ∷ hear 1 (notarize 1) ∷ Hear 1 channels.Certificate notarization ∷ step sources.Voter
+    ∷ step sources.Voter ∷ approve 0 ∷ step sources.Certify ∷ step sources.Batcher ∷ step sources.Batcher
+    ∷ hear 1 (finalize 1) ∷ hear 2 (finalize 2) ∷ step sources.Voter ∷ []
+
+-- the acts of each life, the newest first
 abbrev pub acts_of : ℕ → List (List Act)
 acts_of member =
-    if member == 0 then follows 2 ∷ []
-    else (if member == 1 then leads ∷ [] else (if member == 2 then follows 0 ∷ [] else []))
+    if member == 0 then starts_again ∷ follows ∷ []
+    else (if member == 1 then leads ∷ [] else (if member == 2 then (follows ++ goes_further) ∷ [] else []))
 
 abbrev pub group : Group
 group = record (group_of setting.setup) { verifies = is_of_member }
