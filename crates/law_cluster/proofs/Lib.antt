@@ -7,5 +7,6 @@ pub mod Members
 pub mod Nodes
 pub mod Ordering
 pub mod Reporting
+pub mod Sampling
 pub mod Sending
 pub mod Turns
