@@ -8,3 +8,4 @@ pub mod Order
 pub mod Reports
 pub mod Samples
 pub mod Signatures
+pub mod TornSamples

@@ -166,13 +166,22 @@ voted_on subjects lives =
 
 -- ---- the sample
 
+-- two proposals for view 1
+abbrev pub block_of : ℕ → Proposal
+block_of byte = record { round = record { epoch = 0; view = 1 }; parent = 0; payload = replicate 32 byte }
+
 abbrev pub block : Proposal
-block = record { round = record { epoch = 0; view = 1 }; parent = 0; payload = replicate 32 17 }
+block = block_of 17
+
+abbrev pub rival : Proposal
+rival = block_of 34
+
+abbrev pub notarize_on : Proposal → ℕ → List ℕ
+notarize_on p member =
+    format.vote.spelling (votes.Notarize (record { proposal = p; attestation = signed_by member }))
 
 abbrev pub notarize : ℕ → List ℕ
-notarize member =
-    format.vote.spelling
-    (votes.Notarize (record { proposal = block; attestation = signed_by member }))
+notarize member = notarize_on block member
 
 abbrev pub finalize : ℕ → List ℕ
 finalize member =
@@ -190,10 +199,12 @@ hear sender bytes = Hear sender channels.Vote bytes
 abbrev pub approve : ℕ → Act
 approve number = Reply number (answers.Verdict true)
 
+-- the notarization that these signed
+abbrev pub notarized : Proposal → List ℕ → Certificate
+notarized p signers = certificates.Notarization (record { proposal = p; certificate = map signed_by signers })
+
 abbrev pub notarization : List ℕ
-notarization =
-    format.certificate.spelling
-    (certificates.Notarization (record { proposal = block; certificate = signed_by 0 ∷ signed_by 1 ∷ signed_by 2 ∷ [] }))
+notarization = format.certificate.spelling (notarized block (0 ∷ 1 ∷ 2 ∷ []))
 
 -- in order: what the leader of view 1 does, which is the second member
 abbrev pub leads : List Act
@@ -203,9 +214,12 @@ leads =
     ∷ step sources.Batcher ∷ hear 0 (finalize 0) ∷ hear 2 (finalize 2) ∷ step sources.Voter ∷ []
 
 -- what another one does up to its first vote
+abbrev pub follows_on : Proposal → List Act
+follows_on p =
+    step sources.Batcher ∷ hear 1 (notarize_on p 1) ∷ step sources.Voter ∷ approve 0 ∷ step sources.Verify ∷ []
+
 abbrev pub follows : List Act
-follows =
-    step sources.Batcher ∷ hear 1 (notarize 1) ∷ step sources.Voter ∷ approve 0 ∷ step sources.Verify ∷ []
+follows = follows_on block
 
 -- the third then makes the certificates itself
 abbrev pub goes_further : List Act

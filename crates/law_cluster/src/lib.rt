@@ -19,5 +19,7 @@ pub use cluster::{
     clusters_agree, clusters_blame_no_honest_member, clusters_report_one_chain,
     engines_are_of_their_group, members_keep_order,
 };
-pub use computed::{the_first_finalizes, the_second_finalizes, the_third_finalizes};
+pub use computed::{
+    the_first_finalizes, the_first_forgets, the_first_hears_both, the_second_finalizes, the_third_finalizes,
+};
 pub use samples::premises_can_be_met;
