@@ -9,4 +9,5 @@ pub mod Ordering
 pub mod Reporting
 pub mod Sampling
 pub mod Sending
+pub mod TornSampling
 pub mod Turns

@@ -1,5 +1,5 @@
 -- The sample of four members meets all premises.
-use Rattle.std.proofs.Common.{◌≡◌, ℕ, zero, suc, ◌<◌, ◌^◌, ◌==◌, ◌&&◌, nat_lt, Bool, true, false, List, [], ◌∷◌, ◌++◌, length, map, Contains, Some, refl, sym, ap, ◌∙◌, subst, inl, inr, ◌⊎◌, arith, eqb-true, ltb-true, if◌then◌else◌}
+use Rattle.std.proofs.Common.{◌≡◌, ℕ, zero, suc, ◌<◌, ◌^◌, ◌==◌, ◌&&◌, nat_lt, Bool, true, List, [], ◌∷◌, ◌++◌, length, map, Contains, refl, sym, ap, ◌∙◌, subst, inl, inr, ◌⊎◌, arith, eqb-true, ltb-true}
 use Rattle.std.specs.List.{flat_map, list_all, list_any}
 use Rattle.std.proofs.lemmas.List.Elements.{Contains-append_left, Contains-append_right}
 use Rattle.simplex_values.specs.declared.plan.Channel.{Channel}
@@ -12,17 +12,17 @@ use Rattle.simplex_wire.specs.declared.artifact.Artifact.TheVariants as artifact
 use Rattle.simplex_wire.specs.declared.attestation.Attestation.{Attestation}
 use Rattle.simplex_wire.specs.declared.certificate.Certificate.{Certificate}
 use Rattle.simplex_wire.specs.declared.vote.Vote.{Vote}
-use Rattle.simplex_wire.specs.Fields.{vote_subject, vote_attestation, certificate_subject, certificate_signatures}
+use Rattle.simplex_wire.specs.Fields.{vote_subject, certificate_subject, certificate_signatures}
 use Rattle.simplex_wire.specs.Fits.{FitsRound, FitsProposal}
-use Rattle.simplex_journal.specs.Journal.{Section, crashed}
+use Rattle.simplex_journal.specs.Journal.{Section}
 use Rattle.simplex_round.specs.Votes.{is_same_subject}
 use Rattle.simplex_messages.specs.declared.call.Call.{Call}
 use Rattle.simplex_messages.specs.declared.call.Call.TheVariants as calls
 use Rattle.simplex_messages.specs.declared.step.Stop.TheVariants as stops
 use Rattle.model_steps.specs.Engine as engines
-use Rattle.model_steps.specs.Engine.{EngineMade, Did, Taken, runs, begun, voter_in, sections_of}
+use Rattle.model_steps.specs.Engine.{EngineMade, Did, Taken, runs, begun}
 use Rattle.model_run.specs.Members.{rules_of, batcher_of, resolver_of, engine_of}
-use Rattle.law_agreement.proofs.ListFacts.{not_in_empty, Contains-here, Contains-there, Contains-cons_cases}
+use Rattle.law_agreement.proofs.ListFacts.{not_in_empty, Contains-here, Contains-cons_cases}
 use Rattle.law_member.proofs.Certifying.{subjects-same}
 use Rattle.law_member.proofs.Looking.{one_passes}
 use Rattle.law_run.specs.Backed.{certificate_on}
@@ -33,10 +33,10 @@ use Rattle.law_run.proofs.Agreeing.{into_flat_map}
 use Rattle.law_run.proofs.BackingNaming.{in_map}
 use Rattle.law_run.proofs.Good.{both, AllBytes, to_bytes}
 use Rattle.law_run.proofs.Telling.{some_is}
-use Rattle.law_cluster.specs.Lives.{Life, GoesOn, IsHearing, IsStep, IsReply, IsStart, IsHistory, IsEngineOf, IsLife, AreLives, view_in, left_by}
+use Rattle.law_cluster.specs.Lives.{Life, IsHearing, IsStep, IsReply, IsHistory, IsEngineOf, AreLives, view_in, left_by}
 use Rattle.law_cluster.specs.Signatures as signatures
-use Rattle.law_cluster.specs.Signatures.{calls_in, calls_of, sent_by, HasVoted, Brings, InTaken, CameIn, Came, floor_of}
-use Rattle.law_cluster.specs.Cluster.{Cluster, IsHonest, IsMostlyHonest}
+use Rattle.law_cluster.specs.Signatures.{calls_in, calls_of, sent_by, HasVoted, Brings, InTaken, Came, floor_of}
+use Rattle.law_cluster.specs.Cluster.{IsHonest, IsMostlyHonest}
 use Rattle.law_cluster.specs.Samples.{Act, Hear, Step, Reply, did_by, play, goes_on, played, is_history, engine, lives_by, are_histories, fits_round, fits_proposal, fits_record, fits_call, are_typed, signed_vote, signed_on, signed_in, came_in, is_on, came_on, voted_on, group, four, acts_of, subjects_voted, signed_by}
 
 -- ---- a history
@@ -46,7 +46,7 @@ next made past (Hear sender channel bytes) low = inl (record { sender = sender; 
 next made past (Step source stop) low = inr (inl (record { source = source; low = ltb-true (view_in made past) greatest_view low; now = length past; stop = stop; is = refl }))
 next made past (Reply number answer) low = inr (inr (record { number = number; answer = answer; now = length past; is = refl }))
 
-goes : (made : EngineMade) (past : List Did) (acts : List Act) → IsHistory made past → goes_on made past acts ≡ true → IsHistory made (play made past acts)
+pub goes : (made : EngineMade) (past : List Did) (acts : List Act) → IsHistory made past → goes_on made past acts ≡ true → IsHistory made (play made past acts)
 unfolding play goes_on IsHistory
 goes made past [] h e = h
 goes made past (act ∷ acts) h e =
@@ -54,13 +54,13 @@ goes made past (act ∷ acts) h e =
     let now = both (runs past) (nat_lt (view_in made past) greatest_view) rest.0 in
     goes made (did_by made past act ∷ past) acts (inr (record { running = now.0; next = next made past act now.1 }, h)) rest.1
 
-begins : (made : EngineMade) → IsHistory made (begun made 0 stops.None ∷ [])
+pub begins : (made : EngineMade) → IsHistory made (begun made 0 stops.None ∷ [])
 unfolding IsHistory
 begins made = inl (refl, record { now = 0; stop = stops.None; is = refl })
 
 -- ---- an engine
 
-engine_sample : (member : ℕ) (js : List Section) → IsEngineOf group member js (engine member js)
+pub engine_sample : (member : ℕ) (js : List Section) → IsEngineOf group member js (engine member js)
 unfolding engine_of batcher_of resolver_of rules_of
 engine_sample member js =
     record {
@@ -78,13 +78,13 @@ engine_sample member js =
 
 -- ---- values keep to their types
 
-all_at : {A : Type 0} (test : A → Bool) (xs : List A) (x : A) → list_all test xs ≡ true → Contains xs x → test x ≡ true
+pub all_at : {A : Type 0} (test : A → Bool) (xs : List A) (x : A) → list_all test xs ≡ true → Contains xs x → test x ≡ true
 all_at test [] x e k = absurd (not_in_empty x k)
 all_at test (y ∷ xs) x e k =
     let p = both (test y) (list_all test xs) e in
     elim (Contains-cons_cases y xs x k) [ inl same ↦ subst (λ z. test z ≡ true) same p.0 | inr r ↦ all_at test xs x p.1 r ]
 
-all_parts : {A : Type 0} (test : A → Bool) (xs ys : List A) → list_all test (xs ++ ys) ≡ true → (list_all test xs ≡ true) × (list_all test ys ≡ true)
+pub all_parts : {A : Type 0} (test : A → Bool) (xs ys : List A) → list_all test (xs ++ ys) ≡ true → (list_all test xs ≡ true) × (list_all test ys ≡ true)
 all_parts test [] ys e = (refl, e)
 all_parts test (x ∷ xs) ys e =
     let p = both (test x) (list_all test (xs ++ ys)) e in
@@ -127,14 +127,14 @@ calls_typed : (cs : List Call) → list_all fits_call cs ≡ true → Each CallF
 calls_typed [] e = tt
 calls_typed (c ∷ cs) e = (let p = both (fits_call c) (list_all fits_call cs) e in (call_typed c p.0, calls_typed cs p.1))
 
-past_typed : (past : List Did) → list_all fits_call (calls_in past) ≡ true → Each (λ (did : Did). Each CallFits did.out.calls) past
+pub past_typed : (past : List Did) → list_all fits_call (calls_in past) ≡ true → Each (λ (did : Did). Each CallFits did.out.calls) past
 unfolding calls_in
 past_typed [] e = tt
 past_typed (did ∷ past) e = (let p = all_parts fits_call (calls_in past) did.out.calls e in (calls_typed did.out.calls p.1, past_typed past p.0))
 
 -- ---- lives
 
-lives_sample : (member : ℕ) (list : List (List Act)) → are_histories member list ≡ true → are_typed (lives_by member list) ≡ true → AreLives group member (lives_by member list)
+pub lives_sample : (member : ℕ) (list : List (List Act)) → are_histories member list ≡ true → are_typed (lives_by member list) ≡ true → AreLives group member (lives_by member list)
 unfolding lives_by are_histories AreLives calls_of
 lives_sample member [] e t = tt
 lives_sample member (acts ∷ before) e t =
@@ -181,13 +181,13 @@ taken_signed engines.Began s a h = absurd h
 taken_signed (engines.Took source message) s a h = absurd h
 taken_signed (engines.Replied number answer) s a h = absurd h
 
-came_signed : (member : ℕ) (list : List (List Act)) (s : Subject) (a : Attestation) → Came (lives_by member list) s a → Contains (flat_map came_in (lives_by member list)) (s, a)
-came_signed member list s a came =
+pub came_signed : (lives : List Life) → ((l : Life) → Contains lives l → floor_of l ≡ []) → (s : Subject) (a : Attestation) → Came lives s a → Contains (flat_map came_in lives) (s, a)
+came_signed lives none s a came =
     let l = came.0 in
-    into_flat_map came_in (lives_by member list) l (s, a) came.1
+    into_flat_map came_in lives l (s, a) came.1
     (elim came.2 [
       | inl item ↦ into_flat_map (λ (did : Did). signed_in did.taken) l.past item.0 (s, a) item.1 (taken_signed item.0.taken s a item.2)
-      | inr floor ↦ absurd (not_in_empty floor.0 (subst (λ xs. Contains xs floor.0) (no_floor member list l came.1) floor.1))
+      | inr floor ↦ absurd (not_in_empty floor.0 (subst (λ xs. Contains xs floor.0) (none l came.1) floor.1))
     ])
 
 -- ---- the cluster
@@ -223,7 +223,7 @@ module _ (first : Computes 0) (second : Computes 1) (third : Computes 2) where
   unforged member s a h signer came e =
       let it = each member (honest_three member h) in
       let by = each a.signer (honest_three a.signer signer) in
-      let on = all_at (is_on subjects_voted) (flat_map came_in (four.lives member)) (s, a) it.came (came_signed member (acts_of member) s a came) in
+      let on = all_at (is_on subjects_voted) (flat_map came_in (four.lives member)) (s, a) it.came (came_signed (four.lives member) (no_floor member (acts_of member)) s a came) in
       let subject = both (list_any (is_same_subject s) subjects_voted) (nat_lt a.signer 3) on in
       let found = one_passes (is_same_subject s) subjects_voted subject.0 in
       has_voted (four.lives a.signer) s found.0 by.voted found.1 (subjects-same s found.0 found.2)

@@ -1,5 +1,5 @@
 -- Two clusters that lack one premise each, and are torn.
-use Rattle.std.specs.Prelude.{ℕ, ◌==◌, ◌&&◌, ◌<◌, ◌≤◌, ◌^◌, Bool, true, List, [], ◌∷◌, ◌++◌, length, if◌then◌else◌}
+use Rattle.std.specs.Prelude.{ℕ, ◌==◌, ◌&&◌, ◌||◌, ◌<◌, ◌≤◌, ◌^◌, Bool, true, List, [], ◌∷◌, ◌++◌, length, if◌then◌else◌}
 use Rattle.std.specs.List.{flat_map, list_all, list_any}
 use Rattle.simplex_values.specs.declared.plan.Channel.TheVariants as channels
 use Rattle.simplex_values.specs.declared.proposal.Subject.{Subject}
@@ -7,15 +7,16 @@ use Rattle.simplex_values.specs.declared.proposal.Subject.TheVariants as subject
 use Rattle.simplex_values.specs.Quorum.{max_faulty}
 use Rattle.simplex_wire.specs.declared.attestation.Attestation.{Attestation}
 use Rattle.simplex_wire.specs.declared.certificate.Certificate.{Certificate}
-use Rattle.simplex_wire.specs.Fields.{certificate_subject}
+use Rattle.simplex_wire.specs.Fields.{certificate_subject, vote_subject}
 use Rattle.simplex_wire.specs.Message as format
 use Rattle.simplex_journal.specs.Journal.{crashed}
 use Rattle.simplex_round.specs.Votes.{is_same_subject}
-use Rattle.model_steps.specs.Engine.{sections_of}
+use Rattle.model_steps.specs.Engine.{Did, sections_of}
 use Rattle.law_agreement.specs.Conflict.{Conflict}
 use Rattle.law_cluster.specs.Lives.{Group, Life, IsLife, AreLives}
+use Rattle.law_cluster.specs.Signatures.{sent_by}
 use Rattle.law_cluster.specs.Cluster.{Cluster, IsHonest, IsUnforged}
-use Rattle.law_cluster.specs.Agree.{IsHad}
+use Rattle.law_cluster.specs.Agree.{IsHad, in_taken}
 use Rattle.law_cluster.specs.Samples.{Act, Hear, engine, played, is_history, lives_by, came_in, block, rival, notarized, follows_on, group}
 
 -- two certificates that honest members had and that verify conflict
@@ -94,3 +95,12 @@ pairs =
 
 abbrev pub came_of_pairs : List Life → Bool
 came_of_pairs lives = list_all (λ x. list_any (is_pair x) pairs) (flat_map came_in lives)
+
+abbrev pub pairs_are_voted : Bool
+pairs_are_voted =
+    list_all (λ (pair : ℕ × Subject).
+    pair.0 == 1 || list_any (λ v. is_same_subject (vote_subject v) pair.1) (sent_by (forgetful.lives pair.0))) pairs
+
+-- the certificates that came to a member in packets
+abbrev pub heard_by : List Life → List Certificate
+heard_by lives = flat_map (λ (life : Life). flat_map (λ (did : Did). in_taken did.taken) life.past) lives

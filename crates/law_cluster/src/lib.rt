@@ -22,4 +22,6 @@ pub use cluster::{
 pub use computed::{
     the_first_finalizes, the_first_forgets, the_first_hears_both, the_second_finalizes, the_third_finalizes,
 };
-pub use samples::premises_can_be_met;
+pub use samples::{
+    forged_signatures_tear_a_cluster, lost_journals_tear_a_cluster, premises_can_be_met,
+};

@@ -1,8 +1,11 @@
 //! That the premises can be met, and what two of them are for.
 ghost use Rattle.law_cluster.specs.Cluster.{IsMostlyHonest};
 ghost use Rattle.law_cluster.specs.Samples.{four};
+ghost use Rattle.law_cluster.specs.TornSamples.{IsAlive, IsForgetful, IsTorn, forged, forgetful};
 
-use crate::computed::{the_first_finalizes, the_second_finalizes, the_third_finalizes};
+use crate::computed::{
+    the_first_finalizes, the_first_forgets, the_first_hears_both, the_second_finalizes, the_third_finalizes,
+};
 
 /// Four members, the last of which is faulty, meet all premises: three of them report a block as final, and one of these was killed
 /// behind its first vote and started again.
@@ -12,4 +15,22 @@ pub fn premises_can_be_met()
     the_first_finalizes();
     the_second_finalizes();
     the_third_finalizes();
+}
+
+/// Where signatures are forged, all else does not help: a member may have two notarizations for one view.
+pub fn forged_signatures_tear_a_cluster()
+    ensures alive { IsAlive forged }
+    ensures torn { IsTorn forged }
+{
+    the_first_hears_both();
+}
+
+/// Nor does it where a member lost its journal: here it votes twice, and with a faulty leader there are two notarizations, though
+/// nothing is forged.
+pub fn lost_journals_tear_a_cluster()
+    ensures forgetful { IsForgetful forgetful }
+    ensures torn { IsTorn forgetful }
+{
+    the_first_hears_both();
+    the_first_forgets();
 }

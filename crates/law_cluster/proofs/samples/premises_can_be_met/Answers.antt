@@ -1,4 +1,4 @@
-use Rattle.law_cluster.proofs.Sampling.{Computes, four_honest}
+use Rattle.law_cluster.proofs.Sampling.{four_honest}
 use Rattle.law_cluster.proofs.samples.premises_can_be_met.Goals as goal
 
 pub returns : goal.returns
