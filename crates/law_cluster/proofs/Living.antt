@@ -66,7 +66,7 @@ module _ (term epoch : ℕ) (floors : List agreement.Certificate) (made : Engine
         (taken_further term epoch floors made keeps past (run m f.calls) (runs_at past (run m f.calls) on.running f.at) did on))
   ]
 
-  -- a crash behind the last item, or what a stop left
+  -- a crash after the last item, or what a stop left
   ended : (past : List Did) (keep : ℕ) (m : Member) (f : Further term epoch floors (calls_in past) (handed_in past) (going_on made past) m)
       → Further term epoch floors (calls_in past) (handed_in past) (ran.Stopped (crashed keep (sections_of made past))) m
   unfolding sections_of

@@ -5,10 +5,11 @@ ghost use Rattle.std.specs.Prelude.{◌≡◌, [], ◌∷◌, true};
 ghost use Rattle.law_cluster.specs.Lives.{IsVerifying};
 ghost use Rattle.law_cluster.specs.Samples.{acts_of, are_histories, are_typed, came_on, finals, four, subjects_voted, voted_on};
 ghost use Rattle.law_cluster.specs.Samples.{block, group, notarized, rival};
-ghost use Rattle.law_cluster.specs.TornSamples.{are_blank, came_of_pairs, forged, forgetful, forgetful_acts, heard_by, hears_both, pairs_are_voted};
+ghost use Rattle.law_cluster.specs.TornSamples.{are_blank, came_of_pairs, forged, forgetful, forgetful_acts};
+ghost use Rattle.law_cluster.specs.TornSamples.{heard_by, hears_both, pairs_are_voted};
 
 /// The first member acts by itself, votes for the block and reports it as final; only signatures of such votes come to it.
-pub fn the_first_finalizes()
+pub fn killed_member_finalizes()
     ensures history { are_histories 0 (acts_of 0) ≡ true }
     ensures typed { are_typed (four.lives 0) ≡ true }
     ensures came { came_on subjects_voted (four.lives 0) ≡ true }
@@ -17,7 +18,7 @@ pub fn the_first_finalizes()
 {}
 
 /// So does the second one, which leads.
-pub fn the_second_finalizes()
+pub fn leader_finalizes()
     ensures history { are_histories 1 (acts_of 1) ≡ true }
     ensures typed { are_typed (four.lives 1) ≡ true }
     ensures came { came_on subjects_voted (four.lives 1) ≡ true }
@@ -26,7 +27,7 @@ pub fn the_second_finalizes()
 {}
 
 /// And so does the third one.
-pub fn the_third_finalizes()
+pub fn follower_finalizes()
     ensures history { are_histories 2 (acts_of 2) ≡ true }
     ensures typed { are_typed (four.lives 2) ≡ true }
     ensures came { came_on subjects_voted (four.lives 2) ≡ true }
@@ -35,7 +36,7 @@ pub fn the_third_finalizes()
 {}
 
 /// A member hears two certificates that verify.
-pub fn the_first_hears_both()
+pub fn rivals_are_heard()
     ensures history { are_histories 0 (hears_both ∷ []) ≡ true }
     ensures typed { are_typed (forged.lives 0) ≡ true }
     ensures heard { heard_by (forged.lives 0)
@@ -46,7 +47,7 @@ pub fn the_first_hears_both()
 
 /// A member that lost its journal votes for a block and for its rival, two others vote for one of them each, and hear that it is
 /// notarized.
-pub fn the_first_forgets()
+pub fn votes_are_forgotten()
     ensures first { are_blank 0 (forgetful_acts 0) ≡ true }
     ensures first_typed { are_typed (forgetful.lives 0) ≡ true }
     ensures first_came { came_of_pairs (forgetful.lives 0) ≡ true }

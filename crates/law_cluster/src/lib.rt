@@ -5,8 +5,10 @@
 //! disk cache. The next one began over what the journal held then, and the first one over an empty journal. No clock, no list
 //! of events and no network is common to the members.
 //!
-//! Two premises no member can check: at most f members are faulty, and what comes to an honest member has no signature of another
-//! honest one that verifies on what this never sent. Where they hold, no two certificates conflict that honest members had.
+//! Three premises no member can check: at most f members are faulty; no signature of an honest member that comes to another one
+//! verifies on what it never sent; and a life begins over what the one before left, so that no journal is lost or put back. Where
+//! they hold, no two certificates conflict that honest members had. Samples show a cluster that meets them, and two that are torn:
+//! by a forged signature, and by a lost journal.
 //!
 //! Each law is the contract of a function below, and is about the definitions alone.
 #![tactic(auto)]
@@ -20,7 +22,8 @@ pub use cluster::{
     engines_are_of_their_group, members_keep_order,
 };
 pub use computed::{
-    the_first_finalizes, the_first_forgets, the_first_hears_both, the_second_finalizes, the_third_finalizes,
+    follower_finalizes, killed_member_finalizes, leader_finalizes, rivals_are_heard,
+    votes_are_forgotten,
 };
 pub use samples::{
     forged_signatures_tear_a_cluster, lost_journals_tear_a_cluster, premises_can_be_met,

@@ -4,17 +4,18 @@ ghost use Rattle.law_cluster.specs.Samples.{four};
 ghost use Rattle.law_cluster.specs.TornSamples.{IsAlive, IsForgetful, IsTorn, forged, forgetful};
 
 use crate::computed::{
-    the_first_finalizes, the_first_forgets, the_first_hears_both, the_second_finalizes, the_third_finalizes,
+    follower_finalizes, killed_member_finalizes, leader_finalizes, rivals_are_heard,
+    votes_are_forgotten,
 };
 
 /// Four members, the last of which is faulty, meet all premises: three of them report a block as final, and one of these was killed
-/// behind its first vote and started again.
+/// after its first vote and started again.
 pub fn premises_can_be_met()
     ensures { IsMostlyHonest four }
 {
-    the_first_finalizes();
-    the_second_finalizes();
-    the_third_finalizes();
+    killed_member_finalizes();
+    leader_finalizes();
+    follower_finalizes();
 }
 
 /// Where signatures are forged, all else does not help: a member may have two notarizations for one view.
@@ -22,7 +23,7 @@ pub fn forged_signatures_tear_a_cluster()
     ensures alive { IsAlive forged }
     ensures torn { IsTorn forged }
 {
-    the_first_hears_both();
+    rivals_are_heard();
 }
 
 /// Nor does it where a member lost its journal: here it votes twice, and with a faulty leader there are two notarizations, though
@@ -31,6 +32,6 @@ pub fn lost_journals_tear_a_cluster()
     ensures forgetful { IsForgetful forgetful }
     ensures torn { IsTorn forgetful }
 {
-    the_first_hears_both();
-    the_first_forgets();
+    rivals_are_heard();
+    votes_are_forgotten();
 }
