@@ -1,0 +1,13 @@
+pub mod Agreeing
+pub mod Blaming
+pub mod Fine
+pub mod Further
+pub mod Living
+pub mod Members
+pub mod Nodes
+pub mod Ordering
+pub mod Reporting
+pub mod Sampling
+pub mod Sending
+pub mod TornSampling
+pub mod Turns

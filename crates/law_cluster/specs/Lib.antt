@@ -1,0 +1,11 @@
+pub mod Agree
+pub mod Cluster
+pub mod Computed
+pub mod Evidence
+pub mod Lives
+pub mod Nodes
+pub mod Order
+pub mod Reports
+pub mod Samples
+pub mod Signatures
+pub mod TornSamples
