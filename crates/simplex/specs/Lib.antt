@@ -193,6 +193,16 @@ pub use Rattle.law_agreement.specs.Terms as AgreementTerms
 pub use Rattle.law_agreement.specs.World
 pub use Rattle.law_agreement.specs.WorldExamples
 -- Of one member, laws.
+pub use Rattle.law_cluster.specs.Agree as ClustersAgree
+pub use Rattle.law_cluster.specs.Cluster
+pub use Rattle.law_cluster.specs.Evidence as ClusterEvidence
+pub use Rattle.law_cluster.specs.Lives as ClusterLives
+pub use Rattle.law_cluster.specs.Nodes as ClusterNodes
+pub use Rattle.law_cluster.specs.Order as ClusterOrder
+pub use Rattle.law_cluster.specs.Reports as ClusterReports
+pub use Rattle.law_cluster.specs.Samples as ClusterSamples
+pub use Rattle.law_cluster.specs.Signatures as ClusterSignatures
+pub use Rattle.law_cluster.specs.TornSamples as TornClusterSamples
 pub use Rattle.law_member.specs.Batcher as BatcherTold
 pub use Rattle.law_member.specs.BatcherVotes
 pub use Rattle.law_member.specs.Blocks as BlocksFounded

@@ -2,6 +2,7 @@
 //!
 //! - [`runs`]: whole runs are safe, what they report agrees, which setups and events have one, who can forge;
 //! - [`members`]: what a step of a voter, a batcher or a resolver does; that a voter lives an honest member's life;
+//! - [`clusters`]: agreement of members that run by themselves, each with a clock of its own;
 //! - [`agreement`]: why members that vote so agree, and how they keep to it over crashes;
 //! - [`logs`], [`ledgers`], [`epochs`]: the finalized logs of a run, accounts over them, and one network per epoch;
 //! - [`audits`], [`requests`]: records of runs, judged without an engine, and the open requests of a node;
@@ -9,6 +10,7 @@
 
 pub use law_agreement as agreement;
 pub use law_audit as audits;
+pub use law_cluster as clusters;
 pub use law_epochs as epochs;
 pub use law_ledger as ledgers;
 pub use law_log as logs;
