@@ -31,27 +31,27 @@ impl Table {
     /// Delivers a packet, or steps a member that holds something, or lets time pass. A packet may be lost, doubled or late: here it comes at
     /// once.
     fn turn(&mut self, rt: &impl Print) -> Result<()> {
+        let now = self.now;
         if let Some(packet) = self.packets.pop_front() {
-            let to = if packet.from == Participant(0) {
-                &mut self.second
+            return if packet.from == Participant(0) {
+                self.second.hear(rt, packet, now, &mut self.packets)
             } else {
-                &mut self.first
+                self.first.hear(rt, packet, now, &mut self.packets)
             };
-            return to.hear(rt, packet, self.now, &mut self.packets);
         }
-        if self.first.work(rt, self.now, &mut self.packets)? {
+        if self.first.work(rt, now, &mut self.packets)? {
             return Ok(());
         }
-        if self.second.work(rt, self.now, &mut self.packets)? {
+        if self.second.work(rt, now, &mut self.packets)? {
             return Ok(());
         }
         let (Some(first), Some(second)) = (self.first.next_deadline(), self.second.next_deadline())
         else {
             bail!("an engine stopped");
         };
-        self.now = first.min(second);
-        let now = self.now;
-        println!(rt; "{now} ms")?;
+        let next = first.min(second);
+        println!(rt; "{next} ms")?;
+        self.now = next;
         Ok(())
     }
 }
@@ -69,7 +69,8 @@ fn main(rt: HostRuntime) -> Result<()> {
     for turn in 0..TURNS {
         if turn == CRASH {
             println!(rt; "member 1 crashes, and starts again")?;
-            table.second.restart(&rt, table.now, &mut table.packets)?;
+            let now = table.now;
+            table.second.restart(&rt, now, &mut table.packets)?;
         }
         table.turn(&rt)?;
     }

@@ -26,6 +26,8 @@ const SOURCES: [StepSource; 9] = [
     StepSource::Fetch,
 ];
 
+const MEMBERS: u32 = 2;
+
 /// The view whose leader has nothing to propose: its deadline passes, and both members give it up.
 const SILENT: View = View(2);
 
@@ -51,6 +53,9 @@ pub(crate) struct Member {
 
 /// An engine over what the journal holds. Times are in milliseconds.
 fn engine(alloc: Global, me: Participant, journal: MemoryJournal) -> Result<Live> {
+    if me.0 >= MEMBERS {
+        bail!("there are two members");
+    }
     let Some(length) = TermLength::new(1) else {
         bail!("a term has a view");
     };
@@ -60,8 +65,8 @@ fn engine(alloc: Global, me: Participant, journal: MemoryJournal) -> Result<Live
         stall_timeout: None,
     };
     let config = EngineConfig {
-        scheme: Keyed::new(alloc, 7, 2, Some(me))?,
-        elector: RoundRobin::new(terms).build(2),
+        scheme: Keyed::new(alloc, 7, MEMBERS, Some(me))?,
+        elector: RoundRobin::new(terms).build(MEMBERS),
         genesis: GENESIS,
         floor: Floor::Genesis(GENESIS),
         epoch: Epoch(0),
@@ -89,7 +94,8 @@ fn answer(asked: &Asked) -> Option<Answer> {
     match asked {
         Asked::Prepare(context) | Asked::Propose(context) if context.round.view == SILENT => None,
         Asked::Prepare(context) | Asked::Propose(context) => {
-            Some(Answer::Payload(Digest([context.round.view.0 as u8; 32])))
+            let byte = context.round.view.0 % 256;
+            Some(Answer::Payload(Digest([byte as u8; 32])))
         }
         Asked::Verify(..) | Asked::Certify(..) => Some(Answer::Verdict(true)),
     }
